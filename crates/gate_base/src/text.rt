@@ -1,0 +1,59 @@
+// A text, which clauses see as the bytes of its UTF-8 form.
+ghost use Rattle.std.specs.Prelude.{◌≡◌, IfOk};
+
+use crate::OutOfMemory;
+use std::alloc::Global;
+use std::marker::Model;
+
+/// A UTF-8 text. Clauses see the list of its bytes.
+#[derive(Debug, Drop)]
+pub struct Text {
+    text: String,
+}
+
+impl Model for Text {
+    ghost use Rattle.std.specs.Prelude.{List, ℕ, string_bytes};
+
+    ghost Value = { List ℕ };
+
+    ghost view = { λ t. string_bytes t.text };
+}
+
+impl Text {
+    /// A copy of a text.
+    pub fn of(alloc: Global, s: &str) -> Result<Self, OutOfMemory>
+        ensures { IfOk result (λ t. t ≡ s.now) }
+    {
+        Ok(Text {
+            text: String::from_str(alloc, s)?,
+        })
+    }
+
+    /// The text.
+    pub fn as_str(&self) -> &str
+        ensures { result.now ≡ self.now }
+    {
+        self.text.as_str()
+    }
+
+    /// A copy.
+    pub fn copy(&self, alloc: Global) -> Result<Self, OutOfMemory>
+        ensures { IfOk result (λ t. t ≡ self.now) }
+    {
+        Text::of(alloc, self.text.as_str())
+    }
+}
+
+#[cfg(test)]
+mod tests {
+    use super::*;
+    use std::test::Fail;
+
+    #[test]
+    fn text_is_kept(rt: HostRuntime) -> Result<(), Fail> {
+        let text = Text::of(rt.alloc(), "wasmgate \u{e9}")?;
+        assert_eq!(rt; text.as_str(), "wasmgate \u{e9}");
+        assert_eq!(rt; text.copy(rt.alloc())?.as_str(), "wasmgate \u{e9}");
+        Ok(())
+    }
+}
