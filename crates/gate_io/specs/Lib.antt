@@ -1,0 +1,5 @@
+pub mod Told
+pub mod Paths
+pub mod Took
+pub mod Memory
+pub mod Found
