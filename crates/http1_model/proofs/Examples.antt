@@ -1,0 +1,134 @@
+-- The worked examples, by computation.
+use Rattle.std.proofs.Common.{[], ◌∷◌, None, Some, Ok, codes, refl, inl, inr, lit<, lit≤}
+use Rattle.std.proofs.lemmas.List.Sums.{AllPass-from_list_all}
+use Rattle.std.proofs.lemmas.List.Elements.{All-cons, All-nil}
+use Rattle.httparse.specs.Grammar.{crlf, Field, IsField, RequestHead, IsRequestHead, is_token_byte, is_uri_byte, is_value_byte}
+use Rattle.httparse.proofs.OnLiterals.{httparse_on_literals}
+use Rattle.http_uri.proofs.PathLemmas.{IsPathAndQuery_slash}
+use Rattle.http1_model.specs.Head.{found, IsAnswer, not_yet}
+use Rattle.http1_model.specs.Messages.{head}
+use Rattle.http1_model.specs.Target.{GivesTarget, origin, http}
+use Rattle.http1_model.specs.Examples.{worked_text, worked_head, WorkedHead, LineExamples, FieldExamples, WireExamples, LengthExamples, TargetExamples, RefusalExamples}
+
+abbrev host_field : Field
+host_field = record { name = codes "Host"; raw = codes " a"; end = crlf }
+
+abbrev worked_tree : RequestHead
+worked_tree = record {
+  blank = [];
+  method = codes "GET";
+  target = codes "/";
+  minor = 1;
+  line_end = crlf;
+  fields = host_field ∷ [];
+  last = crlf;
+}
+
+host_is_field : IsField host_field
+unfolding httparse_on_literals
+host_is_field = record {
+  name = (lit< tt, AllPass-from_list_all is_token_byte (codes "Host") refl);
+  raw = AllPass-from_list_all is_value_byte (codes " a") refl;
+}
+
+worked_is_head : IsRequestHead worked_tree
+unfolding httparse_on_literals lib.Utf8.encode
+worked_is_head = record {
+  method = (lit< tt, AllPass-from_list_all is_token_byte (codes "GET") refl);
+  target = (lit< tt, AllPass-from_list_all is_uri_byte (codes "/") refl);
+  target_text = (codes "/", (refl, refl));
+  minor = lit≤ tt;
+  fields = All-cons IsField host_field [] host_is_field (All-nil IsField);
+}
+
+worked_target : GivesTarget (codes "GET") (codes "/") (record { form = origin; scheme = http; authority = None; path = codes "/" })
+worked_target = record {
+  scheme = None;
+  authority = None;
+  kept = codes "/";
+  reads = (lit≤ tt, ((inr refl, record { start = inr refl; short = lit≤ tt; kept = IsPathAndQuery_slash }), refl));
+  gives = refl;
+}
+
+worked_answer : IsAnswer worked_text (Ok worked_head)
+unfolding httparse_on_literals
+worked_answer = inl (record {
+  head = worked_tree;
+  reads = (worked_is_head, refl);
+  judged = record { parts = Some (record { form = origin; scheme = http; authority = None; path = codes "/" }); gives = worked_target; is = refl };
+})
+
+pub worked_head_is : WorkedHead
+worked_head_is = record {
+  spelled = (Ok worked_head, worked_answer, refl);
+  sent = refl;
+  read = (27, head, (found worked_head 27, (Ok worked_head, worked_answer, refl), refl), refl, refl, (not_yet, refl, refl));
+  behind_empty_lines = (30, head, (found worked_head 30, (Ok worked_head, worked_answer, refl), refl), refl, refl, (not_yet, refl, refl));
+  nothing_unread = (not_yet, refl, refl);
+}
+
+pub line_examples : LineExamples
+line_examples = record {
+  lines = refl;
+  skips = refl;
+  lone_cr = refl;
+  ends = refl;
+  open_line = refl;
+  hundred = refl;
+  hundred_open = refl;
+  hundred_one = refl;
+  hundred_one_whole = refl;
+}
+
+pub field_examples : FieldExamples
+unfolding httparse_on_literals
+field_examples = record { list = refl; none = refl; listed = refl; part = refl; kept = refl }
+
+pub wire_examples : WireExamples
+unfolding httparse_on_literals
+wire_examples = record { left_out = refl }
+
+pub length_examples : LengthExamples
+unfolding httparse_on_literals
+length_examples = record {
+  none = refl;
+  five = refl;
+  zeros = refl;
+  no_body = refl;
+  differ = refl;
+  empty_member = refl;
+  no_digits = refl;
+  sign = refl;
+  limit = refl;
+  past_limit = refl;
+  chunked_alone = refl;
+  two_codings = refl;
+  two_lines = refl;
+  both = refl;
+  old = refl;
+}
+
+pub target_examples : TargetExamples
+target_examples = record {
+  query = refl;
+  fragment = refl;
+  star = refl;
+  star_of_get = refl;
+  authority_form = refl;
+  no_path = refl;
+  no_path_query = refl;
+  options = refl;
+  options_slash = refl;
+  user = refl;
+  other_scheme = refl;
+}
+
+pub refusal_examples : RefusalExamples
+refusal_examples = record {
+  connect = refl;
+  no_host = refl;
+  no_host_old = refl;
+  two_hosts = refl;
+  empty_host = refl;
+  blank_in_host = refl;
+}

@@ -1,0 +1,244 @@
+-- The lines of a head that `httparse` reads.
+use Rattle.std.proofs.Common.{◌≡◌, ℕ, suc, ◌+◌, ◌-◌, ◌<◌, ◌≤◌, Bool, true, false, not, eqb, IsTrue, List, [], ◌∷◌, ◌++◌, map, length, take, drop, Some, refl, sym, ap, ◌∙◌, inl, inr, arith}
+use Rattle.std.proofs.lemmas.Bool.{cond-true, cond-false, ne_eqb, and_from, and_parts, not-true, ltb-false, false≢true, cases_Bool}
+use Rattle.std.proofs.lemmas.List.{append_assoc, append-nil, length-append, length-take-le, take-append-drop, nil_from_length}
+use Rattle.std.proofs.lemmas.List.Elements.{All-head, All-tail}
+use Rattle.std.proofs.lemmas.List.Folds.{list_all-append}
+use Rattle.std.proofs.Math.Seq.{take-append-add}
+use Rattle.std.specs.Prelude.{All, nat_lt}
+use Rattle.std.specs.List.{list_all, flat_map}
+use Rattle.httparse.specs.Grammar.{is_token_byte, is_uri_byte, is_value_byte, AllPass, LineEnd, crlf, lf, print_end, print_blank, print_version, Field, IsField, print_field, print_section, RequestHead, IsRequestHead, print_request, ReadsRequest}
+use Rattle.httparse.proofs.GrammarLemmas.{print_request-append}
+use Rattle.http1_model.specs.Lines.{whole_lines, is_empty_line, empty_len, skipped, section_of, whole, too_large, cut_at, cut_lines, cut_of, window_cut, head_cut}
+
+-- a byte that does not end a line
+abbrev pub is_inside : ℕ → Bool
+is_inside b = not (eqb b 10)
+
+-- no byte of the text ends a line
+abbrev pub IsOneLine : List ℕ → Type 0
+IsOneLine line = list_all is_inside line ≡ true
+
+pub IsOneLine-append : (a b : List ℕ) → IsOneLine a → IsOneLine b → IsOneLine (a ++ b)
+IsOneLine-append a b h g = list_all-append is_inside a b ∙ and_from _ _ h g
+
+pub IsOneLine_from_pass : (test : ℕ → Bool) → ((b : ℕ) → test b ≡ true → is_inside b ≡ true) → (line : List ℕ) → AllPass test line
+    → IsOneLine line
+IsOneLine_from_pass test inside [] all = refl
+IsOneLine_from_pass test inside (b ∷ line) all =
+    and_from _ _ (inside b (All-head (λ x. IsTrue (test x)) b line all))
+    (IsOneLine_from_pass test inside line (All-tail (λ x. IsTrue (test x)) b line all))
+
+-- a test that fails at LF passes only bytes inside a line
+inside_of : (test : ℕ → Bool) → test 10 ≡ false → (b : ℕ) → test b ≡ true → is_inside b ≡ true
+inside_of test fails b pass =
+    let other : eqb b 10 ≡ false = ne_eqb b 10 (λ e. false≢true (sym fails ∙ ap test (sym e) ∙ pass)) in
+    ap not other
+
+pub token_line : (line : List ℕ) → AllPass is_token_byte line → IsOneLine line
+unfolding is_token_byte
+token_line line all = IsOneLine_from_pass is_token_byte (inside_of is_token_byte refl) line all
+
+pub uri_line : (line : List ℕ) → AllPass is_uri_byte line → IsOneLine line
+uri_line line all = IsOneLine_from_pass is_uri_byte (inside_of is_uri_byte refl) line all
+
+pub value_line : (line : List ℕ) → AllPass is_value_byte line → IsOneLine line
+value_line line all = IsOneLine_from_pass is_value_byte (inside_of is_value_byte refl) line all
+
+-- ---- a line and its end
+
+pub whole_lines-feed_next : (line more : List ℕ) → IsOneLine line → whole_lines (line ++ 10 ∷ more) ≡ (line ++ 10 ∷ []) ∷ whole_lines more
+whole_lines-feed_next [] more one = refl
+whole_lines-feed_next (b ∷ line) more one =
+    let parts = and_parts _ _ one in
+    let other : eqb b 10 ≡ false = not-true _ parts.0 in
+    let later = whole_lines-feed_next line more parts.1 in
+    rw (other, later)
+
+pub whole_lines-end : (line : List ℕ) (end : LineEnd) (more : List ℕ) → IsOneLine line
+    → whole_lines (line ++ (print_end end ++ more)) ≡ (line ++ print_end end) ∷ whole_lines more
+whole_lines-end line crlf more one =
+    let with_cr : IsOneLine (line ++ 13 ∷ []) = IsOneLine-append line (13 ∷ []) one refl in
+    let e : line ++ (13 ∷ 10 ∷ more) ≡ (line ++ 13 ∷ []) ++ 10 ∷ more = sym (append_assoc line (13 ∷ []) (10 ∷ more)) in
+    ap whole_lines e ∙ whole_lines-feed_next (line ++ 13 ∷ []) more with_cr
+    ∙ ap (λ l. l ∷ whole_lines more) (append_assoc line (13 ∷ []) (10 ∷ []))
+whole_lines-end line lf more one = whole_lines-feed_next line more one
+
+-- ---- fields
+
+pub field_name_line : (f : Field) → IsField f → IsOneLine (f.name ++ 58 ∷ f.raw)
+field_name_line f is =
+    IsOneLine-append f.name (58 ∷ f.raw) (token_line f.name is.name.1)
+    (IsOneLine-append (58 ∷ []) f.raw refl (value_line f.raw is.raw))
+
+pub whole_lines-field : (f : Field) (more : List ℕ) → IsField f → whole_lines (print_field f ++ more) ≡ print_field f ∷ whole_lines more
+whole_lines-field f more is =
+    let line = f.name ++ 58 ∷ f.raw in
+    ap whole_lines (append_assoc line (print_end f.end) more) ∙ whole_lines-end line f.end more (field_name_line f is)
+
+-- a line that begins with a byte other than CR and LF is not empty
+pub filled_line : (b : ℕ) (line : List ℕ) → eqb b 10 ≡ false → eqb b 13 ≡ false → is_empty_line (b ∷ line) ≡ false
+filled_line b line no_lf no_cr = rw (no_lf, no_cr)
+
+token_first : (name rest : List ℕ) → 0 < length name → AllPass is_token_byte name → is_empty_line (name ++ rest) ≡ false
+unfolding is_token_byte
+token_first [] rest some all = absurd (omega arith)
+token_first (b ∷ name) rest some all =
+    let pass : is_token_byte b ≡ true = All-head (λ x. IsTrue (is_token_byte x)) b name all in
+    filled_line b (name ++ rest)
+    (ne_eqb b 10 (λ e. false≢true (ap is_token_byte (sym e) ∙ pass)))
+    (ne_eqb b 13 (λ e. false≢true (ap is_token_byte (sym e) ∙ pass)))
+
+pub print_field-filled : (f : Field) → IsField f → is_empty_line (print_field f) ≡ false
+print_field-filled f is =
+    ap is_empty_line (append_assoc f.name (58 ∷ f.raw) (print_end f.end))
+    ∙ token_first f.name ((58 ∷ f.raw) ++ print_end f.end) is.name.0 is.name.1
+
+pub print_end-empty : (end : LineEnd) → is_empty_line (print_end end) ≡ true
+print_end-empty crlf = refl
+print_end-empty lf = refl
+
+-- ---- a section
+
+pub whole_lines-section : (fields : List Field) (last : LineEnd) (more : List ℕ) → All IsField fields
+    → whole_lines (print_section fields last ++ more) ≡ map print_field fields ++ print_end last ∷ whole_lines more
+whole_lines-section [] last more all = whole_lines-end [] last more refl
+whole_lines-section (f ∷ fields) last more all =
+    let is = All-head IsField f fields all in
+    let rest = print_section fields last ++ more in
+    let lines = flat_map print_field fields in
+    let e : print_section (f ∷ fields) last ++ more ≡ print_field f ++ rest =
+    append_assoc (print_field f ++ lines) (print_end last) more ∙ append_assoc (print_field f) lines (print_end last ++ more)
+    ∙ ap (λ t. print_field f ++ t) (sym (append_assoc lines (print_end last) more)) in
+    ap whole_lines e ∙ whole_lines-field f rest is
+    ∙ ap (λ ls. print_field f ∷ ls) (whole_lines-section fields last more (All-tail IsField f fields all))
+
+pub section_of-section : (fields : List Field) (last : LineEnd) (more : List (List ℕ)) → All IsField fields
+    → section_of (map print_field fields ++ print_end last ∷ more) ≡ Some (length fields, length (print_section fields last))
+section_of-section [] last more all =
+    rw print_end-empty
+section_of-section (f ∷ fields) last more all =
+    let is = All-head IsField f fields all in
+    let later = section_of-section fields last more (All-tail IsField f fields all) in
+    let filled = print_field-filled f is in
+    let count : length fields + 1 ≡ suc (length fields) = omega arith in
+    let e : print_section (f ∷ fields) last ≡ print_field f ++ print_section fields last = append_assoc (print_field f) _ _ in
+    let len : length (print_field f) + length (print_section fields last) ≡ length (print_section (f ∷ fields) last) =
+    sym (ap length e ∙ length-append (print_field f) (print_section fields last)) in
+    rw (filled, later, count, len)
+
+-- ---- a request head
+
+-- the request line without its end
+abbrev pub request_words : RequestHead → List ℕ
+request_words h = h.method ++ 32 ∷ (h.target ++ 32 ∷ print_version h.minor)
+
+pub request_words-line : (h : RequestHead) → IsRequestHead h → IsOneLine (request_words h)
+request_words-line h is =
+    let digit : eqb (48 + h.minor) 10 ≡ false = ne_eqb (48 + h.minor) 10 (λ e. omega (arith, is.minor)) in
+    let version : IsOneLine (print_version h.minor) = rw digit in
+    IsOneLine-append h.method (32 ∷ (h.target ++ 32 ∷ print_version h.minor)) (token_line h.method is.method.1)
+    (IsOneLine-append (32 ∷ h.target) (32 ∷ print_version h.minor)
+    (IsOneLine-append (32 ∷ []) h.target refl (uri_line h.target is.target.1))
+    (IsOneLine-append (32 ∷ []) (print_version h.minor) refl version))
+
+-- the request line
+abbrev pub request_line_of : RequestHead → List ℕ
+request_line_of h = request_words h ++ print_end h.line_end
+
+pub request_line-filled : (h : RequestHead) → IsRequestHead h → is_empty_line (request_line_of h) ≡ false
+request_line-filled h is =
+    ap is_empty_line (append_assoc h.method (32 ∷ (h.target ++ 32 ∷ print_version h.minor)) (print_end h.line_end))
+    ∙ token_first h.method ((32 ∷ (h.target ++ 32 ∷ print_version h.minor)) ++ print_end h.line_end) is.method.0 is.method.1
+
+-- a head without empty lines in front is its request line and its section
+pub print_request-lines : (h : RequestHead) (more : List ℕ) → h.blank ≡ []
+    → print_request h ++ more ≡ request_words h ++ (print_end h.line_end ++ (print_section h.fields h.last ++ more))
+print_request-lines h more none =
+    print_request-append h more ∙ ap (λ b. print_blank b ++ (h.method ++ 32 ∷ (h.target ++ 32 ∷ (print_version h.minor
+    ++ (print_end h.line_end ++ (print_section h.fields h.last ++ more)))))) none
+    ∙ regroup h.method h.target (print_version h.minor) (print_end h.line_end ++ (print_section h.fields h.last ++ more))
+  where
+    regroup : (a b c d : List ℕ) → a ++ 32 ∷ (b ++ 32 ∷ (c ++ d)) ≡ (a ++ 32 ∷ (b ++ 32 ∷ c)) ++ d
+    regroup a b c d =
+        sym (append_assoc a (32 ∷ (b ++ 32 ∷ c)) d ∙ ap (λ t. a ++ 32 ∷ t) (append_assoc b (32 ∷ c) d))
+
+pub whole_lines-request : (h : RequestHead) (more : List ℕ) → IsRequestHead h → h.blank ≡ []
+    → whole_lines (print_request h ++ more)
+    ≡ request_line_of h ∷ (map print_field h.fields ++ print_end h.last ∷ whole_lines more)
+whole_lines-request h more is none =
+    ap whole_lines (print_request-lines h more none)
+    ∙ whole_lines-end (request_words h) h.line_end (print_section h.fields h.last ++ more) (request_words-line h is)
+    ∙ ap (λ ls. request_line_of h ∷ ls) (whole_lines-section h.fields h.last more is.fields)
+
+pub length-print_request : (h : RequestHead) → h.blank ≡ []
+    → length (print_request h) ≡ length (request_line_of h) + length (print_section h.fields h.last)
+length-print_request h none =
+    let e : print_request h ≡ request_line_of h ++ print_section h.fields h.last =
+    sym (append-nil (print_request h)) ∙ print_request-lines h [] none
+    ∙ ap (λ t. request_words h ++ (print_end h.line_end ++ t)) (append-nil (print_section h.fields h.last))
+    ∙ sym (append_assoc (request_words h) (print_end h.line_end) (print_section h.fields h.last)) in
+    ap length e ∙ length-append (request_line_of h) (print_section h.fields h.last)
+
+-- the cut of a text that begins with a head
+pub window_cut-request : (h : RequestHead) (more : List ℕ) → IsRequestHead h → h.blank ≡ []
+    → window_cut (print_request h ++ more)
+    ≡ cut_at (length (request_line_of h)) (length h.fields, length (print_section h.fields h.last))
+window_cut-request h more is none =
+    let n = length (print_request h ++ more) in
+    let first = request_line_of h in
+    let after = map print_field h.fields ++ print_end h.last ∷ whole_lines more in
+    ap (cut_of n) (whole_lines-request h more is none)
+    ∙ ap (cut_lines n (length first) (length after)) (section_of-section h.fields h.last (whole_lines more) is.fields)
+
+-- where so many lines make a whole head, they are at most a hundred, and it ends with them
+pub cut_at-whole : (first lines bytes len : ℕ) → cut_at first (lines, bytes) ≡ whole len → (lines ≤ 100) × (first + bytes ≡ len)
+cut_at-whole first lines bytes len e =
+    elim (cases_Bool (nat_lt 100 lines)) [
+      | inl many ↦ absurd (too (sym (cond-true (nat_lt 100 lines) too_large (whole (first + bytes)) many) ∙ e))
+      | inr few ↦ (ltb-false 100 lines few, inside (sym (cond-false (nat_lt 100 lines) too_large (whole (first + bytes)) few) ∙ e))
+    ]
+  where
+    too : too_large ≡ whole len → ⊥
+    too x = cc
+
+    inside : whole (first + bytes) ≡ whole len → first + bytes ≡ len
+    inside x = cc
+
+-- a text with no empty line in front begins with no line end
+pub filled_front : (e : LineEnd) (more : List ℕ) → empty_len (whole_lines (print_end e ++ more)) ≡ 0 → ⊥
+filled_front crlf more none = omega (arith, none)
+filled_front lf more none = omega (arith, none)
+
+pub no_blank : (blank : List LineEnd) (more : List ℕ) → empty_len (whole_lines (print_blank blank ++ more)) ≡ 0 → blank ≡ []
+no_blank [] more none = refl
+no_blank (e ∷ blank) more none =
+    absurd (filled_front e (print_blank blank ++ more)
+    (ap (λ t. empty_len (whole_lines t)) (sym (append_assoc (print_end e) (print_blank blank) more)) ∙ none))
+
+take_past : (n : ℕ) (xs ys : List ℕ) → length xs ≤ n → take n (xs ++ ys) ≡ xs ++ take (n - length xs) ys
+take_past n xs ys short =
+    let e : n ≡ length xs + (n - length xs) = omega arith in
+    ap (λ k. take k (xs ++ ys)) e ∙ take-append-add xs ys (n - length xs)
+
+-- A head that is read in the text of a whole head is all of it, and has at most a hundred fields.
+pub head_fills : (rest : List ℕ) (len : ℕ) (h : RequestHead) (r : List ℕ) → head_cut rest ≡ whole len → len ≤ 65536
+    → len ≤ length rest → skipped rest ≡ 0 → ReadsRequest (take len rest) h r → (r ≡ []) × (length h.fields ≤ 100)
+head_fills rest len h r cut limit fits none reads =
+    let front = take len rest in
+    let behind = drop len rest in
+    let split : rest ≡ print_request h ++ (r ++ behind) =
+    sym (take-append-drop len rest) ∙ ap (λ t. t ++ behind) reads.1 ∙ append_assoc (print_request h) r behind in
+    let blank : h.blank ≡ [] =
+    no_blank h.blank _ (ap (λ t. empty_len (whole_lines t)) (sym (split ∙ print_request-append h (r ++ behind))) ∙ none) in
+    let front_len : length front ≡ len = length-take-le len rest fits in
+    let whole_len : length front ≡ length (print_request h) + length r = ap length reads.1 ∙ length-append (print_request h) r in
+    let short : length (print_request h ++ r) ≤ 65536 = omega (arith, length-append (print_request h) r) in
+    let joined : rest ≡ (print_request h ++ r) ++ behind = split ∙ sym (append_assoc (print_request h) r behind) in
+    let more = take (65536 - length (print_request h ++ r)) behind in
+    let window : take 65536 rest ≡ print_request h ++ (r ++ more) =
+    ap (take 65536) joined ∙ take_past 65536 (print_request h ++ r) behind short
+    ∙ append_assoc (print_request h) r more in
+    let ends = cut_at-whole (length (request_line_of h)) (length h.fields) (length (print_section h.fields h.last)) len
+    (sym (ap window_cut window ∙ window_cut-request h (r ++ more) reads.0 blank) ∙ cut) in
+    (nil_from_length r (omega (arith, length-print_request h blank, ends.1)), ends.0)

@@ -1,0 +1,7 @@
+pub mod Examples
+pub mod FieldLemmas
+pub mod GrammarLines
+pub mod Growth
+pub mod LineLemmas
+pub mod Readings
+pub mod TargetLemmas

@@ -1,0 +1,9 @@
+pub mod Examples
+pub mod Fields
+pub mod Head
+pub mod Laws
+pub mod Length
+pub mod Lines
+pub mod Messages
+pub mod Target
+pub mod Wire

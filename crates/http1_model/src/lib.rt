@@ -1,0 +1,41 @@
+//! What the bytes of an HTTP/1.1 line spell: definitions, worked examples and laws.
+#![tactic(auto)]
+
+ghost use Rattle.http1_model.specs.Laws.{OneStep, StepStays, OneReading, ReadingGrows, RefusalStays};
+ghost use Rattle.http1_model.specs.Examples.{WorkedHead, LineExamples, FieldExamples, WireExamples, LengthExamples, TargetExamples, RefusalExamples};
+
+/// Where a head is due, a text spells one thing.
+pub fn one_step()
+    ensures { OneStep }
+{}
+
+/// A head or a refusal that a text spells, every longer text spells.
+pub fn step_stays()
+    ensures { StepStays }
+{}
+
+/// Two readings of one text are equal.
+pub fn one_reading()
+    ensures { OneReading }
+{}
+
+/// A reading of a longer text begins with the items of the shorter.
+pub fn reading_grows()
+    ensures { ReadingGrows }
+{}
+
+/// A refusal stays when more bytes come.
+pub fn refusal_stays()
+    ensures { RefusalStays }
+{}
+
+/// The definitions, worked on texts that are written out.
+pub fn worked_examples()
+    ensures head { WorkedHead }
+    ensures lines { LineExamples }
+    ensures fields { FieldExamples }
+    ensures wires { WireExamples }
+    ensures lengths { LengthExamples }
+    ensures targets { TargetExamples }
+    ensures refusals { RefusalExamples }
+{}
