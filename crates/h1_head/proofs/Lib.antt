@@ -1,0 +1,4 @@
+pub mod Lists
+pub mod Measured
+pub mod Origin
+pub mod Reading

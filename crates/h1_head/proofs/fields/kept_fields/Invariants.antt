@@ -1,0 +1,10 @@
+use Rattle.std.proofs.Common.{◌≡◌, ◌++◌, drop}
+use Rattle.http1_model.specs.Fields.{kept_among, kept_fields}
+use Rattle.h1_head.specs.Spans.{fields_at}
+use Rattle.h1_head.proofs.fields.kept_fields.Given as goal
+
+-- those kept so far, and those kept of what is left
+abbrev pub invariant-loop-span : goal.invariant-loop-span
+invariant-loop-span l =
+    l.kept ++ kept_among (fields_at l.text l.spans) (fields_at l.text (drop l.span-index l.spans))
+    ≡ kept_fields (fields_at l.text l.spans)

@@ -1,0 +1,24 @@
+-- The fields of a head, as the spans of its text say them.
+use Rattle.std.specs.Prelude.{◌≡◌, ℕ, List, [], ◌∷◌, map}
+use Rattle.httparse.specs.declared.spans.HeaderSpan.{HeaderSpan}
+use Rattle.httparse.specs.Spans.{header_bytes}
+use Rattle.http1_model.specs.Fields.{Pair}
+use Rattle.h1_head.specs.declared.fields.Lines as code
+use Rattle.h1_head.specs.declared.fields.Lines.TheVariants as lines
+
+-- the names and values that the spans cover
+abbrev pub fields_at : List ℕ → List HeaderSpan → List Pair
+fields_at text spans = map (header_bytes text) spans
+
+-- there are at least two
+pub record AreMany (values : List (List ℕ)) : Type 0 where
+  pub first : List ℕ
+  pub second : List ℕ
+  pub others : List (List ℕ)
+  pub are : values ≡ first ∷ second ∷ others
+
+-- these are the values of the lines
+abbrev pub AreLines : List (List ℕ) → code.Lines → Type 0
+AreLines values lines.Absent = values ≡ []
+AreLines values (lines.One value) = values ≡ value.now ∷ []
+AreLines values lines.Many = AreMany values

@@ -1,0 +1,153 @@
+// The length of a request's body.
+ghost use Rattle.std.specs.Prelude.{◌≡◌, ◌≤◌, ◌<◌, ◌∷◌, length, All, IfSome, option_copied};
+ghost use Rattle.httparse.specs.Spans.{IsHeaderWithin};
+ghost use Rattle.http1_model.specs.Fields.{members, values_of};
+ghost use Rattle.http1_model.specs.Length.{number_of, told_measure, request_measure};
+ghost use Rattle.std.specs.Prelude.{codes};
+ghost use Rattle.h1_head.specs.Measures.{rest_members, agreed, AreTold, seen_measure, seen_measure_result};
+ghost use Rattle.h1_head.specs.Spans.{fields_at};
+
+use crate::fields::{Lines, lines_of, pair_at};
+use crate::head::Length;
+use crate::members::{is_same_word, trim};
+use httparse::spans::HeaderSpan;
+use memchr::memchr;
+
+/// The largest length that a message may tell, 2^63 - 1.
+const LENGTH_LIMIT: u64 = 0x7fff_ffff_ffff_ffff;
+
+/// The length of a body, and the number that Content-Length told.
+#[derive(Clone, Copy)]
+pub struct Measure {
+    pub length: Length,
+    pub told: Option<u64>,
+}
+
+/// What the Content-Length lines tell.
+#[derive(Clone, Copy)]
+pub enum Told {
+    /// There is none.
+    Absent,
+    /// All their members write this number.
+    Number(u64),
+    /// They do not write one number.
+    Malformed,
+}
+
+/// The number that a member of Content-Length writes, up to 2^63 - 1 (RFC 9110 section 8.6).
+fn number(member: &[u8]) -> Option<u64>
+    ensures { result ≡ number_of member.now }
+{
+    if member.is_empty() {
+        return None;
+    }
+    let mut n: u64 = 0;
+    for byte in member {
+        if !byte.is_ascii_digit() {
+            return None;
+        }
+        let digit = u64::from(*byte - b'0');
+        if n > (LENGTH_LIMIT - digit) / 10 {
+            return None;
+        }
+        n = n * 10 + digit;
+    }
+    Some(n)
+}
+
+/// The first member of a list in a value, and what stands behind its comma.
+fn first_member(list: &[u8]) -> (&[u8], Option<&[u8]>)
+    ensures members { members list.now ≡ result.0.now ∷ rest_members (option_copied result.1) }
+    ensures shorter { IfSome (option_copied result.1) (λ rest. length rest < length list.now) }
+{
+    match memchr(b',', list) {
+        Some(at) => (trim(&list[..at]), Some(&list[at + 1..])),
+        None => (trim(list), None),
+    }
+}
+
+/// The one number that all members of a value write, and that is `known` where the members before wrote that.
+fn agreed(value: &[u8], known: Option<u64>) -> Option<u64>
+    ensures { result ≡ agreed known (members value.now) }
+{
+    let mut known = known;
+    let mut rest = Some(value);
+    while let Some(list) = rest {
+        let (member, after) = first_member(list);
+        let n = number(member)?;
+        if let Some(k) = known
+            && n != k
+        {
+            return None;
+        }
+        known = Some(n);
+        rest = after;
+    }
+    known
+}
+
+/// What the Content-Length lines of a head tell.
+fn told_length(text: &[u8], spans: &[HeaderSpan]) -> Told
+    requires { All (IsHeaderWithin (length text.now)) spans.now }
+    ensures { AreTold (values_of (codes "content-length") (fields_at text.now spans.now)) result }
+{
+    let mut told = None;
+    for span in spans {
+        let (name, value) = pair_at(text, span);
+        if is_same_word(name, b"content-length") {
+            told = agreed(value, told);
+            if told.is_none() {
+                return Told::Malformed;
+            }
+        }
+    }
+    match told {
+        Some(n) => Told::Number(n),
+        None => Told::Absent,
+    }
+}
+
+/// A body of so many bytes, which is none where they are 0.
+fn exact_measure(n: u64) -> Measure
+    ensures { told_measure (Some n) ≡ Ok (seen_measure result) }
+{
+    let length = if n == 0 {
+        Length::Nothing
+    } else {
+        Length::Exactly(n)
+    };
+    Measure {
+        length,
+        told: Some(n),
+    }
+}
+
+/// The length of a request's body, or the number of a refusal (RFC 9112 section 6).
+pub fn request_measure(text: &[u8], spans: &[HeaderSpan], minor: u8) -> Result<Measure, u16>
+    requires { All (IsHeaderWithin (length text.now)) spans.now }
+    ensures { seen_measure_result result ≡ request_measure minor
+        (values_of (codes "transfer-encoding") (fields_at text.now spans.now))
+        (values_of (codes "content-length") (fields_at text.now spans.now)) }
+{
+    let codings = lines_of(text, spans, b"transfer-encoding");
+    let told = told_length(text, spans);
+    match (codings, told) {
+        (Lines::Absent, Told::Absent) => Ok(Measure {
+            length: Length::Nothing,
+            told: None,
+        }),
+        (Lines::Absent, Told::Number(n)) => Ok(exact_measure(n)),
+        (Lines::One(coding), Told::Absent) if minor != 0 => {
+            if is_same_word(coding, b"chunked") {
+                Ok(Measure {
+                    length: Length::Chunked,
+                    told: None,
+                })
+            } else {
+                Err(501)
+            }
+        }
+        (Lines::Many, Told::Absent) if minor != 0 => Err(501),
+        _ => Err(400),
+    }
+}

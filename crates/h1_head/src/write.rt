@@ -1,0 +1,99 @@
+// From a head to the bytes that go up.
+ghost use Rattle.std.specs.Prelude.{◌≡◌, ◌++◌, IfOk, OnOk, OnErr};
+ghost use Rattle.http_header.specs.Token.{lowercase};
+ghost use Rattle.http1_model.specs.Fields.{is_listed};
+ghost use Rattle.http1_model.specs.Wire.{field_line, field_lines, is_left_out, sent_fields, request_line, version_text, via_of, wire_of};
+ghost use Rattle.h1_head.specs.Seen.{seen_head};
+
+use crate::fields::is_hop_name;
+use crate::head::Head;
+use crate::members::{is_same_word, lists};
+use gate_base::{Octets, OutOfMemory};
+use std::alloc::Global;
+
+/// Puts a field line at the end.
+fn push_field(out: &mut Octets, name: &[u8], value: &[u8]) -> Result<(), OutOfMemory>
+    ensures ok { OnOk result (out.new ≡ out.old ++ field_line (name.now, value.now)) }
+{
+    out.extend_from_slice(name)?;
+    out.extend_from_slice(b": ")?;
+    out.extend_from_slice(value)?;
+    out.extend_from_slice(b"\r\n")
+}
+
+/// Whether a Connection field of these lists a name, in any case of letters.
+fn is_listed_in(fields: &[(Octets, Octets)], name: &[u8]) -> bool
+    ensures { result ≡ is_listed (lowercase name.now) fields.now }
+{
+    for (field, value) in fields {
+        if is_same_word(field.as_slice(), b"connection") && lists(value.as_slice(), name) {
+            return true;
+        }
+    }
+    false
+}
+
+/// Whether a field of this name, in any case of letters, does not go out with these fields.
+fn is_left_out(fields: &[(Octets, Octets)], name: &[u8]) -> bool
+    ensures { result ≡ is_left_out fields.now (lowercase name.now) }
+{
+    is_hop_name(name) || is_listed_in(fields, name) || is_same_word(name, b"content-length")
+}
+
+/// Puts the lines of the fields that go out at the end, in order.
+fn push_fields(out: &mut Octets, fields: &[(Octets, Octets)]) -> Result<(), OutOfMemory>
+    ensures ok { OnOk result (out.new ≡ out.old ++ field_lines (sent_fields fields.now)) }
+{
+    for (name, value) in fields {
+        if !is_left_out(fields, name.as_slice()) {
+            push_field(out, name.as_slice(), value.as_slice())?;
+        }
+    }
+    Ok(())
+}
+
+/// Puts the request line at the end.
+fn push_request_line(out: &mut Octets, head: &Head) -> Result<(), OutOfMemory>
+    ensures ok { OnOk result (out.new ≡ out.old ++ request_line (seen_head head.now)) }
+{
+    out.extend_from_slice(head.method.as_slice())?;
+    out.extend_from_slice(b" ")?;
+    out.extend_from_slice(head.path.as_slice())?;
+    out.extend_from_slice(b" HTTP/1.1\r\n")
+}
+
+/// Puts the `via` line at the end.
+fn push_via(out: &mut Octets, minor: u8) -> Result<(), OutOfMemory>
+    ensures ok { OnOk result (out.new ≡ out.old ++ field_line (via_of minor)) }
+{
+    let value = if minor == 0 {
+        b"1.0 wasmgate"
+    } else {
+        b"1.1 wasmgate"
+    };
+    push_field(out, b"via", value)
+}
+
+/// The bytes of a request head as it is sent up: its request line, `host`, the fields that go out in order, `via`,
+/// `connection: close` and the empty line.
+pub fn request_bytes(alloc: Global, head: &Head) -> Result<Octets, OutOfMemory>
+    ensures { IfOk result (λ bytes. bytes ≡ wire_of (seen_head head.now)) }
+{
+    let mut out = Octets::new(alloc);
+    push_request_line(&mut out, head)?;
+    push_field(&mut out, b"host", head.authority.as_slice())?;
+    push_fields(&mut out, head.fields.as_slice())?;
+    push_via(&mut out, head.minor)?;
+    push_field(&mut out, b"connection", b"close")?;
+    out.extend_from_slice(b"\r\n")?;
+    Ok(out)
+}
+
+/// Puts the bytes of a request head at the end, all or none.
+pub fn write_request(alloc: Global, out: &mut Octets, head: &Head) -> Result<(), OutOfMemory>
+    ensures ok { OnOk result (out.new ≡ out.old ++ wire_of (seen_head head.now)) }
+    ensures err { OnErr result (out.new ≡ out.old) }
+{
+    let bytes = request_bytes(alloc, head)?;
+    out.extend_from_slice(bytes.as_slice())
+}
