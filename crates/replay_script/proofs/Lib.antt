@@ -1,0 +1,3 @@
+mod Spaces
+mod LineEnds
+mod Readings

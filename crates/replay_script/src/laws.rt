@@ -1,0 +1,33 @@
+// Laws of scripts, for every text.
+ghost use Rattle.std.specs.Prelude.{◌≡◌, ◌∷◌, ◌++◌, [], ℕ, List, codes};
+ghost use Rattle.gate_base.specs.declared.level.Level.TheVariants.{Info};
+ghost use Rattle.gate_io.specs.declared.event.Side.TheVariants.{Down, Up};
+ghost use Rattle.gate_io.specs.declared.event.Sent.TheVariants as sent;
+ghost use Rattle.replay_script.specs.declared.command.Command.{Command};
+ghost use Rattle.replay_script.specs.declared.command.Command.TheVariants as command;
+ghost use Rattle.replay_script.specs.Commands.{text_of};
+ghost use Rattle.replay_script.specs.Scripts.{script_text, IsScript, FirstBad};
+ghost use Rattle.replay_script.specs.Prints.{printed};
+
+/// A text is the script of one list of lines at most.
+pub fn one_reading()
+    ensures { (text : List ℕ) (a b : List Command) → IsScript text a → IsScript text b → a ≡ b }
+{}
+
+/// A text that is a script has no first line of no form, and any other has one at most.
+pub fn one_refusal()
+    ensures none { (text : List ℕ) (a : List Command) (n : ℕ) → IsScript text a → FirstBad text n → ⊥ }
+    ensures one { (text : List ℕ) (m n : ℕ) → FirstBad text m → FirstBad text n → m ≡ n }
+{}
+
+/// Worked lines: what a script of each kind of line is, and what is printed.
+pub fn worked_lines()
+    ensures open { text_of (command.Open 1) ≡ codes "open 1" }
+    ensures bytes { text_of (command.Bytes 4294967295 (0 ∷ 171 ∷ 255 ∷ [])) ≡ codes "bytes 4294967295 00abff" }
+    ensures end { text_of (command.End 12) ≡ codes "end 12" }
+    ensures script { script_text (command.Open 1 ∷ command.Stop ∷ []) ≡ codes "open 1\nstop\n" }
+    ensures empty { script_text [] ≡ [] }
+    ensures print { printed (sent.Connect 1 ∷ sent.Bytes 1 Up (71 ∷ []) ∷ sent.Bytes 1 Down (10 ∷ []) ∷ sent.Close 129 Down ∷ sent.Close 2 Up ∷ [])
+        ≡ codes "connect 1\nup 1 47\ndown 1 0a\nclose 129\nupclose 2\n" }
+    ensures log { printed (sent.Log Info (104 ∷ 105 ∷ []) ∷ []) ≡ codes "log info 6869\n" }
+{}

@@ -1,0 +1,17 @@
+//! Scripts of a replay: their text read as commands, and what a run sends printed as text.
+#![tactic(auto)]
+
+mod command;
+mod laws;
+mod print;
+mod read;
+mod split;
+mod words;
+
+pub use command::Command;
+pub use laws::{one_reading, one_refusal, worked_lines};
+pub use print::print_sent;
+pub use read::{ScriptEnd, read_script};
+
+#[cfg(test)]
+mod tests;
