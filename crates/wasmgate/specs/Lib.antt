@@ -1,0 +1,5 @@
+pub mod Turn
+pub mod Seen
+pub mod Replay
+pub mod Words
+pub mod Run

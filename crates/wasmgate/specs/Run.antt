@@ -1,0 +1,68 @@
+-- What a run of the program does: by its words, what the files tell, and its status.
+use Rattle.std.specs.Prelude.{◌≡◌, ◌⊎◌, ℕ, ◌<◌, ◌≤◌, List, [], ◌∷◌, ◌++◌, length, Option, None, Some, codes, decimal}
+use Rattle.std.specs.Option.{option_and_then, option_to_list}
+use Rattle.gate_io.specs.Told.{Gains, GainsFront, Rose}
+use Rattle.gate_io.specs.Paths.{told_at}
+use Rattle.replay_script.specs.declared.command.Command.{Command}
+use Rattle.replay_script.specs.Scripts.{IsScript, FirstBad}
+use Rattle.wasmgate.specs.declared.status.Status.{Status}
+use Rattle.wasmgate.specs.declared.status.Status.TheVariants.{Done, Usage, FileFault, OutFault, OutOfMemory, Script, NotBuilt}
+use Rattle.wasmgate.specs.Words.{script_path}
+use Rattle.wasmgate.specs.Replay.{Prints, PrintsFront}
+
+-- the number of a status, with which the process ends
+abbrev pub status_number : Status → ℕ
+status_number Done = 0
+status_number Usage = 2
+status_number FileFault = 5
+status_number OutFault = 7
+status_number OutOfMemory = 8
+status_number (Script line) = 9
+status_number (NotBuilt line) = 11
+
+-- the line of a status on standard error
+abbrev pub status_line : Status → List ℕ
+status_line Done = []
+status_line Usage = codes "wasmgate: usage\n"
+status_line FileFault = codes "wasmgate: file\n"
+status_line OutFault = codes "wasmgate: out\n"
+status_line OutOfMemory = codes "wasmgate: memory\n"
+status_line (Script line) = codes "wasmgate: script " ++ (decimal line ++ (10 ∷ []))
+status_line (NotBuilt line) = codes "wasmgate: notbuilt " ++ (decimal line ++ (10 ∷ []))
+
+-- how many bytes a script has at most: 64 MiB
+abbrev pub script_limit : ℕ
+script_limit = 67108864
+
+-- the text of the script that the words name, where the files tell it
+abbrev pub told_script : List (List ℕ) → Option (List (List ℕ × List ℕ)) → Option (List ℕ)
+told_script words files = option_and_then (told_at files) (script_path words)
+
+-- the paths that were read are a front of the one that the words name
+pub record ReadsNamed (old : Option (List (List ℕ))) (named : Option (List ℕ)) (new : Option (List (List ℕ))) : Type 0 where
+  pub paths : List (List ℕ)
+  pub rest : List (List ℕ)
+  pub named_is : option_to_list named ≡ paths ++ rest
+  pub gained : Gains old paths new
+
+-- a script is refused at this line: at line 0 where it is too long, else at the first line of no form
+abbrev pub IsRefusedAt : List ℕ → ℕ → Type 0
+IsRefusedAt text line = ((script_limit < length text) × (line ≡ 0)) ⊎ ((length text ≤ script_limit) × FirstBad text line)
+
+-- the text is a script, and all that its lines send was printed, or what those before the first line not built send
+pub record IsReplayed (text : List ℕ) (not_built : Option ℕ) (old new : Option (List ℕ)) : Type 0 where
+  pub commands : List Command
+  pub short : length text ≤ script_limit
+  pub script : IsScript text commands
+  pub prints : Prints commands not_built old new
+
+-- the text is a script, and a front of what its lines send was printed
+pub record IsCutShort (text : List ℕ) (old new : Option (List ℕ)) : Type 0 where
+  pub commands : List Command
+  pub short : length text ≤ script_limit
+  pub script : IsScript text commands
+  pub prints : PrintsFront commands old new
+
+-- the line of a status was written, or a front of it where the faults rose
+abbrev pub TakesLine : Option (List ℕ) → List ℕ → Option (List ℕ) → ℕ → ℕ → Type 0
+TakesLine old line new faults_before faults_after = Gains old line new ⊎ (GainsFront old line new × Rose faults_before faults_after)
