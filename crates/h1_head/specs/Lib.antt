@@ -1,4 +1,5 @@
 pub mod Cuts
+pub mod Held
 pub mod Measures
 pub mod Seen
 pub mod Spans

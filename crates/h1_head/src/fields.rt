@@ -1,9 +1,9 @@
 // The fields of a head, as spans of its text.
-ghost use Rattle.std.specs.Prelude.{◌≡◌, ◌≤◌, [], ◌∷◌, ◌++◌, length, All, IfOk, IfSome, IsTrue};
+ghost use Rattle.std.specs.Prelude.{◌≡◌, length, All, IfOk};
+ghost use Rattle.http1_model.specs.Fields.{is_listed, is_hop_name, values_of, kept_fields};
 ghost use Rattle.http_header.specs.Token.{lowercase};
 ghost use Rattle.httparse.specs.Spans.{IsHeaderWithin, header_bytes};
-ghost use Rattle.http1_model.specs.Fields.{is_named, is_listed, is_hop_name, values_of, kept_fields};
-ghost use Rattle.h1_head.specs.Spans.{fields_at, AreLines};
+ghost use Rattle.h1_head.specs.Spans.{AreLines};
 
 use crate::members::{is_same_word, lists};
 use gate_base::{Octets, OutOfMemory, Pairs};
@@ -18,47 +18,12 @@ pub enum Lines<'t> {
     Many,
 }
 
-/// The name and the value that a header's spans cover.
-pub fn pair_at<'t>(text: &'t [u8], span: &HeaderSpan) -> (&'t [u8], &'t [u8])
-    requires { IsHeaderWithin (length text.now) span.now }
-    ensures { (result.0.now, result.1.now) ≡ header_bytes text.now span.now }
-{
-    (span.name.of(text), span.value.of(text))
-}
-
-/// The field lines of a name, which is in lower case.
-pub fn lines_of<'t>(text: &'t [u8], spans: &[HeaderSpan], name: &[u8]) -> Lines<'t>
-    requires { All (IsHeaderWithin (length text.now)) spans.now }
-    ensures { AreLines (values_of (lowercase name.now) (fields_at text.now spans.now)) result }
-{
-    let mut found: Option<&'t [u8]> = None;
-    for span in spans {
-        let (field, value) = pair_at(text, span);
-        if is_same_word(field, name) {
-            if found.is_some() {
-                return Lines::Many;
-            }
-            found = Some(value);
-        }
-    }
-    match found {
-        Some(value) => Lines::One(value),
-        None => Lines::Absent,
-    }
-}
-
-/// Whether a Connection field lists a name, in any case of letters (RFC 9110 section 7.6.1).
-pub fn is_listed(text: &[u8], spans: &[HeaderSpan], name: &[u8]) -> bool
-    requires { All (IsHeaderWithin (length text.now)) spans.now }
-    ensures { result ≡ is_listed (lowercase name.now) (fields_at text.now spans.now) }
-{
-    for span in spans {
-        let (field, value) = pair_at(text, span);
-        if is_same_word(field, b"connection") && lists(value, name) {
-            return true;
-        }
-    }
-    false
+/// The fields of a head: its text, and the spans of their names and values.
+#[derive(Clone, Copy)]
+pub struct Fields<'t> {
+    pub text: &'t [u8],
+    pub spans: &'t [HeaderSpan],
+    pub ghost within: { All (IsHeaderWithin (length text.now)) spans.now },
 }
 
 /// Whether a name, in any case of letters, is that of a field that never passes, or `host`.
@@ -82,17 +47,61 @@ fn field(alloc: Global, name: &[u8], value: &[u8]) -> Result<(Octets, Octets), O
     Ok((name, Octets::from_slice(alloc, value)?))
 }
 
-/// The fields that are kept, in order, with their names in lower case.
-pub fn kept_fields(alloc: Global, text: &[u8], spans: &[HeaderSpan]) -> Result<Pairs, OutOfMemory>
-    requires { All (IsHeaderWithin (length text.now)) spans.now }
-    ensures { IfOk result (λ kept. kept ≡ kept_fields (fields_at text.now spans.now)) }
-{
-    let mut kept = Pairs::new(alloc);
-    for span in spans {
-        let (name, value) = pair_at(text, span);
-        if !is_hop_name(name) && !is_listed(text, spans, name) {
-            kept.push(field(alloc, name, value)?)?;
+impl<'t> Fields<'t> {
+    ghost use Rattle.h1_head.specs.Held.{fields_of};
+
+    /// The name and the value that a field's spans cover.
+    pub fn pair_at(&self, span: &HeaderSpan) -> (&'t [u8], &'t [u8])
+        requires { IsHeaderWithin (length self.now.text.now) span.now }
+        ensures { (result.0.now, result.1.now) ≡ header_bytes self.now.text.now span.now }
+    {
+        (span.name.of(self.text), span.value.of(self.text))
+    }
+
+    /// The field lines of a name, in any case of letters.
+    pub fn lines_of(&self, name: &[u8]) -> Lines<'t>
+        ensures { AreLines (values_of (lowercase name.now) (fields_of self.now)) result }
+    {
+        let mut found: Option<&'t [u8]> = None;
+        for span in self.spans {
+            let (field, value) = self.pair_at(span);
+            if is_same_word(field, name) {
+                if found.is_some() {
+                    return Lines::Many;
+                }
+                found = Some(value);
+            }
+        }
+        match found {
+            Some(value) => Lines::One(value),
+            None => Lines::Absent,
         }
     }
-    Ok(kept)
+
+    /// Whether a Connection field lists a name, in any case of letters (RFC 9110 section 7.6.1).
+    pub fn is_listed(&self, name: &[u8]) -> bool
+        ensures { result ≡ is_listed (lowercase name.now) (fields_of self.now) }
+    {
+        for span in self.spans {
+            let (field, value) = self.pair_at(span);
+            if is_same_word(field, b"connection") && lists(value, name) {
+                return true;
+            }
+        }
+        false
+    }
+
+    /// The fields that are kept, in order, with their names in lower case.
+    pub fn kept(&self, alloc: Global) -> Result<Pairs, OutOfMemory>
+        ensures { IfOk result (λ kept. kept ≡ kept_fields (fields_of self.now)) }
+    {
+        let mut kept = Pairs::new(alloc);
+        for span in self.spans {
+            let (name, value) = self.pair_at(span);
+            if !is_hop_name(name) && !self.is_listed(name) {
+                kept.push(field(alloc, name, value)?)?;
+            }
+        }
+        Ok(kept)
+    }
 }

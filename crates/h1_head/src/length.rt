@@ -1,16 +1,13 @@
 // The length of a request's body.
-ghost use Rattle.std.specs.Prelude.{◌≡◌, ◌≤◌, ◌<◌, ◌∷◌, length, All, IfSome, option_copied};
-ghost use Rattle.httparse.specs.Spans.{IsHeaderWithin};
+ghost use Rattle.std.specs.Prelude.{◌≡◌, ◌<◌, ◌∷◌, length, IfSome, option_copied, codes};
 ghost use Rattle.http1_model.specs.Fields.{members, values_of};
 ghost use Rattle.http1_model.specs.Length.{number_of, told_measure, request_measure};
-ghost use Rattle.std.specs.Prelude.{codes};
+ghost use Rattle.h1_head.specs.Held.{fields_of};
 ghost use Rattle.h1_head.specs.Measures.{rest_members, agreed, AreTold, seen_measure, seen_measure_result};
-ghost use Rattle.h1_head.specs.Spans.{fields_at};
 
-use crate::fields::{Lines, lines_of, pair_at};
+use crate::fields::{Fields, Lines};
 use crate::head::Length;
 use crate::members::{is_same_word, trim};
-use httparse::spans::HeaderSpan;
 use memchr::memchr;
 
 /// The largest length that a message may tell, 2^63 - 1.
@@ -87,13 +84,12 @@ fn agreed(value: &[u8], known: Option<u64>) -> Option<u64>
 }
 
 /// What the Content-Length lines of a head tell.
-fn told_length(text: &[u8], spans: &[HeaderSpan]) -> Told
-    requires { All (IsHeaderWithin (length text.now)) spans.now }
-    ensures { AreTold (values_of (codes "content-length") (fields_at text.now spans.now)) result }
+fn told_length(fields: &Fields) -> Told
+    ensures { AreTold (values_of (codes "content-length") (fields_of fields.now)) result }
 {
     let mut told = None;
-    for span in spans {
-        let (name, value) = pair_at(text, span);
+    for span in fields.spans {
+        let (name, value) = fields.pair_at(span);
         if is_same_word(name, b"content-length") {
             told = agreed(value, told);
             if told.is_none() {
@@ -123,14 +119,13 @@ fn exact_measure(n: u64) -> Measure
 }
 
 /// The length of a request's body, or the number of a refusal (RFC 9112 section 6).
-pub fn request_measure(text: &[u8], spans: &[HeaderSpan], minor: u8) -> Result<Measure, u16>
-    requires { All (IsHeaderWithin (length text.now)) spans.now }
+pub fn request_measure(fields: &Fields, minor: u8) -> Result<Measure, u16>
     ensures { seen_measure_result result ≡ request_measure minor
-        (values_of (codes "transfer-encoding") (fields_at text.now spans.now))
-        (values_of (codes "content-length") (fields_at text.now spans.now)) }
+        (values_of (codes "transfer-encoding") (fields_of fields.now))
+        (values_of (codes "content-length") (fields_of fields.now)) }
 {
-    let codings = lines_of(text, spans, b"transfer-encoding");
-    let told = told_length(text, spans);
+    let codings = fields.lines_of(b"transfer-encoding");
+    let told = told_length(fields);
     match (codings, told) {
         (Lines::Absent, Told::Absent) => Ok(Measure {
             length: Length::Nothing,

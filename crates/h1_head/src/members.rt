@@ -1,8 +1,8 @@
 // Values, and the members of a list in a value.
-ghost use Rattle.std.specs.Prelude.{◌≡◌, ◌≤◌, ◌==◌, length, bytes_eq};
+ghost use Rattle.std.specs.Prelude.{◌≡◌, bytes_eq};
+ghost use Rattle.http1_model.specs.Fields.{lists};
 ghost use Rattle.http_header.specs.Token.{lowercase};
 ghost use Rattle.httparse.specs.Grammar.{is_ows, trim_ows};
-ghost use Rattle.http1_model.specs.Fields.{lists};
 
 /// Whether a byte is a space or a tab.
 fn is_blank(byte: u8) -> bool

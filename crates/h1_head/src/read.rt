@@ -1,23 +1,21 @@
 // From a text to the head that it spells.
-ghost use Rattle.std.specs.Prelude.{◌≡◌, ◌≤◌, ◌+◌, ℕ, List, codes, length, take, All, IfOk, IfSome, IfNone, option_copied};
-ghost use Rattle.httparse.specs.Grammar.{RequestHead, ReadsRequest};
-ghost use Rattle.httparse.specs.Spans.{IsHeaderWithin, IsRequestWithin, IsRequestOf};
+ghost use Rattle.std.specs.List.{list_all};
+ghost use Rattle.std.specs.Prelude.{◌≡◌, ◌≤◌, ℕ, List, codes, length, take, IfOk, IfSome, IfNone, option_copied};
 ghost use Rattle.http1_model.specs.Fields.{values_of};
 ghost use Rattle.http1_model.specs.Head.{host_of, head_of, IsTargeted, IsJudged, IsAnswer, SpellsStep};
 ghost use Rattle.http1_model.specs.Lines.{head_cut, head_limit, skipped, whole};
-ghost use Rattle.http1_model.specs.Lines.{head_cut, skipped, whole};
+ghost use Rattle.http1_model.specs.Target.{is_visible};
+ghost use Rattle.httparse.specs.Grammar.{RequestHead, ReadsRequest};
+ghost use Rattle.httparse.specs.Spans.{IsRequestWithin, IsRequestOf};
+ghost use Rattle.h1_head.specs.Held.{fields_of};
 ghost use Rattle.h1_head.specs.Measures.{seen_measure};
 ghost use Rattle.h1_head.specs.Seen.{seen_head, seen_answer, seen_step, IsHost, UsesWithin};
-ghost use Rattle.h1_head.specs.Spans.{fields_at};
 ghost use Rattle.h1_head.specs.Targets.{seen_target};
-ghost use Rattle.http1_model.specs.Target.{is_visible};
-ghost use Rattle.std.specs.List.{list_all};
 
-use crate::fields::{Lines, is_listed, kept_fields, lines_of};
+use crate::fields::{Fields, Lines};
 use crate::head::{Head, HeadStep, Kind};
 use crate::length::{Measure, request_measure};
 use crate::lines::{Cut, head_cut, skip_empty_lines};
-use crate::members::is_same_word;
 use crate::target::{Target, is_visible, target_of};
 use gate_base::{Octets, OutOfMemory};
 use httparse::Status;
@@ -39,11 +37,10 @@ fn is_all_visible(value: &[u8]) -> bool
 
 /// The value of Host, or nothing in a head of HTTP/1.0 without one; none where the Host lines are wrong
 /// (RFC 9112 section 3.2).
-fn host_value<'t>(text: &'t [u8], spans: &[HeaderSpan], minor: u8) -> Option<&'t [u8]>
-    requires { All (IsHeaderWithin (length text.now)) spans.now }
-    ensures { IsHost minor (values_of (codes "host") (fields_at text.now spans.now)) (option_copied result) }
+fn host_value<'t>(fields: &Fields<'t>, minor: u8) -> Option<&'t [u8]>
+    ensures { IsHost minor (values_of (codes "host") (fields_of fields.now)) (option_copied result) }
 {
-    match lines_of(text, spans, b"host") {
+    match fields.lines_of(b"host") {
         Lines::Absent if minor == 0 => Some(&[]),
         Lines::One(host) if is_all_visible(host) => Some(host),
         _ => None,
@@ -55,16 +52,14 @@ fn head_of(
     alloc: Global,
     method: &[u8],
     minor: u8,
-    text: &[u8],
-    spans: &[HeaderSpan],
+    fields: &Fields,
     target: Target,
     measure: Measure,
     host: &[u8],
 ) -> Result<Head, OutOfMemory>
-    requires within { All (IsHeaderWithin (length text.now)) spans.now }
-    requires host_is { host.now ≡ host_of (values_of (codes "host") (fields_at text.now spans.now)) }
+    requires { host.now ≡ host_of (values_of (codes "host") (fields_of fields.now)) }
     ensures { IfOk result (λ head.
-        seen_head head ≡ head_of method.now minor (fields_at text.now spans.now) (seen_target target) (seen_measure measure)) }
+        seen_head head ≡ head_of method.now minor (fields_of fields.now) (seen_target target) (seen_measure measure)) }
 {
     let Target {
         form,
@@ -83,10 +78,10 @@ fn head_of(
         authority,
         path,
         minor,
-        fields: kept_fields(alloc, text, spans)?,
+        fields: fields.kept(alloc)?,
         length: measure.length,
         told: measure.told,
-        close: is_listed(text, spans, b"close"),
+        close: fields.is_listed(b"close"),
     })
 }
 
@@ -96,21 +91,19 @@ fn targeted(
     method: &[u8],
     target: &[u8],
     minor: u8,
-    text: &[u8],
-    spans: &[HeaderSpan],
+    fields: &Fields,
     host: &[u8],
 ) -> Result<Answer, OutOfMemory>
-    requires within { All (IsHeaderWithin (length text.now)) spans.now }
-    requires host_is { host.now ≡ host_of (values_of (codes "host") (fields_at text.now spans.now)) }
+    requires { host.now ≡ host_of (values_of (codes "host") (fields_of fields.now)) }
     ensures { IfOk result (λ answer.
-        IsTargeted method.now target.now minor (fields_at text.now spans.now) (seen_answer answer)) }
+        IsTargeted method.now target.now minor (fields_of fields.now) (seen_answer answer)) }
 {
     let Some(target) = target_of(alloc, method, target)? else {
         return Ok(Err(400));
     };
-    match request_measure(text, spans, minor) {
+    match request_measure(fields, minor) {
         Ok(measure) => {
-            let head = head_of(alloc, method, minor, text, spans, target, measure, host)?;
+            let head = head_of(alloc, method, minor, fields, target, measure, host)?;
             Ok(Ok(head))
         }
         Err(number) => Ok(Err(number)),
@@ -123,18 +116,16 @@ fn judged(
     method: &[u8],
     target: &[u8],
     minor: u8,
-    text: &[u8],
-    spans: &[HeaderSpan],
+    fields: &Fields,
 ) -> Result<Answer, OutOfMemory>
-    requires { All (IsHeaderWithin (length text.now)) spans.now }
     ensures { IfOk result (λ answer.
-        IsJudged method.now target.now minor (fields_at text.now spans.now) (seen_answer answer)) }
+        IsJudged method.now target.now minor (fields_of fields.now) (seen_answer answer)) }
 {
     if method == b"CONNECT".as_slice() {
         return Ok(Err(501));
     }
-    match host_value(text, spans, minor) {
-        Some(host) => targeted(alloc, method, target, minor, text, spans, host),
+    match host_value(fields, minor) {
+        Some(host) => targeted(alloc, method, target, minor, fields, host),
         None => Ok(Err(400)),
     }
 }
@@ -168,8 +159,10 @@ fn answer(alloc: Global, text: &[u8], len: usize) -> Result<Answer, OutOfMemory>
             head.method.of(front),
             head.path.of(front),
             head.version,
-            front,
-            &headers[..head.headers],
+            &Fields {
+                text: front,
+                spans: &headers[..head.headers],
+            },
         ),
         None => Ok(Err(400)),
     }

@@ -1,9 +1,9 @@
 // What a request's target gives.
-ghost use Rattle.std.specs.Prelude.{◌≡◌, ◌<◌, ◌+◌, ◌^◌, ◌==◌, ◌&&◌, length, drop, slice_index, IfOk};
 ghost use Rattle.std.specs.List.{list_all};
+ghost use Rattle.std.specs.Prelude.{◌≡◌, ◌<◌, ◌+◌, ◌^◌, ◌==◌, ◌&&◌, length, drop, slice_index, IfOk};
 ghost use Rattle.http1_model.specs.Target.{is_visible, is_path_value_byte, is_path_value, is_options, scheme_of, origin_target, absolute_path, is_absolute_path, absolute_target, target_of, IsTargetOf};
-ghost use Rattle.http_uri.specs.Uri.{uri_scheme, uri_authority};
 ghost use Rattle.http_uri.specs.ByteClasses.{slash, question_mark, split_once_front, split_once_back};
+ghost use Rattle.http_uri.specs.Uri.{uri_scheme, uri_authority};
 ghost use Rattle.h1_head.specs.Targets.{seen_scheme_option, seen_target_option, query_passes, is_plain_path_byte, is_plain_query_byte, is_plain_origin};
 
 use crate::head::{Scheme, TargetForm};

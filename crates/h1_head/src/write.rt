@@ -1,8 +1,8 @@
 // From a head to the bytes that go up.
 ghost use Rattle.std.specs.Prelude.{◌≡◌, ◌++◌, IfOk, OnOk, OnErr};
-ghost use Rattle.http_header.specs.Token.{lowercase};
 ghost use Rattle.http1_model.specs.Fields.{is_listed};
-ghost use Rattle.http1_model.specs.Wire.{field_line, field_lines, is_left_out, sent_fields, request_line, version_text, via_of, wire_of};
+ghost use Rattle.http1_model.specs.Wire.{field_line, field_lines, is_left_out, sent_fields, request_line, via_of, wire_of};
+ghost use Rattle.http_header.specs.Token.{lowercase};
 ghost use Rattle.h1_head.specs.Seen.{seen_head};
 
 use crate::fields::is_hop_name;

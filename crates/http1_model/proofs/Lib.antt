@@ -4,4 +4,5 @@ pub mod GrammarLines
 pub mod Growth
 pub mod LineLemmas
 pub mod Readings
+pub mod Received
 pub mod TargetLemmas

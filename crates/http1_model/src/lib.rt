@@ -1,8 +1,8 @@
 //! What the bytes of an HTTP/1.1 line spell: definitions, worked examples and laws.
 #![tactic(auto)]
 
-ghost use Rattle.http1_model.specs.Laws.{OneStep, StepStays, OneReading, ReadingGrows, RefusalStays};
 ghost use Rattle.http1_model.specs.Examples.{WorkedHead, LineExamples, FieldExamples, WireExamples, LengthExamples, TargetExamples, RefusalExamples};
+ghost use Rattle.http1_model.specs.Laws.{OneStep, StepStays, OneReading, ReadingGrows, RefusalStays, ToldAsReceived, ValuesAccepted, WholeFits};
 
 /// Where a head is due, a text spells one thing.
 pub fn one_step()
@@ -27,6 +27,21 @@ pub fn reading_grows()
 /// A refusal stays when more bytes come.
 pub fn refusal_stays()
     ensures { RefusalStays }
+{}
+
+/// A head that is taken in tells whether a length field was received, and whether its target begins with `/`.
+pub fn told_as_received()
+    ensures { ToldAsReceived }
+{}
+
+/// Every value that is read is one that a header map takes.
+pub fn values_accepted()
+    ensures { ValuesAccepted }
+{}
+
+/// A whole head is a front of its text, of 65,536 bytes at most.
+pub fn whole_fits()
+    ensures { WholeFits }
 {}
 
 /// The definitions, worked on texts that are written out.

@@ -15,25 +15,25 @@ pub returns-then-is_none : goal.returns-then-is_none
 returns-then-is_none c =
     let name = codes "content-length" in
     let i = c.loop-span.span-index in
-    let rest = fields_at c.args.text.now (drop i c.args.spans.now) in
-    let fs = fields_at c.args.text.now (drop (i + 1) c.args.spans.now) in
+    let rest = fields_at c.args.fields.now.text.now (drop i c.args.fields.now.spans.now) in
+    let fs = fields_at c.args.fields.now.text.now (drop (i + 1) c.args.fields.now.spans.now) in
     let f : Pair = (c.pair_at.result.0.now, c.pair_at.result.1.now) in
-    let here : rest ≡ f ∷ fs = fields_at-more c.args.text.now c.args.spans.now i _ c.loop-span-test.true ∙ ap (λ (p : Pair). p ∷ fs) (sym c.pair_at.ensures) in
+    let here : rest ≡ f ∷ fs = fields_at-more c.args.fields.now.text.now c.args.fields.now.spans.now i _ c.loop-span-test.true ∙ ap (λ (p : Pair). p ∷ fs) (sym c.pair_at.ensures) in
     let named : is_named name f ≡ true = sym c.if-is_same_word.ensures in
     let line = told-line name f fs rest c.loop-span.told c.agreed-told.result here named c.agreed-told.ensures in
     record {
       some = some_line c.loop-span.told (values_of name rest) _ c.loop-span.invariant.none c.loop-span.invariant.some (values_of-some name f fs rest here named);
-      one = sym (agreed-first (flat_map members (values_of name (fields_at c.args.text.now c.args.spans.now)))) ∙ told-none c.agreed-told.result (values_of name fs) _ c.if-is_none.ensures (sym line ∙ c.loop-span.invariant.agrees);
+      one = sym (agreed-first (flat_map members (values_of name (fields_at c.args.fields.now.text.now c.args.fields.now.spans.now)))) ∙ told-none c.agreed-told.result (values_of name fs) _ c.if-is_none.ensures (sym line ∙ c.loop-span.invariant.agrees);
     }
 
 pub loop-span-preserved : goal.loop-span-preserved
 loop-span-preserved c =
     let name = codes "content-length" in
     let i = c.loop-span.span-index in
-    let rest = fields_at c.args.text.now (drop i c.args.spans.now) in
-    let fs = fields_at c.args.text.now (drop (i + 1) c.args.spans.now) in
+    let rest = fields_at c.args.fields.now.text.now (drop i c.args.fields.now.spans.now) in
+    let fs = fields_at c.args.fields.now.text.now (drop (i + 1) c.args.fields.now.spans.now) in
     let f : Pair = (c.pair_at.result.0.now, c.pair_at.result.1.now) in
-    let here : rest ≡ f ∷ fs = fields_at-more c.args.text.now c.args.spans.now i _ c.loop-span-test.true ∙ ap (λ (p : Pair). p ∷ fs) (sym c.pair_at.ensures) in
+    let here : rest ≡ f ∷ fs = fields_at-more c.args.fields.now.text.now c.args.fields.now.spans.now i _ c.loop-span-test.true ∙ ap (λ (p : Pair). p ∷ fs) (sym c.pair_at.ensures) in
     elim c.if-is_same_word.branch [
       | then-is_same_word+else-is_none w ↦
           let named : is_named name f ≡ true = sym w.if-is_same_word.ensures in
@@ -49,7 +49,7 @@ loop-span-preserved c =
 pub returns-in-Some : goal.returns-in-Some
 returns-in-Some c =
     let name = codes "content-length" in
-    let rest = values_of name (fields_at c.args.text.now (drop c.loop-span.span-index c.args.spans.now)) in
-    let none : rest ≡ [] = ap (λ (s : List HeaderSpan). values_of name (fields_at c.args.text.now s)) (drop_all c.loop-span.span-index c.args.spans.now c.loop-span-test.false) in
+    let rest = values_of name (fields_at c.args.fields.now.text.now (drop c.loop-span.span-index c.args.fields.now.spans.now)) in
+    let none : rest ≡ [] = ap (λ (s : List HeaderSpan). values_of name (fields_at c.args.fields.now.text.now s)) (drop_all c.loop-span.span-index c.args.fields.now.spans.now c.loop-span-test.false) in
     let kept = rw c.in-Some.is at c.loop-span.invariant in
     told-end c.in-Some.n rest _ none kept.agrees kept.some

@@ -10,8 +10,8 @@ use Rattle.h1_head.proofs.length.told_length.Given as goal
 abbrev pub invariant-loop-span : goal.invariant-loop-span
 invariant-loop-span l =
     let name = codes "content-length" in
-    let rest = values_of name (fields_at l.text (drop l.span-index l.spans)) in
-    let all = values_of name (fields_at l.text l.spans) in
+    let rest = values_of name (fields_at l.fields.text.now (drop l.span-index l.fields.spans.now)) in
+    let all = values_of name (fields_at l.fields.text.now l.fields.spans.now) in
     record {
       agrees : agreed l.told (flat_map members rest) ≡ agreed None (flat_map members all);
       none : IfNone l.told (rest ≡ all);

@@ -2,10 +2,10 @@ use Rattle.std.proofs.Common.{◌≡◌, ◌++◌, drop, option_to_list, option_
 use Rattle.http_header.specs.Token.{lowercase}
 use Rattle.http1_model.specs.Fields.{values_of}
 use Rattle.h1_head.specs.Spans.{fields_at}
-use Rattle.h1_head.proofs.fields.lines_of.Given as goal
+use Rattle.h1_head.proofs.fields.Fields.lines_of.Given as goal
 
 -- the value so far, and those of what is left
 abbrev pub invariant-loop-span : goal.invariant-loop-span
 invariant-loop-span l =
-    option_to_list (option_copied l.found) ++ values_of (lowercase l.name) (fields_at l.text (drop l.span-index l.spans))
-    ≡ values_of (lowercase l.name) (fields_at l.text l.spans)
+    option_to_list (option_copied l.found) ++ values_of (lowercase l.name) (fields_at l.self.text.now (drop l.span-index l.self.spans.now))
+    ≡ values_of (lowercase l.name) (fields_at l.self.text.now l.self.spans.now)
