@@ -1,5 +1,5 @@
 -- Answers of parts, as answers of the whole.
-use Rattle.std.proofs.Common.{◌≡◌, ℕ, Bool, true, Option, None, Some, is_some, IfSome, Result, Ok, Err, IfOk, OnErr, refl, List, subst}
+use Rattle.std.proofs.Common.{◌≡◌, ℕ, true, Option, None, Some, is_some, IfSome, Result, Ok, Err, IfOk, OnErr, refl, List, subst}
 use Rattle.h1_head.specs.declared.head.HeadStep.{HeadStep}
 use Rattle.h1_head.specs.Seen.{seen_step}
 use Rattle.http1_model.specs.Head.{SpellsStep}

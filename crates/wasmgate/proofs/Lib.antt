@@ -1,2 +1,7 @@
 mod Answered
 mod Progresses
+mod Once
+mod OpenLines
+mod LineReads
+mod Cuts
+mod Alone

@@ -3,3 +3,4 @@ pub mod Seen
 pub mod Replay
 pub mod Words
 pub mod Run
+pub mod Laws

@@ -1,5 +1,5 @@
 -- What a run of the program does: by its words, what the files tell, and its status.
-use Rattle.std.specs.Prelude.{◌≡◌, ◌⊎◌, ℕ, ◌<◌, ◌≤◌, List, [], ◌∷◌, ◌++◌, length, Option, None, Some, codes, decimal}
+use Rattle.std.specs.Prelude.{◌≡◌, ◌⊎◌, ℕ, ◌<◌, ◌≤◌, List, [], ◌∷◌, ◌++◌, length, Option, codes, decimal}
 use Rattle.std.specs.Option.{option_and_then, option_to_list}
 use Rattle.gate_io.specs.Told.{Gains, GainsFront, Rose}
 use Rattle.gate_io.specs.Paths.{told_at}

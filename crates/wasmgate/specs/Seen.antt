@@ -1,5 +1,5 @@
 -- What the values of this crate are, and where a line stands.
-use Rattle.std.specs.Prelude.{◌≡◌, ℕ, ◌<◌, Bool, true, List, length, Option, None, Some, slice_index_or, remove}
+use Rattle.std.specs.Prelude.{◌≡◌, ℕ, ◌<◌, true, length, Option, None, Some, slice_index_or, remove}
 use Rattle.wasmgate.specs.declared.line.Line.{Line}
 use Rattle.wasmgate.specs.declared.turn.Turned.{Turned}
 use Rattle.wasmgate.specs.declared.turn.Turned.TheVariants.{Went, NotBuilt}

@@ -7,7 +7,7 @@ use Rattle.gate_io.specs.declared.event.Sent.{Sent}
 use Rattle.gate_io.specs.declared.event.Sent.TheVariants as sent
 use Rattle.gate_io.specs.declared.event.Side.TheVariants.{Down, Up}
 use Rattle.http1_model.specs.Head.{Head, HeadStep, SpellsStep, is_origin, has_length_field}
-use Rattle.http1_model.specs.Messages.{Item, request, Step, item, stop, rest, over, refusal, beyond, head, StepsTo, step_from}
+use Rattle.http1_model.specs.Messages.{request, Step, item, stop, rest, over, refusal, beyond, head, StepsTo, step_from}
 use Rattle.http1_model.specs.Wire.{wire_of}
 use Rattle.wasmgate.specs.declared.line.Line.{Line}
 

@@ -1,8 +1,8 @@
-use Rattle.std.proofs.Common.{◌≡◌, ℕ, ◌+◌, ◌≤◌, Ok, true, false, ap, take, drop, suc, sym, subst, length, List, arith, ◌∙◌}
+use Rattle.std.proofs.Common.{◌≡◌, ℕ, ◌+◌, Ok, ap, take, drop, suc, sym, subst, length, List, arith, ◌∙◌}
 use Rattle.std.proofs.lemmas.List.{take-append-drop, length-take-le}
 use Rattle.gate_io.specs.Told.{Gains, GainsFront, gains_none}
 use Rattle.replay_script.specs.declared.command.Command.{Command}
-use Rattle.wasmgate.proofs.Progresses.{Progress, progress_cut, progress_done, progress_flushed, progress_on, progress_stops, next_front, split_next}
+use Rattle.wasmgate.proofs.Progresses.{Progress, progress_cut, progress_flushed, progress_on, progress_stops, next_front, split_next}
 use Rattle.wasmgate.proofs.replay.play.Goals as goal
 use Rattle.wasmgate.proofs.replay.play.Goals.{then-len-ge-MAX_PENDING+in_ok-write_whole-2, else-len-ge-MAX_PENDING}
 

@@ -1,7 +1,3 @@
-use Rattle.std.proofs.Common.{ap, sym, ◌∙◌, ◌++◌, List, ℕ, take, append_assoc}
-use Rattle.std.proofs.lemmas.List.{append-nil, take_more}
-use Rattle.gate_io.specs.declared.event.Sent.{Sent}
-use Rattle.replay_script.specs.Prints.{sent_line, printed}
 use Rattle.wasmgate.proofs.Progresses.{printed_snoc}
 use Rattle.wasmgate.proofs.replay.print_all.Goals as goal
 
