@@ -1,0 +1,6 @@
+pub mod Entries
+pub mod ByteMaps
+pub mod Keys
+pub mod Queues
+pub mod Uses
+pub mod May

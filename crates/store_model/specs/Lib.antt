@@ -1,0 +1,15 @@
+pub mod Limits
+pub mod Keys
+pub mod Queues
+pub mod Store
+pub mod Parts
+pub mod History
+pub mod Made
+pub mod Replies
+pub mod Program
+pub mod Runs
+pub mod Followed
+pub mod Sequential
+pub mod Rows
+pub mod KeyLaws
+pub mod QueueLaws

@@ -1,0 +1,77 @@
+// Worked examples of the definitions, and laws above them. Nothing here does anything when it runs.
+ghost use Rattle.std.specs.Prelude.{◌≡◌, ℕ, ◌<◌, List, ◌++◌, length, false, All, None};
+ghost use Rattle.store_model.specs.Followed.{followed, replies_in, calls_in, end_of};
+ghost use Rattle.store_model.specs.History.{IsLegal, IsLegalFrom, store_acts, store_after, value_from};
+ghost use Rattle.store_model.specs.KeyLaws.{last_set, drawn, rising};
+ghost use Rattle.store_model.specs.Keys.{accepts, held_at, used_by_keys};
+ghost use Rattle.store_model.specs.Made.{Made, entries_on};
+ghost use Rattle.store_model.specs.Parts.{IsKeyCall, IsQueueCall, keys_after, keys_reply, queues_after, queues_reply};
+ghost use Rattle.store_model.specs.Program.{Program, Reaches, Runs, done};
+ghost use Rattle.store_model.specs.QueueLaws.{enqueued, dequeued, items_of, TakesOldest};
+ghost use Rattle.store_model.specs.Queues.{is_for, queue_with, used_by_queues};
+ghost use Rattle.store_model.specs.Rows.{compare_and_set, set_of_no_key, empty_value, two_keys, first_in_first_out, registrant_now};
+ghost use Rattle.store_model.specs.Sequential.{Stores, Performs, played, store_at};
+ghost use Rattle.store_model.specs.Store.{Store, Answer, applied};
+ghost use Rattle.store_model.specs.declared.call.Call.{Call};
+ghost use Rattle.store_model.specs.declared.entry.Entry.{Entry};
+
+use crate::{Call, Reply};
+
+/// Worked examples: the answers to some calls on an empty store.
+pub fn worked_rows()
+    ensures compare_and_set { compare_and_set }
+    ensures set_of_no_key { set_of_no_key }
+    ensures empty_value { empty_value }
+    ensures two_keys { two_keys }
+    ensures first_in_first_out { first_in_first_out }
+    ensures registrant_now { registrant_now }
+{}
+
+/// A Set under a stale number changes nothing, the number that the next Set draws included.
+pub fn stale_set_changes_nothing()
+    ensures { (s : Store) (who : ℕ) (key value : List ℕ) (number : ℕ) → accepts s.keys key number ≡ false →
+        applied s who (Call.Set key value number) ≡ record { store = s; reply = Reply.CasMismatch } }
+{}
+
+/// A key has what the last Set of it that was done gave it, under the number that this Set drew.
+pub fn get_gives_the_last_set()
+    ensures { (vm : ℕ) (h : List Entry) (key : List ℕ) → IsLegal vm h → held_at (store_after vm h).keys key ≡ last_set key None h }
+{}
+
+/// The Sets of a store draw the numbers from 1 on, each once and in order.
+pub fn numbers_rise_by_one()
+    ensures { (vm : ℕ) (h : List Entry) → IsLegal vm h → drawn h ≡ rising 1 (length (drawn h)) }
+{}
+
+/// What was put into a queue is what was handed out, each item once and in order, and then what is still there.
+pub fn dequeued_is_what_was_enqueued()
+    ensures { (vm : ℕ) (h : List Entry) (id : ℕ) → IsLegal vm h → enqueued id h ≡ dequeued id h ++ items_of (store_after vm h).queues id }
+{}
+
+/// A notice goes to the worker that is the registrant at that moment, and is the oldest one for it; where there is none, none is owed to it.
+pub fn notice_goes_to_the_registrant()
+    ensures oldest { (s : Store) (who root id : ℕ) → (applied s who Call.Notice).reply ≡ Reply.Owed root id →
+        TakesOldest s.queues who id (applied s who Call.Notice).store.queues.owed × (root ≡ (queue_with s.queues id).root) }
+    ensures none { (s : Store) (who : ℕ) → (applied s who Call.Notice).reply ≡ Reply.NoneOwed →
+        All (λ x. is_for s.queues who x ≡ false) s.queues.owed × ((applied s who Call.Notice).store ≡ s) }
+{}
+
+/// A program that comes to some end by its calls is a function of their replies, and over stores of one thread a function of the stores.
+pub fn programs_are_functions()
+    ensures replies { (p q : Program Answer) (calls : List Made) → Reaches p calls q → followed p (replies_in calls) ≡ record { calls = calls_in calls; end = end_of q } }
+    ensures stores { (p : Program Answer) (s t : Stores) (a : Answer) → Runs Performs s p (done a) t → played p s ≡ record { stores = t; end = a } }
+{}
+
+/// A call is met by its part of the store alone, from what the other part uses.
+pub fn parts_are_the_whole()
+    ensures keys { (s : Store) (who : ℕ) (call : Call) → IsKeyCall call →
+        applied s who call ≡ record { store = record s { keys = keys_after (used_by_queues s.queues) s.keys call }; reply = keys_reply (used_by_queues s.queues) s.keys call } }
+    ensures queues { (s : Store) (who : ℕ) (call : Call) → IsQueueCall call →
+        applied s who call ≡ record { store = record s { queues = queues_after (used_by_keys s.keys) s.queues who call }; reply = queues_reply (used_by_keys s.keys) s.queues who call } }
+{}
+
+/// Calls that the stores of one thread perform are, for each store, a legal history that leaves it as it is.
+pub fn each_store_has_its_history()
+    ensures { (calls : List Made) (s t : Stores) (v : ℕ) → v < length s.stores → Performs s calls t →
+        IsLegalFrom store_acts (store_at s v) (entries_on s.who v calls) × (store_at t v ≡ value_from store_acts (store_at s v) (entries_on s.who v calls)) }
+{}

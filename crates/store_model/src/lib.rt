@@ -1,0 +1,18 @@
+//! The shared store: what a VM asks of it, what it answers, and the trait through which everything above makes shared calls.
+#![tactic(auto)]
+
+mod call;
+mod entry;
+mod law;
+mod shared;
+mod used;
+
+pub use call::{Call, Reply};
+pub use entry::Entry;
+pub use law::{
+    dequeued_is_what_was_enqueued, each_store_has_its_history, get_gives_the_last_set,
+    notice_goes_to_the_registrant, numbers_rise_by_one, parts_are_the_whole,
+    programs_are_functions, stale_set_changes_nothing, worked_rows,
+};
+pub use shared::Shared;
+pub use used::{MOST_BYTES, MOST_ITEMS, MOST_NAMES, MOST_NOTICES, MOST_NUMBER, Used};
