@@ -1,0 +1,3 @@
+mod OwingLemmas
+mod Keeping
+mod Moving
