@@ -1,0 +1,12 @@
+pub mod Steps
+pub mod NumberLaws
+pub mod NumberFaults
+pub mod Places
+pub mod Written
+pub mod Shortest
+pub mod Table
+pub mod FormatLaws
+pub mod ItemLaws
+pub mod ChainLaws
+pub mod GrammarLaws
+pub mod ModuleLaws

@@ -1,0 +1,25 @@
+//! WebAssembly modules as plain data, and the numbers of the binary format.
+#![tactic(auto)]
+
+mod instr;
+mod kinds;
+pub mod laws;
+mod leb;
+mod module;
+pub mod module_laws;
+mod opcode;
+mod section;
+mod types;
+mod write;
+
+pub use instr::{BlockType, Expression, Indices, Instr, MemoryArgument, Open};
+pub use kinds::{EXTERNAL_KINDS, ExternalKind, SECTIONS, SectionKind};
+pub use leb::{LebEnd, read_s32, read_s64, read_u32};
+pub use module::{Code, Element, Export, ExportKind, Global, Import, ImportKind, Module, Segment};
+pub use opcode::{OPCODES, Opcode, OpcodeByte, opcode_at};
+pub use section::{Before, Section};
+pub use types::{FunctionType, GlobalType, Limits, Value, ValueType, ValueTypes};
+pub use write::{write_s32, write_s64, write_u32};
+
+#[cfg(test)]
+mod tests;
