@@ -1,13 +1,12 @@
 -- A part's call is the store's.
-use Rattle.std.proofs.Common.{◌≡◌, ℕ, List, true, Result, Ok, Err, refl, sym, ap, subst, ◌∙◌}
-use Rattle.std.specs.Prelude.{OnOk, OnErr, IfOk, IsOk}
+use Rattle.std.proofs.Common.{◌≡◌, ℕ, List, Result, Ok, Err, refl, sym, ap, ◌∙◌}
+use Rattle.std.specs.Prelude.{OnOk, OnErr}
 use Rattle.store_model.specs.Keys.{Keys, used_by_keys}
 use Rattle.store_model.specs.Queues.{Queues}
 use Rattle.store_model.specs.Store.{Store, Answer, applied, takes_no_memory}
 use Rattle.store_model.specs.Parts.{IsQueueCall, queues_reply, queues_after, queues_take_no_memory, queues_applied, queues_sure}
 use Rattle.store_model.specs.declared.call.Call.{Call}
 use Rattle.store_model.specs.declared.call.Call.TheVariants.{Get, Set, Register, Resolve, Enqueue, Dequeue, Notice}
-use Rattle.store_model.specs.declared.call.Reply.{Reply}
 use Rattle.store_model.specs.declared.used.Used.{Used}
 
 pub on_ok : {X E P Q : Type 0} (r : Result X E) → (P → Q) → OnOk r P → OnOk r Q
