@@ -5,3 +5,8 @@ pub mod Format
 pub mod Items
 pub mod Grammar
 pub mod Examples
+pub mod Rows
+pub mod Nested
+pub mod Typing
+pub mod Validity
+pub mod Spelled

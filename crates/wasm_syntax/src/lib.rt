@@ -8,8 +8,10 @@ mod leb;
 mod module;
 pub mod module_laws;
 mod opcode;
+mod row;
 mod section;
 mod types;
+mod valid;
 mod write;
 
 pub use instr::{BlockType, Expression, Indices, Instr, MemoryArgument, Open};
@@ -17,8 +19,10 @@ pub use kinds::{EXTERNAL_KINDS, ExternalKind, SECTIONS, SectionKind};
 pub use leb::{LebEnd, read_s32, read_s64, read_u32};
 pub use module::{Code, Element, Export, ExportKind, Global, Import, ImportKind, Module, Segment};
 pub use opcode::{OPCODES, Opcode, OpcodeByte, opcode_at};
+pub use row::Row;
 pub use section::{Before, Section};
 pub use types::{FunctionType, GlobalType, Limits, Value, ValueType, ValueTypes};
+pub use valid::{Part, ValidModule};
 pub use write::{write_s32, write_s64, write_u32};
 
 #[cfg(test)]
