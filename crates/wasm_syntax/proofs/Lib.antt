@@ -10,3 +10,5 @@ pub mod ItemLaws
 pub mod ChainLaws
 pub mod GrammarLaws
 pub mod ModuleLaws
+pub mod Shaped
+pub mod Spelled

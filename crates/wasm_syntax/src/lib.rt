@@ -10,6 +10,7 @@ pub mod module_laws;
 mod opcode;
 mod row;
 mod section;
+pub mod spelled_laws;
 mod types;
 mod valid;
 mod write;
