@@ -12,3 +12,8 @@ pub mod GrammarLaws
 pub mod ModuleLaws
 pub mod Shaped
 pub mod Spelled
+pub mod RowTable
+pub mod NestingLaws
+pub mod TypingLaws
+pub mod WorkedBodies
+pub mod WorkedValidity

@@ -10,3 +10,6 @@ pub mod Nested
 pub mod Typing
 pub mod Validity
 pub mod Spelled
+pub mod RowsByBytes
+pub mod CutLists
+pub mod ValidExamples

@@ -12,6 +12,7 @@ mod row;
 mod section;
 pub mod spelled_laws;
 mod types;
+pub mod typing_laws;
 mod valid;
 mod write;
 
