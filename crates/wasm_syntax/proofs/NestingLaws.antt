@@ -4,7 +4,7 @@ use Rattle.wasm_syntax.specs.declared.instr.Instr.{Instr}
 use Rattle.wasm_syntax.specs.declared.instr.Instr.TheVariants as instr
 use Rattle.wasm_syntax.specs.declared.instr.BlockType.{BlockType}
 use Rattle.wasm_syntax.specs.Rows.{row_of}
-use Rattle.wasm_syntax.specs.Nested.{Nested, nothing, simple, block, loop, choice, Cut, whole, ended, parted, broken, first_as, closed_by, chosen_by, Mark, at_else, at_end, stands_alone, mark_of, in_front, nests, NestsAs, Parted, Writes}
+use Rattle.wasm_syntax.specs.Nested.{Nested, nothing, simple, block, loop, choice, Cut, whole, ended, parted, broken, first_as, closed_by, chosen_by, Mark, stands_alone, mark_of, in_front, nests, NestsAs, Parted, Writes}
 use Rattle.wasm_syntax.specs.CutLists.{CutAt}
 
 -- ---- one sequence and then another
@@ -105,22 +105,26 @@ Describes broken is = Unit {0}
 -- instructions in front of the first sequence
 put_before : (f : Nested → Nested) (pre : List Instr) → ((c : Nested) (l : List Instr) → Writes c l → Writes (f c) (pre ++ l)) → (cut : Cut) (is : List Instr) → Describes cut is → Describes (first_as f cut) (pre ++ is)
 put_before f pre h (whole c) is d = h c is d
-put_before f pre h (ended c behind) is d =
-    (record {
-      body = pre ++ d.0.body;
-      rest = d.0.rest;
-      parts = ap (λ (l : List Instr). pre ++ l) d.0.parts ∙ sym (append_assoc pre d.0.body (instr.End ∷ d.0.rest));
-      written = h c d.0.body d.0.written;
-      nested = d.0.nested;
-    }, d.1)
-put_before f pre h (parted c behind) is d =
-    (record {
-      body = pre ++ d.0.body;
-      rest = d.0.rest;
-      parts = ap (λ (l : List Instr). pre ++ l) d.0.parts ∙ sym (append_assoc pre d.0.body (instr.Else ∷ d.0.rest));
-      written = h c d.0.body d.0.written;
-      nested = d.0.nested;
-    }, d.1)
+put_before f pre h (ended c behind) is d = (
+  record {
+    body = pre ++ d.0.body;
+    rest = d.0.rest;
+    parts = ap (λ (l : List Instr). pre ++ l) d.0.parts ∙ sym (append_assoc pre d.0.body (instr.End ∷ d.0.rest));
+    written = h c d.0.body d.0.written;
+    nested = d.0.nested;
+  },
+  d.1,
+)
+put_before f pre h (parted c behind) is d = (
+  record {
+    body = pre ++ d.0.body;
+    rest = d.0.rest;
+    parts = ap (λ (l : List Instr). pre ++ l) d.0.parts ∙ sym (append_assoc pre d.0.body (instr.Else ∷ d.0.rest));
+    written = h c d.0.body d.0.written;
+    nested = d.0.nested;
+  },
+  d.1,
+)
 put_before f pre h broken is d = tt
 
 -- instructions that open a block around the first sequence
@@ -130,10 +134,10 @@ opened make pre h (ended body behind) is d =
     let b : List Instr = d.0.body in
     let r : List Instr = d.0.rest in
     let wrote : (c : Nested) (l : List Instr) → Writes c l → Writes (make body c) ((pre ++ (b ++ instr.End ∷ [])) ++ l) = λ c l w.
-        subst (λ (x : List Instr). Writes (make body c) x) (sym (append_assoc pre (b ++ instr.End ∷ []) l))
-          (h body c ((b ++ instr.End ∷ []) ++ l) (record { front = b; back = l; parts = append_assoc b (instr.End ∷ []) l; first_written = d.0.written; second_written = w })) in
+    subst (λ (x : List Instr). Writes (make body c) x) (sym (append_assoc pre (b ++ instr.End ∷ []) l))
+    (h body c ((b ++ instr.End ∷ []) ++ l) (record { front = b; back = l; parts = append_assoc b (instr.End ∷ []) l; first_written = d.0.written; second_written = w })) in
     let joined : (pre ++ (b ++ instr.End ∷ [])) ++ r ≡ pre ++ is =
-        append_assoc pre (b ++ instr.End ∷ []) r ∙ ap (λ (l : List Instr). pre ++ l) (append_assoc b (instr.End ∷ []) r ∙ sym d.0.parts) in
+    append_assoc pre (b ++ instr.End ∷ []) r ∙ ap (λ (l : List Instr). pre ++ l) (append_assoc b (instr.End ∷ []) r ∙ sym d.0.parts) in
     subst (λ (l : List Instr). Describes (first_as (make body) behind) l) joined (put_before (make body) (pre ++ (b ++ instr.End ∷ [])) wrote behind r d.1)
 opened make pre h (parted c behind) is d = tt
 opened make pre h broken is d = tt
@@ -145,9 +149,9 @@ chosen t (parted then behind) is d =
     let b : List Instr = d.0.body in
     let r : List Instr = d.0.rest in
     let wrote : (body rest : Nested) (l : List Instr) → Parted instr.End (Writes body) (Writes rest) l → Writes (choice t then body rest) ((instr.If t ∷ (b ++ instr.Else ∷ [])) ++ l) = λ body rest l p.
-        ((b ++ instr.Else ∷ []) ++ l, refl, inl (record { front = b; back = l; parts = append_assoc b (instr.Else ∷ []) l; first_written = d.0.written; second_written = p })) in
+    ((b ++ instr.Else ∷ []) ++ l, refl, inl (record { front = b; back = l; parts = append_assoc b (instr.Else ∷ []) l; first_written = d.0.written; second_written = p })) in
     let joined : (instr.If t ∷ (b ++ instr.Else ∷ [])) ++ r ≡ instr.If t ∷ is =
-        ap (λ (l : List Instr). instr.If t ∷ l) (append_assoc b (instr.Else ∷ []) r ∙ sym d.0.parts) in
+    ap (λ (l : List Instr). instr.If t ∷ l) (append_assoc b (instr.Else ∷ []) r ∙ sym d.0.parts) in
     subst (λ (l : List Instr). Describes (closed_by (choice t then) behind) l) joined (opened (choice t then) (instr.If t ∷ (b ++ instr.Else ∷ [])) wrote behind r d.1)
 chosen t broken is d = tt
 
@@ -187,14 +191,16 @@ described_as is cut e = subst (λ (k : Cut). Describes k is) e (described is)
 -- ---- the laws
 
 pub cut_at_end : (is : List Instr) (code : Nested) (behind : Cut) → (nests is ≡ ended code behind) ↔ CutAt instr.End code behind is
-cut_at_end is code behind =
-    (λ e. let d : Describes (ended code behind) is = described_as is (ended code behind) e in d.0,
-     λ x. ap nests x.parts ∙ written_ends code x.body x.rest x.written ∙ ap (ended code) x.nested)
+cut_at_end is code behind = (
+  λ e. let d : Describes (ended code behind) is = described_as is (ended code behind) e in d.0,
+  λ x. ap nests x.parts ∙ written_ends code x.body x.rest x.written ∙ ap (ended code) x.nested,
+)
 
 pub cut_at_else : (is : List Instr) (code : Nested) (behind : Cut) → (nests is ≡ parted code behind) ↔ CutAt instr.Else code behind is
-cut_at_else is code behind =
-    (λ e. let d : Describes (parted code behind) is = described_as is (parted code behind) e in d.0,
-     λ x. ap nests x.parts ∙ to_else code x.body x.rest (written_nests code x.body (instr.Else ∷ x.rest) x.written) ∙ ap (parted code) x.nested)
+cut_at_else is code behind = (
+  λ e. let d : Describes (parted code behind) is = described_as is (parted code behind) e in d.0,
+  λ x. ap nests x.parts ∙ to_else code x.body x.rest (written_nests code x.body (instr.Else ∷ x.rest) x.written) ∙ ap (parted code) x.nested,
+)
 
 written_whole : (code : Nested) (is : List Instr) → Writes code is → nests is ≡ whole code
 unfolding nests
@@ -204,14 +210,15 @@ pub uncut : (is : List Instr) (code : Nested) → (nests is ≡ whole code) ↔ 
 uncut is code = (described_as is (whole code), written_whole code is)
 
 -- what nests as nothing is nothing
-nothing_left : (rest : List Instr) → nests rest ≡ whole nothing → rest ≡ []
+pub nothing_left : (rest : List Instr) → nests rest ≡ whole nothing → rest ≡ []
 nothing_left rest e = described_as rest (whole nothing) e
 
 pub bodies : (is : List Instr) (code : Nested) → NestsAs is code ↔ ((body : List Instr) × (is ≡ body ++ instr.End ∷ []) × Writes code body)
-bodies is code =
-    (λ e. let x : CutAt instr.End code (whole nothing) is = (cut_at_end is code (whole nothing)).0 e in
-        (x.body, x.parts ∙ ap (λ (l : List Instr). x.body ++ instr.End ∷ l) (nothing_left x.rest x.nested), x.written),
-     λ x. ap nests x.1 ∙ written_ends code x.0 [] x.2 ∙ ap (ended code) (written_whole nothing [] refl))
+bodies is code = (
+  λ e. let x : CutAt instr.End code (whole nothing) is = (cut_at_end is code (whole nothing)).0 e in
+      (x.body, x.parts ∙ ap (λ (l : List Instr). x.body ++ instr.End ∷ l) (nothing_left x.rest x.nested), x.written),
+  λ x. ap nests x.1 ∙ written_ends code x.0 [] x.2 ∙ ap (ended code) (written_whole nothing [] refl),
+)
 
 pub one_nesting : (is : List Instr) (c d : Nested) → NestsAs is c → NestsAs is d → c ≡ d
 one_nesting is c d e f = let g : ended c (whole nothing) ≡ ended d (whole nothing) = sym e ∙ f in cc

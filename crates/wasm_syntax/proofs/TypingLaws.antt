@@ -1,16 +1,15 @@
 -- Laws of typing and of the first fault of a module.
-use Rattle.std.proofs.Common.{◌≡◌, ℕ, suc, ◌<◌, ◌≤◌, List, [], ◌∷◌, ◌++◌, Some, take, slice_index_or, refl, sym, ap, subst, ◌∙◌, append_assoc, arith, inl, inr}
+use Rattle.std.proofs.Common.{◌≡◌, ℕ, List, [], ◌∷◌, ◌++◌, Some, slice_index_or, refl, sym, ap, subst, ◌∙◌, append_assoc, arith, inl, inr}
 use Rattle.std.proofs.lemmas.Bool.{cases_lt}
 use Rattle.wasm_syntax.specs.declared.types.ValueType.{ValueType}
-use Rattle.wasm_syntax.specs.declared.types.ValueType.TheVariants.{I32}
 use Rattle.wasm_syntax.specs.declared.instr.Instr.{Instr}
 use Rattle.wasm_syntax.specs.declared.module.Code.{Code}
 use Rattle.wasm_syntax.specs.declared.module.Module.{Module}
 use Rattle.wasm_syntax.specs.declared.valid.Part.{Part}
 use Rattle.wasm_syntax.specs.declared.valid.Part.TheVariants as part
 use Rattle.wasm_syntax.specs.Nested.{Nested, nothing, simple, block, loop, choice}
-use Rattle.wasm_syntax.specs.Typing.{Context, Is, left_by, inside, Leads, Typed}
-use Rattle.wasm_syntax.specs.Validity.{turn_of, ComesBefore, IsGood, IsFirstUntyped, IsPlace, IsValid, FirstInvalid}
+use Rattle.wasm_syntax.specs.Typing.{Context, Is, left_by, Leads, Typed}
+use Rattle.wasm_syntax.specs.Validity.{turn_of, ComesBefore, IsFirstUntyped, IsPlace, IsValid, FirstInvalid}
 
 -- ---- the frame
 
@@ -31,9 +30,13 @@ types_below_stay c (block b body rest) before after below t =
     (t.0, subst (λ (x : List ValueType). Typed c rest x (after ++ below)) (append_assoc (left_by b) before below) (types_below_stay c rest (left_by b ++ before) after below t.1))
 types_below_stay c (loop b body rest) before after below t =
     (t.0, subst (λ (x : List ValueType). Typed c rest x (after ++ below)) (append_assoc (left_by b) before below) (types_below_stay c rest (left_by b ++ before) after below t.1))
-types_below_stay c (choice b then other rest) before after below t =
-    (t.0 ++ below, ap (λ (x : List ValueType). x ++ below) t.1, t.2, t.3,
-     subst (λ (x : List ValueType). Typed c rest x (after ++ below)) (append_assoc (left_by b) t.0 below) (types_below_stay c rest (left_by b ++ t.0) after below t.4))
+types_below_stay c (choice b then other rest) before after below t = (
+  t.0 ++ below,
+  ap (λ (x : List ValueType). x ++ below) t.1,
+  t.2,
+  t.3,
+  subst (λ (x : List ValueType). Typed c rest x (after ++ below)) (append_assoc (left_by b) t.0 below) (types_below_stay c rest (left_by b ++ t.0) after below t.4),
+)
 
 -- ---- one first fault
 
@@ -66,18 +69,18 @@ same_part : (m : Module) (p q : Part) (n k place spot : ℕ) → FirstInvalid m 
 same_part m p q n k place spot f g = elim (cases_lt (turn_of p) (turn_of q)) [
   | inl lt ↦ absurd (not_before m p q n k place spot f g (inl lt))
   | inr le ↦ elim (cases_lt (turn_of q) (turn_of p)) [
-      | inl lt ↦ absurd (not_before m q p k n spot place g f (inl lt))
-      | inr ge ↦ same_turn p q (omega arith)
-    ]
+    | inl lt ↦ absurd (not_before m q p k n spot place g f (inl lt))
+    | inr ge ↦ same_turn p q (omega arith)
+  ]
 ]
 
 same_entry : (m : Module) (p q : Part) (n k place spot : ℕ) → p ≡ q → FirstInvalid m p n place → FirstInvalid m q k spot → n ≡ k
 same_entry m p q n k place spot e f g = elim (cases_lt n k) [
   | inl lt ↦ absurd (not_before m p q n k place spot f g (inr (e, lt)))
   | inr le ↦ elim (cases_lt k n) [
-      | inl lt ↦ absurd (not_before m q p k n spot place g f (inr (sym e, lt)))
-      | inr ge ↦ let d : n ≡ k = omega arith in d
-    ]
+    | inl lt ↦ absurd (not_before m q p k n spot place g f (inr (sym e, lt)))
+    | inr ge ↦ let d : n ≡ k = omega arith in d
+  ]
 ]
 
 pub same_some : {A : Type 0} (x y : A) → Some x ≡ Some y → x ≡ y
@@ -90,9 +93,9 @@ one_untyped : (m : Module) (n : ℕ) (code : Code) (place spot : ℕ) → IsFirs
 one_untyped m n code place spot f g = elim (cases_lt place spot) [
   | inl lt ↦ absurd (f.ends (g.goes place lt))
   | inr le ↦ elim (cases_lt spot place) [
-      | inl lt ↦ absurd (g.ends (f.goes spot lt))
-      | inr ge ↦ let d : place ≡ spot = omega arith in d
-    ]
+    | inl lt ↦ absurd (g.ends (f.goes spot lt))
+    | inr ge ↦ let d : place ≡ spot = omega arith in d
+  ]
 ]
 
 one_place : (m : Module) (p : Part) (n place spot : ℕ) → IsPlace m p n place → IsPlace m p n spot → place ≡ spot

@@ -1,12 +1,12 @@
 -- The worked bodies.
-use Rattle.std.proofs.Common.{◌≡◌, ℕ, ◌<◌, ◌≤◌, pos, List, [], ◌∷◌, ◌++◌, Some, refl, sym, ap, subst, ◌∙◌, arith}
+use Rattle.std.proofs.Common.{◌≡◌, ℕ, ◌<◌, ◌≤◌, pos, List, [], ◌∷◌, ◌++◌, refl, sym, ap, subst, ◌∙◌, arith}
 use Rattle.wasm_syntax.specs.declared.types.ValueType.{ValueType}
 use Rattle.wasm_syntax.specs.declared.types.ValueType.TheVariants.{I32, I64}
 use Rattle.wasm_syntax.specs.declared.instr.Instr.{Instr}
 use Rattle.wasm_syntax.specs.declared.instr.Instr.TheVariants as instr
 use Rattle.wasm_syntax.specs.declared.instr.BlockType.TheVariants as block_type
 use Rattle.wasm_syntax.specs.Rows.{row_of, labels_of}
-use Rattle.wasm_syntax.specs.Nested.{Nested, nothing, simple, block, loop, choice, whole, ended, nests, NestsAs}
+use Rattle.wasm_syntax.specs.Nested.{Nested, nothing, simple, block, loop, choice, nests, NestsAs}
 use Rattle.wasm_syntax.specs.Typing.{Context, inside, Takes, Leads, Typed, IsTypedBody}
 use Rattle.wasm_syntax.specs.ValidExamples.{nowhere, with_memory, unreachable_add, branch_in_loop, branch_in_block, branch_with_result, both_branches, one_branch, drop_from_below, load_aligned}
 use Rattle.wasm_syntax.proofs.NestingLaws.{one_nesting}
@@ -35,26 +35,45 @@ constant n = instr.I32Const (pos n)
 
 pub behind_unreachable : IsTypedBody nowhere unreachable_add
 unfolding nests
-behind_unreachable =
-    (simple instr.Unreachable (simple instr.I32Add (simple instr.Drop nothing)), refl,
-     (I32 ∷ I32 ∷ [], step at_start instr.Unreachable [] (I32 ∷ I32 ∷ []) [] tt,
-      (I32 ∷ [], step at_start instr.I32Add (I32 ∷ I32 ∷ []) (I32 ∷ []) [] (refl, refl),
-       ([], step at_start instr.Drop (I32 ∷ []) [] [] (I32, refl, refl), refl))))
+behind_unreachable = (
+  simple instr.Unreachable (simple instr.I32Add (simple instr.Drop nothing)),
+  refl,
+  (
+    I32 ∷ I32 ∷ [],
+    step at_start instr.Unreachable [] (I32 ∷ I32 ∷ []) [] tt,
+    (
+      I32 ∷ [],
+      step at_start instr.I32Add (I32 ∷ I32 ∷ []) (I32 ∷ []) [] (refl, refl),
+      ([], step at_start instr.Drop (I32 ∷ []) [] [] (I32, (refl, refl)), refl),
+    ),
+  ),
+)
 
 pub loop_takes_nothing : IsTypedBody nowhere branch_in_loop
 unfolding nests
-loop_takes_nothing =
-    (loop (block_type.Value I32) (simple (instr.Br 0) nothing) (simple instr.Drop nothing), refl,
-     ((I32 ∷ [], step (in_block []) (instr.Br 0) [] (I32 ∷ []) [] ([], [], refl, refl), refl),
-      ([], step at_start instr.Drop (I32 ∷ []) [] [] (I32, refl, refl), refl)))
+loop_takes_nothing = (
+  loop (block_type.Value I32) (simple (instr.Br 0) nothing) (simple instr.Drop nothing),
+  refl,
+  (
+    (I32 ∷ [], step (in_block []) (instr.Br 0) [] (I32 ∷ []) [] ([], [], refl, refl), refl),
+    ([], step at_start instr.Drop (I32 ∷ []) [] [] (I32, (refl, refl)), refl),
+  ),
+)
 
 pub block_takes_its_result : IsTypedBody nowhere branch_with_result
 unfolding nests
-block_takes_its_result =
-    (block (block_type.Value I32) (simple (constant 7) (simple (instr.Br 0) nothing)) (simple instr.Drop nothing), refl,
-     ((I32 ∷ [], step (in_block (I32 ∷ [])) (constant 7) [] (I32 ∷ []) [] (refl, refl),
-       (I32 ∷ [], step (in_block (I32 ∷ [])) (instr.Br 0) (I32 ∷ []) (I32 ∷ []) [] (I32 ∷ [], [], refl, refl), refl)),
-      ([], step at_start instr.Drop (I32 ∷ []) [] [] (I32, refl, refl), refl)))
+block_takes_its_result = (
+  block (block_type.Value I32) (simple (constant 7) (simple (instr.Br 0) nothing)) (simple instr.Drop nothing),
+  refl,
+  (
+    (
+      I32 ∷ [],
+      step (in_block (I32 ∷ [])) (constant 7) [] (I32 ∷ []) [] (refl, refl),
+      (I32 ∷ [], step (in_block (I32 ∷ [])) (instr.Br 0) (I32 ∷ []) (I32 ∷ []) [] (I32 ∷ [], [], refl, refl), refl),
+    ),
+    ([], step at_start instr.Drop (I32 ∷ []) [] [] (I32, (refl, refl)), refl),
+  ),
+)
 
 -- no branch to a label that takes a value begins with none
 no_branch : (after : List ValueType) → Leads (in_block (I32 ∷ [])) (instr.Br 0) [] after → ⊥
@@ -66,18 +85,26 @@ pub block_wants_its_result : IsTypedBody nowhere branch_in_block → ⊥
 unfolding nests
 block_wants_its_result t =
     let u : Typed at_start (block (block_type.Value I32) (simple (instr.Br 0) nothing) (simple instr.Drop nothing)) [] [] =
-        typed_as nowhere branch_in_block (block (block_type.Value I32) (simple (instr.Br 0) nothing) (simple instr.Drop nothing)) refl t in
+    typed_as nowhere branch_in_block (block (block_type.Value I32) (simple (instr.Br 0) nothing) (simple instr.Drop nothing)) refl t in
     no_branch u.0.0 u.0.1
 
 pub if_and_else : IsTypedBody nowhere both_branches
 unfolding nests
-if_and_else =
-    (simple (constant 1) (choice (block_type.Value I64) (simple (instr.I64Const (pos 2)) nothing) (simple (instr.I64Const (pos 3)) nothing) (simple instr.Drop nothing)), refl,
-     (I32 ∷ [], step at_start (constant 1) [] (I32 ∷ []) [] (refl, refl),
-      ([], refl,
-       (I64 ∷ [], step (in_block (I64 ∷ [])) (instr.I64Const (pos 2)) [] (I64 ∷ []) [] (refl, refl), refl),
-       (I64 ∷ [], step (in_block (I64 ∷ [])) (instr.I64Const (pos 3)) [] (I64 ∷ []) [] (refl, refl), refl),
-       ([], step at_start instr.Drop (I64 ∷ []) [] [] (I64, refl, refl), refl))))
+if_and_else = (
+  simple (constant 1) (choice (block_type.Value I64) (simple (instr.I64Const (pos 2)) nothing) (simple (instr.I64Const (pos 3)) nothing) (simple instr.Drop nothing)),
+  refl,
+  (
+    I32 ∷ [],
+    step at_start (constant 1) [] (I32 ∷ []) [] (refl, refl),
+    (
+      [],
+      refl,
+      (I64 ∷ [], step (in_block (I64 ∷ [])) (instr.I64Const (pos 2)) [] (I64 ∷ []) [] (refl, refl), refl),
+      (I64 ∷ [], step (in_block (I64 ∷ [])) (instr.I64Const (pos 3)) [] (I64 ∷ []) [] (refl, refl), refl),
+      ([], step at_start instr.Drop (I64 ∷ []) [] [] (I64, (refl, refl)), refl),
+    ),
+  ),
+)
 
 pub no_else_no_result : (c : Context) (t : ValueType) (then rest : Nested) (before after : List ValueType) → Typed c (choice (block_type.Value t) then nothing rest) before after → ⊥
 no_else_no_result c t then rest before after u = let e : [] ≡ t ∷ [] = u.3 in absurd cc
@@ -86,16 +113,16 @@ pub if_alone : IsTypedBody nowhere one_branch → ⊥
 unfolding nests
 if_alone t =
     let u : Typed at_start (simple (constant 1) (choice (block_type.Value I32) (simple (constant 1) nothing) nothing (simple instr.Drop nothing))) [] [] =
-        typed_as nowhere one_branch (simple (constant 1) (choice (block_type.Value I32) (simple (constant 1) nothing) nothing (simple instr.Drop nothing))) refl t in
+    typed_as nowhere one_branch (simple (constant 1) (choice (block_type.Value I32) (simple (constant 1) nothing) nothing (simple instr.Drop nothing))) refl t in
     no_else_no_result at_start I32 (simple (constant 1) nothing) (simple instr.Drop nothing) u.0 [] u.2
 
 pub block_leaves_below : IsTypedBody nowhere drop_from_below → ⊥
 unfolding nests
 block_leaves_below t =
     let u : Typed at_start (simple (constant 1) (block block_type.Empty (simple instr.Drop nothing) nothing)) [] [] =
-        typed_as nowhere drop_from_below (simple (constant 1) (block block_type.Empty (simple instr.Drop nothing) nothing)) refl t in
+    typed_as nowhere drop_from_below (simple (constant 1) (block block_type.Empty (simple instr.Drop nothing) nothing)) refl t in
     let l : Leads (in_block []) instr.Drop [] u.2.0.0 = u.2.0.1 in
-    none_to_take l.may.0 [] l.takes l.below l.may.1 l.from
+    none_to_take l.may.0 [] l.takes l.below l.may.1.0 l.from
 
 -- ---- loads
 
@@ -110,11 +137,19 @@ unfolding nests
 load_nests align = refl
 
 pub aligned : IsTypedBody with_memory (load_aligned 2)
-aligned =
-    (load_code 2, load_nests 2,
-     (I32 ∷ [], step (inside [] with_memory) (constant 0) [] (I32 ∷ []) [] (refl, refl),
-      (I32 ∷ [], step (inside [] with_memory) (loads 2) (I32 ∷ []) (I32 ∷ []) [] (omega arith, omega arith, (refl, refl)),
-       ([], step (inside [] with_memory) instr.Drop (I32 ∷ []) [] [] (I32, refl, refl), refl))))
+aligned = (
+  load_code 2,
+  load_nests 2,
+  (
+    I32 ∷ [],
+    step (inside [] with_memory) (constant 0) [] (I32 ∷ []) [] (refl, refl),
+    (
+      I32 ∷ [],
+      step (inside [] with_memory) (loads 2) (I32 ∷ []) (I32 ∷ []) [] (omega arith, omega arith, (refl, refl)),
+      ([], step (inside [] with_memory) instr.Drop (I32 ∷ []) [] [] (I32, (refl, refl)), refl),
+    ),
+  ),
+)
 
 pub aligned_too_far : IsTypedBody with_memory (load_aligned 3) → ⊥
 aligned_too_far t =

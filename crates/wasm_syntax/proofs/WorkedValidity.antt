@@ -1,21 +1,21 @@
 -- The worked modules.
-use Rattle.std.proofs.Common.{◌≡◌, ◌≢◌, ℕ, zero, suc, ◌<◌, ◌≤◌, pos, List, [], ◌∷◌, ◌++◌, All, get_or, length, Some, take, refl, sym, ap, subst, ◌∙◌, arith, inl, inr}
+use Rattle.std.proofs.Common.{◌≡◌, ◌≢◌, ℕ, zero, suc, ◌<◌, pos, List, [], ◌∷◌, ◌++◌, All, get_or, take, refl, sym, ap, subst, ◌∙◌, arith, inl, inr}
 use Rattle.wasm_syntax.specs.declared.types.ValueType.{ValueType}
 use Rattle.wasm_syntax.specs.declared.types.ValueType.TheVariants.{I32}
 use Rattle.wasm_syntax.specs.declared.types.FunctionType.{FunctionType}
 use Rattle.wasm_syntax.specs.declared.instr.Instr.{Instr}
 use Rattle.wasm_syntax.specs.declared.instr.Instr.TheVariants as instr
 use Rattle.wasm_syntax.specs.declared.module.Code.{Code}
+use Rattle.wasm_syntax.specs.declared.module.Import.{Import}
 use Rattle.wasm_syntax.specs.declared.module.Export.{Export}
-use Rattle.wasm_syntax.specs.declared.module.Module.{Module}
 use Rattle.wasm_syntax.specs.declared.valid.Part.{Part}
 use Rattle.wasm_syntax.specs.declared.valid.Part.TheVariants as part
 use Rattle.wasm_syntax.specs.Nested.{Nested, nothing, simple, whole, ended, nests}
 use Rattle.wasm_syntax.specs.Typing.{Context, inside, Is, Leads, Typed, IsTypedBody}
-use Rattle.wasm_syntax.specs.Validity.{context_of, HasContext, IsCode, IsGood, IsBounded, IsValid, entries_of, ComesBefore, CanGoOn, IsFirstUntyped, FirstInvalid}
+use Rattle.wasm_syntax.specs.Validity.{context_of, HasContext, IsCode, IsImport, IsGood, IsBounded, IsValid, entries_of, ComesBefore, CanGoOn, FirstInvalid}
 use Rattle.wasm_syntax.specs.Examples.{example}
-use Rattle.wasm_syntax.specs.ValidExamples.{nothing_to_nothing, left_code, left_over, two_memories, two_imported_memories, memory_beside_import, full_module}
-use Rattle.wasm_syntax.proofs.TypingLaws.{same_some, same_at}
+use Rattle.wasm_syntax.specs.ValidExamples.{nothing_to_nothing, one_page, imported_page, left_code, left_over, two_memories, two_imported_memories, memory_beside_import, full_module}
+use Rattle.wasm_syntax.proofs.TypingLaws.{same_some}
 use Rattle.wasm_syntax.proofs.WorkedBodies.{step}
 
 -- ---- a module with one function, which does nothing
@@ -35,11 +35,11 @@ example_entries part.Import n lt = absurd (omega arith)
 example_entries part.Function zero lt = (0, refl, omega arith)
 example_entries part.Function (suc n) lt = absurd (omega arith)
 example_entries part.Table n lt = absurd (omega arith)
-example_entries part.Memory zero lt = (_, refl, (omega arith, tt, tt), omega arith)
+example_entries part.Memory zero lt = (_, refl, ((omega arith, tt, tt), omega arith))
 example_entries part.Memory (suc n) lt = absurd (omega arith)
 example_entries part.Global n lt = absurd (omega arith)
 example_entries part.Element n lt = absurd (omega arith)
-example_entries part.Segment zero lt = (_, refl, omega arith, refl, refl)
+example_entries part.Segment zero lt = (_, refl, (omega arith, (refl, refl)))
 example_entries part.Segment (suc n) lt = absurd (omega arith)
 example_entries part.Start n lt = absurd (omega arith)
 example_entries part.Export n lt = absurd (omega arith)
@@ -76,11 +76,19 @@ unfolding nests
 call_typed = record {
   context = context_of full_module nothing_to_nothing [];
   has = record { type_index = 0; type = nothing_to_nothing; declared = refl; typed = refl; context = refl };
-  typed =
-    (full_sequence, refl,
-     (I32 ∷ [], step full_context (instr.I32Const (pos 5)) [] (I32 ∷ []) [] (refl, refl),
-      (I32 ∷ [], step full_context (instr.Call 0) (I32 ∷ []) (I32 ∷ []) [] (1, record { parameters = I32 ∷ []; results = I32 ∷ [] }, refl, refl, (refl, refl)),
-       ([], step full_context (instr.GlobalSet 1) (I32 ∷ []) [] [] (_, refl, refl, (refl, refl)), refl))));
+  typed = (
+    full_sequence,
+    refl,
+    (
+      I32 ∷ [],
+      step full_context (instr.I32Const (pos 5)) [] (I32 ∷ []) [] (refl, refl),
+      (
+        I32 ∷ [],
+        step full_context (instr.Call 0) (I32 ∷ []) (I32 ∷ []) [] (1, record { parameters = I32 ∷ []; results = I32 ∷ [] }, refl, refl, (refl, refl)),
+        ([], step full_context (instr.GlobalSet 1) (I32 ∷ []) [] [] (_, refl, refl, (refl, refl)), refl),
+      ),
+    ),
+  );
 }
 
 full_bounded : IsBounded full_code
@@ -93,7 +101,7 @@ both_functions (suc zero) d lt = omega arith
 both_functions (suc (suc k)) d lt = absurd (omega arith)
 
 other_name : (e : Export) → e.name ≡ 0x66 ∷ [] → All (λ (x : Export). x.name ≢ 0x6d ∷ []) (e ∷ [])
-other_name e is zero d lt = λ f. let g : 0x66 ≡ 0x6d = ap (λ (l : List ℕ). get_or l 0 0) (sym is ∙ f) in absurd (omega arith)
+other_name e is zero d lt = λ f. let g : ◌≡◌ {A = ℕ} 0x66 0x6d = ap (λ (l : List ℕ). get_or l 0 0) (sym is ∙ f) in absurd (omega arith)
 other_name e is (suc k) d lt = absurd (omega arith)
 
 full_entries : (p : Part) (n : ℕ) → n < entries_of full_module p → IsGood full_module p n
@@ -105,20 +113,20 @@ full_entries part.Import (suc zero) lt = (_, refl, tt)
 full_entries part.Import (suc (suc n)) lt = absurd (omega arith)
 full_entries part.Function zero lt = (0, refl, omega arith)
 full_entries part.Function (suc n) lt = absurd (omega arith)
-full_entries part.Table zero lt = (_, refl, (omega arith, omega arith, omega arith), omega arith)
+full_entries part.Table zero lt = (_, refl, ((omega arith, omega arith, omega arith), omega arith))
 full_entries part.Table (suc n) lt = absurd (omega arith)
-full_entries part.Memory zero lt = (_, refl, (omega arith, tt, tt), omega arith)
+full_entries part.Memory zero lt = (_, refl, ((omega arith, tt, tt), omega arith))
 full_entries part.Memory (suc n) lt = absurd (omega arith)
-full_entries part.Global zero lt = (_, refl, refl, refl)
+full_entries part.Global zero lt = (_, refl, (refl, refl))
 full_entries part.Global (suc n) lt = absurd (omega arith)
-full_entries part.Element zero lt = (_, refl, omega arith, (refl, refl), both_functions)
+full_entries part.Element zero lt = (_, refl, (omega arith, (refl, refl), both_functions))
 full_entries part.Element (suc n) lt = absurd (omega arith)
-full_entries part.Segment zero lt = (_, refl, omega arith, refl, refl)
+full_entries part.Segment zero lt = (_, refl, (omega arith, (refl, refl)))
 full_entries part.Segment (suc n) lt = absurd (omega arith)
 full_entries part.Start zero lt = (1, refl, (0, refl, refl))
 full_entries part.Start (suc n) lt = absurd (omega arith)
-full_entries part.Export zero lt = (_, refl, omega arith, λ k d none. absurd (omega arith))
-full_entries part.Export (suc zero) lt = (_, refl, omega arith, other_name _ refl)
+full_entries part.Export zero lt = (_, refl, (omega arith, λ k d none. absurd (omega arith)))
+full_entries part.Export (suc zero) lt = (_, refl, (omega arith, other_name _ refl))
 full_entries part.Export (suc (suc n)) lt = absurd (omega arith)
 full_entries part.Code zero lt = (_, refl, call_typed)
 full_entries part.Code (suc n) lt = absurd (omega arith)
@@ -129,7 +137,7 @@ full_valid = record { entries = full_entries; coded = refl; bounded = all_one Is
 -- ---- too many memories
 
 memories_before : (q : Part) (k : ℕ) → ComesBefore q k part.Memory 1 → k < entries_of two_memories q → IsGood two_memories q k
-memories_before part.Memory zero b lt = (_, refl, (omega arith, tt, tt), omega arith)
+memories_before part.Memory zero b lt = (_, refl, ((omega arith, tt, tt), omega arith))
 memories_before part.Memory (suc k) (inl le) lt = absurd (omega arith)
 memories_before part.Memory (suc k) (inr e) lt = absurd (omega arith)
 memories_before part.Signature k b lt = absurd (omega arith)
@@ -146,13 +154,13 @@ memories_before part.Code k b lt = absurd (omega arith)
 pub second_memory : FirstInvalid two_memories part.Memory 1 0
 second_memory = record {
   there = omega arith;
-  bad = λ g. (let e : 0 + 1 ≡ 0 = g.3 in omega arith);
+  bad = λ g. (let e : ◌≡◌ {A = ℕ} 1 0 = g.2.1 in omega arith);
   before = memories_before;
   at = refl;
 }
 
 imports_before : (q : Part) (k : ℕ) → ComesBefore q k part.Import 1 → k < entries_of two_imported_memories q → IsGood two_imported_memories q k
-imports_before part.Import zero b lt = (_, refl, (omega arith, tt, tt), refl)
+imports_before part.Import zero b lt = (_, refl, ((omega arith, tt, tt), refl))
 imports_before part.Import (suc k) (inl le) lt = absurd (omega arith)
 imports_before part.Import (suc k) (inr e) lt = absurd (omega arith)
 imports_before part.Signature k b lt = absurd (omega arith)
@@ -166,16 +174,22 @@ imports_before part.Start k b lt = absurd (omega arith)
 imports_before part.Export k b lt = absurd (omega arith)
 imports_before part.Code k b lt = absurd (omega arith)
 
+import_bad : (x : Import) → imported_page ≡ x → IsImport two_imported_memories (imported_page ∷ []) x.kind → ⊥
+import_bad x e g =
+    let h : IsImport two_imported_memories (imported_page ∷ []) imported_page.kind = subst (λ (y : Import). IsImport two_imported_memories (imported_page ∷ []) y.kind) (sym e) g in
+    let f : one_page ∷ [] ≡ [] = h.1 in
+    absurd cc
+
 pub second_import : FirstInvalid two_imported_memories part.Import 1 0
 second_import = record {
   there = omega arith;
-  bad = ?;
+  bad = λ g. import_bad g.0 (same_some imported_page g.0 g.1) g.2;
   before = imports_before;
   at = refl;
 }
 
 beside_before : (q : Part) (k : ℕ) → ComesBefore q k part.Memory 0 → k < entries_of memory_beside_import q → IsGood memory_beside_import q k
-beside_before part.Import zero b lt = (_, refl, (omega arith, tt, tt), refl)
+beside_before part.Import zero b lt = (_, refl, ((omega arith, tt, tt), refl))
 beside_before part.Import (suc k) b lt = absurd (omega arith)
 beside_before part.Memory k (inl le) lt = absurd (omega arith)
 beside_before part.Memory k (inr e) lt = absurd (omega arith)
@@ -192,7 +206,7 @@ beside_before part.Code k b lt = absurd (omega arith)
 pub beside_import : FirstInvalid memory_beside_import part.Memory 0 0
 beside_import = record {
   there = omega arith;
-  bad = λ g. (let e : 1 + 0 ≡ 0 = g.3 in omega arith);
+  bad = λ g. (let e : ◌≡◌ {A = ℕ} 1 0 = g.2.1 in omega arith);
   before = beside_before;
   at = refl;
 }
@@ -229,11 +243,20 @@ left_context = context_of left_over nothing_to_nothing []
 
 left_goes : (k : ℕ) → k < 1 → CanGoOn left_over 0 [] (take (suc k) left_code.body)
 unfolding nests
-left_goes zero lt =
-    (left_context, instr.Drop ∷ instr.End ∷ [], record { type_index = 0; type = nothing_to_nothing; declared = refl; typed = refl; context = refl },
-     (simple left_constant (simple instr.Drop nothing), refl,
-      (I32 ∷ [], step (inside [] left_context) left_constant [] (I32 ∷ []) [] (refl, refl),
-       ([], step (inside [] left_context) instr.Drop (I32 ∷ []) [] [] (I32, refl, refl), refl))))
+left_goes zero lt = (
+  left_context,
+  instr.Drop ∷ instr.End ∷ [],
+  record { type_index = 0; type = nothing_to_nothing; declared = refl; typed = refl; context = refl },
+  (
+    simple left_constant (simple instr.Drop nothing),
+    refl,
+    (
+      I32 ∷ [],
+      step (inside [] left_context) left_constant [] (I32 ∷ []) [] (refl, refl),
+      ([], step (inside [] left_context) instr.Drop (I32 ∷ []) [] [] (I32, (refl, refl)), refl),
+    ),
+  ),
+)
 left_goes (suc k) lt = absurd (omega arith)
 
 left_before : (q : Part) (k : ℕ) → ComesBefore q k part.Code 0 → k < entries_of left_over q → IsGood left_over q k
