@@ -15,5 +15,6 @@ pub mod Spelled
 pub mod RowTable
 pub mod NestingLaws
 pub mod TypingLaws
+pub mod FaultPlaces
 pub mod WorkedBodies
 pub mod WorkedValidity

@@ -1,10 +1,11 @@
 //! Laws of nesting, typing and valid modules. The functions have nothing to do: their contracts are the laws.
 
-ghost use Rattle.std.specs.Prelude.{◌≡◌, ◌↔◌, ℕ, List, [], ◌∷◌, ◌++◌, IsTrue};
+ghost use Rattle.std.specs.Prelude.{◌≡◌, ◌↔◌, ℕ, ◌<◌, List, [], ◌∷◌, ◌++◌, length, IsTrue};
 ghost use Rattle.wasm_syntax.specs.declared.types.ValueType.{ValueType as ValueTypes};
 ghost use Rattle.wasm_syntax.specs.declared.instr.Instr.{Instr as Instrs};
 ghost use Rattle.wasm_syntax.specs.declared.instr.Instr.TheVariants as instr;
 ghost use Rattle.wasm_syntax.specs.declared.instr.BlockType.TheVariants as block_type;
+ghost use Rattle.wasm_syntax.specs.declared.module.Code.{Code as Codes};
 ghost use Rattle.wasm_syntax.specs.declared.module.Module.{Module as Modules};
 ghost use Rattle.wasm_syntax.specs.declared.valid.Part.{Part as Parts};
 ghost use Rattle.wasm_syntax.specs.declared.valid.Part.TheVariants as part;
@@ -13,7 +14,7 @@ ghost use Rattle.wasm_syntax.specs.RowsByBytes.{ranges, form_at, HasRow, ascend_
 ghost use Rattle.wasm_syntax.specs.Nested.{Nested, nothing, choice, Cut, whole, ended, parted, nests, NestsAs, Writes};
 ghost use Rattle.wasm_syntax.specs.CutLists.{CutAt};
 ghost use Rattle.wasm_syntax.specs.Typing.{Context, Typed, IsTypedBody};
-ghost use Rattle.wasm_syntax.specs.Validity.{IsValid, FirstInvalid};
+ghost use Rattle.wasm_syntax.specs.Validity.{IsCode, IsBounded, IsValid, CanGoOn, IsFirstUntyped, FirstInvalid};
 ghost use Rattle.wasm_syntax.specs.Examples.{example};
 ghost use Rattle.wasm_syntax.specs.ValidExamples.{nowhere, with_memory, unreachable_add, branch_in_loop, branch_in_block, branch_with_result, both_branches, one_branch, drop_from_below, load_aligned, left_over, two_memories, two_imported_memories, memory_beside_import, full_module};
 
@@ -47,6 +48,14 @@ pub fn types_below_stay()
 pub fn one_first_invalid()
     ensures one { (m : Modules) (p q : Parts) (n k place spot : ℕ) → FirstInvalid m p n place → FirstInvalid m q k spot → (p ≡ q) × (n ≡ k) × (place ≡ spot) }
     ensures apart { (m : Modules) (p : Parts) (n place : ℕ) → IsValid m → FirstInvalid m p n place → ⊥ }
+{}
+
+/// The first fault of a code stands at one of its instructions, and the code is not valid. One that is
+/// typed up to its last instruction is.
+pub fn faults_stand_in_their_code()
+    ensures bad { (m : Modules) (n : ℕ) (code : Codes) (place : ℕ) → IsFirstUntyped m n code place → IsCode m n code → ⊥ }
+    ensures within { (m : Modules) (n : ℕ) (code : Codes) (place : ℕ) → IsBounded code → IsFirstUntyped m n code place → place < length code.body }
+    ensures to_the_end { (m : Modules) (n : ℕ) (code : Codes) → IsBounded code → CanGoOn m n code.locals code.body ↔ IsCode m n code }
 {}
 
 /// Bodies that can be typed and bodies that cannot, worked out by hand.
