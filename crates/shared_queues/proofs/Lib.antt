@@ -1,3 +1,4 @@
 mod OwingLemmas
 mod Keeping
 mod Moving
+mod Trees

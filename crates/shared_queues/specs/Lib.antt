@@ -1,2 +1,4 @@
+pub mod Firsts
 pub mod Owing
 pub mod Seen
+pub mod Tree

@@ -1,0 +1,19 @@
+use Rattle.std.proofs.Common.{get_or, refl, ◌∙◌}
+use Rattle.shared_queues.specs.declared.firsts.Place.{Place}
+use Rattle.shared_queues.proofs.Trees.{changed, whos-set, firsts_same}
+use Rattle.shared_queues.proofs.firsts.put_who.Goals as goal
+
+pub climb-requires-clause-right : goal.climb-requires-clause-right
+climb-requires-clause-right c =
+    let p : Place = record { who = c.args.who; first = (get_or c.args.places.now c.args.index c.index-places-index.result).first; least = (get_or c.args.places.now c.args.index c.index-places-index.result).least } in
+    changed c.args.places.now c.args.index p c.index-places-index.result c.requires.right c.requires.at refl
+
+pub returns-clause-whos : goal.returns-clause-whos
+returns-clause-whos c =
+    let p : Place = record { who = c.args.who; first = (get_or c.args.places.now c.args.index c.index-places-index.result).first; least = (get_or c.args.places.now c.args.index c.index-places-index.result).least } in
+    c.climb.ensures.whos ∙ whos-set c.args.places.now c.args.index p
+
+pub returns-clause-firsts : goal.returns-clause-firsts
+returns-clause-firsts c =
+    let p : Place = record { who = c.args.who; first = (get_or c.args.places.now c.args.index c.index-places-index.result).first; least = (get_or c.args.places.now c.args.index c.index-places-index.result).least } in
+    c.climb.ensures.firsts ∙ firsts_same c.args.places.now c.args.index p c.index-places-index.result refl
