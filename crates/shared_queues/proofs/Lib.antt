@@ -2,3 +2,5 @@ mod OwingLemmas
 mod Keeping
 mod Moving
 mod Trees
+mod Numbers
+mod Noticing

@@ -1,144 +1,122 @@
--- How the oldest notice is found.
-use Rattle.std.proofs.Common.{◌≡◌, ℕ, zero, suc, ◌+◌, ◌<◌, Bool, true, false, cond, List, [], ◌∷◌, length, get_or, Some, None, refl, sym, ap, subst, ◌∙◌, arith}
-use Rattle.std.specs.Prelude.{remove}
-use Rattle.std.proofs.Common.{◌==◌, ◌-◌, ◌≤◌, ◌++◌, set, All, ⊎_elim, eq-eqb, ne_eqb, length-append, length-set, get_or-set_same, get_or-set_other}
-use Rattle.std.specs.Prelude.{count_by}
-use Rattle.std.proofs.lemmas.Bool.{cases_eq, cases_lt}
-use Rattle.std.proofs.lemmas.List.{get_or_default, get_or_append_left, get_or_push}
-use Rattle.std.proofs.lemmas.List.Elements.{All-head, All-tail}
-use Rattle.std.proofs.lemmas.List.Sums.{sum_by-cons, sum_by_push, sum_by-remove}
-use Rattle.shared_queues.specs.Owing.{Owing, is_for, oldest, but_oldest, place_from}
+-- How the notices stand in the order of their numbers.
+use Rattle.std.proofs.Common.{◌≡◌, ℕ, zero, suc, ◌+◌, ◌<◌, ◌≤◌, ◌==◌, ◌||◌, Bool, true, false, cond, List, [], ◌∷◌, ◌++◌, get_or, set, Some, All, refl, sym, ap, subst, ◌∙◌, arith, ⊎_elim, eq-eqb, ne_eqb}
+use Rattle.std.proofs.lemmas.Bool.{cases_eq, or_right, false_from_ne_true}
+use Rattle.std.proofs.lemmas.List.{append_assoc}
+use Rattle.std.proofs.lemmas.List.Elements.{All-append, All-cons, All-nil, All-head, All-tail}
+use Rattle.shared_queues.specs.Owing.{Owing, is_for, oldest, but_oldest, has, owner_of, owed_from, first_number, IsRising}
 
--- the oldest one stands at j
-pub record Stands (o : Owing) (who : ℕ) (ks : List ℕ) (n at : ℕ) : Type 0 where
-  pub j : ℕ
-  pub is : at ≡ n + j
-  pub within : j < length ks
-  pub here : oldest o who ks ≡ Some (get_or ks j 0)
-  pub rest : but_oldest o who ks ≡ remove ks j
+-- ---- which numbers a list has
+pub has_other : (t y : ℕ) (l : List ℕ) → (y ≡ t → ⊥) → has t (l ++ y ∷ []) ≡ has t l
+has_other t y [] ne = ap (λ b. b || false) (ne_eqb y t ne)
+has_other t y (x ∷ xs) ne = ap (λ b. (x == t) || b) (has_other t y xs ne)
 
-stands : (o : Owing) (who : ℕ) (ks : List ℕ) (n at : ℕ) → place_from n o who ks ≡ Some at → Stands o who ks n at
-stands o who [] n at is = absurd (cc)
-stands o who (k ∷ ks) n at is = by (is_for o who k) is (stands o who ks (n + 1) at) refl
+pub has_new : (y : ℕ) (l : List ℕ) → has y (l ++ y ∷ []) ≡ true
+has_new y [] = ap (λ b. b || false) (eq-eqb y y refl)
+has_new y (x ∷ xs) = or_right (x == y) (has y (xs ++ y ∷ [])) (has_new y xs)
+
+-- past the first one
+pub has_rest : (t x : ℕ) (xs : List ℕ) → (x ≡ t → ⊥) → has t (x ∷ xs) ≡ has t xs
+has_rest t x xs ne = ap (λ b. b || has t xs) (ne_eqb x t ne)
+
+pub rising_has : (low high t : ℕ) (l : List ℕ) → IsRising low high l → has t l ≡ true → (low ≤ t) × (t < high)
+rising_has low high t [] r h = absurd (cc)
+rising_has low high t (x ∷ xs) r h =
+    ⊎_elim
+    (λ (e : x ≡ t). (omega (arith, e, r.0), omega (arith, e, r.1)))
+    (λ (ne : x ≡ t → ⊥).
+    let further = rising_has (x + 1) high t xs r.2 (sym (has_rest t x xs ne) ∙ h) in
+    (omega (arith, further.0, r.0), further.1))
+    (cases_eq x t)
+
+pub rising_lower : (a low high : ℕ) (l : List ℕ) → a ≤ low → IsRising low high l → IsRising a high l
+rising_lower a low high [] le r = tt
+rising_lower a low high (x ∷ xs) le r = (omega (arith, le, r.0), r.1, r.2)
+
+pub rising_higher : (low high : ℕ) (l : List ℕ) → IsRising low high l → IsRising low (high + 1) l
+rising_higher low high [] r = tt
+rising_higher low high (x ∷ xs) r = (r.0, omega (arith, r.1), rising_higher (x + 1) high xs r.2)
+
+pub rising_more : (low high : ℕ) (l : List ℕ) → low ≤ high → IsRising low high l → IsRising low (high + 1) (l ++ high ∷ [])
+rising_more low high [] le r = (le, omega arith, tt)
+rising_more low high (x ∷ xs) le r = (r.0, omega (arith, r.1), rising_more (x + 1) high xs (omega (arith, r.1)) r.2)
+
+pub first_le : (low high t : ℕ) (l : List ℕ) → IsRising low high l → has t l ≡ true → first_number l ≤ t
+first_le low high t [] r h = absurd (cc)
+first_le low high t (x ∷ xs) r h =
+    ⊎_elim
+    (λ (e : x ≡ t). omega (arith, e))
+    (λ (ne : x ≡ t → ⊥). omega (arith, (rising_has (x + 1) high t xs r.2 (sym (has_rest t x xs ne) ∙ h)).0))
+    (cases_eq x t)
+
+pub first_gone : (low high x : ℕ) (xs : List ℕ) → IsRising low high (x ∷ xs) → has x xs ≡ false
+first_gone low high x xs r = false_from_ne_true (has x xs) (λ h. absurd (omega (arith, (rising_has (x + 1) high x xs r.2 h).0)))
+
+-- ---- the queue of a number
+pub owner-set : (t j : ℕ) (ls : List (List ℕ)) (k : ℕ) (l : List ℕ) → has t l ≡ has t (get_or ls k []) → owner_of t j (set ls k l) ≡ owner_of t j ls
+owner-set t j [] k l same = refl
+owner-set t j (x ∷ xs) zero l same = ap (λ b. cond b (j ∷ []) (owner_of t (j + 1) xs)) same
+owner-set t j (x ∷ xs) (suc k) l same = ap (λ r. cond (has t x) (j ∷ []) r) (owner-set t (j + 1) xs k l same)
+
+pub owner_none : (t j : ℕ) (ls : List (List ℕ)) → ((i : ℕ) → has t (get_or ls i []) ≡ false) → owner_of t j ls ≡ []
+owner_none t j [] none = refl
+owner_none t j (x ∷ xs) none = ap (λ b. cond b (j ∷ []) (owner_of t (j + 1) xs)) (none 0) ∙ owner_none t (j + 1) xs (λ i. none (suc i))
+
+pub owner_is : (t j : ℕ) (ls : List (List ℕ)) (k : ℕ) → has t (get_or ls k []) ≡ true → ((i : ℕ) → has t (get_or ls i []) ≡ true → i ≡ k) → owner_of t j ls ≡ (j + k) ∷ []
+owner_is t j [] k here one = absurd (cc)
+owner_is t j (x ∷ xs) zero here one =
+    let e : j ≡ j + 0 = omega arith in
+    ap (λ b. cond b (j ∷ []) (owner_of t (j + 1) xs)) here ∙ ap (λ n. n ∷ []) e
+owner_is t j (x ∷ xs) (suc k) here one =
+    let other : has t x ≡ false = false_from_ne_true (has t x) (λ h. absurd (omega (arith, one 0 h))) in
+    let e : (j + 1) + k ≡ j + suc k = omega arith in
+    ap (λ b. cond b (j ∷ []) (owner_of t (j + 1) xs)) other ∙ owner_is t (j + 1) xs k here (λ i h. omega (arith, one (suc i) h)) ∙ ap (λ n. n ∷ []) e
+
+pub owner_push : (t j : ℕ) (ls : List (List ℕ)) → owner_of t j (ls ++ [] ∷ []) ≡ owner_of t j ls
+owner_push t j [] = refl
+owner_push t j (x ∷ xs) = ap (λ r. cond (has t x) (j ∷ []) r) (owner_push t (j + 1) xs)
+
+pub owner_all : (P : ℕ → Type 0) (t j : ℕ) (ls : List (List ℕ)) → ((i : ℕ) → has t (get_or ls i []) ≡ true → P (j + i)) → All P (owner_of t j ls)
+owner_all P t j [] each = All-nil P
+owner_all P t j (x ∷ xs) each =
+    at (has t x) refl (owner_all P t (j + 1) xs (λ i g. let e : j + suc i ≡ (j + 1) + i = omega arith in subst P e (each (suc i) g)))
   where
-    by : (b : Bool) → cond b (Some n) (place_from (n + 1) o who ks) ≡ Some at → (place_from (n + 1) o who ks ≡ Some at → Stands o who ks (n + 1) at) → is_for o who k ≡ b → Stands o who (k ∷ ks) n at
-    by true e further for =
-        let same : n ≡ at = cc in
-        record {
-          j = zero;
-          is = omega (arith, same);
-          within = omega arith;
-          here = ap (λ b. cond b (Some k) (oldest o who ks)) for;
-          rest = ap (λ b. cond b ks (k ∷ but_oldest o who ks)) for;
-        }
-    by false e further for =
-        let s = further e in
-        record {
-          j = suc s.j;
-          is = omega (arith, s.is);
-          within = omega (arith, s.within);
-          here = ap (λ b. cond b (Some k) (oldest o who ks)) for ∙ s.here;
-          rest = ap (λ b. cond b ks (k ∷ but_oldest o who ks)) for ∙ ap (λ l. k ∷ l) s.rest;
-        }
+    at : (b : Bool) → has t x ≡ b → All P (owner_of t (j + 1) xs) → All P (cond b (j ∷ []) (owner_of t (j + 1) xs))
+    at true h rest =
+        let e : j + 0 ≡ j = omega arith in
+        All-cons P j [] (subst P e (each 0 h)) (All-nil P)
+    at false h rest = rest
 
--- counted from 0, it stands at its place
-pub record StandsAt (o : Owing) (who : ℕ) (ks : List ℕ) (at : ℕ) : Type 0 where
-  pub within : at < length ks
-  pub here : oldest o who ks ≡ Some (get_or ks at 0)
-  pub rest : but_oldest o who ks ≡ remove ks at
+-- ---- the queues of so many numbers
+pub owed_same : (ls ms : List (List ℕ)) (n t : ℕ) → ((u : ℕ) → t ≤ u → u < t + n → owner_of u 0 ls ≡ owner_of u 0 ms) → owed_from n t ls ≡ owed_from n t ms
+owed_same ls ms zero t same = refl
+owed_same ls ms (suc n) t same =
+    (λ i. same t (omega arith) (omega arith) i ++ owed_same ls ms n (t + 1) (λ u low high. same u (omega (arith, low)) (omega (arith, high))) i)
 
-pub stands_at : (o : Owing) (who : ℕ) (ks : List ℕ) (at : ℕ) → place_from 0 o who ks ≡ Some at → StandsAt o who ks at
-stands_at o who ks at is =
-    let s = stands o who ks 0 at is in
-    let S : ℕ → Type 0 = λ n. StandsAt o who ks n in
-    let same : s.j ≡ at = omega (arith, s.is) in
-    subst S same (record { within = s.within; here = s.here; rest = s.rest })
+pub owed_split : (ls : List (List ℕ)) (a b t : ℕ) → owed_from (a + b) t ls ≡ owed_from a t ls ++ owed_from b (t + a) ls
+owed_split ls zero b t =
+    let n : zero + b ≡ b = omega arith in
+    let m : t ≡ t + zero = omega arith in
+    ap (λ x. owed_from x t ls) n ∙ ap (λ x. owed_from b x ls) m
+owed_split ls (suc a) b t =
+    let n : suc a + b ≡ suc (a + b) = omega arith in
+    let m : t + 1 + a ≡ t + suc a = omega arith in
+    ap (λ x. owed_from x t ls) n ∙ ap (λ r. owner_of t 0 ls ++ r) (owed_split ls a b (t + 1)) ∙ ap (λ x. owner_of t 0 ls ++ (owed_from a (t + 1) ls ++ owed_from b x ls)) m
+    ∙ sym (append_assoc (owner_of t 0 ls) (owed_from a (t + 1) ls) (owed_from b (t + suc a) ls))
 
--- none stands anywhere
-pub none_stands : (o : Owing) (who : ℕ) (ks : List ℕ) (n : ℕ) → place_from n o who ks ≡ None → (oldest o who ks ≡ None) × (but_oldest o who ks ≡ ks)
-none_stands o who [] n is = (refl, refl)
-none_stands o who (k ∷ ks) n is = by (is_for o who k) is (none_stands o who ks (n + 1)) refl
-  where
-    by : (b : Bool) → cond b (Some n) (place_from (n + 1) o who ks) ≡ None → (place_from (n + 1) o who ks ≡ None → (oldest o who ks ≡ None) × (but_oldest o who ks ≡ ks)) → is_for o who k ≡ b → (oldest o who (k ∷ ks) ≡ None) × (but_oldest o who (k ∷ ks) ≡ k ∷ ks)
-    by true e further for = absurd (cc)
-    by false e further for =
-        let s = further e in
-        (ap (λ b. cond b (Some k) (oldest o who ks)) for ∙ s.0, ap (λ b. cond b ks (k ∷ but_oldest o who ks)) for ∙ ap (λ l. k ∷ l) s.1)
+pub owed_all : (P : ℕ → Type 0) (ls : List (List ℕ)) (n t : ℕ) → ((u : ℕ) → t ≤ u → u < t + n → All P (owner_of u 0 ls)) → All P (owed_from n t ls)
+owed_all P ls zero t each = All-nil P
+owed_all P ls (suc n) t each = All-append P (owner_of t 0 ls) (owed_from n (t + 1) ls) (each t (omega arith) (omega arith)) (owed_all P ls n (t + 1) (λ u low high. each u (omega (arith, low)) (omega (arith, high))))
 
--- what is owed once the notice at its place was taken
-pub taken_at : (o : Owing) (who at : ℕ) (whos left : List ℕ) (index : ℕ) → o.whos ≡ whos → place_from 0 o who o.owed ≡ Some at → left ≡ remove o.owed at → index ≡ get_or o.owed at index →
-    (Some index ≡ oldest o who o.owed) × (record { whos = whos; owed = left } ≡ record o { owed = but_oldest o who o.owed })
-taken_at o who at whos left index same is gone read =
-    let s = stands_at o who o.owed at is in (
-      ap Some (read ∙ get_or_default o.owed at index 0 s.within) ∙ sym s.here,
-      λ i. record { whos = sym same i; owed = (gone ∙ sym s.rest) i },
+-- ---- the oldest one, behind others that are not for this worker
+pub oldest_behind : (o : Owing) (who : ℕ) (ks js : List ℕ) → All (λ k. is_for o who k ≡ false) ks → (oldest o who (ks ++ js) ≡ oldest o who js) × (but_oldest o who (ks ++ js) ≡ ks ++ but_oldest o who js)
+oldest_behind o who [] js none = (refl, refl)
+oldest_behind o who (k ∷ ks) js none =
+    let P : ℕ → Type 0 = λ n. is_for o who n ≡ false in
+    let rest = oldest_behind o who ks js (All-tail P k ks none) in
+    let apart : is_for o who k ≡ false = All-head P k ks none in (
+      ap (λ b. cond b (Some k) (oldest o who (ks ++ js))) apart ∙ rest.0,
+      ap (λ b. cond b (ks ++ js) (k ∷ but_oldest o who (ks ++ js))) apart ∙ ap (λ l. k ∷ l) rest.1,
     )
 
--- ---- how many are owed for each queue
-abbrev pub Counts : List ℕ → List ℕ → Type 0
-Counts counts owed = (k : ℕ) → k < length counts → get_or counts k 0 ≡ count_by (λ x. x == k) owed
-
--- a queue more, for which nothing is owed
-pub counts_push : (counts owed : List ℕ) → All (λ x. x < length counts) owed → Counts counts owed → Counts (counts ++ 0 ∷ []) owed
-counts_push counts owed all each k less =
-    ⊎_elim (λ (old : k < length counts). get_or_append_left counts (0 ∷ []) 0 k old ∙ each k old)
-    (λ (new : length counts ≤ k).
-    let last : length counts ≡ k = omega (arith, new, less, length-append counts (0 ∷ [])) in
-    get_or_push counts 0 0 k last ∙ sym (count_none owed k (All_le owed (length counts) k all new)))
-    (cases_lt k (length counts))
-  where
-    All_le : (xs : List ℕ) (n k : ℕ) → All (λ x. x < n) xs → n ≤ k → All (λ x. x < k) xs
-    All_le xs n k all le = λ i d h. omega (arith, all i d h, le)
-
-    count_none : (xs : List ℕ) (k : ℕ) → All (λ x. x < k) xs → count_by (λ x. x == k) xs ≡ 0
-    count_none [] k all = refl
-    count_none (x ∷ xs) k all =
-        let first : x < k = All-head (λ n. n < k) x xs all in
-        let apart : (x == k) ≡ false = ne_eqb x k (λ e. absurd (omega (arith, first, e))) in
-        sum_by-cons (λ n. cond (n == k) 1 0) x xs ∙ (λ i. cond (apart i) 1 0 + count_none xs k (All-tail (λ n. n < k) x xs all) i)
-
-abbrev hit : ℕ → ℕ → ℕ
-hit k x = cond (x == k) 1 0
-
-hit_here : (k x : ℕ) → x ≡ k → hit k x ≡ 1
-hit_here k x e = ap (λ b. let n : ℕ = cond b 1 0 in n) (eq-eqb x k e)
-
-hit_apart : (k x : ℕ) → (x ≡ k → ⊥) → hit k x ≡ 0
-hit_apart k x ne = ap (λ b. let n : ℕ = cond b 1 0 in n) (ne_eqb x k ne)
-
--- one more is owed
-pub counts_more : (counts owed : List ℕ) (j n : ℕ) → j < length counts → n ≡ get_or counts j 0 → Counts counts owed → Counts (set counts j (n + 1)) (owed ++ j ∷ [])
-counts_more counts owed j n within read each k less =
-    let there : k < length counts = omega (arith, less, length-set counts j (n + 1)) in
-    let push : count_by (λ x. x == k) (owed ++ j ∷ []) ≡ count_by (λ x. x == k) owed + hit k j = sum_by_push (hit k) owed j in
-    ⊎_elim
-    (λ (e : k ≡ j).
-    let now : get_or (set counts j (n + 1)) k 0 ≡ n + 1 = ap (λ m. get_or (set counts j (n + 1)) m 0) e ∙ get_or-set_same counts j (n + 1) 0 within in
-    let was : get_or counts k 0 ≡ get_or counts j 0 = ap (λ m. get_or counts m 0) e in
-    let one : hit k j ≡ 1 = hit_here k j (sym e) in
-    omega (arith, now, was, one, push, read, each k there))
-    (λ (apart : k ≡ j → ⊥).
-    let none : hit k j ≡ 0 = hit_apart k j (λ e. apart (sym e)) in
-    omega (arith, get_or-set_other counts j k (n + 1) 0 apart, none, push, each k there))
-    (cases_eq k j)
-
--- one fewer is owed
-pub counts_some : (counts owed : List ℕ) (j n at : ℕ) → j < length counts → n ≡ get_or counts j 0 → at < length owed → j ≡ get_or owed at 0 → Counts counts owed → 1 ≤ n
-counts_some counts owed j n at within read there_at taken each =
-    let one : hit j (get_or owed at 0) ≡ 1 = hit_here j (get_or owed at 0) (sym taken) in
-    omega (arith, one, sum_by-remove (hit j) owed at 0 there_at, read, each j within)
-
-pub counts_less : (counts owed : List ℕ) (j n at : ℕ) → j < length counts → n ≡ get_or counts j 0 → at < length owed → j ≡ get_or owed at 0 → Counts counts owed → Counts (set counts j (n - 1)) (remove owed at)
-counts_less counts owed j n at within read there_at taken each k less =
-    let there : k < length counts = omega (arith, less, length-set counts j (n - 1)) in
-    let gone : count_by (λ x. x == k) (remove owed at) + hit k (get_or owed at 0) ≡ count_by (λ x. x == k) owed = sum_by-remove (hit k) owed at 0 there_at in
-    ⊎_elim
-    (λ (e : k ≡ j).
-    let now : get_or (set counts j (n - 1)) k 0 ≡ n - 1 = ap (λ m. get_or (set counts j (n - 1)) m 0) e ∙ get_or-set_same counts j (n - 1) 0 within in
-    let was : get_or counts k 0 ≡ get_or counts j 0 = ap (λ m. get_or counts m 0) e in
-    let one : hit k (get_or owed at 0) ≡ 1 = hit_here k (get_or owed at 0) (sym taken ∙ sym e) in
-    omega (arith, now, was, one, gone, read, each k there))
-    (λ (apart : k ≡ j → ⊥).
-    let none : hit k (get_or owed at 0) ≡ 0 = hit_apart k (get_or owed at 0) (λ e. apart (sym (taken ∙ e))) in
-    omega (arith, get_or-set_other counts j k (n - 1) 0 apart, none, gone, each k there))
-    (cases_eq k j)
+pub oldest_here : (o : Owing) (who k : ℕ) (ks : List ℕ) → is_for o who k ≡ true → (oldest o who (k ∷ ks) ≡ Some k) × (but_oldest o who (k ∷ ks) ≡ ks)
+oldest_here o who k ks mine = (ap (λ b. cond b (Some k) (oldest o who ks)) mine, ap (λ b. cond b ks (k ∷ but_oldest o who ks)) mine)

@@ -1,5 +1,5 @@
 -- What the places of the tree know.
-use Rattle.std.proofs.Common.{◌≡◌, ℕ, zero, suc, ◌+◌, ◌-◌, ◌*◌, ◌/◌, ◌<◌, ◌≤◌, ◌==◌, Bool, true, false, cond, List, [], ◌∷◌, ◌++◌, length, map, get_or, set, take, Option, Some, None, refl, sym, ap, subst, ◌∙◌, arith, ⊎_elim, eq-eqb, ne_eqb, get_or-set_same, get_or-set_other, length-append, length-take, length-set}
+use Rattle.std.proofs.Common.{◌≡◌, ℕ, zero, suc, ◌+◌, ◌-◌, ◌*◌, ◌/◌, ◌<◌, ◌≤◌, ◌==◌, Bool, true, false, cond, List, [], ◌∷◌, ◌++◌, length, get_or, set, take, refl, sym, ap, subst, ◌∙◌, arith, ⊎_elim, eq-eqb, ne_eqb, get_or-set_same, get_or-set_other, length-take, length-set}
 use Rattle.std.specs.Prelude.{min, replicate}
 use Rattle.std.proofs.lemmas.Bool.{cases_eq, cases_lt}
 use Rattle.std.proofs.lemmas.List.{map-set, set-get_or, get_or_past, get_or_push, get_or_append_left, get_or_default, get_or-take, get_or-map, get_or-replicate, length-map, length_push}
@@ -62,9 +62,9 @@ at_the_top ps qs at top right r = λ k w less few. refreshed ps qs at k w right 
 -- one place was changed
 pub changed : (ps : List Place) (at : ℕ) (p x : Place) → AllRight ps → at < length ps → p.least ≡ (get_or ps at x).least → AllRightBut (set ps at p) at
 changed ps at p x right within same = λ k w less apart few.
-  let here : place_at (set ps at p) k ≡ place_at ps k = get_or-set_other ps at k p no_place apart in
-  let there : k < length ps = omega (arith, less, length-set ps at p) in
-  leasts k w ∙ right k w there few ∙ (λ i. min (own (sym here i) w) (min (sym (leasts (2 * k + 1) w) i) (sym (leasts (2 * k + 2) w) i)))
+    let here : place_at (set ps at p) k ≡ place_at ps k = get_or-set_other ps at k p no_place apart in
+    let there : k < length ps = omega (arith, less, length-set ps at p) in
+    leasts k w ∙ right k w there few ∙ (λ i. min (own (sym here i) w) (min (sym (leasts (2 * k + 1) w) i) (sym (leasts (2 * k + 2) w) i)))
   where
     leasts : (k w : ℕ) → least_at (set ps at p) k w ≡ least_at ps k w
     leasts k w =
@@ -97,24 +97,24 @@ own_none p w none = ap (λ n. cond (p.who == w + 1) n 18446744073709551615) none
 
 pub right_push : (ps : List Place) (p : Place) → p.least ≡ replicate 8 18446744073709551615 → p.first ≡ 18446744073709551615 → AllRight ps → AllRight (ps ++ p ∷ [])
 right_push ps p none first right = λ k w less few.
-  let left = leasts_push ps p (2 * k + 1) w none in
-  let right_below = leasts_push ps p (2 * k + 2) w none in
-  ⊎_elim
-  (λ (there : k < length ps).
-  let here : place_at (ps ++ p ∷ []) k ≡ place_at ps k = get_or_append_left ps (p ∷ []) no_place k there in
-  leasts_push ps p k w none ∙ right k w there few ∙ (λ i. min (own (sym here i) w) (min (sym left i) (sym right_below i))))
-  (λ (beyond : length ps ≤ k).
-  let last : length ps ≡ k = omega (arith, beyond, less, length_push ps p) in
-  let mine : own (place_at (ps ++ p ∷ []) k) w ≡ 18446744073709551615 = ap (λ (q : Place). own q w) (get_or_push ps p no_place k last) ∙ own_none p w first in
-  omega (arith, mine, left, right_below, leasts_push ps p k w none, past ps k w beyond few, past ps (2 * k + 1) w (omega (arith, beyond)) few, past ps (2 * k + 2) w (omega (arith, beyond)) few))
-  (cases_lt k (length ps))
+    let left = leasts_push ps p (2 * k + 1) w none in
+    let right_below = leasts_push ps p (2 * k + 2) w none in
+    ⊎_elim
+    (λ (there : k < length ps).
+    let here : place_at (ps ++ p ∷ []) k ≡ place_at ps k = get_or_append_left ps (p ∷ []) no_place k there in
+    leasts_push ps p k w none ∙ right k w there few ∙ (λ i. min (own (sym here i) w) (min (sym left i) (sym right_below i))))
+    (λ (beyond : length ps ≤ k).
+    let last : length ps ≡ k = omega (arith, beyond, less, length_push ps p) in
+    let mine : own (place_at (ps ++ p ∷ []) k) w ≡ 18446744073709551615 = ap (λ (q : Place). own q w) (get_or_push ps p no_place k last) ∙ own_none p w first in
+    omega (arith, mine, left, right_below, leasts_push ps p k w none, past ps k w beyond few, past ps (2 * k + 1) w (omega (arith, beyond)) few, past ps (2 * k + 2) w (omega (arith, beyond)) few))
+    (cases_lt k (length ps))
 
 pub right_less : (ps qs : List Place) → 0 < length ps → qs ≡ take (length ps - 1) ps → get_or (firsts_of ps) (length ps - 1) 18446744073709551615 ≡ 18446744073709551615 → AllRight ps → AllRight qs
 right_less ps qs some is none right = λ k w less few.
-  let long : length qs ≡ length ps - 1 = ap length is ∙ omega (arith, length-take (length ps - 1) ps) in
-  let here : place_at qs k ≡ place_at ps k = ap (λ l. place_at l k) is ∙ get_or-take (length ps - 1) ps k no_place (omega (arith, less, long)) in
-  let there : k < length ps = omega (arith, less, long) in
-  leasts k w long few ∙ right k w there few ∙ (λ i. min (own (sym here i) w) (min (sym (leasts (2 * k + 1) w long few) i) (sym (leasts (2 * k + 2) w long few) i)))
+    let long : length qs ≡ length ps - 1 = ap length is ∙ omega (arith, length-take (length ps - 1) ps) in
+    let here : place_at qs k ≡ place_at ps k = ap (λ l. place_at l k) is ∙ get_or-take (length ps - 1) ps k no_place (omega (arith, less, long)) in
+    let there : k < length ps = omega (arith, less, long) in
+    leasts k w long few ∙ right k w there few ∙ (λ i. min (own (sym here i) w) (min (sym (leasts (2 * k + 1) w long few) i) (sym (leasts (2 * k + 2) w long few) i)))
   where
     leasts : (k w : ℕ) → length qs ≡ length ps - 1 → w < 8 → least_at qs k w ≡ least_at ps k w
     leasts k w long few =

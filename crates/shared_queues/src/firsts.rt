@@ -125,6 +125,9 @@ fn put_first(places: &mut [Place], index: usize, first: u64)
     ensures firsts { firsts_of places.new ≡ slice_set (firsts_of places.old) index first }
 {
     let place = &mut places[index];
+    if place.first == first {
+        return;
+    }
     place.first = first;
     climb(places, index);
 }

@@ -1,32 +1,31 @@
 // The notices that a store owes.
 ghost use Rattle.std.specs.Prelude.{◌≡◌, ◌<◌, ◌≤◌, ◌-◌, [], ◌∷◌, ◌++◌, length, take, OnOk, OnErr, IfSome, All, slice_set};
-ghost use Rattle.shared_queues.specs.Owing.{oldest, but_oldest, owes_more, place_from};
+ghost use Rattle.shared_queues.specs.Owing.{oldest, but_oldest, owes_more, first_number};
 
+use crate::firsts::{Firsts, NONE};
 use gate_base::{OutOfMemory, WorkerNo};
-use std::alloc::Global;
+use std::alloc::{AllocError, Global};
 use std::collections::VecDeque;
 use std::marker::Model;
 use store_model::{MOST_NAMES, MOST_NOTICES};
 
-/// The registrant of each queue, by its index, and the indexes of the queues for which a notice is owed, oldest first.
-/// How many are owed for each queue is counted.
+/// The notices that are owed for each queue, by numbers that rise as they come to be owed, and the number of the next one.
+/// Of each queue the registrant and the first number are known.
 #[derive(Drop)]
 pub(crate) struct Notices {
-    whos: Vec<WorkerNo>,
-    counts: Vec<u32>,
-    indexes: VecDeque<u32>,
+    firsts: Firsts,
+    numbers: Vec<VecDeque<u64>>,
+    next: u64,
 }
 
 impl Model for Notices {
-    ghost use Rattle.std.specs.Prelude.{length, All, ◌<◌, ◌≤◌};
-    ghost use Rattle.shared_queues.specs.Owing.{Owing, IsOwing};
-    ghost use Rattle.store_model.specs.declared.used.TheConstants.{MOST_NAMES};
+    ghost use Rattle.shared_queues.specs.Owing.{Owing, IsNumbered, lists_of, owed_from};
 
     ghost Value = { Owing };
 
-    ghost view = { λ s. record { whos = s.whos.items; owed = s.indexes.items } };
+    ghost view = { λ s. record { whos = s.firsts.whos; owed = owed_from s.next 0 (lists_of s.numbers.items) } };
 
-    ghost invariant = { λ s. IsOwing (record { whos = s.whos.items; owed = s.indexes.items }) s.counts.items };
+    ghost invariant = { λ s. IsNumbered s.firsts (lists_of s.numbers.items) s.next };
 }
 
 impl Notices {
@@ -35,22 +34,22 @@ impl Notices {
         ensures { result ≡ record { whos = []; owed = [] } }
     {
         Notices {
-            whos: Vec::new(alloc),
-            counts: Vec::new(alloc),
-            indexes: VecDeque::new(alloc),
+            firsts: Firsts::new(alloc),
+            numbers: Vec::new(alloc),
+            next: 0,
         }
     }
 
     /// Adds a queue with its registrant.
-    pub(crate) fn add(&mut self, who: WorkerNo) -> Result<(), OutOfMemory>
+    pub(crate) fn add(&mut self, alloc: Global, who: WorkerNo) -> Result<(), OutOfMemory>
         requires { length self.old.whos < MOST_NAMES }
         ensures ok { OnOk result (self.new ≡ record self.old { whos = self.old.whos ++ who ∷ [] }) }
         ensures err { OnErr result (self.new ≡ self.old) }
         ensures indexes { All (λ k. k < length self.old.whos) self.old.owed }
     {
-        self.counts.reserve(1)?;
-        self.whos.push(who)?;
-        self.counts.push(0)?;
+        self.numbers.reserve(1)?;
+        self.firsts.add(who)?;
+        self.numbers.push(VecDeque::new(alloc))?;
         Ok(())
     }
 
@@ -60,8 +59,8 @@ impl Notices {
         requires none_owed { All (λ k. k < length self.old.whos - 1) self.old.owed }
         ensures { self.new ≡ record self.old { whos = take (length self.old.whos - 1) self.old.whos } }
     {
-        self.whos.pop();
-        self.counts.pop();
+        self.firsts.forget_last();
+        self.numbers.pop();
     }
 
     /// Says who the registrant of a queue is from now on. It takes no memory.
@@ -69,7 +68,7 @@ impl Notices {
         requires { index < length self.old.whos }
         ensures { self.new ≡ record self.old { whos = slice_set self.old.whos index who } }
     {
-        self.whos[index] = who;
+        self.firsts.set_who(index, who);
     }
 
     /// Owes one more notice for a queue, after all others, where not too many are owed for it.
@@ -78,10 +77,15 @@ impl Notices {
         ensures ok { OnOk result (self.new ≡ record self.old { owed = owes_more self.old.owed index }) }
         ensures err { OnErr result (self.new ≡ self.old) }
     {
-        let owed = self.counts[index];
+        let owed = self.numbers[index].len();
         if (owed as u64) < MOST_NOTICES {
-            self.indexes.push_back(index as u32)?;
-            self.counts[index] = owed + 1;
+            if self.next == NONE {
+                return Err(AllocError);
+            }
+            self.numbers[index].push_back(self.next)?;
+            let first = first_of(&self.numbers[index]);
+            self.firsts.set_first(index, first);
+            self.next += 1;
         }
         Ok(())
     }
@@ -92,22 +96,20 @@ impl Notices {
         ensures owed { self.new ≡ record self.old { owed = but_oldest self.old who self.old.owed } }
         ensures within { IfSome result (λ k. k < length self.old.whos) }
     {
-        let at = self.place_of(who)?;
-        let index = self.indexes.remove(at).unwrap() as usize;
-        self.counts[index] -= 1;
+        let index = self.firsts.earliest(who)?;
+        self.numbers[index].pop_front();
+        let first = first_of(&self.numbers[index]);
+        self.firsts.set_first(index, first);
         Some(index)
     }
+}
 
-    /// The place of the oldest notice for a queue of this registrant.
-    fn place_of(&self, who: WorkerNo) -> Option<usize>
-        ensures { result ≡ place_from 0 self.now who self.now.owed }
-    {
-        for at in 0..self.indexes.len() {
-            let index = self.indexes[at] as usize;
-            if self.whos[index] == who {
-                return Some(at);
-            }
-        }
-        None
+/// The first of a queue's numbers.
+fn first_of(numbers: &VecDeque<u64>) -> u64
+    ensures { result ≡ first_number numbers.now.items }
+{
+    match numbers.front() {
+        None => NONE,
+        Some(first) => *first,
     }
 }

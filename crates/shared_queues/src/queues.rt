@@ -240,7 +240,7 @@ impl SharedQueues {
         let key = Vec::from_slice(alloc, name)?;
         let name = Octets::from_slice(alloc, name)?;
         self.queues.reserve(1)?;
-        self.notices.add(who)?;
+        self.notices.add(alloc, who)?;
         if self.names.insert(key, self.queues.len() as u32).is_err() {
             self.notices.forget_last();
             return Err(AllocError);

@@ -1,4 +1,4 @@
-use Rattle.std.proofs.Common.{◌≡◌, ◌<◌, ℕ, length, get_or, set, arith, ◌∙◌, ap, length-set, get_or-set_same, get_or-set_other, below_more}
+use Rattle.std.proofs.Common.{◌≡◌, ◌<◌, length, arith, ◌∙◌, length-set, get_or-set_same, get_or-set_other, below_more}
 use Rattle.shared_queues.proofs.firsts.all_joined.Goals as goal
 
 pub loop-worker-preserved : goal.loop-worker-preserved

@@ -1,4 +1,4 @@
-use Rattle.std.proofs.Common.{◌≡◌, ◌<◌, ◌∙◌, length, arith, refl}
+use Rattle.std.proofs.Common.{◌≡◌, ◌∙◌, arith, refl}
 use Rattle.shared_queues.proofs.Trees.{Refreshed, one_up, at_the_top}
 use Rattle.shared_queues.proofs.firsts.climb.Goals as goal
 

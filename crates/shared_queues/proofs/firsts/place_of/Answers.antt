@@ -1,4 +1,4 @@
-use Rattle.std.proofs.Common.{◌∙◌, sym}
+use Rattle.std.proofs.Common.{◌∙◌}
 use Rattle.shared_queues.proofs.Trees.{to_the_right, own_read}
 use Rattle.shared_queues.proofs.firsts.place_of.Goals as goal
 

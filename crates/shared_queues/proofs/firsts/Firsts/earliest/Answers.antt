@@ -1,4 +1,4 @@
-use Rattle.std.proofs.Common.{◌≡◌, ◌+◌, ◌-◌, ◌<◌, List, arith, refl, sym, ap, subst, ◌∙◌, length}
+use Rattle.std.proofs.Common.{◌≡◌, ◌+◌, ◌-◌, ◌<◌, List, arith, sym, ap, ◌∙◌, length}
 use Rattle.shared_queues.specs.Tree.{own, least_at, place_at}
 use Rattle.shared_queues.specs.declared.firsts.Place.{Place}
 use Rattle.shared_queues.proofs.Trees.{none_owed, one_owed}
