@@ -4,3 +4,5 @@ pub mod Keys
 pub mod Queues
 pub mod Uses
 pub mod May
+pub mod StoreLimits
+pub mod Refusals

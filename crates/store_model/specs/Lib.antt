@@ -13,3 +13,4 @@ pub mod Sequential
 pub mod Rows
 pub mod KeyLaws
 pub mod QueueLaws
+pub mod StoreLaws

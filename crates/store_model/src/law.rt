@@ -1,21 +1,22 @@
 // Worked examples of the definitions, and laws above them. Nothing here does anything when it runs.
-ghost use Rattle.std.specs.Prelude.{◌≡◌, ℕ, ◌<◌, List, ◌++◌, length, false, All, None};
+ghost use Rattle.std.specs.Prelude.{◌≡◌, ◌⊎◌, ◌↔◌, ℕ, ◌<◌, ◌≤◌, List, ◌++◌, length, true, false, All, None, Some};
 ghost use Rattle.store_model.specs.Followed.{followed, replies_in, calls_in, end_of};
 ghost use Rattle.store_model.specs.History.{IsLegal, IsLegalFrom, store_acts, store_after, value_from};
 ghost use Rattle.store_model.specs.KeyLaws.{last_set, drawn, rising};
-ghost use Rattle.store_model.specs.Keys.{accepts, held_at, used_by_keys};
+ghost use Rattle.store_model.specs.Keys.{accepts, held_at, put, used_by_keys};
 ghost use Rattle.store_model.specs.Made.{Made, entries_on};
 ghost use Rattle.store_model.specs.Parts.{IsKeyCall, IsQueueCall, keys_after, keys_reply, queues_after, queues_reply};
 ghost use Rattle.store_model.specs.Program.{Program, Reaches, Runs, done};
 ghost use Rattle.store_model.specs.QueueLaws.{enqueued, dequeued, items_of, TakesOldest};
-ghost use Rattle.store_model.specs.Queues.{is_for, queue_with, used_by_queues};
+ghost use Rattle.store_model.specs.Queues.{index_of, is_for, named, queue_in, queue_with, used_by_queues, with_item, with_new};
 ghost use Rattle.store_model.specs.Rows.{compare_and_set, set_of_no_key, empty_value, two_keys, first_in_first_out, registrant_now};
 ghost use Rattle.store_model.specs.Sequential.{Stores, Performs, played, store_at};
 ghost use Rattle.store_model.specs.Store.{Store, Answer, applied};
+ghost use Rattle.store_model.specs.StoreLaws.{IsInLimits, IsRefusal, PassesLimit, name_of};
 ghost use Rattle.store_model.specs.declared.call.Call.{Call};
 ghost use Rattle.store_model.specs.declared.entry.Entry.{Entry};
 
-use crate::{Call, Reply};
+use crate::{Call, MOST_ITEMS, MOST_NUMBER, Reply};
 
 /// Worked examples: the answers to some calls on an empty store.
 pub fn worked_rows()
@@ -74,4 +75,33 @@ pub fn parts_are_the_whole()
 pub fn each_store_has_its_history()
     ensures { (calls : List Made) (s t : Stores) (v : ℕ) → v < length s.stores → Performs s calls t →
         IsLegalFrom store_acts (store_at s v) (entries_on s.who v calls) × (store_at t v ≡ value_from store_acts (store_at s v) (entries_on s.who v calls)) }
+{}
+
+/// Whatever is called on a store, its keys and queues, its bytes, the numbers of its keys, the items of each queue and the notices owed for each are within their limits.
+pub fn limits_hold()
+    ensures { (vm : ℕ) (h : List Entry) → IsInLimits (store_after vm h) }
+{}
+
+/// Full comes exactly where a Set whose number was accepted, a Register of a new name or an Enqueue would pass a limit.
+pub fn full_comes_past_a_limit()
+    ensures set { (s : Store) (who number : ℕ) (key value : List ℕ) → accepts s.keys key number ≡ true →
+        ((applied s who (Call.Set key value number)).reply ≡ Reply.Full) ↔ ((MOST_NUMBER < s.keys.next) ⊎ PassesLimit (used_by_keys (put s.keys key value)) (used_by_queues s.queues)) }
+    ensures register { (s : Store) (who root : ℕ) (name : List ℕ) → named s.queues name ≡ None →
+        ((applied s who (Call.Register name root)).reply ≡ Reply.Full) ↔ PassesLimit (used_by_queues (with_new s.queues who root name)) (used_by_keys s.keys) }
+    ensures enqueue { (s : Store) (who queue k : ℕ) (item : List ℕ) → index_of s.queues queue ≡ Some k →
+        ((applied s who (Call.Enqueue queue item)).reply ≡ Reply.Full) ↔ ((MOST_ITEMS ≤ length (queue_in s.queues k).items) ⊎ PassesLimit (used_by_queues (with_item s.queues k item)) (used_by_keys s.keys)) }
+{}
+
+/// A call that is answered Absent, CasMismatch, Full, Empty or NoneOwed changes nothing.
+pub fn refused_calls_change_nothing()
+    ensures { (s : Store) (who : ℕ) (call : Call) → IsRefusal (applied s who call).reply → (applied s who call).store ≡ s }
+{}
+
+/// The id that a Register gave is the one that a Resolve of the name gives, after any further calls, and the queue of an id keeps its name.
+pub fn ids_are_stable()
+    ensures given { (s : Store) (who later root id : ℕ) (name : List ℕ) → (applied s who (Call.Register name root)).reply ≡ Reply.Id id →
+        (applied (applied s who (Call.Register name root)).store later (Call.Resolve name)).reply ≡ Reply.Id id }
+    ensures resolved { (s : Store) (h : List Entry) (who later id : ℕ) (name : List ℕ) → (applied s who (Call.Resolve name)).reply ≡ Reply.Id id →
+        (applied (value_from store_acts s h) later (Call.Resolve name)).reply ≡ Reply.Id id }
+    ensures named { (s : Store) (h : List Entry) (id : ℕ) (name : List ℕ) → name_of s.queues id ≡ Some name → name_of (value_from store_acts s h).queues id ≡ Some name }
 {}

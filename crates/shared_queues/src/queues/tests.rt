@@ -1,5 +1,5 @@
 // The calls on queues and notices, and the limits from both sides.
-ghost use Rattle.std.specs.Prelude.{IfOk};
+ghost use Rattle.std.specs.Prelude.{◌<◌, IfOk};
 ghost use Rattle.store_model.specs.Limits.{IsWithin};
 ghost use Rattle.store_model.specs.Parts.{IsQueueCall};
 
@@ -174,6 +174,52 @@ fn a_queue_has_1024_items_and_notices(rt: HostRuntime) -> Result<(), Fail> {
                 *want
             );
         }
+    }
+    Ok(())
+}
+
+/// The queue at a place of an order in which 40 queues come by turns.
+fn turn(place: u32) -> u32
+    requires { place < 1000 }
+    ensures { result < 40 }
+{
+    place * 7 % 40
+}
+
+#[test]
+fn each_worker_takes_its_notices_in_order(rt: HostRuntime) -> Result<(), Fail> {
+    let alloc = rt.alloc();
+    let mut queues = SharedQueues::new(alloc, VmNo::new(0).unwrap());
+    let nothing = Used { names: 0, bytes: 0 };
+    // Worker 1 makes every queue, each gets two notices, and then worker 2 takes over those of even names.
+    for k in 0..40u8 {
+        answer(alloc, &mut queues, 1, Register(&[k], 9), nothing)?;
+    }
+    for place in 0..80u32 {
+        answer(
+            alloc,
+            &mut queues,
+            1,
+            Enqueue(turn(place) + 1, b""),
+            nothing,
+        )?;
+    }
+    for k in 0..20u8 {
+        answer(alloc, &mut queues, 2, Register(&[k * 2], 7), nothing)?;
+    }
+    let rows = [(2, 0, 7), (1, 1, 9)];
+    for (who, rest, root) in rows.iter() {
+        for place in 0..80u32 {
+            let k = turn(place);
+            if k % 2 == *rest {
+                let want = format!(in alloc; "owed {} {}", *root, k + 1)?;
+                assert_eq!(rt; answer(alloc, &mut queues, *who, Notice, nothing)?, want);
+            }
+        }
+        assert_eq!(rt;
+            answer(alloc, &mut queues, *who, Notice, nothing)?.as_str(),
+            "NoneOwed"
+        );
     }
     Ok(())
 }
