@@ -6,3 +6,4 @@ pub mod Uses
 pub mod May
 pub mod StoreLimits
 pub mod Refusals
+pub mod Bounds

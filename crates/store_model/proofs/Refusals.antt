@@ -1,25 +1,24 @@
 -- What a refused call leaves, and what the ids of queues name.
 use Rattle.std.specs.Prelude.{◌≡◌, ℕ, ◌+◌, ◌&&◌, ◌<◌, ◌≤◌, Bool, true, false, cond, List, [], ◌∷◌, ◌++◌, length, Option, Some, None, refl}
 use Rattle.std.specs.Option.{option_map}
-use Rattle.std.proofs.Common.{sym, ap, subst, ◌∙◌, arith, length-set, length-append, get_or, set, get_or-set_same, get_or-set_other, ⊎_elim}
+use Rattle.std.proofs.Common.{sym, ap, ◌∙◌, arith, length-set, length-append, set, get_or-set_same, get_or-set_other, ⊎_elim}
 use Rattle.std.specs.Str.{bytes_eq}
 use Rattle.std.proofs.lemmas.Bool.{cases_eq}
 use Rattle.std.proofs.lemmas.List.{set-get_or, get_or_append_left}
-use Rattle.store_model.specs.Keys.{Keys, put, accepts, has_room_for, held_at, reply_of_held, set_after, set_reply, used_by_keys}
+use Rattle.store_model.specs.Keys.{Keys, put, accepts, has_room_for, set_after, set_reply, used_by_keys}
 use Rattle.store_model.specs.Limits.{fits}
-use Rattle.store_model.specs.Queues.{Queue, Queues, no_queue, base_of, id_at, index_of, named, named_from, oldest_for, owed_more, queue_in, set_queue, with_new, with_item, has_room_in, first_reply, but_first, used_by_queues, register_after, register_reply, resolve_reply, enqueue_after, enqueue_reply, dequeue_after, dequeue_reply, notice_after, notice_reply}
+use Rattle.store_model.specs.Queues.{Queue, Queues, no_queue, base_of, id_at, index_of, named, oldest_for, owed_more, queue_in, set_queue, with_new, with_item, has_room_in, first_reply, but_first, used_by_queues, register_after, register_reply, resolve_reply, enqueue_after, enqueue_reply, dequeue_after, dequeue_reply, notice_reply}
 use Rattle.store_model.specs.Store.{Store, applied}
 use Rattle.store_model.specs.History.{store_acts, value_from}
 use Rattle.store_model.specs.StoreLaws.{IsRefusal, name_of}
 use Rattle.store_model.specs.declared.call.Call.{Call}
 use Rattle.store_model.specs.declared.call.Call.TheVariants.{Get, Set, Register, Resolve, Enqueue, Dequeue, Notice}
-use Rattle.store_model.specs.declared.call.Reply.{Reply}
-use Rattle.store_model.specs.declared.call.Reply.TheVariants.{Done, CasMismatch, Full, Id, NoneOwed}
+use Rattle.store_model.specs.declared.call.Reply.TheVariants.{Done, CasMismatch, Full, Id}
 use Rattle.store_model.specs.declared.entry.Entry.{Entry}
 use Rattle.store_model.specs.declared.used.Used.{Used}
 use Rattle.store_model.proofs.Entries.{bytes_eq-same}
 use Rattle.store_model.proofs.Queues.{index_is, index_from, none_owed}
-use Rattle.store_model.proofs.Uses.{named-set, named-push, named_within, option_or}
+use Rattle.store_model.proofs.Uses.{named-set, named-push, option_or}
 
 -- ---- a refused call
 refused_set : (other : Used) (d : Keys) (key value : List ℕ) (number : ℕ) → IsRefusal (set_reply other d key value number) → set_after other d key value number ≡ d
@@ -84,10 +83,10 @@ keeps_set q k x same = record {
   long = omega (arith, length-set q.queues k x);
   found = λ name j h. named-set 0 name q.queues k x same ∙ h;
   names = λ j less. ⊎_elim
-    (λ (e : j ≡ k). let within : k < length q.queues = omega (arith, e, less) in
-    ap (λ n. (queue_in (set_queue q k x) n).name) e ∙ ap (λ (y : Queue). y.name) (get_or-set_same q.queues k x no_queue within) ∙ same ∙ ap (λ n. (queue_in q n).name) (sym e))
-    (λ (apart : j ≡ k → ⊥). ap (λ (y : Queue). y.name) (get_or-set_other q.queues k j x no_queue apart))
-    (cases_eq j k);
+      (λ (e : j ≡ k). let within : k < length q.queues = omega (arith, e, less) in
+      ap (λ n. (queue_in (set_queue q k x) n).name) e ∙ ap (λ (y : Queue). y.name) (get_or-set_same q.queues k x no_queue within) ∙ same ∙ ap (λ n. (queue_in q n).name) (sym e))
+      (λ (apart : j ≡ k → ⊥). ap (λ (y : Queue). y.name) (get_or-set_other q.queues k j x no_queue apart))
+      (cases_eq j k);
 }
 
 keeps_new : (q : Queues) (who root : ℕ) (name : List ℕ) → KeepsNames q (with_new q who root name)

@@ -1,15 +1,15 @@
 -- The limits hold whatever is called, and Full comes exactly past one.
-use Rattle.std.specs.Prelude.{◌≡◌, ◌⊎◌, ◌↔◌, ℕ, ◌+◌, ◌==◌, ◌&&◌, ◌<◌, ◌≤◌, Bool, true, false, cond, List, [], ◌∷◌, ◌++◌, length, Option, Some, None, refl, nat_lt, nat_le, count_by, All}
+use Rattle.std.specs.Prelude.{◌≡◌, ◌⊎◌, ◌↔◌, ℕ, ◌+◌, ◌==◌, ◌&&◌, ◌<◌, ◌≤◌, Bool, true, false, cond, List, [], ◌∷◌, ◌++◌, length, Option, Some, None, refl, nat_lt, nat_le, All}
 use Rattle.std.proofs.Common.{sym, ap, subst, ◌∙◌, arith, length-set, length-append, ⊎_elim, inl, inr, eq-eqb, ne_eqb}
 use Rattle.std.specs.declared.cmp.Ordering.{Ordering}
 use Rattle.std.specs.declared.cmp.Ordering.TheVariants.{Less, Equal, Greater}
 use Rattle.std.specs.Ordering.{match_ordering}
 use Rattle.std.specs.BTreeMap.{insert_entry}
-use Rattle.std.proofs.lemmas.Bool.{cases_eq, cases_lt, cases_Bool, and_parts, and_from, and_cases, false_from_ne_true}
+use Rattle.std.proofs.lemmas.Bool.{cases_eq, and_parts, and_cases, false_from_ne_true}
 use Rattle.std.proofs.lemmas.Bool.Decides.{nat_tests}
 use Rattle.std.proofs.lemmas.List.Elements.{All-nil, All-cons, All-head, All-tail, All-set, All-push, All-get_or}
 use Rattle.std.proofs.lemmas.List.Sums.{sum_by-cons, sum_by_push}
-use Rattle.store_model.specs.Keys.{Held, Keys, bytes_cmp, put, accepts, has_room_for, set_after, set_reply, used_by_keys}
+use Rattle.store_model.specs.Keys.{Held, bytes_cmp, put, accepts, has_room_for, set_after, used_by_keys}
 use Rattle.store_model.specs.Limits.{fits}
 use Rattle.store_model.specs.Queues.{Queue, Queues, no_queue, id_at, index_of, named, queue_in, set_queue, with_new, with_item, registered, owed_for, owed_more, has_room_in, but_first, but_oldest, is_for, used_by_queues, register_after, register_reply, enqueue_after, enqueue_reply, dequeue_after}
 use Rattle.store_model.specs.Store.{Store, empty_store, applied}
@@ -201,14 +201,14 @@ full_set s who number key value fresh =
     let b = fits (used_by_keys (put s.keys key value)) (used_by_queues s.queues) in
     let is : (applied s who (Set key value number)).reply ≡ cond (a && b) (Done s.keys.next) Full = ap (λ c. cond c (cond (a && b) (Done s.keys.next) Full) CasMismatch) fresh in (
       λ h. ⊎_elim
-      (λ (e : a ≡ false). inl (above s.keys.next 4294967295 e))
-      (λ (e : b ≡ false). inr (passes_from (used_by_keys (put s.keys key value)) (used_by_queues s.queues) e))
-      (and_cases a b (full_is (a && b) (Done s.keys.next) (λ e. absurd (cc)) (sym is ∙ h))),
+          (λ (e : a ≡ false). inl (above s.keys.next 4294967295 e))
+          (λ (e : b ≡ false). inr (passes_from (used_by_keys (put s.keys key value)) (used_by_queues s.queues) e))
+          (and_cases a b (full_is (a && b) (Done s.keys.next) (λ e. absurd (cc)) (sym is ∙ h))),
       λ p. is ∙ ap (λ c. cond c (Done s.keys.next) Full)
-      (false_from_ne_true (a && b)
-      (λ h. let t = and_parts a b h in
-      ⊎_elim (λ (e : 4294967295 < s.keys.next). absurd (omega (arith, e, le_from s.keys.next 4294967295 t.0)))
-      (λ (e : PassesLimit (used_by_keys (put s.keys key value)) (used_by_queues s.queues)). let f = past_from (used_by_keys (put s.keys key value)) (used_by_queues s.queues) e in absurd (cc)) p)),
+          (false_from_ne_true (a && b)
+          (λ h. let t = and_parts a b h in
+          ⊎_elim (λ (e : 4294967295 < s.keys.next). absurd (omega (arith, e, le_from s.keys.next 4294967295 t.0)))
+          (λ (e : PassesLimit (used_by_keys (put s.keys key value)) (used_by_queues s.queues)). let f = past_from (used_by_keys (put s.keys key value)) (used_by_queues s.queues) e in absurd (cc)) p)),
     )
 
 pub full_register : (s : Store) (who root : ℕ) (name : List ℕ) → named s.queues name ≡ None →
@@ -227,12 +227,12 @@ full_enqueue s who queue k item there =
     let b = fits (used_by_queues (with_item s.queues k item)) (used_by_keys s.keys) in
     let is : (applied s who (Enqueue queue item)).reply ≡ cond (a && b) (Done 0) Full = ap (λ o. enqueue_reply (used_by_keys s.keys) s.queues item o) there in (
       λ h. ⊎_elim
-      (λ (e : a ≡ false). inl (not_below (length (queue_in s.queues k).items) 1024 e))
-      (λ (e : b ≡ false). inr (passes_from (used_by_queues (with_item s.queues k item)) (used_by_keys s.keys) e))
-      (and_cases a b (full_is (a && b) (Done 0) (λ e. absurd (cc)) (sym is ∙ h))),
+          (λ (e : a ≡ false). inl (not_below (length (queue_in s.queues k).items) 1024 e))
+          (λ (e : b ≡ false). inr (passes_from (used_by_queues (with_item s.queues k item)) (used_by_keys s.keys) e))
+          (and_cases a b (full_is (a && b) (Done 0) (λ e. absurd (cc)) (sym is ∙ h))),
       λ p. is ∙ ap (λ c. cond c (Done 0) Full)
-      (false_from_ne_true (a && b)
-      (λ h. let t = and_parts a b h in
-      ⊎_elim (λ (e : 1024 ≤ length (queue_in s.queues k).items). absurd (omega (arith, e, lt_from (length (queue_in s.queues k).items) 1024 t.0)))
-      (λ (e : PassesLimit (used_by_queues (with_item s.queues k item)) (used_by_keys s.keys)). let f = past_from (used_by_queues (with_item s.queues k item)) (used_by_keys s.keys) e in absurd (cc)) p)),
+          (false_from_ne_true (a && b)
+          (λ h. let t = and_parts a b h in
+          ⊎_elim (λ (e : 1024 ≤ length (queue_in s.queues k).items). absurd (omega (arith, e, lt_from (length (queue_in s.queues k).items) 1024 t.0)))
+          (λ (e : PassesLimit (used_by_queues (with_item s.queues k item)) (used_by_keys s.keys)). let f = past_from (used_by_queues (with_item s.queues k item)) (used_by_keys s.keys) e in absurd (cc)) p)),
     )

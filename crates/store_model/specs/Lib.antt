@@ -11,6 +11,7 @@ pub mod Runs
 pub mod Followed
 pub mod Sequential
 pub mod Rows
+pub mod Bounds
 pub mod KeyLaws
 pub mod QueueLaws
 pub mod StoreLaws

@@ -1,5 +1,5 @@
 -- What holds of every store that calls make: its limits, what a refused call leaves, and what the ids of queues name.
-use Rattle.std.specs.Prelude.{◌≡◌, ℕ, ◌+◌, ◌<◌, ◌≤◌, ◌⊎◌, List, length, Option, All}
+use Rattle.std.specs.Prelude.{ℕ, ◌+◌, ◌<◌, ◌≤◌, ◌⊎◌, List, length, Option, All}
 use Rattle.std.specs.Option.{option_map}
 use Rattle.store_model.specs.Keys.{used_by_keys}
 use Rattle.store_model.specs.Queues.{Queues, index_of, owed_for, queue_in, used_by_queues}

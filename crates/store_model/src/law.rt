@@ -1,5 +1,6 @@
 // Worked examples of the definitions, and laws above them. Nothing here does anything when it runs.
 ghost use Rattle.std.specs.Prelude.{◌≡◌, ◌⊎◌, ◌↔◌, ℕ, ◌<◌, ◌≤◌, List, ◌++◌, length, true, false, All, None, Some};
+ghost use Rattle.store_model.specs.Bounds.{items_of_a_queue, notices_of_a_queue, numbers_of_a_store, names_of_a_store, bytes_of_a_store};
 ghost use Rattle.store_model.specs.Followed.{followed, replies_in, calls_in, end_of};
 ghost use Rattle.store_model.specs.History.{IsLegal, IsLegalFrom, store_acts, store_after, value_from};
 ghost use Rattle.store_model.specs.KeyLaws.{last_set, drawn, rising};
@@ -26,6 +27,15 @@ pub fn worked_rows()
     ensures two_keys { two_keys }
     ensures first_in_first_out { first_in_first_out }
     ensures registrant_now { registrant_now }
+{}
+
+/// Worked examples: each limit of a store from both sides.
+pub fn limits_from_both_sides()
+    ensures items { items_of_a_queue }
+    ensures notices { notices_of_a_queue }
+    ensures numbers { numbers_of_a_store }
+    ensures names { names_of_a_store }
+    ensures bytes { bytes_of_a_store }
 {}
 
 /// A Set under a stale number changes nothing, the number that the next Set draws included.
