@@ -1,0 +1,24 @@
+//! Modules.
+
+ghost use Rattle.std.specs.Prelude.{◌≡◌, IfOk};
+ghost use Rattle.wasm_writer.specs.Written.{module_bytes};
+
+use crate::sections::write_part;
+use gate_base::{Octets, OutOfMemory};
+use std::alloc::Global;
+use wasm_syntax::{Module, SECTIONS};
+
+/// The magic and the version.
+const HEADER: [u8; 8] = [0x00, 0x61, 0x73, 0x6D, 0x01, 0x00, 0x00, 0x00];
+
+/// The bytes of a module.
+#[tactic(auto, unfolding(crate::specs::Written::module_bytes))]
+pub fn write_module(alloc: Global, m: &Module) -> Result<Octets, OutOfMemory>
+    ensures exact { IfOk result (λ out. out ≡ module_bytes m.now) }
+{
+    let mut out = Octets::from_slice(alloc, &HEADER)?;
+    for kind in SECTIONS {
+        write_part(alloc, &mut out, m, kind)?;
+    }
+    Ok(out)
+}
