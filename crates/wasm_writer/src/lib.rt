@@ -3,6 +3,7 @@
 
 mod code;
 mod entries;
+pub mod laws;
 mod locals;
 mod module;
 mod rules;
