@@ -142,3 +142,36 @@ chain_shortest step next w h (x ∷ xs) s other are c =
 
 pub chain_written : {S A : Type 0} (step : S → Format A) (next : S → A → Option S) (w : A → List ℕ) → ((s : S) → IsWritten (step s).spells w) → (s : S) → IsWritten (ChainSpells step next s) (flat_map w)
 chain_written step next w h s = record { shortest = λ xs other are c. chain_shortest step next w h xs s other are c }
+
+-- ---- the same spelling, put otherwise
+
+pub equal_written : {A : Type 0} (first second : A → List ℕ → Type 0) (w : A → List ℕ) → ((x : A) (text : List ℕ) → first x text → second x text) → ((x : A) (text : List ℕ) → second x text → first x text) → IsWritten first w → IsWritten second w
+equal_written first second w there back h = record {
+  shortest = λ x other are s.
+      let p = h.shortest x other are (back x other s) in
+      record { bytes = p.bytes; spelled = there x (w x) p.spelled; least = λ more b t. p.least more b (back x more t) };
+}
+
+pub regroup : {A B C : Type 0} (first : A → List ℕ → Type 0) (second : A → B → List ℕ → Type 0) (third : B → C → List ℕ → Type 0) (z : C) (text : List ℕ) → Follows (Follows first second) third z text → Follows first (λ x. Follows (second x) third) z text
+regroup first second third z text s =
+    let t = s.first_spelled in
+    record {
+      value = t.value;
+      front = t.front;
+      back = t.back ++ s.back;
+      parts = s.parts ∙ (ap (λ (l : List ℕ). l ++ s.back) t.parts ∙ append_assoc t.front t.back s.back);
+      first_spelled = t.first_spelled;
+      second_spelled = record { value = s.value; front = t.back; back = s.back; parts = refl; first_spelled = t.second_spelled; second_spelled = s.second_spelled };
+    }
+
+pub ungroup : {A B C : Type 0} (first : A → List ℕ → Type 0) (second : A → B → List ℕ → Type 0) (third : B → C → List ℕ → Type 0) (z : C) (text : List ℕ) → Follows first (λ x. Follows (second x) third) z text → Follows (Follows first second) third z text
+ungroup first second third z text s =
+    let t = s.second_spelled in
+    record {
+      value = t.value;
+      front = s.front ++ t.front;
+      back = t.back;
+      parts = s.parts ∙ (ap (λ (l : List ℕ). s.front ++ l) t.parts ∙ sym (append_assoc s.front t.front t.back));
+      first_spelled = record { value = s.value; front = s.front; back = t.front; parts = refl; first_spelled = s.first_spelled; second_spelled = t.first_spelled };
+      second_spelled = t.second_spelled;
+    }

@@ -39,14 +39,14 @@ use Rattle.wasm_writer.proofs.Items.{byte_written, u32_written, s32_written, s64
 -- ---- single bytes
 
 -- which way a test went
-chosen : {A : Type 0} (b : Bool) (r s : Result A ℕ) (x : A) → cond b r s ≡ Ok x → ((b ≡ true) × (r ≡ Ok x)) ⊎ (s ≡ Ok x)
+pub chosen : {A : Type 0} (b : Bool) (r s : Result A ℕ) (x : A) → cond b r s ≡ Ok x → ((b ≡ true) × (r ≡ Ok x)) ⊎ (s ≡ Ok x)
 chosen true r s x e = inl (refl, e)
 chosen false r s x e = inr e
 
-abbrev good : {A : Type 0} → A → Result A ℕ
+abbrev pub good : {A : Type 0} → A → Result A ℕ
 good x = Ok x
 
-same_value : {A : Type 0} (x y : A) → good x ≡ good y → x ≡ y
+pub same_value : {A : Type 0} (x y : A) → good x ≡ good y → x ≡ y
 same_value x y e = cc
 
 -- the byte is what is written for the value that it says

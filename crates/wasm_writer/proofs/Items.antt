@@ -122,7 +122,7 @@ vector_written m w b = counted_written (bounded (at_most 65536) u32) m w (bounde
 -- ---- sized content
 
 -- a smaller number takes no more bytes
-monotone : (more a b : ℕ) → a ≤ b → length (unsigned_bytes more a) ≤ length (unsigned_bytes more b)
+pub monotone : (more a b : ℕ) → a ≤ b → length (unsigned_bytes more a) ≤ length (unsigned_bytes more b)
 unfolding unsigned_bytes
 monotone zero a b le = omega arith
 monotone (suc more) a b le = elim (cases_lt b 128) [

@@ -3,3 +3,7 @@ pub mod Forms
 pub mod Groups
 pub mod Items
 pub mod Grammar
+pub mod Bodies
+pub mod Parts
+pub mod Kept
+pub mod Whole
