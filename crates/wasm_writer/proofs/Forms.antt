@@ -92,10 +92,10 @@ pub two_written : {A B C : Type 0} (first : A → List ℕ → Type 0) (second :
 two_written first second f w v g a b same =
     follows_written first (λ x. Follows (second x) (λ y. (done (f x y)).spells)) w (λ x z. drop (length (w x)) (g z)) g a
     (λ x. follows_written (second x) (λ y. (done (f x y)).spells) (v x) (λ y z. []) (λ z. drop (length (w x)) (g z)) (b x) (λ y. done_written (f x y))
-      (λ y z front back s t. ap (λ u. drop (length (w x)) (g u)) t.0 ∙ (ap (drop (length (w x))) (same x y front s) ∙ (drop_at (w x) (v x y) (length (w x)) refl ∙ sym (append-nil (v x y))))))
+    (λ y z front back s t. ap (λ u. drop (length (w x)) (g u)) t.0 ∙ (ap (drop (length (w x))) (same x y front s) ∙ (drop_at (w x) (v x y) (length (w x)) refl ∙ sym (append-nil (v x y))))))
     (λ x z front back s t.
-      let e : g z ≡ w x ++ v x t.value = ap g t.second_spelled.0 ∙ same x t.value t.front t.first_spelled in
-      e ∙ ap (λ (l : List ℕ). w x ++ l) (sym (ap (drop (length (w x))) e ∙ drop_at (w x) (v x t.value) (length (w x)) refl)))
+    let e : g z ≡ w x ++ v x t.value = ap g t.second_spelled.0 ∙ same x t.value t.front t.first_spelled in
+    e ∙ ap (λ (l : List ℕ). w x ++ l) (sym (ap (drop (length (w x))) e ∙ drop_at (w x) (v x t.value) (length (w x)) refl)))
 
 -- ---- so many in a row
 

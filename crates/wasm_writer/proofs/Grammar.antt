@@ -167,9 +167,9 @@ limits_written least h =
     follows_written _ _ flag_bytes (λ _ l. u32_bytes l.minimum ++ maximum_bytes l.maximum) limits_bytes flag_written
     (λ has. two_written _ _ (λ n most. record { minimum = n; maximum = most }) u32_bytes (λ _. maximum_bytes) _ h (λ _. maximum_written has) (λ n most back s. refl))
     (λ has l front back s t.
-      let u = t.second_spelled in
-      let e : is_some l.maximum ≡ has = ap (λ (l : Limits). is_some l.maximum) u.second_spelled.0 ∙ maximum_flag has u.value u.front u.first_spelled in
-      ap (λ b. flag_bytes b ++ (u32_bytes l.minimum ++ maximum_bytes l.maximum)) e)
+    let u = t.second_spelled in
+    let e : is_some l.maximum ≡ has = ap (λ (l : Limits). is_some l.maximum) u.second_spelled.0 ∙ maximum_flag has u.value u.front u.first_spelled in
+    ap (λ b. flag_bytes b ++ (u32_bytes l.minimum ++ maximum_bytes l.maximum)) e)
 
 pub table_type_written : IsWritten table_type.spells table_type_bytes
 unfolding table_type table_type_bytes
@@ -383,8 +383,8 @@ unfolding import import_bytes
 import_written =
     follows_written _ _ sized_bytes (λ _ x. sized_bytes x.name ++ import_kind_bytes x.kind) import_bytes name_written
     (λ from. follows_written _ _ sized_bytes (λ _ x. import_kind_bytes x.kind) _ name_written
-      (λ own. two_written _ _ (λ k of. record { «module» = from; name = own; kind = of }) (λ k. byte_of_kind k ∷ []) (λ _. kind_rest) (λ x. import_kind_bytes x.kind) kind_written import_kind_written (λ k of back s. kind_is_written k of back s))
-      (λ own x front back s t. ap (λ (y : Import). sized_bytes y.name ++ import_kind_bytes x.kind) t.second_spelled.second_spelled.0))
+    (λ own. two_written _ _ (λ k of. record { «module» = from; name = own; kind = of }) (λ k. byte_of_kind k ∷ []) (λ _. kind_rest) (λ x. import_kind_bytes x.kind) kind_written import_kind_written (λ k of back s. kind_is_written k of back s))
+    (λ own x front back s t. ap (λ (y : Import). sized_bytes y.name ++ import_kind_bytes x.kind) t.second_spelled.second_spelled.0))
     (λ from x front back s t. ap (λ (y : Import). sized_bytes y.«module» ++ (sized_bytes x.name ++ import_kind_bytes x.kind)) t.second_spelled.second_spelled.second_spelled.0)
 
 exported_bytes : (k : ExternalKind) (n : ℕ) → export_kind_bytes (export_kind k n) ≡ byte_of_kind k ∷ u32_bytes n

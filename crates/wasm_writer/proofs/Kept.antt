@@ -62,10 +62,10 @@ record IsPlaced (before : Before) (b : ℕ) (k : SectionKind) : Type 0 where
 placed : (before : Before) (b : ℕ) (k : SectionKind) → section_kind_of before b ≡ good k → IsPlaced before b k
 placed before b k e = elim (chosen (eqb b 0 || ltb before.last b) (ok_or (slice_get SECTIONS b) 4) (Err 4) k e) [
   | inl p ↦ record {
-      stands = section_at b k p.1;
-      behind = elim (or_cases (eqb b 0) (ltb before.last b) p.0) [ inl z ↦ inl (eqb-true b 0 z) | inr l ↦ inr (ltb-true before.last b l) ];
-      says = p.1;
-    }
+    stands = section_at b k p.1;
+    behind = elim (or_cases (eqb b 0) (ltb before.last b) p.0) [ inl z ↦ inl (eqb-true b 0 z) | inr l ↦ inr (ltb-true before.last b l) ];
+    says = p.1;
+  }
   | inr p ↦ absurd (no_section k p)
 ]
 
@@ -138,9 +138,9 @@ section_written before =
     (λ x text s. (record { value = s.value; front = s.front; back = s.back; parts = s.parts; first_spelled = s.first_spelled; second_spelled = s.second_spelled.0 }, s.second_spelled.1))
     (λ x text s. record { value = s.0.value; front = s.0.front; back = s.0.back; parts = s.0.parts; first_spelled = s.0.first_spelled; second_spelled = (s.0.second_spelled, s.1) })
     (follows_written (IsByte (section_kind_of before)) (λ k x text. (section_of before.functions k).spells x text × IsKept x) (λ k. id_of k ∷ []) (λ _. content_bytes) whole_bytes
-      (byte_written (section_kind_of before) (λ k. id_of k ∷ []) (λ b k e. ap (λ (n : ℕ). n ∷ []) (placed before b k e).stands))
-      (content_written before.functions)
-      (λ k x front back s t. ap (λ j. id_of j ∷ content_bytes x) (kind_same before.functions k x back t.0)))
+    (byte_written (section_kind_of before) (λ k. id_of k ∷ []) (λ b k e. ap (λ (n : ℕ). n ∷ []) (placed before b k e).stands))
+    (content_written before.functions)
+    (λ k x front back s t. ap (λ j. id_of j ∷ content_bytes x) (kind_same before.functions k x back t.0)))
 
 zero_is_custom : (k : SectionKind) → id_of k ≡ 0 → k ≡ kind.Custom
 zero_is_custom kind.Custom e = refl
@@ -169,7 +169,10 @@ agrees_squashed (Some (suc m)) n e = e
 codes_squashed : (declared : Option ℕ) (xs : List Code) (text : List ℕ) → (code_vector declared).spells xs text → (code_vector (squash declared)).spells xs text
 unfolding code_vector
 codes_squashed declared xs text s = record {
-  value = s.value; front = s.front; back = s.back; parts = s.parts;
+  value = s.value;
+  front = s.front;
+  back = s.back;
+  parts = s.parts;
   first_spelled = ((s.first_spelled.0.0, agrees_squashed declared s.value s.first_spelled.0.1), s.first_spelled.1);
   second_spelled = s.second_spelled;
 }
@@ -179,7 +182,10 @@ unfolding section_of
 squashed declared kind.Code x text s =
     let t = s.first_spelled in
     record {
-      value = s.value; front = s.front; back = s.back; parts = s.parts;
+      value = s.value;
+      front = s.front;
+      back = s.back;
+      parts = s.parts;
       first_spelled = record { front = t.front; back = t.back; parts = t.parts; size = t.size; filled = codes_squashed declared s.value t.back t.filled };
       second_spelled = s.second_spelled;
     }
@@ -196,7 +202,10 @@ unfolding section
 spelled_sooner sooner before x text h s =
     let b = s.first_spelled in
     record {
-      value = s.value; front = s.front; back = s.back; parts = s.parts;
+      value = s.value;
+      front = s.front;
+      back = s.back;
+      parts = s.parts;
       first_spelled = record { byte = b.byte; alone = b.alone; judged = placed_again before sooner b.byte s.value h.last b.judged };
       second_spelled = subst (λ (o : Option ℕ). (section_of o s.value).spells x s.back) (sym h.functions) (squashed before.functions s.value x s.back s.second_spelled);
     }

@@ -7,3 +7,4 @@ pub mod Bodies
 pub mod Parts
 pub mod Kept
 pub mod Whole
+pub mod Examples

@@ -79,12 +79,12 @@ parts_after (x ∷ xs) before m text s none =
           let up : (after before x).last ≡ id_of (kind_of x) = after_last before x real in
           let more : Module = with_sections (with_section m x) xs in
           let others : kept xs ≡ flat_map (part (with_sections (with_section m x) xs)) (drop (suc (id_of (kind_of x))) SECTIONS) =
-              parts_after xs (after before x) (with_section m x) l.back l.others_spelled (λ k h. part_other m x k (λ e. absurd (let i : id_of (kind_of x) ≡ id_of k = ap id_of e in omega arith)) ∙ none k (omega arith))
-              ∙ ap (λ (n : ℕ). flat_map (part (with_sections (with_section m x) xs)) (drop (suc n) SECTIONS)) up in
+          parts_after xs (after before x) (with_section m x) l.back l.others_spelled (λ k h. part_other m x k (λ e. absurd (let i : id_of (kind_of x) ≡ id_of k = ap id_of e in omega arith)) ∙ none k (omega arith))
+          ∙ ap (λ (n : ℕ). flat_map (part (with_sections (with_section m x) xs)) (drop (suc n) SECTIONS)) up in
           let own : part (with_sections (with_section m x) xs) (kind_of x) ≡ keep x = later xs (after before x) (with_section m x) l.back (kind_of x) l.others_spelled (omega arith) ∙ part_same m x in
           let gap : flat_map (part (with_sections (with_section m x) xs)) (drop (suc before.last) SECTIONS) ≡ flat_map (part (with_sections (with_section m x) xs)) (drop (suc (before.last + (id_of (kind_of x) - suc before.last))) SECTIONS) =
-              skip (part (with_sections (with_section m x) xs)) (id_of (kind_of x) - suc before.last) before.last
-              (λ k low high. later xs (after before x) (with_section m x) l.back k l.others_spelled (omega arith) ∙ (part_other m x k (λ e. absurd (let i : id_of (kind_of x) ≡ id_of k = ap id_of e in omega arith)) ∙ none k low)) in
+          skip (part (with_sections (with_section m x) xs)) (id_of (kind_of x) - suc before.last) before.last
+          (λ k low high. later xs (after before x) (with_section m x) l.back k l.others_spelled (omega arith) ∙ (part_other m x k (λ e. absurd (let i : id_of (kind_of x) ≡ id_of k = ap id_of e in omega arith)) ∙ none k low)) in
           let here : suc (before.last + (id_of (kind_of x) - suc before.last)) ≡ id_of (kind_of x) = omega arith in
           ap (λ (ys : List Section). keep x ++ ys) others
           ∙ (ap (λ (ys : List Section). ys ++ flat_map (part (with_sections (with_section m x) xs)) (drop (suc (id_of (kind_of x))) SECTIONS)) (sym own)

@@ -30,8 +30,8 @@ use Rattle.wasm_syntax.specs.declared.module.Segment.{Segment}
 use Rattle.wasm_syntax.specs.declared.module.Module.{Module}
 use Rattle.wasm_syntax.specs.Kinds.{id_of, byte_of_kind}
 use Rattle.wasm_syntax.specs.Opcodes.{byte_of, opcode_of}
-use Rattle.wasm_syntax.specs.Numbers.{unsigned_bytes, u32_bytes, s32_bytes, s64_bytes}
-use Rattle.wasm_syntax.specs.Grammar.{header}
+use Rattle.wasm_syntax.specs.Numbers.{AreBytes, unsigned_bytes, u32_bytes, s32_bytes, s64_bytes}
+use Rattle.wasm_syntax.specs.Grammar.{header, Spells}
 use Rattle.wasm_writer.specs.declared.locals.Group.{Group}
 
 -- ---- sizes and vectors
@@ -219,3 +219,9 @@ part_bytes m kind.Data = members_bytes kind.Data segment_bytes m.segments
 -- THE BYTES THAT ARE WRITTEN for a module: the header, and its sections in the order of their ids.
 unfoldable pub module_bytes : Module → List ℕ
 module_bytes m = header ++ flat_map (part_bytes m) SECTIONS
+
+-- Some bytes spell the module.
+pub record HasSpelling (m : Module) : Type 0 where
+  pub bytes : List ℕ
+  pub are_bytes : AreBytes bytes
+  pub spelled : Spells bytes m

@@ -11,3 +11,6 @@ mod sections;
 mod types;
 
 pub use module::write_module;
+
+#[cfg(test)]
+mod tests;

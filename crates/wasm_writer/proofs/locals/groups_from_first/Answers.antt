@@ -21,10 +21,10 @@ differ I64 I64 e is = absurd cc
 
 pub loop-t-preserved : goal.loop-t-preserved
 loop-t-preserved c =
-  elim c.if-eq.branch [
-    | then-eq w ↦ rw (w.groups-is, w.of-is, w.count-is) (same_goes_on c.args.first c.args.others.now c.loop-t.groups c.loop-t.of c.loop-t.count c.loop-t.t-index I32 c.loop-t.invariant c.loop-t-test.true (are_same _ c.loop-t.of (sym c.eq.ensures ∙ w.if-eq.true)))
-    | else-eq+in_ok-push w ↦ rw (w.groups-is, w.of-is, w.count-is) (other_goes_on c.args.first c.args.others.now c.loop-t.groups w.push.new.self c.loop-t.of c.loop-t.count c.loop-t.t-index I32 c.loop-t.invariant c.loop-t-test.true (differ _ c.loop-t.of (sym c.eq.ensures ∙ w.if-eq.false)) w.in_ok-push.ensures.ok)
-  ]
+    elim c.if-eq.branch [
+      | then-eq w ↦ rw (w.groups-is, w.of-is, w.count-is) (same_goes_on c.args.first c.args.others.now c.loop-t.groups c.loop-t.of c.loop-t.count c.loop-t.t-index I32 c.loop-t.invariant c.loop-t-test.true (are_same _ c.loop-t.of (sym c.eq.ensures ∙ w.if-eq.true)))
+      | else-eq+in_ok-push w ↦ rw (w.groups-is, w.of-is, w.count-is) (other_goes_on c.args.first c.args.others.now c.loop-t.groups w.push.new.self c.loop-t.of c.loop-t.count c.loop-t.t-index I32 c.loop-t.invariant c.loop-t-test.true (differ _ c.loop-t.of (sym c.eq.ensures ∙ w.if-eq.false)) w.in_ok-push.ensures.ok)
+    ]
 
 pub returns : goal.returns
 returns c = groups_are_all c.args.first c.args.others.now c.loop-t.groups c.push-2.new.self c.loop-t.of c.loop-t.count c.loop-t.t-index c.loop-t.invariant c.loop-t-test.false c.in_ok-push-2.ensures.ok
