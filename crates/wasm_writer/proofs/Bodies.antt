@@ -1,13 +1,12 @@
 -- How locals and the code of functions are written: no other groups of the same locals take fewer bytes.
-use Rattle.std.proofs.Common.{◌≡◌, ℕ, ◌+◌, ◌-◌, ◌*◌, ◌/◌, ◌^◌, ◌<◌, ◌≤◌, zero, suc, ◌⊎◌, Option, List, [], ◌∷◌, ◌++◌, length, replicate, inl, inr, refl, sym, ap, subst, ◌∙◌, append_assoc, arith}
+use Rattle.std.proofs.Common.{◌≡◌, ℕ, ◌+◌, ◌/◌, ◌^◌, ◌<◌, ◌≤◌, zero, suc, ◌⊎◌, Option, List, [], ◌∷◌, ◌++◌, length, replicate, inl, inr, refl, sym, ap, subst, ◌∙◌, append_assoc, arith}
 use Rattle.std.specs.List.{flat_map}
 use Rattle.std.proofs.lemmas.List.{length-append, length-replicate, append-nil, replicate_more}
 use Rattle.std.proofs.lemmas.Bool.{le-leb, leb-true, cases_lt}
 use Rattle.wasm_syntax.specs.declared.types.ValueType.{ValueType}
 use Rattle.wasm_syntax.specs.declared.types.ValueType.TheVariants.{I32, I64}
-use Rattle.wasm_syntax.specs.declared.module.Code.{Code}
-use Rattle.wasm_syntax.specs.Numbers.{AreBytes, IsUnsigned, IsShortest, unsigned_bytes}
-use Rattle.wasm_syntax.specs.Format.{Format, Follows, bounded, done}
+use Rattle.wasm_syntax.specs.Numbers.{AreBytes, IsUnsigned}
+use Rattle.wasm_syntax.specs.Format.{Follows, bounded, done}
 use Rattle.wasm_syntax.specs.Items.{IsByte, u32, at_most, agreed_u32}
 use Rattle.wasm_syntax.specs.Grammar.{value_type_of, local_group, local_groups, expression, function_body, code, code_vector}
 use Rattle.wasm_syntax.proofs.Written.{unsigned_bytes_more, unsigned_bytes_last}

@@ -1,10 +1,10 @@
 -- What is written for a value by a rule of the grammar: wherever some bytes spell the value, what is
 -- written does, and no bytes that do are fewer.
-use Rattle.std.proofs.Common.{◌≡◌, ℕ, ◌+◌, ◌≤◌, ◌<◌, zero, suc, Bool, true, false, Option, Some, None, List, [], ◌∷◌, ◌++◌, length, drop, refl, sym, ap, subst, ◌∙◌, append_assoc, arith}
+use Rattle.std.proofs.Common.{◌≡◌, ℕ, zero, suc, Option, Some, None, List, [], ◌∷◌, ◌++◌, length, drop, refl, sym, ap, subst, ◌∙◌, append_assoc, arith}
 use Rattle.std.specs.List.{flat_map}
 use Rattle.std.proofs.lemmas.List.{length-append, append-nil, drop_at}
 use Rattle.wasm_syntax.specs.Numbers.{AreBytes, IsShortest}
-use Rattle.wasm_syntax.specs.Format.{Format, Follows, done, bounded, repeated, goes_on, IsLast, Links, ChainSpells}
+use Rattle.wasm_syntax.specs.Format.{Format, Follows, done, repeated, goes_on, IsLast, Links, ChainSpells}
 use Rattle.wasm_syntax.proofs.ChainLaws.{first_link, no_link}
 
 pub record IsWritten {A : Type 0} (spells : A → List ℕ → Type 0) (bytes : A → List ℕ) : Type 0 where

@@ -1,11 +1,9 @@
 -- How types, instructions and entries are written.
-use Rattle.std.proofs.Common.{◌≡◌, ℕ, ℤ, ◌+◌, ◌<◌, zero, suc, ◌⊎◌, Bool, true, false, cond, eqb, is_some, Option, Some, None, List, [], ◌∷◌, ◌++◌, length, Result, Ok, Err, inl, inr, refl, sym, ap, subst, ◌∙◌, arith, slice_index_or}
-use Rattle.std.specs.List.{flat_map}
+use Rattle.std.proofs.Common.{◌≡◌, ℕ, ℤ, ◌+◌, zero, suc, ◌⊎◌, Bool, true, false, cond, eqb, is_some, Option, Some, None, List, [], ◌∷◌, ◌++◌, Result, Ok, Err, inl, inr, refl, sym, ap, ◌∙◌, arith, slice_index_or}
 use Rattle.std.specs.Str.{is_utf8}
 use Rattle.std.proofs.lemmas.Bool.{eqb-true}
 use Rattle.wasm_syntax.specs.declared.types.ValueType.{ValueType}
 use Rattle.wasm_syntax.specs.declared.types.ValueType.TheVariants.{I32, I64}
-use Rattle.wasm_syntax.specs.declared.types.FunctionType.{FunctionType}
 use Rattle.wasm_syntax.specs.declared.types.Limits.{Limits}
 use Rattle.wasm_syntax.specs.declared.instr.Instr.{Instr}
 use Rattle.wasm_syntax.specs.declared.instr.BlockType.{BlockType}
@@ -28,13 +26,13 @@ use Rattle.wasm_syntax.specs.declared.module.Segment.{Segment}
 use Rattle.wasm_syntax.specs.Kinds.{byte_of_kind}
 use Rattle.wasm_syntax.specs.Opcodes.{Shape, Plain, WithBlock, WithIndex, WithLabels, WithTypeAndZero, WithMemory, WithZero, WithWord, WithLong, shape_of, byte_of, opcode_of, stand_from, MakesOpcode}
 use Rattle.wasm_syntax.specs.Numbers.{u32_bytes, s32_bytes, s64_bytes}
-use Rattle.wasm_syntax.specs.Format.{Format, Follows, bounded, done}
-use Rattle.wasm_syntax.specs.Items.{byte_as, u32, s32, s64, at_most, vector}
+use Rattle.wasm_syntax.specs.Format.{Format, bounded, done}
+use Rattle.wasm_syntax.specs.Items.{byte_as, u32, at_most}
 use Rattle.wasm_syntax.specs.Grammar.{only, is_float_type, value_type_of, block_type_of, flag_of, external_kind_of, function_type, maximum, limits, table_type, memory_type, global_type, name, octets, is_placed, has_room, opcode_said, opcode_judged, open_after, memory_argument, operands, instruction, expression, import_kind, import, export_kind, export, global, element, segment}
 use Rattle.wasm_syntax.proofs.Table.{rows_make_their_opcodes}
-use Rattle.wasm_writer.specs.Written.{value_type_bytes, block_type_bytes, flag_bytes, function_type_bytes, maximum_bytes, limits_bytes, table_type_bytes, memory_type_bytes, global_type_bytes, memory_argument_bytes, operand_bytes, instruction_bytes, expression_bytes, import_kind_bytes, import_bytes, export_kind_bytes, export_bytes, global_bytes, element_bytes, segment_bytes, size_bytes, vector_bytes, sized_bytes}
-use Rattle.wasm_writer.proofs.Forms.{IsWritten, same_written, only_written, done_written, follows_written, made_written, two_written, chain_written}
-use Rattle.wasm_writer.proofs.Items.{byte_written, u32_written, s32_written, s64_written, size_written, bounded_written, text_written, vector_written}
+use Rattle.wasm_writer.specs.Written.{value_type_bytes, block_type_bytes, flag_bytes, function_type_bytes, maximum_bytes, limits_bytes, table_type_bytes, memory_type_bytes, global_type_bytes, memory_argument_bytes, operand_bytes, instruction_bytes, expression_bytes, import_kind_bytes, import_bytes, export_kind_bytes, export_bytes, global_bytes, element_bytes, segment_bytes, vector_bytes, sized_bytes}
+use Rattle.wasm_writer.proofs.Forms.{IsWritten, only_written, follows_written, made_written, two_written, chain_written}
+use Rattle.wasm_writer.proofs.Items.{byte_written, u32_written, s32_written, s64_written, bounded_written, text_written, vector_written}
 
 -- ---- single bytes
 

@@ -1,5 +1,5 @@
 -- How bytes, numbers, vectors and sized content are written.
-use Rattle.std.proofs.Common.{◌≡◌, ℕ, ℤ, pos, negsuc, zero, suc, ◌+◌, ◌-◌, ◌*◌, ◌/◌, ◌%◌, ◌^◌, ◌<◌, ◌≤◌, ◌+ℤ◌, ◌-ℤ◌, ◌*ℤ◌, ◌⊎◌, Bool, true, Option, List, [], ◌∷◌, ◌++◌, length, Result, Ok, inl, inr, refl, sym, ap, subst, ◌∙◌, arith}
+use Rattle.std.proofs.Common.{◌≡◌, ℕ, ℤ, pos, negsuc, zero, suc, ◌+◌, ◌-◌, ◌*◌, ◌/◌, ◌%◌, ◌^◌, ◌<◌, ◌≤◌, ◌+ℤ◌, ◌-ℤ◌, ◌*ℤ◌, Bool, true, Option, List, [], ◌∷◌, ◌++◌, length, Result, Ok, inl, inr, refl, sym, ap, subst, ◌∙◌, arith}
 use Rattle.std.specs.List.{flat_map}
 use Rattle.std.specs.Prelude.{FitsSigned}
 use Rattle.std.specs.Int.{w32, w64}
@@ -8,9 +8,9 @@ use Rattle.std.proofs.lemmas.Bool.{cases_lt}
 use Rattle.std.proofs.lemmas.Nat.{pow-add}
 use Rattle.std.proofs.lemmas.Int.{ints}
 use Rattle.std.proofs.Math.Nat.{pow-suc}
-use Rattle.wasm_syntax.specs.Numbers.{AreBytes, IsUnsigned, IsSigned, IsSignedLast, IsWithin, IsShortest, unsigned_bytes, u32_bytes, s32_bytes, s64_bytes}
+use Rattle.wasm_syntax.specs.Numbers.{AreBytes, IsUnsigned, IsSigned, IsSignedLast, IsWithin, unsigned_bytes, u32_bytes, s32_bytes, s64_bytes}
 use Rattle.wasm_syntax.specs.Format.{Format, Follows, bounded, repeated}
-use Rattle.wasm_syntax.specs.Items.{IsByte, u32, s32, s64, agrees, agreed_u32, AreBytesOf, at_most, vector, IsSized, sized}
+use Rattle.wasm_syntax.specs.Items.{IsByte, u32, agrees, agreed_u32, AreBytesOf, at_most, vector, IsSized}
 use Rattle.wasm_syntax.proofs.Written.{unsigned_bytes_more, unsigned_bytes_last}
 use Rattle.wasm_syntax.proofs.Shortest.{unsigned_shortest, word_shortest, long_shortest}
 use Rattle.wasm_writer.specs.Written.{size_bytes, vector_bytes, sized_bytes}

@@ -1,5 +1,5 @@
 -- Sections that say nothing, and custom ones, may be left out: what is left is spelled, in fewer bytes.
-use Rattle.std.proofs.Common.{◌≡◌, ℕ, ◌+◌, ◌<◌, ◌≤◌, zero, suc, ◌⊎◌, Bool, true, false, cond, eqb, ltb, ◌||◌, slice_get, Option, Some, None, List, [], ◌∷◌, ◌++◌, length, Result, Ok, Err, inl, inr, refl, sym, ap, subst, ◌∙◌, arith}
+use Rattle.std.proofs.Common.{◌≡◌, ℕ, ◌+◌, ◌<◌, ◌≤◌, zero, suc, ◌⊎◌, Bool, true, false, cond, eqb, ltb, ◌||◌, slice_get, Option, Some, None, List, [], ◌∷◌, ◌++◌, length, Err, inl, inr, refl, sym, ap, subst, ◌∙◌, arith}
 use Rattle.std.specs.List.{flat_map}
 use Rattle.std.proofs.lemmas.List.{length-append}
 use Rattle.std.proofs.lemmas.Bool.{lt-ltb, ltb-true, eqb-true}
@@ -11,9 +11,9 @@ use Rattle.wasm_syntax.specs.declared.section.Section.{Section}
 use Rattle.wasm_syntax.specs.declared.section.Section.TheVariants.{Custom, Types, Imports, Functions, Tables, Memories, Globals, Exports, Start, Elements, Codes, Segments}
 use Rattle.wasm_syntax.specs.declared.section.Before.{Before}
 use Rattle.wasm_syntax.specs.Kinds.{id_of}
-use Rattle.wasm_syntax.specs.Numbers.{AreBytes, IsUnsigned, u32_bytes}
-use Rattle.wasm_syntax.specs.Format.{Format, Follows, Links, bounded, repeated}
-use Rattle.wasm_syntax.specs.Items.{IsByte, IsSized, u32, agrees, agreed_u32, at_most, vector, sized}
+use Rattle.wasm_syntax.specs.Numbers.{AreBytes, u32_bytes}
+use Rattle.wasm_syntax.specs.Format.{Follows, Links}
+use Rattle.wasm_syntax.specs.Items.{IsByte, u32, agrees, vector}
 use Rattle.wasm_syntax.specs.Grammar.{ok_or, function_type, import, table_type, memory_type, global, export, element, segment, code, code_vector, section_kind_of, section_of, section, after, is_complete, SectionsSpell}
 use Rattle.wasm_writer.specs.Written.{vector_bytes, sized_bytes, function_type_bytes, import_bytes, table_type_bytes, memory_type_bytes, global_bytes, export_bytes, element_bytes, code_bytes, segment_bytes}
 use Rattle.wasm_writer.proofs.Forms.{IsWritten, with_written, follows_written, made_written, equal_written, repeated_length, front_bytes, back_bytes, bytes_join}

@@ -1,5 +1,5 @@
 -- What is written for a module spells it, and no bytes that do are fewer.
-use Rattle.std.proofs.Common.{◌≡◌, ℕ, ◌+◌, ◌-◌, ◌<◌, ◌≤◌, zero, suc, ◌⊎◌, Some, None, List, [], ◌∷◌, ◌++◌, length, drop, Ok, inl, inr, refl, sym, ap, subst, ◌∙◌, arith}
+use Rattle.std.proofs.Common.{◌≡◌, ℕ, ◌+◌, ◌-◌, ◌<◌, ◌≤◌, suc, List, [], ◌∷◌, ◌++◌, length, drop, Ok, inl, inr, refl, sym, ap, subst, ◌∙◌, arith}
 use Rattle.std.specs.List.{flat_map}
 use Rattle.std.proofs.lemmas.List.{length-append, drop_all}
 use Rattle.std.proofs.lemmas.Bool.{leb-true, le-leb}
@@ -12,7 +12,7 @@ use Rattle.wasm_syntax.specs.declared.section.Section.TheVariants.{Custom, Types
 use Rattle.wasm_syntax.specs.declared.section.Before.{Before}
 use Rattle.wasm_syntax.specs.Kinds.{id_of}
 use Rattle.wasm_syntax.specs.Numbers.{AreBytes, IsShortest}
-use Rattle.wasm_syntax.specs.Grammar.{before_all, section, after, SectionsSpell, empty_module, with_section, with_sections, header, most_bytes, Spells, module_read}
+use Rattle.wasm_syntax.specs.Grammar.{before_all, after, SectionsSpell, empty_module, with_section, with_sections, header, most_bytes, Spells, module_read}
 use Rattle.wasm_syntax.proofs.ModuleLaws.{spelled_is_read}
 use Rattle.wasm_writer.specs.Written.{part_bytes, module_bytes}
 use Rattle.wasm_writer.proofs.Forms.{back_bytes, bytes_join}
