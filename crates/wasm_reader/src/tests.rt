@@ -121,6 +121,118 @@ fn first_faults(rt: HostRuntime) -> Result<(), Fail> {
     Ok(())
 }
 
+/// The header, and these sections behind it.
+fn with_header(rt: &HostRuntime, sections: &[u8]) -> Result<Octets, Fail> {
+    let mut bytes = Octets::from_slice(rt.alloc(), &samples::M0[..8])?;
+    bytes.extend_from_slice(sections)?;
+    Ok(bytes)
+}
+
+#[test]
+fn faults_of_sections(rt: HostRuntime) -> Result<(), Fail> {
+    let cases: [(&[u8], Option<(u8, usize)>); 29] = [
+        // sections out of order
+        (&[3, 1, 0, 1, 1, 0], Some((4, 11))),
+        // a section twice
+        (&[1, 1, 0, 1, 1, 0], Some((4, 11))),
+        // a function section without members, and no code
+        (&[3, 1, 0], None),
+        // code without functions
+        (&[10, 4, 1, 2, 0, 0x0B], Some((4, 14))),
+        // a size past the input, good items
+        (&[1, 9, 1, 0x60, 0, 0], Some((2, 14))),
+        // the same, with an item at fault
+        (&[1, 9, 1, 0x61, 0, 0], Some((5, 11))),
+        // a float parameter
+        (&[1, 5, 1, 0x60, 1, 0x7D, 0], Some((6, 13))),
+        // a parameter of no type
+        (&[1, 5, 1, 0x60, 1, 0x7B, 0], Some((5, 13))),
+        // 65,537 types
+        (&[1, 3, 0x81, 0x80, 4], Some((9, 10))),
+        // an import of no kind
+        (&[2, 5, 1, 0, 0, 4, 0], Some((5, 13))),
+        // a table of floats: no type of elements
+        (&[4, 4, 1, 0x7D, 0, 1], Some((5, 11))),
+        // a table of 65,536, and of one more
+        (&[4, 6, 1, 0x70, 0, 0x80, 0x80, 4], None),
+        (&[4, 6, 1, 0x70, 0, 0x81, 0x80, 4], Some((9, 13))),
+        // limits of no flag
+        (&[5, 3, 1, 2, 1], Some((5, 11))),
+        // a global that may be set or not
+        (&[6, 6, 1, 0x7F, 2, 0x41, 0, 0x0B], Some((5, 12))),
+        // an initial value without its end: where the input ends, before `end`, and before no opcode
+        (&[6, 5, 1, 0x7F, 0, 0x41, 0], Some((2, 15))),
+        (&[6, 5, 1, 0x7F, 0, 0x41, 0, 11, 1, 0], Some((8, 9))),
+        (&[6, 5, 1, 0x7F, 0, 0x41, 0, 7, 1, 0], Some((5, 15))),
+        // a constant of six bytes, and one of 33 bits
+        (
+            &[
+                6, 11, 1, 0x7F, 0, 0x41, 0x80, 0x80, 0x80, 0x80, 0x80, 0, 0x0B,
+            ],
+            Some((3, 14)),
+        ),
+        (
+            &[6, 10, 1, 0x7F, 0, 0x41, 0x80, 0x80, 0x80, 0x80, 0x08, 0x0B],
+            Some((3, 14)),
+        ),
+        // a name that is no UTF-8, one that is cut off, one past its section, and one that is both
+        (&[7, 4, 1, 1, 0xFF, 0], Some((7, 12))),
+        (&[7, 9, 1, 5, 0x61], Some((2, 13))),
+        (&[7, 3, 1, 5, 0x61, 0x62, 0x63, 0x64, 0x65], Some((8, 9))),
+        (&[7, 3, 1, 5, 0x61, 0xFF, 0x63, 0x64, 0x65], Some((7, 12))),
+        // a byte behind the start
+        (&[8, 2, 0, 0], Some((8, 9))),
+        // data past their section
+        (&[11, 6, 1, 0, 0x41, 0, 0x0B, 3, 1, 2, 3], Some((8, 9))),
+        // custom sections: of size 0 at the end and before others, and with a name past it
+        (&[0, 0], Some((2, 10))),
+        (&[0, 0, 1, 1, 0], Some((8, 9))),
+        (&[0, 1, 2, 0x61, 0x62], Some((8, 9))),
+    ];
+    for (sections, expected) in cases {
+        let bytes = with_header(&rt, sections)?;
+        assert_eq!(rt;
+            refusal(read_module(rt.alloc(), bytes.as_slice())),
+            expected,
+            "{sections:?}"
+        );
+    }
+    Ok(())
+}
+
+#[test]
+fn faults_of_code(rt: HostRuntime) -> Result<(), Fail> {
+    let cases: [(&[u8], Option<(u8, usize)>); 9] = [
+        // call_indirect and memory.size without their zero
+        (&[0x0A, 7, 1, 5, 0, 0x11, 0, 1, 0x0B], Some((5, 25))),
+        (&[0x0A, 6, 1, 4, 0, 0x3F, 1, 0x0B], Some((5, 24))),
+        // a block of a float
+        (&[0x0A, 7, 1, 5, 0, 0x02, 0x7D, 0x0B, 0x0B], Some((6, 24))),
+        // else outside of if
+        (&[0x0A, 5, 1, 3, 0, 0x05, 0x0B], Some((5, 23))),
+        // a body past its section, and one with a byte behind its end
+        (&[0x0A, 4, 1, 3, 0, 0x0B, 0], Some((8, 19))),
+        (&[0x0A, 5, 1, 3, 0, 0x0B, 0x0B], Some((8, 21))),
+        // 65,537 labels
+        (
+            &[0x0A, 9, 1, 7, 0, 0x0E, 0x81, 0x80, 4, 0, 0x0B],
+            Some((9, 24)),
+        ),
+        // 4,097 locals by one group, and a float local
+        (&[0x0A, 7, 1, 5, 1, 0x81, 0x20, 0x7F, 0x0B], Some((9, 23))),
+        (&[0x0A, 6, 1, 4, 1, 1, 0x7C, 0x0B], Some((6, 24))),
+    ];
+    for (behind, expected) in cases {
+        let bytes = with_function(&rt, behind)?;
+        assert_eq!(rt;
+            refusal(read_module(rt.alloc(), bytes.as_slice())),
+            expected,
+            "{behind:?}"
+        );
+    }
+    Ok(())
+}
+
 #[test]
 fn faults_of_headers_names_and_sizes(rt: HostRuntime) -> Result<(), Fail> {
     let empty = read_module(rt.alloc(), &samples::M0[..8])?;
