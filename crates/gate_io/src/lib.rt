@@ -4,6 +4,7 @@
 mod ends;
 mod event;
 mod files;
+mod gate;
 mod host_files;
 mod host_sink;
 mod host_source;
@@ -16,6 +17,7 @@ mod source;
 pub use ends::{Failed, FileEnd};
 pub use event::{Event, Sent, Side, What};
 pub use files::Files;
+pub use gate::{Gate, NoGate, Point};
 pub use host_files::HostFiles;
 pub use host_sink::HostSink;
 pub use host_source::HostSource;
