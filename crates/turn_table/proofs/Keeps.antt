@@ -249,16 +249,16 @@ module _ {S : Type 0} (a : Acts S) (vm : ℕ) where
           knows = each_set (λ i d. 0 < d.number → Knows vm longer d) s.views id w
               (λ _. record { same_vm = k.same_vm; begins = prefix_self longer; entries = refl; all = λ _. refl; before_begins = prefix_self longer; before_entries = refl })
               (λ i d ne x there.
-                let g = r.knows i d x there in
-                let apart : d.number ≢ v.number = λ one. ne (sym (r.apart id i v d at x live (sym one))) in
-                record {
-                  same_vm = g.same_vm;
-                  begins = prefix_trans d.seen v.seen longer (subst (IsPrefix d.seen) (sym is) g.begins) more;
-                  entries = g.entries ∙ others d.number apart;
-                  all = λ it. absurd (ne (taken.one_holds i d x it ∙ sym here));
-                  before_begins = g.before_begins;
-                  before_entries = g.before_entries ∙ others d.number apart;
-                });
+              let g = r.knows i d x there in
+              let apart : d.number ≢ v.number = λ one. ne (sym (r.apart id i v d at x live (sym one))) in
+              record {
+                same_vm = g.same_vm;
+                begins = prefix_trans d.seen v.seen longer (subst (IsPrefix d.seen) (sym is) g.begins) more;
+                entries = g.entries ∙ others d.number apart;
+                all = λ it. absurd (ne (taken.one_holds i d x it ∙ sym here));
+                before_begins = g.before_begins;
+                before_entries = g.before_entries ∙ others d.number apart;
+              });
           live_holds = each_set (λ i d. d.holds ≡ true → 0 < d.number) s.views id w (λ _. live) (λ i d ne x. r.live_holds i d x);
           apart = apart_numbers s.views (set s.views id w) same r.apart;
           leads = each_set (λ i d. d.number ≡ 1 → Leads longer (set s.views id w) d) s.views id w

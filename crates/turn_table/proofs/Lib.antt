@@ -5,3 +5,4 @@ pub mod Keeps
 pub mod Parts
 pub mod Meets
 pub mod Closes
+pub mod Calls

@@ -146,21 +146,21 @@ module _ {S : Type 0} (a : Acts S) (vm : ℕ) where
     leads_meets : Each Both (λ i d. d.number ≡ 1 → Leads r.history Both d)
     leads_meets = each_both (λ i d. d.number ≡ 1 → Leads r.history Both d)
         (λ _.
-          let l = r.leads id v at one in
-          let m = leads_numbers r.history s.views Both v same l in
-          record {
-            some_given = l.some_given;
-            numbers = m.numbers;
-            none_past = l.none_past;
-            none_of_spent = l.none_of_spent;
-            remains = λ k e at_k. ⊎_elim
-                (λ (t : (k < length v.ended) × (get_elem? v.ended k ≡ some e)).
-                  let x = m.remains k e t.1 in
-                  record { begins = prefix_trans e.seen v.seen Seen x.begins v_begins; entries = x.entries; was_given = x.was_given; no_live = x.no_live })
-                (λ (t : (k ≡ length v.ended) × (ended w.number w.seen ≡ e)).
-                  subst (Remains r.history Both Stays) t.1 (record { begins = w_begins; entries = w_knows.entries; was_given = (live, l.numbers other w at_w); no_live = gone }))
-                (at_snoc v.ended (ended w.number w.seen) e k at_k);
-          })
+        let l = r.leads id v at one in
+        let m = leads_numbers r.history s.views Both v same l in
+        record {
+          some_given = l.some_given;
+          numbers = m.numbers;
+          none_past = l.none_past;
+          none_of_spent = l.none_of_spent;
+          remains = λ k e at_k. ⊎_elim
+              (λ (t : (k < length v.ended) × (get_elem? v.ended k ≡ some e)).
+              let x = m.remains k e t.1 in
+              record { begins = prefix_trans e.seen v.seen Seen x.begins v_begins; entries = x.entries; was_given = x.was_given; no_live = x.no_live })
+              (λ (t : (k ≡ length v.ended) × (ended w.number w.seen ≡ e)).
+              subst (Remains r.history Both Stays) t.1 (record { begins = w_begins; entries = w_knows.entries; was_given = (live, l.numbers other w at_w); no_live = gone }))
+              (at_snoc v.ended (ended w.number w.seen) e k at_k);
+        })
         (λ is. absurd (omega arith))
         (λ i d ne e is. leads_numbers r.history s.views Both d same (r.leads i d e is))
 

@@ -6,6 +6,7 @@ mod rule;
 mod seat;
 mod steps;
 mod table;
+mod turn;
 mod turned;
 mod view;
 

@@ -5,13 +5,14 @@ ghost use Rattle.turn_table.specs.Seats.{Called, Refused, Joined, Closed, HasAll
 use crate::plays::{Looks, Meets, Parts};
 use crate::rule::InTurn;
 use crate::seat::{Pass, pass_out};
-use crate::steps::{COUNT, HOME, TURN, Top, give, record, take};
+use crate::steps::{COUNT, HOME, TURN};
+use crate::turn::turn;
 use crate::{Seat, Turned, View};
 use atomic_table::Table;
 use gate_base::{OutOfMemory, VmNo, WorkerNo};
-use gate_io::{Gate, Point};
+use gate_io::Gate;
 use std::alloc::{AllocError, Global};
-use std::marker::{Brand, Model};
+use std::marker::Model;
 use std::sync::Wait;
 use store_model::{Call, Reply};
 
@@ -124,15 +125,16 @@ impl<S: Turned> TurnTable<S> {
         ensures may { IfOk result (λ reply. S.may call.now reply) }
         ensures err { OnErr result (Refused S.acts seat.old seat.new call.now) }
     {
-        let top = &self.table.shared;
         let mut pass = pass_out(&mut seat.badge);
-        let mut value = take(rt, top, &mut pass);
-        gate.at(seat.who, Point::InsideTurn(value.vm()));
-        let result = value.apply(alloc, seat.who, call);
-        if let Ok(reply) = &result {
-            record::<S, Brand>(top, &mut pass, seat.who, call, reply);
-        }
-        give(top, &mut pass, value);
+        let result = turn(
+            rt,
+            alloc,
+            &self.table.shared,
+            &mut pass,
+            seat.who,
+            call,
+            gate,
+        );
         seat.badge = pass.into_badge();
         result
     }
