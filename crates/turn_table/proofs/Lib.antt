@@ -6,3 +6,4 @@ pub mod Parts
 pub mod Meets
 pub mod Closes
 pub mod Calls
+pub mod Rows

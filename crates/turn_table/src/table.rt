@@ -1,5 +1,5 @@
 // The table and its calls.
-ghost use Rattle.std.specs.Prelude.{◌≡◌, ◌<◌, ◌+◌, IfOk, IsOk, OnErr};
+ghost use Rattle.std.specs.Prelude.{◌≡◌, ◌<◌, ◌+◌, true, IfOk, IsOk, OnErr};
 ghost use Rattle.turn_table.specs.Seats.{Called, Refused, Joined, Closed, HasAll, IsSameSeat, first_seat, next_seat};
 
 use crate::plays::{Looks, Meets, Parts};
@@ -123,6 +123,7 @@ impl<S: Turned> TurnTable<S> {
         ensures same { IsSameSeat seat.old seat.new }
         ensures done { IfOk result (λ reply. Called S.acts seat.old seat.new call.now reply) }
         ensures may { IfOk result (λ reply. S.may call.now reply) }
+        ensures sure { ((s : S) → S.acts.sure call.now s ≡ true) → IsOk result }
         ensures err { OnErr result (Refused S.acts seat.old seat.new call.now) }
     {
         let mut pass = pass_out(&mut seat.badge);

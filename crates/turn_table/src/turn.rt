@@ -1,5 +1,5 @@
 // One call, from the turn that is taken to the turn that is given back.
-ghost use Rattle.std.specs.Prelude.{◌≡◌, ◌<◌, false, [], IfOk, OnErr};
+ghost use Rattle.std.specs.Prelude.{◌≡◌, ◌<◌, true, false, [], IfOk, IsOk, OnErr};
 ghost use Rattle.turn_table.specs.Seats.{Called, Refused, HasShape, IsSameSeat, seated};
 
 use crate::Turned;
@@ -28,6 +28,7 @@ pub(crate) fn turn<S: Turned, R: Wait, G: Gate>(
     ensures same { IsSameSeat (seated pass.old.table_id pass.old.me.0) (seated pass.new.table_id pass.new.me.0) }
     ensures done { IfOk result (λ reply. Called S.acts (seated pass.old.table_id pass.old.me.0) (seated pass.new.table_id pass.new.me.0) call.now reply) }
     ensures may { IfOk result (λ reply. S.may call.now reply) }
+    ensures sure { ((s : S) → S.acts.sure call.now s ≡ true) → IsOk result }
     ensures err { OnErr result (Refused S.acts (seated pass.old.table_id pass.old.me.0) (seated pass.new.table_id pass.new.me.0) call.now) }
 {
     let mut value = take(rt, top, pass);
