@@ -13,7 +13,7 @@ use Rattle.store_model.specs.declared.entry.Entry.{Entry}
 use Rattle.turn_table.specs.declared.view.Ended.{Ended}
 use Rattle.turn_table.specs.declared.view.View.{View}
 use Rattle.turn_table.specs.Histories.{value_after, IsLegalFor}
-use Rattle.turn_table.specs.Seats.{Seated, seated, Called, Joined, Closed}
+use Rattle.turn_table.specs.Seats.{seated, Called, Joined, Closed}
 use Rattle.turn_table.specs.Steps.{InHand, Known, Shut}
 use Rattle.turn_table.specs.Views.{ended, joined}
 use Rattle.turn_table.proofs.Entries.{own-append, own-one, value_from-snoc, legal_snoc}

@@ -1,5 +1,5 @@
 -- Joining a seat into that of number 1 keeps the rule, and a look at the table tells the seat of number 1 what the rule says of it.
-use Rattle.std.proofs.Common.{◌≡◌, ◌≢◌, ◌⊎◌, ℕ, ◌<◌, true, false, List, [], ◌∷◌, ◌++◌, length, get_or, set, refl, ap, sym, subst, ◌∙◌, ⊎_elim, inl, inr, arith, Option}
+use Rattle.std.proofs.Common.{◌≡◌, ◌≢◌, ◌⊎◌, ℕ, ◌<◌, true, false, List, length, get_or, set, refl, ap, sym, subst, ◌∙◌, ⊎_elim, inl, inr, arith, Option}
 use mathlib.Core.List.{IsPrefix}
 use mathlib.Core.Logic.{dite}
 use mathlib.Core.Option.{none, some}
@@ -7,9 +7,8 @@ use native.Mathlib.Decide.{ℕ_discrete}
 use lib.ListN.{get_elem?}
 use Rattle.atomic_table.specs.Table.{State, Me, step, keeps, Allows, Joins}
 use Rattle.atomic_table.proofs.Lists.{set_here, set_else}
-use Rattle.store_model.specs.History.{Acts, own}
+use Rattle.store_model.specs.History.{Acts}
 use Rattle.store_model.specs.declared.entry.Entry.{Entry}
-use Rattle.turn_table.specs.declared.view.Ended.{Ended}
 use Rattle.turn_table.specs.declared.view.View.{View}
 use Rattle.turn_table.specs.Histories.{IsLegalFor}
 use Rattle.turn_table.specs.Rule.{Knows, Remains, Leads, AreApart, IsFree, IsTaken, Kept}

@@ -1,17 +1,15 @@
 -- The worked examples, and the entries of a closed table.
 use Rattle.std.proofs.Common.{◌≡◌, ◌≢◌, ◌⊎◌, ℕ, zero, suc, ◌<◌, ◌≤◌, ◌==◌, Bool, true, false, cond, List, [], ◌∷◌, length, get_or, refl, ap, sym, ◌∙◌, ⊎_elim, arith, eq-eqb, Option, Some, None}
 use mathlib.Core.Logic.{dite}
-use mathlib.Core.Option.{none, some, some-injective}
+use mathlib.Core.Option.{none, some}
 use native.Mathlib.Decide.{ℕ_discrete, dec_le}
-use lib.ListN.{get_elem?}
 use Rattle.store_model.specs.History.{Acts, own, store_acts, entry}
-use Rattle.store_model.specs.Store.{Store, empty_store}
-use Rattle.store_model.specs.declared.call.Call.TheVariants.{Get}
+use Rattle.store_model.specs.Store.{Store}
 use Rattle.store_model.specs.declared.call.Reply.{Reply}
 use Rattle.store_model.specs.declared.call.Reply.TheVariants.{Done, CasMismatch}
 use Rattle.store_model.specs.declared.entry.Entry.{Entry}
 use Rattle.turn_table.specs.Histories.{value_after}
-use Rattle.turn_table.specs.Rows.{row, set_k, row_is_legal, stale_row_is_not, stale_call, store_ahead, one_number_twice, lone}
+use Rattle.turn_table.specs.Rows.{row, set_k, stale_row_is_not, stale_call, store_ahead, one_number_twice, lone}
 use Rattle.turn_table.specs.Rule.{IsFree, IsTaken, Kept}
 use Rattle.turn_table.specs.Seats.{Closed, Seated}
 use Rattle.turn_table.specs.Views.{first_view}

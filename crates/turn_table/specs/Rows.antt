@@ -1,5 +1,5 @@
 -- Worked examples: a history of two workers, and tables that keep the rule or do not.
-use Rattle.std.specs.Prelude.{◌≡◌, ℕ, ◌+◌, List, [], ◌∷◌, ◌++◌, Option, Some}
+use Rattle.std.specs.Prelude.{◌≡◌, ℕ, List, [], ◌∷◌, Option, Some}
 use Rattle.atomic_table.specs.Seated.{TableId}
 use Rattle.atomic_table.specs.Table.{State, opening}
 use Rattle.store_model.specs.History.{store_acts, entry, own}
@@ -12,8 +12,8 @@ use Rattle.store_model.specs.declared.entry.Entry.{Entry}
 use Rattle.turn_table.specs.declared.view.View.{View}
 use Rattle.turn_table.specs.Histories.{value_after, IsLegalFor}
 use Rattle.turn_table.specs.Rule.{Kept, AreApart}
-use Rattle.turn_table.specs.Seats.{Seated, turn_table, Called, Refused, Joined, Closed, HasAll}
-use Rattle.turn_table.specs.Views.{first_view, after_split, split_off, joined, longer, ended}
+use Rattle.turn_table.specs.Seats.{Seated, turn_table, Called}
+use Rattle.turn_table.specs.Views.{first_view, after_split, split_off, longer, ended}
 
 -- the key "k" is set to this byte
 abbrev pub set_k : ℕ → ℕ → Call

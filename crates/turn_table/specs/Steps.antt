@@ -5,8 +5,6 @@ use mathlib.Core.Option.{some}
 use lib.ListN.{get_elem?}
 use Rattle.atomic_table.specs.Table.{Me, Step}
 use Rattle.store_model.specs.History.{Acts, own, entry}
-use Rattle.store_model.specs.declared.call.Call.{Call}
-use Rattle.store_model.specs.declared.call.Reply.{Reply}
 use Rattle.store_model.specs.declared.entry.Entry.{Entry}
 use Rattle.turn_table.specs.declared.view.Ended.{Ended}
 use Rattle.turn_table.specs.declared.view.View.{View}

@@ -1,5 +1,5 @@
 // Worked examples of the definitions, and laws above them. Nothing here does anything when it runs.
-ghost use Rattle.std.specs.Prelude.{◌≡◌, ℕ, ◌≤◌, ◌++◌, ◌∷◌, [], All};
+ghost use Rattle.std.specs.Prelude.{ℕ, ◌≤◌, All};
 ghost use Rattle.store_model.specs.History.{entry};
 ghost use Rattle.store_model.specs.declared.call.Call.{Call};
 ghost use Rattle.store_model.specs.declared.call.Reply.{Reply};

@@ -1,5 +1,4 @@
-use Rattle.std.proofs.Common.{rules, arith, ◌≡◌, [], ◌∷◌, ◌++◌, ap, ◌∙◌}
-use mathlib.Core.Option.{some}
+use Rattle.std.proofs.Common.{rules, arith, [], ◌∷◌, ◌++◌, ap, ◌∙◌}
 use lib.ListN.{get_elem?}
 use Rattle.turn_table.specs.declared.view.Ended.{Ended}
 use Rattle.turn_table.specs.Seats.{Seated}

@@ -1,6 +1,6 @@
 use Rattle.std.proofs.Common.{rules, ap, sym, subst, ◌∙◌, IsSome}
 use Rattle.turn_table.specs.Seats.{Seated, HasAll, Closed, seated, view_in}
-use Rattle.turn_table.specs.Steps.{IsLast, Shut}
+use Rattle.turn_table.specs.Steps.{IsLast}
 use Rattle.turn_table.specs.declared.view.View.{View}
 use Rattle.turn_table.proofs.Calls.{closed, slot_is}
 use Rattle.turn_table.proofs.Closes.{closes}

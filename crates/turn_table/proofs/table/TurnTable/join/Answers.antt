@@ -1,4 +1,4 @@
-use Rattle.std.proofs.Common.{rules, ◌≡◌, ◌<◌, false, ap, sym, subst, ◌∙◌}
+use Rattle.std.proofs.Common.{rules, ◌<◌, ap, sym, subst, ◌∙◌}
 use Rattle.turn_table.specs.Seats.{Seated, Joined, seated, view_in}
 use Rattle.turn_table.specs.Steps.{Known}
 use Rattle.turn_table.specs.declared.view.View.{View}
