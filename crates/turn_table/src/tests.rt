@@ -96,6 +96,50 @@ fn set(alloc: Global, number: u32) -> Call {
     }
 }
 
+/// Counts its calls, and notes where two of them overlap. It takes its time.
+#[derive(Drop)]
+struct OneAtATime {
+    calls: AtomicU64,
+    inside: AtomicU64,
+    overlaps: AtomicU64,
+}
+
+impl Gate for OneAtATime {
+    fn at(&self, worker: WorkerNo, point: Point) {
+        let _ = (worker, point);
+        if self.inside.fetch_add(1, Ordering::SeqCst) != 0 {
+            self.overlaps.fetch_add(1, Ordering::SeqCst);
+        }
+        for _ in 0..100u32 {
+            self.calls.load(Ordering::SeqCst);
+        }
+        self.calls.fetch_add(1, Ordering::SeqCst);
+        self.inside.fetch_sub(1, Ordering::SeqCst);
+    }
+}
+
+/// Holds worker 1 inside its turn until it is told of an answer, but not for ever.
+#[derive(Drop)]
+struct UntilAnswered {
+    answered: AtomicU64,
+    given_up: AtomicU64,
+}
+
+impl Gate for UntilAnswered {
+    fn at(&self, worker: WorkerNo, point: Point) {
+        let _ = point;
+        if worker.get() != 1 {
+            return;
+        }
+        for _ in 0..10_000_000u32 {
+            if self.answered.load(Ordering::SeqCst) == 1 {
+                return;
+            }
+        }
+        self.given_up.store(1, Ordering::SeqCst);
+    }
+}
+
 /// Adds up what it is told: 1, and 100 for each worker's number and 10,000 for each VM's number.
 #[derive(Drop)]
 struct Sums {
@@ -200,19 +244,20 @@ fn a_call_refused_memory_is_not_in_the_history(rt: HostRuntime) -> Result<(), Fa
 }
 
 /// Makes one call again and again.
-fn repeat<R: Wait>(
+fn repeat<R: Wait, G: Gate>(
     rt: &R,
     alloc: Global,
     table: &TurnTable<Number>,
     mut seat: Seat,
     call: &Call,
     times: u32,
+    gate: &G,
 ) -> Result<Seat, OutOfMemory>
     requires { seat.table ≡ table.now }
     ensures { IfOk result (λ now. IsSameSeat seat now) }
 {
     for _ in 0..times {
-        table.with_turn(rt, alloc, &mut seat, call, &NoGate)?;
+        table.with_turn(rt, alloc, &mut seat, call, gate)?;
     }
     Ok(seat)
 }
@@ -224,7 +269,7 @@ fn a_hundred_thousand_calls_are_counted(rt: HostRuntime) -> Result<(), Fail> {
     let call = Call::Dequeue {
         queue: QueueId::new(1),
     };
-    let first = repeat(&rt, alloc, &table, first, &call, 100_000)?;
+    let first = repeat(&rt, alloc, &table, first, &call, 100_000, &NoGate)?;
     let (value, count) = table.close(first);
     assert_eq!(rt; value.number, 0);
     assert_eq!(rt; count, 100_000);
@@ -285,8 +330,10 @@ fn raise_both<R: Threads + Wait + Sync, G: Gate + Sync>(
 #[test]
 fn threads_raise_the_number_in_turns(rt: HostRuntime) -> Result<(), Fail> {
     let alloc = rt.alloc();
-    let gate = Sums {
-        told: AtomicU64::new(0),
+    let gate = OneAtATime {
+        calls: AtomicU64::new(0),
+        inside: AtomicU64::new(0),
+        overlaps: AtomicU64::new(0),
     };
     let (table, mut first) = opened(alloc)?;
     let second = table.split(&mut first)?;
@@ -294,6 +341,57 @@ fn threads_raise_the_number_in_turns(rt: HostRuntime) -> Result<(), Fail> {
     let (value, count) = shut(table, first, second);
     assert_eq!(rt; value.number, 2000);
     assert!(rt; 2000 <= count && count <= 4000);
-    assert_eq!(rt; gate.told.load(Ordering::SeqCst) % 100, count % 100);
+    assert_eq!(rt; gate.calls.load(Ordering::SeqCst), count);
+    assert_eq!(rt; gate.overlaps.load(Ordering::SeqCst), 0);
+    Ok(())
+}
+
+/// Makes a call on each of two tables, the one on the first held by the gate until the other was answered.
+fn one_held<R: Threads + Wait + Sync>(
+    rt: &R,
+    alloc: Global,
+    tables: (&TurnTable<Number>, &TurnTable<Number>),
+    seats: (Seat, Seat),
+    gate: &UntilAnswered,
+) -> Result<(Seat, Seat), OutOfMemory>
+    requires { (seats.0.table ≡ tables.0.now) × (seats.1.table ≡ tables.1.now) }
+    ensures { IfOk result (λ now. IsSameSeat seats.0 now.0 × IsSameSeat seats.1 now.1) }
+{
+    let (held_table, free_table) = tables;
+    let (one, two) = seats;
+    let (one, two) = join(
+        rt,
+        || -> Result<Seat, OutOfMemory>
+            requires { one.table ≡ held_table.now }
+            ensures { IfOk result (λ now. IsSameSeat one now) }
+        { repeat(rt, alloc, held_table, one, &Call::Notice, 1, gate) },
+        || -> Result<Seat, OutOfMemory>
+            requires { two.table ≡ free_table.now }
+            ensures { IfOk result (λ now. IsSameSeat two now) }
+        {
+            let two = repeat(rt, alloc, free_table, two, &Call::Notice, 1, gate);
+            gate.answered.store(1, Ordering::SeqCst);
+            two
+        },
+    );
+    Ok((one?, two?))
+}
+
+#[test]
+fn a_table_does_not_wait_for_another(rt: HostRuntime) -> Result<(), Fail> {
+    let alloc = rt.alloc();
+    let gate = UntilAnswered {
+        answered: AtomicU64::new(0),
+        given_up: AtomicU64::new(0),
+    };
+    let (held, one) = opened(alloc)?;
+    let (free, mut other) = opened(alloc)?;
+    let two = free.split(&mut other)?;
+    let (one, two) = one_held(&rt, alloc, (&held, &free), (one, two), &gate)?;
+    assert_eq!(rt; gate.given_up.load(Ordering::SeqCst), 0);
+    let (_, count) = held.close(one);
+    assert_eq!(rt; count, 1);
+    let (_, count) = shut(free, other, two);
+    assert_eq!(rt; count, 1);
     Ok(())
 }
