@@ -1,4 +1,4 @@
--- A value for worked examples and tests: one number, which is set under itself.
+-- A value for tests: one number, which is set under itself.
 use Rattle.std.specs.Prelude.{ℕ, ◌+◌, ◌%◌, ◌^◌, ◌==◌, Bool, cond, true, false}
 use Rattle.store_model.specs.History.{Acts}
 use Rattle.store_model.specs.declared.call.Call.{Call}

@@ -29,7 +29,6 @@ impl Model for Number {
 }
 
 impl Turned for Number {
-    ghost use Rattle.store_model.specs.declared.call.Call.{Call};
     ghost use Rattle.turn_table.specs.Tally.{tally_acts};
 
     ghost acts = { tally_acts };

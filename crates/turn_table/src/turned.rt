@@ -1,14 +1,17 @@
 // What a turn table has at home.
-ghost use Rattle.std.specs.Prelude.{◌≡◌, ℕ, true, IfOk, IsOk, OnOk, OnErr};
-ghost use Rattle.store_model.specs.History.{Acts};
-ghost use Rattle.store_model.specs.declared.call.Call.{Call};
-ghost use Rattle.store_model.specs.declared.call.Reply.{Reply};
+ghost use Rattle.std.specs.Prelude.{◌≡◌, true, IfOk, IsOk, OnOk, OnErr};
 
 use gate_base::{OutOfMemory, VmNo, WorkerNo};
 use std::alloc::Global;
+use store_model::{Call, Reply};
 
 /// A value that workers call in turns, as the store of a VM name.
 pub trait Turned {
+    ghost use Rattle.std.specs.Prelude.{ℕ};
+    ghost use Rattle.store_model.specs.History.{Acts};
+    ghost use Rattle.store_model.specs.declared.call.Call.{Call};
+    ghost use Rattle.store_model.specs.declared.call.Reply.{Reply};
+
     /// The empty value of each number, what a call makes of a value, its reply, and which calls are sure to be answered.
     ghost acts: { Acts Self };
 
@@ -23,12 +26,7 @@ pub trait Turned {
         ensures { result ≡ number self.now };
 
     /// Makes a call of a worker. Want of memory is answered before anything is changed.
-    fn apply(
-        &mut self,
-        alloc: Global,
-        who: WorkerNo,
-        call: &store_model::Call,
-    ) -> Result<store_model::Reply, OutOfMemory>
+    fn apply(&mut self, alloc: Global, who: WorkerNo, call: &Call) -> Result<Reply, OutOfMemory>
         ensures reply { IfOk result (λ reply. reply ≡ acts.reply who call.now self.old) }
         ensures after { OnOk result (self.new ≡ acts.after who call.now self.old) }
         ensures may { IfOk result (λ reply. may call.now reply) }
