@@ -1,0 +1,78 @@
+-- The worked examples, by computation.
+use Rattle.std.proofs.Common.{refl}
+use Rattle.http_header.specs.Token.{is_token_byte}
+use Rattle.header_maps.specs.Examples.{OperationExamples, FaultExamples, StatusExamples, SetExamples}
+
+pub operation_examples : OperationExamples
+operation_examples = record {
+  joined = refl;
+  one = refl;
+  none = refl;
+  empty = refl;
+  first = refl;
+  add = refl;
+  remove = refl;
+  replace = refl;
+  replace_new = refl;
+  replace_path = refl;
+  set = refl;
+  status = refl;
+  empty_size = refl;
+  size = refl;
+}
+
+pub fault_examples : FaultExamples
+unfolding is_token_byte
+fault_examples = record {
+  name = refl;
+  no_name = refl;
+  name_first = refl;
+  value = refl;
+  tab = refl;
+  hundred = refl;
+  hundred_one = refl;
+  hundred_one_replaced = refl;
+  hundred_kept = refl;
+  pseudo_added = refl;
+  pseudo_removed = refl;
+  absent_removed = refl;
+  other_pseudo = refl;
+  unknown_pseudo = refl;
+  connect = refl;
+  scheme = refl;
+  no_authority = refl;
+  blank_in_authority = refl;
+  star = refl;
+  fragment = refl;
+  relative = refl;
+  no_path = refl;
+}
+
+pub status_examples : StatusExamples
+unfolding is_token_byte
+status_examples = record {
+  least = refl;
+  most = refl;
+  past = refl;
+  interim_in_response = refl;
+  response_in_interim = refl;
+  interim = refl;
+  four_digits = refl;
+  no_digits = refl;
+  below = refl;
+  above = refl;
+}
+
+pub set_examples : SetExamples
+unfolding is_token_byte
+set_examples = record {
+  nothing = refl;
+  pseudo_in_trailers = refl;
+  missing = refl;
+  twice = refl;
+  names_before_values = refl;
+  value = refl;
+  hundred = refl;
+  hundred_one = refl;
+  pseudo_not_counted = refl;
+}

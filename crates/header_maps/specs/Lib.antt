@@ -1,0 +1,9 @@
+pub mod Examples
+pub mod Faults
+pub mod Headers
+pub mod Judged
+pub mod Kept
+pub mod Kinds
+pub mod Laws
+pub mod Operations
+pub mod Pairs

@@ -1,0 +1,137 @@
+// Which bytes are names and values.
+ghost use Rattle.std.specs.List.{list_all};
+ghost use Rattle.std.specs.Prelude.{◌≡◌, ◌<◌, ◌==◌, bytes_eq, slice_index};
+ghost use Rattle.http_header.specs.Token.{lowercase, is_token_byte};
+ghost use Rattle.header_maps.specs.Judged.{is_token_text, is_field_name, is_field_value, is_visible, is_method, is_scheme, is_authority, is_path_byte, is_path, status_of, is_status};
+ghost use Rattle.header_maps.specs.Pairs.{is_pseudo};
+
+use http_header::is_token_char;
+
+/// The longest name of a field.
+const NAME_LIMIT: usize = 65_535;
+
+/// Whether two texts are equal but for the case of letters.
+pub fn is_same_word(a: &[u8], b: &[u8]) -> bool
+    ensures { result ≡ bytes_eq (lowercase a.now) (lowercase b.now) }
+{
+    a.eq_ignore_ascii_case(b)
+}
+
+/// Whether all bytes are such as a token has.
+fn has_token_bytes(bytes: &[u8]) -> bool
+    ensures { result ≡ list_all is_token_byte bytes.now }
+{
+    bytes.iter().all(|b| is_token_char(*b))
+}
+
+/// Whether bytes are a token (RFC 9110 section 5.6.2).
+fn is_token_text(bytes: &[u8]) -> bool
+    ensures { result ≡ is_token_text bytes.now }
+{
+    !bytes.is_empty() && has_token_bytes(bytes)
+}
+
+/// Whether bytes are the name of a field, in any case of letters.
+pub fn is_field_name(bytes: &[u8]) -> bool
+    ensures { result ≡ is_field_name bytes.now }
+{
+    is_token_text(bytes) && bytes.len() <= NAME_LIMIT
+}
+
+/// Whether bytes are the value of a field (RFC 9110 section 5.5).
+pub fn is_field_value(bytes: &[u8]) -> bool
+    ensures { result ≡ is_field_value bytes.now }
+{
+    bytes
+        .iter()
+        .all(|b| *b == b'\t' || (b' ' <= *b && *b != 0x7f))
+}
+
+/// Whether the first byte of a text is this, which is not 0.
+fn begins_with(text: &[u8], byte: u8) -> bool
+    requires { 0 < byte }
+    ensures { result ≡ (slice_index text.now 0 == byte) }
+{
+    match text {
+        [first, ..] => *first == byte,
+        [] => false,
+    }
+}
+
+/// Whether a name begins with `:`.
+pub fn is_pseudo(name: &[u8]) -> bool
+    ensures { result ≡ is_pseudo name.now }
+{
+    begins_with(name, b':')
+}
+
+/// Whether bytes are a method other than CONNECT.
+pub fn is_method(bytes: &[u8]) -> bool
+    ensures { result ≡ is_method bytes.now }
+{
+    is_token_text(bytes) && bytes != b"CONNECT".as_slice()
+}
+
+/// Whether bytes are `http` or `https`.
+pub fn is_scheme(bytes: &[u8]) -> bool
+    ensures { result ≡ is_scheme bytes.now }
+{
+    bytes == b"http".as_slice() || bytes == b"https".as_slice()
+}
+
+/// Whether a byte is one from 21 to 7E.
+fn is_visible(byte: u8) -> bool
+    ensures { result ≡ is_visible byte }
+{
+    b' ' < byte && byte < 0x7f
+}
+
+/// Whether bytes are an authority: visible ones, possibly none.
+pub fn is_authority(bytes: &[u8]) -> bool
+    ensures { result ≡ is_authority bytes.now }
+{
+    bytes.iter().all(|b| is_visible(*b))
+}
+
+/// Whether a byte is visible, and no `#`.
+fn is_path_byte(byte: u8) -> bool
+    ensures { result ≡ is_path_byte byte }
+{
+    is_visible(byte) && byte != b'#'
+}
+
+/// Whether all bytes are visible, and none is a `#`.
+fn has_path_bytes(bytes: &[u8]) -> bool
+    ensures { result ≡ list_all is_path_byte bytes.now }
+{
+    bytes.iter().all(|b| is_path_byte(*b))
+}
+
+/// Whether bytes are `*`, or `/` and visible bytes without `#`.
+pub fn is_path(bytes: &[u8]) -> bool
+    ensures { result ≡ is_path bytes.now }
+{
+    bytes == b"*".as_slice() || (begins_with(bytes, b'/') && has_path_bytes(bytes))
+}
+
+/// The number of a status code's three digits (RFC 9112 section 4).
+fn status_of(bytes: &[u8]) -> Option<u16>
+    ensures { result ≡ status_of bytes.now }
+{
+    match bytes {
+        [a, b, c] if a.is_ascii_digit() && b.is_ascii_digit() && c.is_ascii_digit() => {
+            Some(u16::from(*a - b'0') * 100 + u16::from(*b - b'0') * 10 + u16::from(*c - b'0'))
+        }
+        _ => None,
+    }
+}
+
+/// Whether bytes are a status code within these bounds.
+pub fn is_status(low: u16, high: u16, bytes: &[u8]) -> bool
+    ensures { result ≡ is_status low high bytes.now }
+{
+    match status_of(bytes) {
+        Some(status) => low <= status && status <= high,
+        None => false,
+    }
+}
