@@ -1,3 +1,4 @@
+pub mod Bounds
 pub mod Examples
 pub mod Found
 pub mod GivenBack

@@ -200,7 +200,8 @@ impl HeaderList {
 
     /// The values of all fields of a name, in any case of letters, joined by one comma each; none where there is no field.
     pub fn get(&self, alloc: Global, name: &[u8]) -> Result<Option<Octets>, OutOfMemory>
-        ensures { IfOk result (λ value. value ≡ get_of self.now name.now) }
+        ensures value { IfOk result (λ value. value ≡ get_of self.now name.now) }
+        ensures bound { IfOk result (λ value. IfSome value (λ bytes. length bytes < 2 ^ 32)) }
     {
         joined_values(alloc, self.items.as_slice(), name)
     }
