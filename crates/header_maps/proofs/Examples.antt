@@ -1,7 +1,7 @@
 -- The worked examples, by computation.
-use Rattle.std.proofs.Common.{refl}
+use Rattle.std.proofs.Common.{◌≡◌, ℕ, Bool, List, true, false, refl, sym, ◌∙◌, ap, bytes_eq, codes, lit≤}
 use Rattle.http_header.specs.Token.{is_token_byte}
-use Rattle.header_maps.specs.Examples.{OperationExamples, FaultExamples, StatusExamples, SetExamples}
+use Rattle.header_maps.specs.Examples.{OperationExamples, FaultExamples, StatusExamples, SetExamples, KeptExamples}
 
 pub operation_examples : OperationExamples
 operation_examples = record {
@@ -75,4 +75,24 @@ set_examples = record {
   hundred = refl;
   hundred_one = refl;
   pseudo_not_counted = refl;
+}
+
+no_truth : false ≡ true → ⊥
+no_truth h = cc h
+
+pub kept_examples : KeptExamples
+unfolding is_token_byte
+kept_examples = record {
+  request = record {
+    shape = (
+      record { name_is = refl; value = refl },
+      (
+        record { name_is = refl; value = refl },
+        (record { name_is = refl; value = refl }, (record { name_is = refl; value = refl }, record { kept = refl; few = lit≤ tt })),
+      ),
+    );
+    short = refl;
+  };
+  late_pseudo = λ h. no_truth (ap (λ (x : List ℕ). bytes_eq x (codes ":status")) h.shape.0.name_is);
+  upper_case = λ h. no_truth h.shape.kept;
 }

@@ -6,3 +6,4 @@ pub mod Kept
 pub mod Replacing
 pub mod Setting
 pub mod Shapes
+pub mod Whole

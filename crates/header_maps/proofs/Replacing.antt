@@ -119,7 +119,7 @@ Once n [] = ⊥
 Once n (m ∷ ms) =
     ((m ≡ n) × (bytes_eq (lowercase m) n ≡ true) × (is_none_of n ms ≡ true)) ⊎ ((bytes_eq (lowercase m) n ≡ false) × Once n ms)
 
-other_bytes : (a b : List ℕ) → bytes_eq a b ≡ false → bytes_eq b a ≡ false
+pub other_bytes : (a b : List ℕ) → bytes_eq a b ≡ false → bytes_eq b a ≡ false
 other_bytes a b h =
     let P : Bool → Type 0 = λ k. bytes_eq b a ≡ k → k ≡ false in
     (elim (bytes_eq b a) as P [

@@ -4,6 +4,7 @@ use Rattle.header_maps.specs.declared.kind.ListKind.TheVariants.{Response, Plain
 use Rattle.header_maps.specs.Faults.{bad_name, bad_value, too_many, add_fault, replace_fault, remove_fault, set_fault, response_fault}
 use Rattle.header_maps.specs.Headers.{Headers}
 use Rattle.header_maps.specs.Judged.{is_path}
+use Rattle.header_maps.specs.Kept.{IsHeaders}
 use Rattle.header_maps.specs.Operations.{no_headers, request_headers, response_headers, get_of, first_of, added, removed, replaced, all_set, size_of}
 use Rattle.header_maps.specs.Pairs.{Pair}
 
@@ -84,3 +85,9 @@ pub record SetExamples : Type 0 where
   pub hundred : set_fault Plain (replicate 100 (codes "x", [])) ≡ None
   pub hundred_one : set_fault Plain (replicate 101 (codes "x", [])) ≡ Some too_many
   pub pseudo_not_counted : set_fault Response (replicate 100 (codes "x", []) ++ (codes ":status", codes "200") ∷ []) ≡ None
+
+-- a list that is one, and two that are none
+pub record KeptExamples : Type 0 where
+  pub request : IsHeaders worked_request
+  pub late_pseudo : IsHeaders (record { kind = Response; pairs = (codes "a", []) ∷ (codes ":status", codes "200") ∷ [] }) → ⊥
+  pub upper_case : IsHeaders (record { kind = Plain; pairs = (codes "A", []) ∷ [] }) → ⊥

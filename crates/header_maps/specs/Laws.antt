@@ -1,14 +1,16 @@
 -- What holds of the field operations.
-use Rattle.std.specs.Prelude.{◌≡◌, ◌↔◌, ◌<◌, ℕ, true, List, None, Some}
+use Rattle.std.specs.Prelude.{◌≡◌, ◌↔◌, ◌<◌, ℕ, true, List, map, None, Some}
 use Rattle.std.specs.List.{position, position_or_len}
 use Rattle.http_header.specs.FieldName.{IsFieldName}
 use Rattle.http_header.specs.FieldValue.{IsFieldValue}
 use Rattle.http_header.specs.Token.{lowercase}
+use Rattle.header_maps.specs.declared.kind.ListKind.{ListKind}
+use Rattle.header_maps.specs.Faults.{set_fault}
 use Rattle.header_maps.specs.Headers.{Headers}
 use Rattle.header_maps.specs.Judged.{is_field_name, is_field_value, status_of, status_text}
 use Rattle.header_maps.specs.Kept.{IsHeaders}
 use Rattle.header_maps.specs.Operations.{get_of, added, removed, without, replaced, all_set}
-use Rattle.header_maps.specs.Pairs.{is_named, joined_behind}
+use Rattle.header_maps.specs.Pairs.{Pair, lowered, is_named, values_of, joined_behind, plain_among}
 
 -- names and values are judged as `http_header` judges them
 pub record JudgedAlike : Type 0 where
@@ -46,3 +48,12 @@ pub record ReplacedInPlace : Type 0 where
 -- a list that is given its own pairs stays as it is
 abbrev pub SetGivesBack : Type 0
 SetGivesBack = (h : Headers) → IsHeaders h → all_set h.kind h.pairs ≡ h
+
+-- what is given for a whole list and not refused is kept, up to the case of names and their order: each name has the values
+-- that were given, in order, and so the pseudo-headers, and the fields stay in order
+pub record SetKeepsGiven : Type 0 where
+  pub values :
+      (kind : ListKind) (given : List Pair) (name : List ℕ) → set_fault kind given ≡ None
+      → values_of (lowercase name) (all_set kind given).pairs ≡ values_of (lowercase name) given
+  pub fields :
+      (kind : ListKind) (given : List Pair) → plain_among (all_set kind given).pairs ≡ map lowered (plain_among given)

@@ -1,6 +1,6 @@
 // What holds of the field operations, each as the contract of a function.
-ghost use Rattle.header_maps.specs.Examples.{OperationExamples, FaultExamples, StatusExamples, SetExamples};
-ghost use Rattle.header_maps.specs.Laws.{JudgedAlike, StatusReadBack, AddedIsFound, RemovedIsAbsent, ReplacedInPlace, SetGivesBack};
+ghost use Rattle.header_maps.specs.Examples.{OperationExamples, FaultExamples, StatusExamples, SetExamples, KeptExamples};
+ghost use Rattle.header_maps.specs.Laws.{JudgedAlike, StatusReadBack, AddedIsFound, RemovedIsAbsent, ReplacedInPlace, SetGivesBack, SetKeepsGiven};
 
 /// Names and values of fields are judged as `http_header` judges them.
 pub fn judged_alike()
@@ -32,10 +32,16 @@ pub fn set_gives_back()
     ensures { SetGivesBack }
 {}
 
+/// What is given for a whole list is kept, up to the case of names and their order.
+pub fn set_keeps_given()
+    ensures { SetKeepsGiven }
+{}
+
 /// The definitions, worked on lists that are written out.
 pub fn worked_examples()
     ensures operations { OperationExamples }
     ensures faults { FaultExamples }
     ensures statuses { StatusExamples }
     ensures sets { SetExamples }
+    ensures kept { KeptExamples }
 {}

@@ -13,7 +13,7 @@ pub use end::HeaderEnd;
 pub use kind::ListKind;
 pub use laws::{
     added_is_found, judged_alike, removed_is_absent, replaced_in_place, set_gives_back,
-    status_read_back, worked_examples,
+    set_keeps_given, status_read_back, worked_examples,
 };
 pub use list::HeaderList;
 
