@@ -1,0 +1,11 @@
+pub mod Patterns
+pub mod Rules
+pub mod Exact
+pub mod Bodies
+pub mod Labels
+pub mod Places
+pub mod Finding
+pub mod Contexts
+pub mod ExportNames
+pub mod FirstFaults
+pub mod SeenNames

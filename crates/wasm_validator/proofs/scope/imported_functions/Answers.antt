@@ -1,0 +1,12 @@
+use Rattle.std.proofs.Common.{◌≡◌, ◌++◌, [], take, ap, sym, ◌∙◌}
+use Rattle.std.specs.List.{cons_option}
+use Rattle.wasm_syntax.specs.Validity.{imports_of, function_of}
+use Rattle.wasm_validator.proofs.Finding.{imports-more}
+use Rattle.wasm_validator.proofs.scope.imported_functions.Goals as goal
+
+pub loop-i-preserved : goal.loop-i-preserved
+loop-i-preserved c =
+    c.in_ok-push_some.ensures
+    ∙ ap (λ xs. xs ++ cons_option c.function_in.result []) c.loop-i.invariant
+    ∙ ap (λ o. imports_of function_of (take c.loop-i.i-index c.args.imports.now) ++ cons_option o []) c.function_in.ensures
+    ∙ sym (imports-more function_of c.args.imports.now c.loop-i.i-index c.i-item.result c.loop-i-test.true c.i-item.is)

@@ -1,0 +1,9 @@
+pub mod Bodies
+pub mod Checking
+pub mod Codes
+pub mod Ends
+pub mod Marks
+pub mod Parts
+pub mod Scopes
+pub mod Seen
+pub mod Stepping
