@@ -9,12 +9,12 @@ use Rattle.std.proofs.lemmas.Bool.{cases_eq, and_parts, and_cases, false_from_ne
 use Rattle.std.proofs.lemmas.Bool.Decides.{nat_tests}
 use Rattle.std.proofs.lemmas.List.Elements.{All-nil, All-cons, All-head, All-tail, All-set, All-push, All-get_or}
 use Rattle.std.proofs.lemmas.List.Sums.{sum_by-cons, sum_by_push}
-use Rattle.store_model.specs.Keys.{Held, bytes_cmp, put, accepts, has_room_for, set_after, used_by_keys}
+use Rattle.store_model.specs.Keys.{Held, bytes_cmp, put, accepts, has_room_for, set_after, used_by_keys, held_at, reply_of_held}
 use Rattle.store_model.specs.Limits.{fits}
-use Rattle.store_model.specs.Queues.{Queue, Queues, no_queue, id_at, index_of, named, queue_in, set_queue, with_new, with_item, registered, owed_for, owed_more, has_room_in, but_first, but_oldest, is_for, used_by_queues, register_after, register_reply, enqueue_after, enqueue_reply, dequeue_after}
+use Rattle.store_model.specs.Queues.{Queue, Queues, no_queue, id_at, index_of, named, queue_in, set_queue, with_new, with_item, registered, owed_for, owed_more, has_room_in, but_first, but_oldest, is_for, used_by_queues, register_after, register_reply, enqueue_after, enqueue_reply, dequeue_after, first_reply, resolve_reply, dequeue_reply, notice_reply, oldest_for}
 use Rattle.store_model.specs.Store.{Store, empty_store, applied}
 use Rattle.store_model.specs.History.{store_acts, store_after, value_from}
-use Rattle.store_model.specs.StoreLaws.{IsInLimits, PassesLimit}
+use Rattle.store_model.specs.StoreLaws.{IsInLimits, MayBeFull, PassesLimit}
 use Rattle.store_model.specs.declared.call.Call.{Call}
 use Rattle.store_model.specs.declared.call.Call.TheVariants.{Get, Set, Register, Resolve, Enqueue, Dequeue, Notice}
 use Rattle.store_model.specs.declared.call.Reply.{Reply}
@@ -236,3 +236,45 @@ full_enqueue s who queue k item there =
           ⊎_elim (λ (e : 1024 ≤ length (queue_in s.queues k).items). absurd (omega (arith, e, lt_from (length (queue_in s.queues k).items) 1024 t.0)))
           (λ (e : PassesLimit (used_by_queues (with_item s.queues k item)) (used_by_keys s.keys)). let f = past_from (used_by_queues (with_item s.queues k item)) (used_by_keys s.keys) e in absurd (cc)) p)),
     )
+
+-- the calls that are not refused by a limit
+get_none : (o : Option Held) → reply_of_held o ≡ Full → ⊥
+get_none None h = absurd (cc)
+get_none (Some x) h = absurd (cc)
+
+set_only : (a b : Bool) (n : ℕ) → cond a (cond b (Done n) Full) CasMismatch ≡ Full → a ≡ true
+set_only true b n h = refl
+set_only false b n h = absurd (cc)
+
+register_only : (other : Used) (q : Queues) (who root : ℕ) (name : List ℕ) (o : Option ℕ) → register_reply other q who root name o ≡ Full → o ≡ None
+register_only other q who root name None h = refl
+register_only other q who root name (Some k) h = absurd (cc)
+
+resolve_none : (q : Queues) (o : Option ℕ) → resolve_reply q o ≡ Full → ⊥
+resolve_none q None h = absurd (cc)
+resolve_none q (Some k) h = absurd (cc)
+
+enqueue_only : (other : Used) (q : Queues) (item : List ℕ) (o : Option ℕ) → enqueue_reply other q item o ≡ Full → (k : ℕ) × (o ≡ Some k)
+enqueue_only other q item None h = absurd (cc)
+enqueue_only other q item (Some k) h = (k, refl)
+
+first_none : (items : List (List ℕ)) → first_reply items ≡ Full → ⊥
+first_none [] h = absurd (cc)
+first_none (item ∷ items) h = absurd (cc)
+
+dequeue_none : (q : Queues) (o : Option ℕ) → dequeue_reply q o ≡ Full → ⊥
+dequeue_none q None h = absurd (cc)
+dequeue_none q (Some k) h = first_none (queue_in q k).items h
+
+notice_none : (q : Queues) (o : Option ℕ) → notice_reply q o ≡ Full → ⊥
+notice_none q None h = absurd (cc)
+notice_none q (Some id) h = absurd (cc)
+
+pub full_only : (s : Store) (who : ℕ) (call : Call) → (applied s who call).reply ≡ Full → MayBeFull s call
+full_only s who (Get key) h = get_none (held_at s.keys key) h
+full_only s who (Set key value number) h = set_only (accepts s.keys key number) (has_room_for (used_by_queues s.queues) s.keys key value) s.keys.next h
+full_only s who (Register name root) h = register_only (used_by_keys s.keys) s.queues who root name (named s.queues name) h
+full_only s who (Resolve name) h = resolve_none s.queues (named s.queues name) h
+full_only s who (Enqueue queue item) h = enqueue_only (used_by_keys s.keys) s.queues item (index_of s.queues queue) h
+full_only s who (Dequeue queue) h = dequeue_none s.queues (index_of s.queues queue) h
+full_only s who Notice h = notice_none s.queues (oldest_for s.queues who s.queues.owed) h

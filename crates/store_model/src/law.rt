@@ -13,7 +13,7 @@ ghost use Rattle.store_model.specs.Queues.{index_of, is_for, named, queue_in, qu
 ghost use Rattle.store_model.specs.Rows.{compare_and_set, set_of_no_key, empty_value, two_keys, first_in_first_out, registrant_now};
 ghost use Rattle.store_model.specs.Sequential.{Stores, Performs, played, store_at};
 ghost use Rattle.store_model.specs.Store.{Store, Answer, applied};
-ghost use Rattle.store_model.specs.StoreLaws.{IsInLimits, IsRefusal, PassesLimit, name_of};
+ghost use Rattle.store_model.specs.StoreLaws.{IsInLimits, IsRefusal, MayBeFull, PassesLimit, name_of};
 ghost use Rattle.store_model.specs.declared.call.Call.{Call};
 ghost use Rattle.store_model.specs.declared.entry.Entry.{Entry};
 
@@ -100,6 +100,7 @@ pub fn full_comes_past_a_limit()
         ((applied s who (Call.Register name root)).reply ≡ Reply.Full) ↔ PassesLimit (used_by_queues (with_new s.queues who root name)) (used_by_keys s.keys) }
     ensures enqueue { (s : Store) (who queue k : ℕ) (item : List ℕ) → index_of s.queues queue ≡ Some k →
         ((applied s who (Call.Enqueue queue item)).reply ≡ Reply.Full) ↔ ((MOST_ITEMS ≤ length (queue_in s.queues k).items) ⊎ PassesLimit (used_by_queues (with_item s.queues k item)) (used_by_keys s.keys)) }
+    ensures only { (s : Store) (who : ℕ) (call : Call) → (applied s who call).reply ≡ Reply.Full → MayBeFull s call }
 {}
 
 /// A call that is answered Absent, CasMismatch, Full, Empty or NoneOwed changes nothing.

@@ -1,4 +1,4 @@
-use Rattle.store_model.proofs.StoreLimits.{full_set, full_register, full_enqueue}
+use Rattle.store_model.proofs.StoreLimits.{full_set, full_register, full_enqueue, full_only}
 use Rattle.store_model.proofs.law.full_comes_past_a_limit.Goals as goal
 
 pub returns-clause-set : goal.returns-clause-set
@@ -9,3 +9,6 @@ returns-clause-register c = full_register
 
 pub returns-clause-enqueue : goal.returns-clause-enqueue
 returns-clause-enqueue c = full_enqueue
+
+pub returns-clause-only : goal.returns-clause-only
+returns-clause-only c = full_only
