@@ -1,7 +1,6 @@
 -- The table of opcodes as typing reads it (WebAssembly Core 1.0 section 3.3): in which row an instruction
 -- stands. The operators are told apart by their types alone.
-use Rattle.std.specs.Prelude.{ℕ, List, [], ◌∷◌}
-use Rattle.wasm_syntax.specs.declared.types.ValueType.{ValueType}
+use Rattle.std.specs.Prelude.{ℕ, List, []}
 use Rattle.wasm_syntax.specs.declared.types.ValueType.TheVariants.{I32, I64}
 use Rattle.wasm_syntax.specs.declared.instr.Instr.{Instr}
 use Rattle.wasm_syntax.specs.declared.instr.Instr.TheVariants as instr

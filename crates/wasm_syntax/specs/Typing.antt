@@ -2,7 +2,7 @@
 -- Blocks and functions leave one value at most, so the order of their results says nothing.
 use Rattle.std.specs.Prelude.{◌≡◌, ℕ, ◌≤◌, ◌<◌, true, List, [], ◌∷◌, ◌++◌, All, Some, slice_get, reverse}
 use Rattle.wasm_syntax.specs.declared.types.ValueType.{ValueType}
-use Rattle.wasm_syntax.specs.declared.types.ValueType.TheVariants.{I32, I64}
+use Rattle.wasm_syntax.specs.declared.types.ValueType.TheVariants.{I32}
 use Rattle.wasm_syntax.specs.declared.types.FunctionType.{FunctionType}
 use Rattle.wasm_syntax.specs.declared.types.GlobalType.{GlobalType}
 use Rattle.wasm_syntax.specs.declared.instr.Instr.{Instr}
