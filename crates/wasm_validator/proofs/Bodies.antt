@@ -1,19 +1,17 @@
 -- A walk over a body, and what is typed.
-use Rattle.std.proofs.Common.{◌≡◌, ℕ, zero, suc, ◌+◌, ◌<◌, ◌≤◌, Bool, true, false, ◌&&◌, List, [], ◌∷◌, ◌++◌, length, Option, Some, None, ◌↔◌, refl, sym, ap, subst, ◌∙◌, arith}
-use Rattle.std.specs.Prelude.{take, drop, slice_get}
+use Rattle.std.proofs.Common.{◌≡◌, Bool, true, false, ◌&&◌, List, [], ◌∷◌, ◌++◌, Option, Some, None, refl, sym, ap, subst, ◌∙◌}
 use Rattle.std.proofs.lemmas.List.{append-nil}
 use Rattle.wasm_syntax.specs.declared.types.ValueType.{ValueType}
-use Rattle.wasm_syntax.specs.declared.types.ValueType.TheVariants.{I32, I64}
-use Rattle.wasm_syntax.specs.declared.types.FunctionType.{FunctionType}
+use Rattle.wasm_syntax.specs.declared.types.ValueType.TheVariants.{I32}
 use Rattle.wasm_syntax.specs.declared.instr.Instr.{Instr}
 use Rattle.wasm_syntax.specs.declared.instr.Instr.TheVariants as instr
 use Rattle.wasm_syntax.specs.declared.instr.BlockType.{BlockType}
 use Rattle.wasm_syntax.specs.Rows.{row_of, labels_of}
 use Rattle.wasm_syntax.specs.Nested.{Nested, nothing, simple, block, loop, choice, Cut, whole, ended, parted, broken, first_as, closed_by, chosen_by, Mark, begins_block, begins_loop, begins_if, at_else, at_end, stands_alone, mark_of, in_front, nests, NestsAs}
-use Rattle.wasm_syntax.specs.Typing.{Context, left_by, inside, Typed, IsTypedBody}
-use Rattle.wasm_validator.specs.Checking.{and_then, Pattern, any_types, no_types, popped, all_popped, all_pushed, is_empty, may_end_with, acted, rule_of, Layer, block_layer, loop_layer, if_layer, else_layer, body_layer, within, left_on, needs_no_else, layers_if, with_stack, stepped_by, stepped, walked}
-use Rattle.wasm_validator.proofs.Patterns.{OnSome, on_then, on_map, on_keep, IsThere, Stands}
-use Rattle.wasm_validator.proofs.Exact.{Finishes, Left, walked-exact}
+use Rattle.wasm_syntax.specs.Typing.{Context, inside, Typed, IsTypedBody}
+use Rattle.wasm_validator.specs.Checking.{and_then, Pattern, any_types, no_types, popped, all_popped, all_pushed, is_empty, may_end_with, acted, rule_of, Layer, if_layer, else_layer, body_layer, within, left_on, needs_no_else, layers_if, with_stack, stepped_by, stepped, walked}
+use Rattle.wasm_validator.proofs.Patterns.{OnSome, IsThere}
+use Rattle.wasm_validator.proofs.Exact.{Left, walked-exact}
 
 -- a body begins in a context in which it has no labels yet
 abbrev pub begun : Context → List Layer

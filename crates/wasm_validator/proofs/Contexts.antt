@@ -1,14 +1,12 @@
 -- The context of a code.
-use Rattle.std.proofs.Common.{◌≡◌, ℕ, suc, ◌+◌, ◌<◌, ◌≤◌, List, [], ◌∷◌, ◌++◌, length, take, drop, get_or, Option, Some, None, refl, sym, ap, subst, ◌∙◌, arith}
-use Rattle.std.specs.Prelude.{slice_get}
+use Rattle.std.proofs.Common.{◌≡◌, ℕ, suc, List, [], ◌++◌, take, drop, Some, refl, sym, ap, subst, ◌∙◌}
 use Rattle.std.proofs.lemmas.List.{take-append-drop}
 use Rattle.wasm_syntax.specs.declared.types.ValueType.{ValueType}
 use Rattle.wasm_syntax.specs.declared.types.FunctionType.{FunctionType}
-use Rattle.wasm_syntax.specs.declared.instr.Instr.{Instr}
 use Rattle.wasm_syntax.specs.declared.module.Code.{Code}
 use Rattle.wasm_syntax.specs.declared.module.Module.{Module}
 use Rattle.wasm_syntax.specs.Typing.{Context, Is, IsTypedBody}
-use Rattle.wasm_syntax.specs.Validity.{functions_of, tables_of, memories_of, globals_of, context_of, HasContext, IsCode, CanGoOn, IsFirstUntyped}
+use Rattle.wasm_syntax.specs.Validity.{context_of, HasContext, IsCode, IsFirstUntyped}
 use Rattle.wasm_validator.specs.declared.scope.Scope.{Scope}
 use Rattle.wasm_validator.specs.Scopes.{IsScope}
 use Rattle.wasm_validator.specs.Bodies.{StopsAt}

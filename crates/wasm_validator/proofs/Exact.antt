@@ -1,15 +1,14 @@
 -- Checking accepts exactly what is typed: the theory of it, without a line of code.
-use Rattle.std.proofs.Common.{◌≡◌, ℕ, zero, suc, Bool, true, false, ◌&&◌, List, [], ◌∷◌, ◌++◌, Option, Some, None, ◌↔◌, refl, sym, ap, subst, ◌∙◌}
+use Rattle.std.proofs.Common.{◌≡◌, Bool, true, false, ◌&&◌, List, [], ◌∷◌, ◌++◌, Option, Some, ◌↔◌, refl, sym, ap, subst, ◌∙◌}
 use Rattle.wasm_syntax.specs.declared.types.ValueType.{ValueType}
-use Rattle.wasm_syntax.specs.declared.types.ValueType.TheVariants.{I32, I64}
+use Rattle.wasm_syntax.specs.declared.types.ValueType.TheVariants.{I32}
 use Rattle.wasm_syntax.specs.declared.instr.Instr.{Instr}
 use Rattle.wasm_syntax.specs.declared.instr.BlockType.{BlockType}
-use Rattle.wasm_syntax.specs.declared.instr.BlockType.TheVariants as block_type
 use Rattle.wasm_syntax.specs.Rows.{row_of, labels_of}
 use Rattle.wasm_syntax.specs.Nested.{Nested, nothing, simple, block, loop, choice, Cut, whole, ended, parted, broken, first_as, closed_by, chosen_by, Mark, begins_block, begins_loop, begins_if, at_else, at_end, stands_alone, mark_of, in_front, nests}
 use Rattle.wasm_syntax.specs.Typing.{Context, left_by, inside, Leads, Typed}
 use Rattle.wasm_validator.specs.Checking.{and_then, Pattern, no_types, popped, all_pushed, is_empty, may_end_with, acted, rule_of, Layer, block_layer, loop_layer, if_layer, else_layer, within, left_on, needs_no_else, layers_if, with_stack, stepped_by, stepped, walked}
-use Rattle.wasm_validator.proofs.Patterns.{OnSome, on_then, on_map, on_keep, bind_exact, IsThere, Stands, popped-exact, IsOn, all_pushed-to, all_pushed-from, may_end_with-to, may_end_with-from, May, Acts, Came, acted-to, acted-from}
+use Rattle.wasm_validator.proofs.Patterns.{OnSome, on_then, on_map, on_keep, bind_exact, IsThere, Stands, popped-exact, all_pushed-to, all_pushed-from, may_end_with-to, may_end_with-from, May, Acts, acted-to, acted-from}
 use Rattle.wasm_validator.proofs.Rules.{rule-to, rule-from, both, first_of, second_of}
 
 -- from a stack that the layer stands for, the code leads to the layer's results

@@ -1,16 +1,14 @@
 -- The first fault of a module that bytes spell.
-use Rattle.std.proofs.Common.{◌≡◌, ◌⊎◌, inl, inr, ℕ, ◌<◌, ◌≤◌, ◌^◌, List, [], ◌∷◌, length, get_or, Option, Some, None, refl, sym, ap, subst, ◌∙◌, arith, ⊎_elim}
+use Rattle.std.proofs.Common.{◌≡◌, ◌⊎◌, inl, inr, ℕ, ◌<◌, ◌≤◌, length, Some, refl, sym, subst, arith, ⊎_elim}
 use Rattle.std.specs.Prelude.{All, slice_get}
-use Rattle.std.specs.List.{AllByRecursion}
 use Rattle.std.proofs.lemmas.List.Elements.{All-from_recursion}
 use Rattle.std.proofs.lemmas.Option.{slice_get_within, get_or_from_slice_get}
 use Rattle.wasm_syntax.specs.declared.module.Code.{Code}
 use Rattle.wasm_syntax.specs.declared.module.Module.{Module}
 use Rattle.wasm_syntax.specs.declared.valid.Part.{Part}
 use Rattle.wasm_syntax.specs.declared.valid.Part.TheVariants as part
-use Rattle.wasm_syntax.specs.Grammar.{most_bytes}
 use Rattle.wasm_syntax.specs.Spelled.{IsSpelled, IsSpelledCode}
-use Rattle.wasm_syntax.specs.Validity.{At, IsBounded, IsGood, IsPlace, IsFirstUntyped, IsValid, FirstInvalid, ComesBefore, entries_of, turn_of}
+use Rattle.wasm_syntax.specs.Validity.{IsBounded, IsGood, IsValid, entries_of, turn_of}
 use Rattle.wasm_syntax.proofs.FaultPlaces.{untyped_is_within}
 use Rattle.wasm_validator.specs.Codes.{IsFirstBadCode, AllGood}
 use Rattle.wasm_validator.specs.Ends.{IsFound, AllValid}

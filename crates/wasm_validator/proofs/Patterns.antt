@@ -1,9 +1,9 @@
 -- What a pattern stands for, and that taking and giving by patterns is exact.
-use Rattle.std.proofs.Common.{◌≡◌, ℕ, zero, suc, Bool, true, false, List, [], ◌∷◌, ◌++◌, Option, Some, None, ◌↔◌, refl, sym, ap, subst, ◌∙◌, append_assoc}
+use Rattle.std.proofs.Common.{◌≡◌, Bool, true, false, List, [], ◌∷◌, ◌++◌, Option, Some, None, ◌↔◌, refl, sym, ap, subst, ◌∙◌, append_assoc}
 use Rattle.std.proofs.lemmas.List.{append-nil}
 use Rattle.wasm_syntax.specs.declared.types.ValueType.{ValueType}
 use Rattle.wasm_syntax.specs.declared.types.ValueType.TheVariants.{I32, I64}
-use Rattle.wasm_validator.specs.Checking.{and_then, Pattern, no_types, any_types, same_type, may_be, popped_any, taken_if, popped, all_popped, pushed_any, all_pushed, is_empty, may_end_with, joined, Rule, gives, drops, selects, leaves, selected, acted}
+use Rattle.wasm_validator.specs.Checking.{and_then, Pattern, any_types, same_type, may_be, popped_any, taken_if, popped, all_popped, pushed_any, all_pushed, is_empty, may_end_with, joined, Rule, gives, drops, selects, leaves, selected, acted}
 
 -- ---- answers that may not be there
 

@@ -1,18 +1,16 @@
 -- The rule that the context gives for a row is the one by which it is typed.
-use Rattle.std.proofs.Common.{◌≡◌, ℕ, zero, suc, ◌<◌, ◌≤◌, Bool, true, false, ◌&&◌, List, [], ◌∷◌, ◌++◌, Option, Some, None, ◌↔◌, refl, sym, ap, subst, ◌∙◌, append_assoc}
+use Rattle.std.proofs.Common.{◌≡◌, ℕ, Bool, true, false, ◌&&◌, List, [], ◌∷◌, Option, Some, None, refl, sym, ap, subst, ◌∙◌}
 use Rattle.std.specs.List.{AllByRecursion}
 use Rattle.std.specs.Prelude.{slice_get, All, nat_lt, nat_le, reverse}
 use Rattle.std.proofs.lemmas.Bool.{ltb-true, lt-ltb, leb-true, le-leb}
-use Rattle.std.proofs.lemmas.List.Elements.{recursion_from_All, All-from_recursion, All-cons, All-nil}
+use Rattle.std.proofs.lemmas.List.Elements.{recursion_from_All, All-cons, All-nil}
 use Rattle.wasm_syntax.specs.declared.types.ValueType.{ValueType}
-use Rattle.wasm_syntax.specs.declared.types.ValueType.TheVariants.{I32, I64}
-use Rattle.wasm_syntax.specs.declared.types.FunctionType.{FunctionType}
-use Rattle.wasm_syntax.specs.declared.types.GlobalType.{GlobalType}
+use Rattle.wasm_syntax.specs.declared.types.ValueType.TheVariants.{I32}
 use Rattle.wasm_syntax.specs.declared.row.Row.{Row}
 use Rattle.wasm_syntax.specs.declared.row.Row.TheVariants as row
-use Rattle.wasm_syntax.specs.Typing.{Context, Is, Gives, Applies, Takes}
-use Rattle.wasm_validator.specs.Checking.{and_then, same_type, same_types, has_label, all_have, ruled_if, called, Rule, gives, drops, selects, leaves, rule_of}
-use Rattle.wasm_validator.proofs.Patterns.{OnSome, IsThere, May, same_type-refl, same_type-true}
+use Rattle.wasm_syntax.specs.Typing.{Context, Is, Takes}
+use Rattle.wasm_validator.specs.Checking.{and_then, same_type, same_types, has_label, all_have, ruled_if, Rule, rule_of}
+use Rattle.wasm_validator.proofs.Patterns.{OnSome, May, same_type-refl, same_type-true}
 
 -- ---- tests
 

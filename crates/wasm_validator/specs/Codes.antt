@@ -1,9 +1,9 @@
 -- What looking at the codes in order tells.
-use Rattle.std.specs.Prelude.{◌≡◌, ℕ, ◌<◌, Option, Some, None}
+use Rattle.std.specs.Prelude.{ℕ, ◌<◌, Option, Some, None}
 use Rattle.wasm_syntax.specs.declared.module.Module.{Module}
 use Rattle.wasm_syntax.specs.declared.valid.Part.{Part}
 use Rattle.wasm_syntax.specs.declared.valid.Part.TheVariants as part
-use Rattle.wasm_syntax.specs.Validity.{IsGood, IsPlace, entries_of, turn_of, FirstInvalid}
+use Rattle.wasm_syntax.specs.Validity.{IsGood, IsPlace, entries_of}
 use Rattle.wasm_validator.specs.declared.code.Fault.{Fault}
 use Rattle.wasm_validator.specs.Parts.{Finds, IsFirstBad}
 

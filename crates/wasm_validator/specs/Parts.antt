@@ -1,5 +1,5 @@
 -- What looking at the entries of a part in order tells.
-use Rattle.std.specs.Prelude.{◌≡◌, ℕ, ◌<◌, Option, Some, None}
+use Rattle.std.specs.Prelude.{ℕ, ◌<◌, Option, Some, None}
 use Rattle.wasm_syntax.specs.declared.module.Module.{Module}
 use Rattle.wasm_syntax.specs.declared.valid.Part.{Part}
 use Rattle.wasm_syntax.specs.declared.valid.Part.TheVariants as part

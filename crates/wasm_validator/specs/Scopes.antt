@@ -1,10 +1,8 @@
 -- What the tables that are made of a module stand for.
-use Rattle.std.specs.Prelude.{◌≡◌, ◌++◌, List, [], length, All}
-use Rattle.wasm_syntax.specs.declared.types.ValueType.{ValueType}
-use Rattle.wasm_syntax.specs.declared.types.FunctionType.{FunctionType}
+use Rattle.std.specs.Prelude.{◌≡◌, ◌++◌, [], length, All}
 use Rattle.wasm_syntax.specs.declared.module.Module.{Module}
 use Rattle.wasm_syntax.specs.Typing.{Context}
-use Rattle.wasm_syntax.specs.Validity.{imports_of, table_of, memory_of, global_of, functions_of, tables_of, memories_of, globals_of, IsSignature, context_of}
+use Rattle.wasm_syntax.specs.Validity.{imports_of, table_of, memory_of, global_of, functions_of, tables_of, memories_of, globals_of, IsSignature}
 use Rattle.wasm_validator.specs.declared.scope.Scope.{Scope}
 use Rattle.wasm_validator.specs.declared.names.Names.{Names}
 

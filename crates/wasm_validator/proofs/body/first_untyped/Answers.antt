@@ -1,8 +1,5 @@
-use Rattle.std.proofs.Common.{◌≡◌, ℕ, suc, ◌+◌, ◌<◌, ◌≤◌, length, take, get_or, Some, None, List, [], ◌∷◌, refl, sym, ap, subst, ◌∙◌, arith}
-use Rattle.wasm_syntax.specs.declared.instr.Instr.{Instr}
-use Rattle.wasm_syntax.specs.Typing.{Context, IsTypedBody}
+use Rattle.std.proofs.Common.{◌≡◌, ℕ, suc, ◌+◌, length, take, List, [], ◌∷◌, refl, sym, ap, subst, ◌∙◌, arith}
 use Rattle.wasm_validator.specs.Checking.{Layer, stepped, walked}
-use Rattle.wasm_validator.specs.Bodies.{StopsAt}
 use Rattle.wasm_validator.specs.Scopes.{context_in}
 use Rattle.wasm_validator.specs.Stepping.{Led}
 use Rattle.wasm_validator.proofs.Bodies.{begun}

@@ -1,4 +1,4 @@
-use Rattle.std.proofs.Common.{◌≡◌, ℕ, ◌-◌, ◌≤◌, take, length, Some, []}
+use Rattle.std.proofs.Common.{◌≡◌, ◌-◌, ◌≤◌, take, length, Some, []}
 use Rattle.wasm_validator.specs.Checking.{walked}
 use Rattle.wasm_validator.specs.Scopes.{context_in}
 use Rattle.wasm_validator.proofs.Bodies.{begun}

@@ -1,7 +1,6 @@
-use Rattle.std.proofs.Common.{◌≡◌, ℕ, ◌+◌, ◌<◌, ◌≤◌, List, [], ◌++◌, length, get_or, Option, Some, None, IfSome, IfNone, sym, ap, subst, ◌∙◌, arith}
+use Rattle.std.proofs.Common.{ℕ, ◌<◌, List, length, Option, IfSome, IfNone, subst, arith}
 use Rattle.wasm_syntax.specs.declared.instr.Instr.{Instr}
 use Rattle.wasm_syntax.specs.declared.valid.Part.TheVariants as part
-use Rattle.wasm_syntax.specs.declared.module.Code.{Code}
 use Rattle.wasm_syntax.specs.Typing.{Context, IsTypedBody}
 use Rattle.wasm_syntax.specs.Validity.{IsGood, IsSignature, IsCode, context_of}
 use Rattle.wasm_validator.specs.Bodies.{StopsAt}

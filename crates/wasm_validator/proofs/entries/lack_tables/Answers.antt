@@ -1,4 +1,4 @@
-use Rattle.std.proofs.Common.{◌≡◌, rules, refl, ap, ◌∙◌, None}
+use Rattle.std.proofs.Common.{rules, refl, ap, ◌∙◌}
 use Rattle.wasm_syntax.specs.declared.module.Import.{Import}
 use Rattle.wasm_syntax.specs.Validity.{table_of}
 use Rattle.wasm_validator.proofs.Finding.{lacks, lacking-more}

@@ -1,11 +1,10 @@
-use Rattle.std.proofs.Common.{◌≡◌, ◌⊎◌, inl, inr, ◌↔◌, rules, ℕ, ◌+◌, ◌<◌, ◌≤◌, List, Bool, length, take, sym, ap, subst, ◌∙◌, arith, ⊎_elim}
-use Rattle.std.specs.Prelude.{MatchBool, All, ◌≢◌}
+use Rattle.std.proofs.Common.{◌≡◌, ◌⊎◌, inl, inr, ◌↔◌, rules, ℕ, ◌<◌, ◌≤◌, List, Bool, length, take, subst, arith, ⊎_elim}
+use Rattle.std.specs.Prelude.{MatchBool}
 use Rattle.wasm_syntax.specs.declared.valid.Part.TheVariants as part
-use Rattle.wasm_syntax.specs.declared.module.Export.{Export}
 use Rattle.wasm_syntax.specs.Validity.{IsGood, IsExport, IsExported}
 use Rattle.wasm_validator.specs.Seen.{IsSeen}
-use Rattle.wasm_validator.proofs.Finding.{grown, read_at, not_at}
-use Rattle.wasm_validator.proofs.ExportNames.{IsNamed, nobody, differ, alike, named-more}
+use Rattle.wasm_validator.proofs.Finding.{grown, read_at}
+use Rattle.wasm_validator.proofs.ExportNames.{differ, named-more}
 use Rattle.wasm_validator.proofs.export.first_bad_export.Goals as goal
 
 pub loop-n-preserved : goal.loop-n-preserved

@@ -1,4 +1,4 @@
-use Rattle.std.proofs.Common.{◌≡◌, ℕ, ◌<◌, ◌≤◌, Option, Some, None, IfSome, IfNone, subst, arith}
+use Rattle.std.proofs.Common.{ℕ, ◌<◌, Option, subst, arith}
 use Rattle.wasm_syntax.specs.declared.valid.Part.{Part}
 use Rattle.wasm_syntax.specs.declared.valid.Part.TheVariants as part
 use Rattle.wasm_syntax.specs.Validity.{IsGood, entries_of, turn_of}

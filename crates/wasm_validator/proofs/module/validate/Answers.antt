@@ -1,4 +1,4 @@
-use Rattle.std.proofs.Common.{◌≡◌, Option, None, IfNone, subst}
+use Rattle.std.proofs.Common.{Option, IfNone, subst}
 use Rattle.wasm_syntax.proofs.Spelled.{spelled-keeps}
 use Rattle.wasm_validator.specs.Ends.{AllValid}
 use Rattle.wasm_validator.specs.declared.module.Found.{Found}

@@ -1,4 +1,4 @@
-use Rattle.std.proofs.Common.{◌≡◌, ◌++◌, [], take, ap, sym, ◌∙◌}
+use Rattle.std.proofs.Common.{◌++◌, [], take, ap, sym, ◌∙◌}
 use Rattle.std.specs.List.{cons_option}
 use Rattle.wasm_syntax.specs.Validity.{imports_of, function_of}
 use Rattle.wasm_validator.proofs.Finding.{imports-more}

@@ -1,8 +1,8 @@
-use Rattle.std.proofs.Common.{◌≡◌, ℕ, List, IfOk, sym, subst, ◌∙◌}
+use Rattle.std.proofs.Common.{ℕ, List, IfOk, sym, subst, ◌∙◌}
 use Rattle.wasm_syntax.specs.declared.row.Row.{Row}
 use Rattle.wasm_syntax.specs.declared.row.Row.TheVariants as row
-use Rattle.wasm_syntax.specs.Rows.{row_of, labels_of}
-use Rattle.wasm_validator.specs.Checking.{Tells, Layer}
+use Rattle.wasm_syntax.specs.Rows.{labels_of}
+use Rattle.wasm_validator.specs.Checking.{Tells}
 use Rattle.wasm_validator.specs.Scopes.{context_in}
 use Rattle.wasm_validator.specs.Stepping.{acted_by}
 use Rattle.wasm_validator.proofs.checker.Checker.act.Goals as goal

@@ -1,9 +1,9 @@
-use Rattle.std.proofs.Common.{◌≡◌, rules, reverse, Some, None, Option, ℕ, zero, suc, ◌-◌, ◌<◌, ◌≤◌, length, take, get_or, Bool, true, false, List, [], ◌∷◌, ◌++◌, refl, sym, ap, subst, ◌∙◌, arith}
+use Rattle.std.proofs.Common.{◌≡◌, rules, reverse, Some, ℕ, suc, ◌-◌, ◌<◌, ◌≤◌, length, take, get_or, List, [], ◌∷◌, ◌++◌, sym, ap, ◌∙◌, arith}
 use Rattle.std.proofs.Math.Seq.{take-suc}
 use Rattle.std.proofs.lemmas.List.{reverse-append}
 use Rattle.wasm_syntax.specs.declared.types.ValueType.{ValueType}
 use Rattle.wasm_syntax.specs.declared.types.ValueType.TheVariants.{I32}
-use Rattle.wasm_validator.specs.Checking.{Tells, and_then, Pattern, any_types, popped, all_popped}
+use Rattle.wasm_validator.specs.Checking.{and_then, Pattern, any_types, popped, all_popped}
 use Rattle.wasm_validator.proofs.Bodies.{any-popped}
 use Rattle.wasm_validator.proofs.operands.Operands.pop_all.Goals as goal
 

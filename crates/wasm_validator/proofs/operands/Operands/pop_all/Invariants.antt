@@ -1,4 +1,4 @@
-use Rattle.std.proofs.Common.{◌≡◌, reverse, ℕ, ◌≤◌, take, length}
+use Rattle.std.proofs.Common.{◌≡◌, reverse, ◌≤◌, take, length}
 use Rattle.wasm_validator.specs.Checking.{all_popped}
 use Rattle.wasm_validator.proofs.operands.Operands.pop_all.Given as goal
 
