@@ -1,9 +1,8 @@
 -- How long a joined value may be.
-use Rattle.std.proofs.Common.{◌≡◌, ℕ, ◌+◌, ◌*◌, ◌^◌, ◌<◌, ◌≤◌, Bool, true, false, ◌&&◌, cond, List, [], ◌∷◌, ◌++◌, length, map, filter, refl, ap, arith, nat_le, Option, Some, None, Result, Ok, Err, length-append, suc, subst, sym}
+use Rattle.std.proofs.Common.{◌≡◌, ℕ, ◌*◌, ◌^◌, ◌<◌, ◌≤◌, Bool, true, false, cond, List, [], ◌∷◌, length, map, filter, refl, arith, nat_le, Option, Result, Ok, Err, length-append, suc, subst, sym}
 use Rattle.std.specs.Prelude.{IfOk, IfSome}
 use Rattle.std.specs.List.{list_all, join_with_byte}
 use Rattle.std.proofs.lemmas.Bool.{and_parts, leb-true}
-use Rattle.header_maps.specs.Headers.{Headers}
 use Rattle.header_maps.specs.Kept.{is_short, IsHeaders}
 use Rattle.header_maps.specs.Pairs.{Pair, is_named, values_of, joined}
 use Rattle.header_maps.proofs.Kept.{listed, counted}

@@ -1,5 +1,5 @@
 -- The worked examples, by computation.
-use Rattle.std.proofs.Common.{◌≡◌, ℕ, Bool, List, true, false, refl, sym, ◌∙◌, ap, bytes_eq, codes, lit≤}
+use Rattle.std.proofs.Common.{◌≡◌, ℕ, List, true, false, refl, ap, bytes_eq, codes, lit≤}
 use Rattle.http_header.specs.Token.{is_token_byte}
 use Rattle.header_maps.specs.Examples.{OperationExamples, FaultExamples, StatusExamples, SetExamples, KeptExamples}
 

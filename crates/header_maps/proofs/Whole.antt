@@ -1,5 +1,5 @@
 -- What a whole list that is set keeps of what was given.
-use Rattle.std.proofs.Common.{◌≡◌, ℕ, Bool, true, false, ◌&&◌, ◌||◌, not, cond, List, [], ◌∷◌, ◌++◌, map, filter, refl, sym, ◌∙◌, ap, subst, bytes_eq, inl, inr, append-nil, Option, Some, None}
+use Rattle.std.proofs.Common.{◌≡◌, ℕ, Bool, true, false, ◌||◌, not, cond, List, [], ◌∷◌, ◌++◌, map, filter, refl, sym, ◌∙◌, ap, subst, bytes_eq, inl, inr, append-nil, None}
 use Rattle.std.specs.List.{list_all, list_any, flat_map}
 use Rattle.std.proofs.lemmas.Bool.{and_parts}
 use Rattle.std.proofs.lemmas.List.{map-append}
@@ -7,11 +7,11 @@ use Rattle.std.proofs.lemmas.List.Elements.{filter-append}
 use Rattle.http_header.specs.Token.{lowercase}
 use Rattle.header_maps.specs.declared.kind.ListKind.{ListKind}
 use Rattle.header_maps.specs.declared.kind.ListKind.TheVariants.{Request, Response, Interim, Plain}
-use Rattle.header_maps.specs.Faults.{Fault, first_fault, has_each_once, are_names_for, are_values_for, is_few, set_fault}
+use Rattle.header_maps.specs.Faults.{first_fault, has_each_once, are_names_for, are_values_for, is_few}
 use Rattle.header_maps.specs.Judged.{is_field_name}
 use Rattle.header_maps.specs.Kinds.{pseudo_names, is_name_for}
 use Rattle.header_maps.specs.Laws.{SetKeepsGiven}
-use Rattle.header_maps.specs.Operations.{in_order, all_set}
+use Rattle.header_maps.specs.Operations.{in_order}
 use Rattle.header_maps.specs.Pairs.{Pair, lowered, is_named, is_pseudo, is_plain, plain_among, values_of}
 use Rattle.header_maps.proofs.Replacing.{Once, once_for, other_bytes}
 use Rattle.header_maps.proofs.Shapes.{lowercase_twice, pseudo_lowercase, bytes_are, is_none_of, plain_is_none, names_pseudo}
