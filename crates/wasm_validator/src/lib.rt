@@ -16,3 +16,6 @@ mod seen;
 
 pub use module::{ValidEnd, validate};
 pub use wasm_syntax::Part;
+
+#[cfg(test)]
+mod tests;
