@@ -34,7 +34,7 @@ const ROOMS: [u8; 24] = [
 /// A module whose function 0 has this type and this code of less than 100 bytes, its locals first. Function 1
 /// has type 4.
 fn framed(rt: &HostRuntime, of: u8, code: &[u8]) -> Result<Octets, Fail> {
-    let size = code.len() as u8;
+    let size = u8::try_from(code.len()).ok().ok_or("a short code")?;
     let mut bytes = Octets::from_slice(rt.alloc(), &HEADER)?;
     bytes.extend_from_slice(&TYPES)?;
     bytes.extend_from_slice(&[3, 3, 2, of, 4])?;
