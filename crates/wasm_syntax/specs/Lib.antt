@@ -13,3 +13,4 @@ pub mod Spelled
 pub mod RowsByBytes
 pub mod CutLists
 pub mod ValidExamples
+pub mod Operators
