@@ -1,0 +1,16 @@
+//! The integer operators of WebAssembly (Core 1.0 section 4.3) on the values of the machine.
+#![tactic(auto)]
+
+mod apply;
+pub mod laws;
+mod narrow;
+mod op;
+mod operator;
+mod wide;
+
+pub use apply::{apply1, apply2};
+pub use op::{NumTrap, Op1, Op2};
+pub use operator::{Arithmetic, Bitwise, Operator, Relation, Shift};
+
+#[cfg(test)]
+mod tests;
