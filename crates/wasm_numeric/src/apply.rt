@@ -44,6 +44,7 @@ pub fn apply2(op: Op2, a: Value, b: Value) -> Result<Value, NumTrap>
     }
 }
 
+/// The same of 32 bits.
 fn on_narrow(operator: Operator, x: u32, y: u32) -> Result<Value, NumTrap>
     ensures { result ≡ made I32 operator x y }
 {
@@ -55,6 +56,7 @@ fn on_narrow(operator: Operator, x: u32, y: u32) -> Result<Value, NumTrap>
     }
 }
 
+/// The same of 64 bits.
 fn on_wide(operator: Operator, x: u64, y: u64) -> Result<Value, NumTrap>
     ensures { result ≡ made I64 operator x y }
 {

@@ -1,7 +1,7 @@
 //! The operators, one for each opcode.
 
 ghost use Rattle.std.specs.Prelude.{◌≡◌};
-ghost use Rattle.wasm_numeric.specs.Applied.{parts_of};
+ghost use Rattle.wasm_numeric.specs.Applied.{taken1, parts_of};
 
 use crate::operator::{Arithmetic, Bitwise, Operator, Relation, Shift};
 use wasm_syntax::ValueType;
@@ -84,6 +84,27 @@ pub enum Op2 {
     I64ShrU,
     I64Rotl,
     I64Rotr,
+}
+
+impl Op1 {
+    /// The type of its operand.
+    pub fn operand(self) -> ValueType
+        ensures { result ≡ taken1 self }
+    {
+        match self {
+            Op1::I32Eqz => ValueType::I32,
+            Op1::I64Eqz => ValueType::I64,
+            Op1::I32Clz => ValueType::I32,
+            Op1::I32Ctz => ValueType::I32,
+            Op1::I32Popcnt => ValueType::I32,
+            Op1::I64Clz => ValueType::I64,
+            Op1::I64Ctz => ValueType::I64,
+            Op1::I64Popcnt => ValueType::I64,
+            Op1::I32WrapI64 => ValueType::I64,
+            Op1::I64ExtendI32S => ValueType::I32,
+            Op1::I64ExtendI32U => ValueType::I32,
+        }
+    }
 }
 
 impl Op2 {
