@@ -1,3 +1,4 @@
 pub mod Quotients
 pub mod Traps
 pub mod Readings
+pub mod Moves

@@ -1,8 +1,8 @@
 -- Signed readings, and the one quotient of them that is too large.
-use Rattle.std.proofs.Common.{◌≡◌, ◌↔◌, refl, sym, ap, ap₂, ◌∙◌, ℕ, zero, suc, ◌+◌, ◌-◌, ◌/◌, ◌^◌, ◌<◌, ◌≤◌, ℤ, pos, negsuc, neg_ℤ, ◌-ℤ◌, int_div, to_z, of_z, arith}
+use Rattle.std.proofs.Common.{◌≡◌, ◌↔◌, refl, sym, ap, ap₂, ◌∙◌, ℕ, zero, suc, ◌+◌, ◌-◌, ◌/◌, ◌^◌, ◌<◌, ◌≤◌, ℤ, pos, negsuc, neg_ℤ, ◌-ℤ◌, int_div, int_rem, unsigned_abs, ◌%◌, ◌≤ℤ◌, to_z, of_z, arith}
 use Rattle.std.proofs.lemmas.Int.{ints, of_z-to_z}
 use Rattle.std.proofs.lemmas.Nat.{leading_top}
-use Rattle.std.proofs.Math.Nat.{div-le_self, div-lt_self}
+use Rattle.std.proofs.Math.Nat.{zero-mod, div-le_self, div-lt_self}
 use Rattle.std.specs.Int.{w32, w64}
 use Rattle.std.specs.Int.Signed.{mag}
 use Rattle.wasm_syntax.specs.declared.types.ValueType.{ValueType}
@@ -68,6 +68,21 @@ one_quotient I64 i j h k = (
   λ e. least_64 i j h k (too_large (2 ^ 63) (to_z w64 i) (to_z w64 j) (omega arith) (mag_of_64 i h) e),
   λ p. ap₂ (λ (x y : ℕ). int_div (to_z w64 x) (to_z w64 y)) p.0 p.1,
 )
+
+-- ---- the remainder
+
+not_above : (k : ℕ) → neg_ℤ (pos k) ≤ℤ pos 0
+not_above zero = omega (arith, ints)
+not_above (suc k) = omega (arith, ints)
+
+pub from_zero_on : (a d : ℤ) → pos 0 ≤ℤ a → pos 0 ≤ℤ int_rem a d
+from_zero_on (pos a) d h = omega (arith, ints)
+from_zero_on (negsuc a) d h = absurd (omega (arith, ints, h))
+
+pub up_to_zero : (a d : ℤ) → a ≤ℤ pos 0 → int_rem a d ≤ℤ pos 0
+up_to_zero (pos zero) d h = omega (arith, ints, zero-mod (unsigned_abs d))
+up_to_zero (pos (suc a)) d h = absurd (omega (arith, ints, h))
+up_to_zero (negsuc a) d h = not_above (suc a % unsigned_abs d)
 
 -- ---- leading zeros
 

@@ -1,10 +1,11 @@
 //! Laws of the operators. The functions have nothing to do: their contracts are the laws.
 
-ghost use Rattle.std.specs.Prelude.{◌≡◌, ◌↔◌, ℕ, suc, ◌<◌, ◌≤◌, ◌+◌, ◌-◌, ◌^◌, ℤ, pos, ◌-ℤ◌, int_div, true, false, IsTrue, Ok, Err};
+ghost use Rattle.std.specs.Prelude.{◌≡◌, ◌↔◌, ℕ, suc, ◌<◌, ◌≤◌, ◌+◌, ◌-◌, ◌*◌, ◌/◌, ◌%◌, ◌^◌, ℤ, pos, ◌+ℤ◌, ◌-ℤ◌, ◌*ℤ◌, ◌≤ℤ◌, int_div, int_rem, unsigned_abs, true, false, IsTrue, Ok, Err};
+ghost use Rattle.std.specs.Int.{int_div_euclid};
 ghost use Rattle.wasm_syntax.specs.declared.types.Value.{Value as Values};
 ghost use Rattle.wasm_syntax.specs.declared.types.ValueType.{ValueType as ValueTypes};
 ghost use Rattle.wasm_syntax.specs.declared.types.ValueType.TheVariants.{I32, I64};
-ghost use Rattle.wasm_syntax.specs.Operators.{size, signed, unsigned, ZeroDivisor, Overflow, ieqz, ilt_s, ilt_u, igt_s, ile_s, ige_u, iclz, ictz, ipopcnt, iadd, isub, imul, idiv_u, irem_u, idiv_s, irem_s, iand, ior, ixor, ishl, ishr_u, ishr_s, irotl, irotr, wrap, extend_u, extend_s};
+ghost use Rattle.wasm_syntax.specs.Operators.{size, count, signed, unsigned, ZeroDivisor, Overflow, ieqz, ilt_s, ilt_u, igt_s, ile_s, ige_u, iclz, ictz, ipopcnt, iadd, isub, imul, idiv_u, irem_u, idiv_s, irem_s, iand, ior, ixor, ishl, ishr_u, ishr_s, irotl, irotr, wrap, extend_u, extend_s};
 ghost use Rattle.wasm_numeric.specs.declared.op.Op2.{Op2 as Op2s};
 ghost use Rattle.wasm_numeric.specs.declared.op.NumTrap.TheVariants as trap;
 ghost use Rattle.wasm_numeric.specs.Applied.{number_of, parts_of, value2};
@@ -33,6 +34,38 @@ pub fn one_quotient_is_too_large()
 pub fn leading_zeros_stand_above_the_highest_bit()
     ensures highest { (t : ValueTypes) (i : ℕ) → 0 < i → i < 2 ^ size t → (top : ℕ) × (iclz t i + suc top ≡ size t) × (2 ^ top ≤ i) × (i < 2 ^ suc top) }
     ensures none { (t : ValueTypes) → iclz t 0 ≡ size t }
+{}
+
+/// A number is an odd one, moved to the left by its trailing zeros.
+pub fn trailing_zeros_stand_below_the_lowest_bit()
+    ensures lowest { (t : ValueTypes) (i : ℕ) → 0 < i → i < 2 ^ size t → (half : ℕ) × (i ≡ (2 * half + 1) * 2 ^ ictz t i) }
+    ensures none { (t : ValueTypes) → ictz t 0 ≡ size t }
+{}
+
+/// The count of a number's bits is its lowest bit and the count of those above.
+pub fn set_bits_are_counted_one_by_one()
+    ensures all { (i : ℕ) → ipopcnt i ≡ i % 2 + ipopcnt (i / 2) }
+    ensures none { ipopcnt 0 ≡ 0 }
+{}
+
+/// A rotation is the bits that stay and, apart from them, those that come in at the other end.
+pub fn rotations_keep_all_bits()
+    ensures left { (t : ValueTypes) (i j : ℕ) → i < 2 ^ size t → irotl t i j ≡ (i * 2 ^ count t j) % 2 ^ size t + i / 2 ^ (size t - count t j) }
+    ensures right { (t : ValueTypes) (i j : ℕ) → i < 2 ^ size t → irotr t i j ≡ i / 2 ^ count t j + (i * 2 ^ (size t - count t j)) % 2 ^ size t }
+{}
+
+/// A signed shift to the right divides the reading by a power of two, rounded down.
+pub fn signed_shifts_round_down()
+    ensures { (t : ValueTypes) (i j : ℕ) → i < 2 ^ size t → signed t (ishr_s t i j) ≡ int_div_euclid (signed t i) (pos (2 ^ count t j)) }
+{}
+
+/// A signed quotient is rounded toward zero: the remainder makes up what is missing, is smaller than the
+/// divisor, and has the dividend's sign.
+pub fn quotients_are_rounded_toward_zero()
+    ensures whole { (t : ValueTypes) (i j : ℕ) → int_div (signed t i) (signed t j) *ℤ signed t j +ℤ int_rem (signed t i) (signed t j) ≡ signed t i }
+    ensures smaller { (t : ValueTypes) (i j : ℕ) → 0 < unsigned_abs (signed t j) → unsigned_abs (int_rem (signed t i) (signed t j)) < unsigned_abs (signed t j) }
+    ensures from_zero_on { (t : ValueTypes) (i j : ℕ) → pos 0 ≤ℤ signed t i → pos 0 ≤ℤ int_rem (signed t i) (signed t j) }
+    ensures up_to_zero { (t : ValueTypes) (i j : ℕ) → signed t i ≤ℤ pos 0 → int_rem (signed t i) (signed t j) ≤ℤ pos 0 }
 {}
 
 /// Quotients and remainders, worked out by hand.

@@ -15,7 +15,7 @@ pub enum NumTrap {
     Overflow,
 }
 
-/// An operator with one operand (Core 1.0 section 5.4.5, opcodes from 45 on).
+/// An operator with one operand (Core 1.0 section 5.4.5, opcodes from 0x45 on).
 #[derive(Clone, Copy, Debug, PartialEq, Eq)]
 pub enum Op1 {
     I32Eqz,
@@ -31,7 +31,7 @@ pub enum Op1 {
     I64ExtendI32U,
 }
 
-/// An operator with two operands (Core 1.0 section 5.4.5, opcodes from 46 on).
+/// An operator with two operands (Core 1.0 section 5.4.5, opcodes from 0x46 on).
 #[derive(Clone, Copy, Debug, PartialEq, Eq)]
 pub enum Op2 {
     I32Eq,
