@@ -1,1 +1,2 @@
 mod Meets
+mod One

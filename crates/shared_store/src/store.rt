@@ -15,16 +15,20 @@ use store_model::{Call, Reply};
 /// The store of one VM name. Clauses see a `Store` of `store_model`.
 #[derive(Drop)]
 pub struct Store {
+    vm: VmNo,
     data: SharedData,
     queues: SharedQueues,
 }
 
 impl Model for Store {
+    ghost use Rattle.std.specs.Prelude.{◌≡◌};
     ghost use Rattle.store_model.specs.Store.{Store};
 
     ghost Value = { Store };
 
     ghost view = { λ s. record { keys = s.data; queues = s.queues } };
+
+    ghost invariant = { λ s. s.vm ≡ s.queues.vm };
 }
 
 impl Store {
@@ -33,9 +37,17 @@ impl Store {
         ensures { result ≡ empty_store vm }
     {
         Store {
+            vm,
             data: SharedData::new(alloc),
             queues: SharedQueues::new(alloc, vm),
         }
+    }
+
+    /// The number of the VM whose store it is.
+    pub(crate) fn number(&self) -> VmNo
+        ensures { result ≡ self.now.queues.vm }
+    {
+        self.vm
     }
 
     /// Makes a call of a worker. Want of memory is answered before anything is changed.

@@ -1,0 +1,67 @@
+-- One call on one seat.
+use Rattle.std.proofs.Common.{Result, Ok, Err, IfOk, ◌≡◌, ◌≢◌, ℕ, List, [], ◌∷◌, ◌++◌, cond, map, set, refl, ap, sym, subst, ◌∙◌, ⊎_elim, ◌⊎◌, append_assoc, length-set, eq-eqb, ne_eqb}
+use Rattle.std.specs.Prelude.{OnErr}
+use Rattle.std.proofs.lemmas.List.{append-nil}
+use lib.Seq.{map-set}
+use mathlib.Core.Option.{some, some-injective}
+use lib.ListN.{get_elem?}
+use Rattle.atomic_table.proofs.Lists.{at_set, set_again, at_map}
+use Rattle.store_model.specs.declared.call.Call.{Call}
+use Rattle.store_model.specs.declared.call.Reply.{Reply}
+use Rattle.store_model.specs.declared.entry.Entry.{Entry}
+use Rattle.store_model.specs.History.{entry, own, store_acts, IsLegal}
+use Rattle.store_model.specs.Made.{Made, made, entries_on}
+use Rattle.turn_table.specs.Seats.{Seated, IsSameSeat, Called, Refused}
+use Rattle.shared_store.specs.Moving.{GoesOn, SeatsGoOn, goes_nowhere}
+use Rattle.shared_store.specs.Tables.{table_of, AreNumbered}
+
+-- the seats are still at these tables
+pub tables_kept : (seats : List Seated) (k : ℕ) (v w : Seated) → get_elem? seats k ≡ some v → IsSameSeat v w → map table_of (set seats k w) ≡ map table_of seats
+tables_kept seats k v w at same = map-set table_of seats k w ∙ set_again (map table_of seats) k w.table (at_map table_of seats k v at ∙ ap (λ (s : Seated). some s.table) (sym same))
+
+goes_called : (v w : Seated) (call : Call) (reply : Reply) → IsSameSeat v w → Called store_acts v w call reply → GoesOn w.table.vm v w (entry v.number call reply ∷ [])
+goes_called v w call reply same c = record {
+  same = same;
+  begins = (c.others ++ entry v.number call reply ∷ [], sym (append_assoc v.seen c.others (entry v.number call reply ∷ [])) ∙ sym c.seen);
+  legal = λ l. c.legal;
+  entries = c.entries;
+}
+
+goes_refused : (v w : Seated) (call : Call) → IsSameSeat v w → Refused store_acts v w call → GoesOn w.table.vm v w []
+goes_refused v w call same c = record {
+  same = same;
+  begins = (c.others, sym c.seen);
+  legal = λ l. c.legal;
+  entries = c.entries ∙ sym (append-nil (own v.number v.seen));
+}
+
+one_goes : (seats : List Seated) (k : ℕ) (v w : Seated) (calls : List Made) → get_elem? seats k ≡ some v → GoesOn k v w (entries_on v.number k calls) → ((n j : ℕ) → j ≢ k → entries_on n j calls ≡ []) → SeatsGoOn seats calls (set seats k w)
+one_goes seats k v w calls at goes others = record {
+  as_many = length-set seats k w;
+  each = λ j x y at_x at_y. ⊎_elim
+      (λ (t : (j ≡ k) × (w ≡ y)). let same : v ≡ x = some-injective v x (sym at ∙ subst (λ i. get_elem? seats i ≡ some x) t.0 at_x) in
+      subst (λ (z : ℕ × Seated × Seated). GoesOn z.0 z.1 z.2 (entries_on z.1.number z.0 calls)) (λ i. (sym t.0 i, same i, t.1 i)) goes)
+      (λ (t : (j ≢ k) × (get_elem? seats j ≡ some y)). subst (λ (z : Seated × List Entry). GoesOn j x z.0 z.1) (λ i. (some-injective x y (sym at_x ∙ t.1) i, sym (others x.number j t.0) i)) (goes_nowhere j x))
+      (at_set seats k j w y at_y);
+}
+
+module _ (seats : List Seated) (k : ℕ) (v w : Seated) (at : get_elem? seats k ≡ some v) (numbered : AreNumbered (map table_of seats)) (same : IsSameSeat v w) where
+  vm_is : w.table.vm ≡ k
+  vm_is = ap (λ (s : Seated). s.table.vm) same ∙ numbered k v.table (at_map table_of seats k v at)
+
+  pub call_goes : (call : Call) (reply : Reply) → Called store_acts v w call reply → SeatsGoOn seats (made k call reply ∷ []) (set seats k w)
+  call_goes call reply c = one_goes seats k v w (made k call reply ∷ []) at
+      (subst (λ (z : ℕ × List Entry). GoesOn z.0 v w z.1) (λ i. (vm_is i, sym (ap (λ b. map (λ (m : Made). entry v.number m.call m.reply) (cond b (made k call reply ∷ []) [])) (eq-eqb k k refl)) i)) (goes_called v w call reply same c))
+      (λ n j ne. ap (λ b. map (λ (m : Made). entry n m.call m.reply) (cond b (made k call reply ∷ []) [])) (ne_eqb k j (λ e. ne (sym e))))
+
+  pub refusal_goes : (call : Call) → Refused store_acts v w call → SeatsGoOn seats [] (set seats k w)
+  refusal_goes call c = one_goes seats k v w [] at (subst (λ i. GoesOn i v w []) vm_is (goes_refused v w call same c)) (λ n j ne. refl)
+
+module _ {A E : Type 0} where
+  pub ok_more : (r : Result A E) (P Q : A → Type 0) → ((x : A) → P x → Q x) → IfOk r P → IfOk r Q
+  ok_more (Ok x) P Q f h = f x h
+  ok_more (Err e) P Q f h = tt
+
+  pub err_more : (r : Result A E) (P Q : Type 0) → (P → Q) → OnErr r P → OnErr r Q
+  err_more (Ok x) P Q f h = tt
+  err_more (Err e) P Q f h = f h
