@@ -1,2 +1,3 @@
 mod Meets
 mod One
+mod Rows

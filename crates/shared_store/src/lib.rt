@@ -2,12 +2,14 @@
 #![tactic(auto)]
 
 mod alone;
+mod closed;
 mod seats;
 mod store;
 mod tables;
 mod turned;
 
 pub use alone::Alone;
+pub use closed::{ClosedStore, ClosedStores};
 pub use seats::StoreSeat;
 pub use shared_queues::OctetsList;
 pub use store::Store;

@@ -1,6 +1,6 @@
 // A worker's seats at the tables.
-ghost use Rattle.std.specs.Prelude.{◌≡◌, map};
-ghost use Rattle.shared_store.specs.Tables.{table_of};
+ghost use Rattle.std.specs.Prelude.{◌≡◌};
+ghost use Rattle.shared_store.specs.Tables.{AreAt};
 
 use crate::Tables;
 use gate_base::{OutOfMemory, VmNo};
@@ -20,21 +20,21 @@ pub struct StoreSeat<'a, R: Wait, G: Gate> {
 }
 
 impl<'a, R: Wait, G: Gate> Model for StoreSeat<'a, R, G> {
-    ghost use Rattle.std.specs.Prelude.{◌≡◌, List, map};
+    ghost use Rattle.std.specs.Prelude.{List};
     ghost use Rattle.turn_table.specs.Seats.{Seated};
-    ghost use Rattle.shared_store.specs.Tables.{table_of};
+    ghost use Rattle.shared_store.specs.Tables.{AreAt};
 
     ghost Value = { List Seated };
 
     ghost view = { λ s. s.seats.items };
 
-    ghost invariant = { λ s. map table_of s.seats.items ≡ s.tables.now };
+    ghost invariant = { λ s. AreAt s.tables.now s.seats.items };
 }
 
 impl<'a, R: Wait, G: Gate> StoreSeat<'a, R, G> {
     /// A worker's calls over these tables, at each of which it has its seat. It takes no memory.
     pub fn over(rt: &'a R, tables: &'a Tables, seats: Vec<Seat>, gate: &'a G) -> StoreSeat<'a, R, G>
-        requires { map table_of seats.items ≡ tables.now }
+        requires { AreAt tables.now seats.items }
         ensures { result ≡ seats.items }
     {
         StoreSeat {

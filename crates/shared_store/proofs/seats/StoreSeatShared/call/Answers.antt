@@ -18,7 +18,7 @@ returns-clause-done g c =
     let seats = c.self.inside.seats.items in let k = c.get-at.result in
     let inside : k < length seats = subst (λ n. n < length seats) (sym c.get-at.ensures.number) (subst (λ l. c.args.vm < length l) (sym c.self.view_is) c.requires) in
     let at = at_index seats k c.index_mut-seat.result.now inside c.index_mut-seat.ensures.value in
-    let numbered : AreNumbered (map table_of seats) = subst AreNumbered (c.tables.view_is ∙ sym c.self.invariant) c.tables.invariant in
+    let numbered : AreNumbered (map table_of seats) = subst AreNumbered (c.tables.view_is ∙ sym c.self.invariant) c.tables.invariant.0 in
     ok_more c.with_turn.result _ _ (λ r h. subst (λ l. SeatsGoOn l (made c.args.vm c.args.call.now r ∷ []) (set seats k c.with_turn.new.seat)) c.self.view_is
     (subst (λ n. SeatsGoOn seats (made n c.args.call.now r ∷ []) (set seats k c.with_turn.new.seat)) c.get-at.ensures.number
     (call_goes seats k c.index_mut-seat.result.now c.with_turn.new.seat at numbered c.with_turn.ensures.same c.args.call.now r h))) c.with_turn.ensures.done
@@ -28,6 +28,6 @@ returns-clause-err g c =
     let seats = c.self.inside.seats.items in let k = c.get-at.result in
     let inside : k < length seats = subst (λ n. n < length seats) (sym c.get-at.ensures.number) (subst (λ l. c.args.vm < length l) (sym c.self.view_is) c.requires) in
     let at = at_index seats k c.index_mut-seat.result.now inside c.index_mut-seat.ensures.value in
-    let numbered : AreNumbered (map table_of seats) = subst AreNumbered (c.tables.view_is ∙ sym c.self.invariant) c.tables.invariant in
+    let numbered : AreNumbered (map table_of seats) = subst AreNumbered (c.tables.view_is ∙ sym c.self.invariant) c.tables.invariant.0 in
     err_more c.with_turn.result _ _ (λ h. subst (λ l. SeatsGoOn l [] (set seats k c.with_turn.new.seat)) c.self.view_is
     (refusal_goes seats k c.index_mut-seat.result.now c.with_turn.new.seat at numbered c.with_turn.ensures.same c.args.call.now h)) c.with_turn.ensures.err

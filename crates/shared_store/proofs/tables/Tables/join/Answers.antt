@@ -1,0 +1,43 @@
+use Rattle.std.proofs.Common.{arith, ◌≡◌, ◌+◌, ◌<◌, ◌≤◌, ℕ, [], ◌∷◌, ◌++◌, length, ap, sym, subst, ◌∙◌, append_assoc, length-append}
+use Rattle.atomic_table.proofs.Lists.{at_index}
+use Rattle.turn_table.specs.Seats.{Seated}
+use Rattle.turn_table.proofs.Places.{at_below}
+use mathlib.Core.Option.{some}
+use lib.ListN.{get_elem?}
+use Rattle.std.specs.Vec.Iter.{into_iter_items}
+use Rattle.shared_store.proofs.Rows.{next_member, table_at, all_at, as_long, joined_next}
+use Rattle.shared_store.proofs.tables.Tables.join.Goals as goal
+
+pub join-requires : goal.join-requires
+join-requires c =
+    let k = c.loop-seat.vm in let old = c.args.seats.now.items in let end = c.args.ended.items in let now = c.loop-seat.seats.items in
+    let i = c.loop-seat.invariant in let v = c.index_mut.result.now in let u = c.in-Some.seat in
+    let u_at : get_elem? end k ≡ some u = ap (get_elem? end) i.4 ∙ next_member c.loop-seat.yielded _ _ end u i.3 c.in-Some.ensures.steps.0 in
+    let inside : k < length now = let a = at_below end k u u_at in let b = i.5.as_many in let d = as_long c.args.self.now old end c.requires.at.0 c.requires.at.1 in omega arith in
+    let v_at = i.5.others k v (omega arith) (at_index now k v inside c.index_mut.ensures.value) in (
+      table_at c.self.inside.tables.items old k v c.index.result.now (c.requires.at.0 ∙ sym c.self.view_is) v_at c.index.ensures,
+      table_at c.self.inside.tables.items end k u c.index.result.now (c.requires.at.1 ∙ sym c.self.view_is) u_at c.index.ensures,
+      all_at (λ (s : Seated). s.number ≡ 1) old k v c.requires.first v_at,
+    )
+
+pub loop-seat-preserved : goal.loop-seat-preserved
+loop-seat-preserved c =
+    let k = c.loop-seat.vm in let old = c.args.seats.now.items in let end = c.args.ended.items in let now = c.loop-seat.seats.items in
+    let i = c.loop-seat.invariant in let v = c.index_mut.result.now in let u = c.in-Some.seat in
+    let steps = c.in-Some.ensures.steps in
+    let u_at : get_elem? end k ≡ some u = ap (get_elem? end) i.4 ∙ next_member c.loop-seat.yielded _ _ end u i.3 steps.0 in
+    let inside : k < length now = let a = at_below end k u u_at in let b = i.5.as_many in let d = as_long c.args.self.now old end c.requires.at.0 c.requires.at.1 in omega arith in
+    let v_at = at_index now k v inside c.index_mut.ensures.value in (
+      tt,
+      tt,
+      (let a = i.2 in let b = ap length steps.0 in let d = steps.1 in omega arith),
+      append_assoc c.loop-seat.yielded (u ∷ []) (into_iter_items c.next.new.self) ∙ (ap (λ l. c.loop-seat.yielded ++ l) (sym steps.0) ∙ i.3),
+      ap (λ n. n + 1) i.4 ∙ sym (length-append c.loop-seat.yielded (u ∷ [])),
+      joined_next k old end now v u c.join.new.seat i.5 v_at u_at c.join.ensures,
+    )
+
+pub returns : goal.returns
+returns c =
+    let i = c.loop-seat.invariant in let end = c.args.ended.items in
+    let all : length end ≤ c.loop-seat.vm = let a = i.2 in let b = i.4 in let d = c.in-None.ensures.steps.0 in let e = ap length i.3 in let f = length-append c.loop-seat.yielded (into_iter_items c.loop-seat.seat-iterator) in omega arith in
+    record { as_many = i.5.as_many; each = λ vm v u w p q r. i.5.done vm v u w (let a = at_below end vm u q in omega arith) p q r }
