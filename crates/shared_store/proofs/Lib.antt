@@ -1,3 +1,6 @@
+mod Crew
+mod Laws
 mod Meets
 mod One
 mod Rows
+mod SeatRows

@@ -9,15 +9,27 @@ use Rattle.atomic_table.proofs.Lists.{at_set, set_again, at_map}
 use Rattle.store_model.specs.declared.call.Call.{Call}
 use Rattle.store_model.specs.declared.call.Reply.{Reply}
 use Rattle.store_model.specs.declared.entry.Entry.{Entry}
-use Rattle.store_model.specs.History.{entry, own, store_acts, IsLegal}
+use Rattle.store_model.specs.History.{entry, own, store_acts}
 use Rattle.store_model.specs.Made.{Made, made, entries_on}
 use Rattle.turn_table.specs.Seats.{Seated, IsSameSeat, Called, Refused}
-use Rattle.shared_store.specs.Moving.{GoesOn, SeatsGoOn, goes_nowhere}
+use Rattle.shared_store.specs.Moving.{GoesOn, SeatsGoOn, OneWent, goes_nowhere}
 use Rattle.shared_store.specs.Tables.{table_of, AreNumbered}
 
 -- the seats are still at these tables
 pub tables_kept : (seats : List Seated) (k : ℕ) (v w : Seated) → get_elem? seats k ≡ some v → IsSameSeat v w → map table_of (set seats k w) ≡ map table_of seats
 tables_kept seats k v w at same = map-set table_of seats k w ∙ set_again (map table_of seats) k w.table (at_map table_of seats k v at ∙ ap (λ (s : Seated). some s.table) (sym same))
+
+-- the seat at the table of this VM went on
+pub one_went : (old seats : List Seated) (vm k : ℕ) (v w : Seated) (went : Seated → Seated → Type 0) → seats ≡ old → k ≡ vm → AreNumbered (map table_of seats) → get_elem? seats k ≡ some v → IsSameSeat v w → went v w → OneWent old vm (set seats k w) went
+one_went old seats vm k v w went is here numbered at same how = subst (λ (z : List Seated × ℕ). OneWent z.0 z.1 (set seats k w) went) (λ i. (is i, here i)) (record {
+  before = v;
+  after = w;
+  there_is = at;
+  new_is = refl;
+  vm_is = ap (λ (s : Seated). s.table.vm) same ∙ numbered k v.table (at_map table_of seats k v at);
+  same = same;
+  how = how;
+})
 
 goes_called : (v w : Seated) (call : Call) (reply : Reply) → IsSameSeat v w → Called store_acts v w call reply → GoesOn w.table.vm v w (entry v.number call reply ∷ [])
 goes_called v w call reply same c = record {
@@ -45,17 +57,17 @@ one_goes seats k v w calls at goes others = record {
       (at_set seats k j w y at_y);
 }
 
-module _ (seats : List Seated) (k : ℕ) (v w : Seated) (at : get_elem? seats k ≡ some v) (numbered : AreNumbered (map table_of seats)) (same : IsSameSeat v w) where
-  vm_is : w.table.vm ≡ k
-  vm_is = ap (λ (s : Seated). s.table.vm) same ∙ numbered k v.table (at_map table_of seats k v at)
+-- where the seat at the table of a VM was called, the seats went on by this call
+pub call_goes : (old new : List Seated) (vm : ℕ) (call : Call) (reply : Reply) → OneWent old vm new (λ v w. Called store_acts v w call reply) → SeatsGoOn old (made vm call reply ∷ []) new
+call_goes old new vm call reply o = let v = o.before in let w = o.after in
+    subst (SeatsGoOn old (made vm call reply ∷ [])) (sym o.new_is) (one_goes old vm v w (made vm call reply ∷ []) o.there_is
+    (subst (λ (z : ℕ × List Entry). GoesOn z.0 v w z.1) (λ i. (o.vm_is i, sym (ap (λ b. map (λ (m : Made). entry v.number m.call m.reply) (cond b (made vm call reply ∷ []) [])) (eq-eqb vm vm refl)) i)) (goes_called v w call reply o.same o.how))
+    (λ n j ne. ap (λ b. map (λ (m : Made). entry n m.call m.reply) (cond b (made vm call reply ∷ []) [])) (ne_eqb vm j (λ e. ne (sym e)))))
 
-  pub call_goes : (call : Call) (reply : Reply) → Called store_acts v w call reply → SeatsGoOn seats (made k call reply ∷ []) (set seats k w)
-  call_goes call reply c = one_goes seats k v w (made k call reply ∷ []) at
-      (subst (λ (z : ℕ × List Entry). GoesOn z.0 v w z.1) (λ i. (vm_is i, sym (ap (λ b. map (λ (m : Made). entry v.number m.call m.reply) (cond b (made k call reply ∷ []) [])) (eq-eqb k k refl)) i)) (goes_called v w call reply same c))
-      (λ n j ne. ap (λ b. map (λ (m : Made). entry n m.call m.reply) (cond b (made k call reply ∷ []) [])) (ne_eqb k j (λ e. ne (sym e))))
-
-  pub refusal_goes : (call : Call) → Refused store_acts v w call → SeatsGoOn seats [] (set seats k w)
-  refusal_goes call c = one_goes seats k v w [] at (subst (λ i. GoesOn i v w []) vm_is (goes_refused v w call same c)) (λ n j ne. refl)
+-- where it was refused memory, they went on by no call
+pub refusal_goes : (old new : List Seated) (vm : ℕ) (call : Call) → OneWent old vm new (λ v w. Refused store_acts v w call) → SeatsGoOn old [] new
+refusal_goes old new vm call o =
+    subst (SeatsGoOn old []) (sym o.new_is) (one_goes old vm o.before o.after [] o.there_is (subst (λ i. GoesOn i o.before o.after []) o.vm_is (goes_refused o.before o.after call o.same o.how)) (λ n j ne. refl))
 
 module _ {A E : Type 0} where
   pub ok_more : (r : Result A E) (P Q : A → Type 0) → ((x : A) → P x → Q x) → IfOk r P → IfOk r Q

@@ -73,7 +73,7 @@ joined_next n old ended new v u w j at_v at_u is = record {
 }
 
 module _ {A : Type 0} where
-  get_at : (l : List A) (k : ℕ) (a d : A) → get_elem? l k ≡ some a → get_or l k d ≡ a
+  pub get_at : (l : List A) (k : ℕ) (a d : A) → get_elem? l k ≡ some a → get_or l k d ≡ a
   get_at [] k a d e = absurd (some-ne-none a (sym e))
   get_at (x ∷ l) zero a d e = some-injective x a e
   get_at (x ∷ l) (suc k) a d e = get_at l k a d e

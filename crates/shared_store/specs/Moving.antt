@@ -1,5 +1,5 @@
 -- What calls on the shared stores come to, over a worker's seats.
-use Rattle.std.proofs.Common.{◌≡◌, ◌==◌, ℕ, zero, suc, ◌<◌, List, [], ◌∷◌, ◌++◌, map, length, refl, ap, sym, subst, ◌∙◌, arith, append_assoc}
+use Rattle.std.proofs.Common.{◌≡◌, ◌==◌, ℕ, zero, suc, ◌<◌, List, [], ◌∷◌, ◌++◌, map, length, set, refl, ap, sym, subst, ◌∙◌, arith, append_assoc}
 use Rattle.std.specs.List.{filter}
 use Rattle.std.proofs.lemmas.List.{append-nil}
 use Rattle.std.proofs.lemmas.List.Elements.{filter-append}
@@ -25,10 +25,21 @@ pub record SeatsGoOn (old : List Seated) (calls : List Made) (new : List Seated)
   pub as_many : length new ≡ length old
   pub each : (vm : ℕ) (v w : Seated) → get_elem? old vm ≡ some v → get_elem? new vm ≡ some w → GoesOn vm v w (entries_on v.number vm calls)
 
+-- just one seat went on: the one at the table of this VM
+pub record OneWent (old : List Seated) (vm : ℕ) (new : List Seated) (went : Seated → Seated → Type 0) : Type 0 where
+  pub before : Seated
+  pub after : Seated
+  pub there_is : get_elem? old vm ≡ some before
+  pub new_is : new ≡ set old vm after
+  pub vm_is : after.table.vm ≡ vm
+  pub same : IsSameSeat before after
+  pub how : went before after
+
 entries_append : (who vm : ℕ) (a b : List Made) → entries_on who vm (a ++ b) ≡ entries_on who vm a ++ entries_on who vm b
 entries_append who vm a b = ap (map (λ m. entry who m.call m.reply)) (filter-append (λ m. m.vm == vm) a b) ∙ map-append (λ m. entry who m.call m.reply) (filter (λ m. m.vm == vm) a) (filter (λ m. m.vm == vm) b)
 
-there : {A : Type 0} (l : List A) (k : ℕ) → k < length l → (x : A) × (get_elem? l k ≡ some x)
+-- what is at a place of a list
+pub there : {A : Type 0} (l : List A) (k : ℕ) → k < length l → (x : A) × (get_elem? l k ≡ some x)
 there [] k h = absurd (omega arith)
 there (x ∷ xs) zero h = (x, refl)
 there (x ∷ xs) (suc k) h = there xs k (omega arith)

@@ -1,9 +1,10 @@
 -- The tables of all stores, and the seats at them.
-use Rattle.std.specs.Prelude.{◌≡◌, ℕ, ◌+◌, ◌<◌, List, map, length}
+use Rattle.std.specs.Prelude.{◌≡◌, ℕ, ◌+◌, ◌≤◌, List, map, length}
 use mathlib.Core.Option.{some}
 use lib.ListN.{get_elem?}
-use Rattle.store_model.specs.History.{store_acts}
-use Rattle.turn_table.specs.Seats.{Seated, TurnTableId, Joined, Closed, HasAll, first_seat, next_seat}
+use Rattle.store_model.specs.History.{store_acts, IsLegal}
+use Rattle.turn_table.specs.Seats.{Seated, TurnTableId, Joined, Closed, first_seat, next_seat}
+use Rattle.turn_table.specs.declared.view.Ended.{Ended}
 use Rattle.shared_store.specs.declared.closed.ClosedStore.{ClosedStore}
 
 -- the table of VM number k is the k-th
@@ -41,3 +42,17 @@ pub record SeatsJoined (old ended new : List Seated) : Type 0 where
 pub record TablesClosed (seats : List Seated) (stores : List ClosedStore) : Type 0 where
   pub as_many : length stores ≡ length seats
   pub each : (vm : ℕ) (v : Seated) (c : ClosedStore) → get_elem? seats vm ≡ some v → get_elem? stores vm ≡ some c → Closed store_acts v c.store c.calls
+
+-- what each seat has seen is legal
+abbrev pub AreLegal : List Seated → Type 0
+AreLegal seats = (vm : ℕ) (v : Seated) → get_elem? seats vm ≡ some v → IsLegal vm v.seen
+
+-- the seats of one worker
+abbrev pub AreOf : ℕ → List Seated → Type 0
+AreOf who seats = (vm : ℕ) (v : Seated) → get_elem? seats vm ≡ some v → v.number ≡ who
+
+-- Worker 1's seats: each gave out the numbers up to one, and the seats of those up to another were joined into it.
+pub record AreFirst (given joined : ℕ) (seats : List Seated) : Type 0 where
+  pub first : AreOf 1 seats
+  pub gave : (vm : ℕ) (v : Seated) → get_elem? seats vm ≡ some v → v.given ≡ given
+  pub has : (vm : ℕ) (v : Seated) → get_elem? seats vm ≡ some v → (n : ℕ) → 2 ≤ n → n ≤ joined → (k : ℕ) × (e : Ended) × (get_elem? v.ended k ≡ some e) × (e.number ≡ n)

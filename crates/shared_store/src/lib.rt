@@ -2,7 +2,10 @@
 #![tactic(auto)]
 
 mod alone;
+#[cfg(test)]
+mod asks;
 mod closed;
+mod law;
 mod seats;
 mod store;
 mod tables;
@@ -10,6 +13,9 @@ mod turned;
 
 pub use alone::Alone;
 pub use closed::{ClosedStore, ClosedStores};
+pub use law::{
+    seats_stay_at_their_tables, what_seats_have_seen_is_legal, worked_seats, workers_come_and_go,
+};
 pub use seats::StoreSeat;
 pub use shared_queues::OctetsList;
 pub use store::Store;

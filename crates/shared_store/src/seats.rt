@@ -1,6 +1,11 @@
 // A worker's seats at the tables.
-ghost use Rattle.std.specs.Prelude.{◌≡◌};
+ghost use Rattle.std.specs.Prelude.{◌≡◌, ◌<◌, true, length, IsOk, IfOk, OnErr};
+ghost use Rattle.shared_store.specs.Moving.{OneWent};
 ghost use Rattle.shared_store.specs.Tables.{AreAt};
+ghost use Rattle.store_model.specs.History.{store_acts};
+ghost use Rattle.store_model.specs.Replies.{IsReplyTo};
+ghost use Rattle.store_model.specs.Store.{Store, takes_no_memory};
+ghost use Rattle.turn_table.specs.Seats.{Called, Refused};
 
 use crate::Tables;
 use gate_base::{OutOfMemory, VmNo};
@@ -11,7 +16,11 @@ use std::sync::Wait;
 use store_model::{Call, Reply, Shared};
 use turn_table::Seat;
 
+#[cfg(test)]
+mod tests;
+
 /// A worker's seats over the tables: each call waits for the turn at the table of its VM. Clauses see the seats.
+#[derive(Drop)]
 pub struct StoreSeat<'a, R: Wait, G: Gate> {
     rt: &'a R,
     tables: &'a Tables,
@@ -45,6 +54,21 @@ impl<'a, R: Wait, G: Gate> StoreSeat<'a, R, G> {
         }
     }
 
+    /// Makes a call by the seat at the table of this VM, which then has seen what it had seen, entries of other workers, and this
+    /// entry; a call that is refused memory is not in the history. A call that takes no memory of any store is answered.
+    pub fn ask(&mut self, alloc: Global, vm: VmNo, call: &Call) -> Result<Reply, OutOfMemory>
+        requires { vm < length self.old }
+        ensures done { IfOk result (λ reply. OneWent self.old vm self.new (λ v w. Called store_acts v w call.now reply)) }
+        ensures may { IfOk result (IsReplyTo call.now) }
+        ensures sure { ((s : Store) → takes_no_memory call.now s ≡ true) → IsOk result }
+        ensures err { OnErr result (OneWent self.old vm self.new (λ v w. Refused store_acts v w call.now)) }
+    {
+        let at = vm.get() as usize;
+        let tables = self.tables;
+        let seat = &mut self.seats[at];
+        tables.tables[at].with_turn(self.rt, alloc, seat, call, self.gate)
+    }
+
     /// Gives back the seats. It takes no memory.
     pub fn give_back(self) -> Vec<Seat>
         ensures { result.items ≡ self.entry }
@@ -68,10 +92,7 @@ impl<'a, R: Wait, G: Gate> Shared for StoreSeat<'a, R, G> {
     ghost performs = { SeatsGoOn };
 
     fn call(&mut self, alloc: Global, vm: VmNo, call: &Call) -> Result<Reply, OutOfMemory> {
-        let at = vm.get() as usize;
-        let tables = self.tables;
-        let seat = &mut self.seats[at];
-        tables.tables[at].with_turn(self.rt, alloc, seat, call, self.gate)
+        self.ask(alloc, vm, call)
     }
 
     ghost nothing = { seats_nothing };

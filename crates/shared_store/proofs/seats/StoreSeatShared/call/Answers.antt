@@ -1,33 +1,8 @@
-use Rattle.std.proofs.Common.{◌≡◌, ◌<◌, [], ◌∷◌, length, map, set, sym, subst, ◌∙◌}
-use Rattle.atomic_table.proofs.Lists.{at_index}
-use Rattle.store_model.specs.Made.{made}
-use Rattle.shared_store.specs.Moving.{SeatsGoOn}
-use Rattle.shared_store.specs.Tables.{AreNumbered, table_of}
-use Rattle.shared_store.proofs.One.{tables_kept, call_goes, refusal_goes, ok_more, err_more}
+use Rattle.shared_store.proofs.One.{call_goes, refusal_goes, ok_more, err_more}
 use Rattle.shared_store.proofs.seats.StoreSeatShared.call.Goals as goal
 
-pub invariant_of-self : goal.invariant_of-self
-invariant_of-self g c =
-    let seats = c.self.inside.seats.items in let k = c.get-at.result in
-    let inside : k < length seats = subst (λ n. n < length seats) (sym c.get-at.ensures.number) (subst (λ l. c.args.vm < length l) (sym c.self.view_is) c.requires) in
-    let at = at_index seats k c.index_mut-seat.result.now inside c.index_mut-seat.ensures.value in
-    tables_kept seats k c.index_mut-seat.result.now c.with_turn.new.seat at c.with_turn.ensures.same ∙ c.self.invariant
-
 pub returns-clause-done : goal.returns-clause-done
-returns-clause-done g c =
-    let seats = c.self.inside.seats.items in let k = c.get-at.result in
-    let inside : k < length seats = subst (λ n. n < length seats) (sym c.get-at.ensures.number) (subst (λ l. c.args.vm < length l) (sym c.self.view_is) c.requires) in
-    let at = at_index seats k c.index_mut-seat.result.now inside c.index_mut-seat.ensures.value in
-    let numbered : AreNumbered (map table_of seats) = subst AreNumbered (c.tables.view_is ∙ sym c.self.invariant) c.tables.invariant.0 in
-    ok_more c.with_turn.result _ _ (λ r h. subst (λ l. SeatsGoOn l (made c.args.vm c.args.call.now r ∷ []) (set seats k c.with_turn.new.seat)) c.self.view_is
-    (subst (λ n. SeatsGoOn seats (made n c.args.call.now r ∷ []) (set seats k c.with_turn.new.seat)) c.get-at.ensures.number
-    (call_goes seats k c.index_mut-seat.result.now c.with_turn.new.seat at numbered c.with_turn.ensures.same c.args.call.now r h))) c.with_turn.ensures.done
+returns-clause-done g c = ok_more c.ask.result _ _ (λ r h. call_goes c.args.self.now c.ask.new.self c.args.vm c.args.call.now r h) c.ask.ensures.done
 
 pub returns-clause-err : goal.returns-clause-err
-returns-clause-err g c =
-    let seats = c.self.inside.seats.items in let k = c.get-at.result in
-    let inside : k < length seats = subst (λ n. n < length seats) (sym c.get-at.ensures.number) (subst (λ l. c.args.vm < length l) (sym c.self.view_is) c.requires) in
-    let at = at_index seats k c.index_mut-seat.result.now inside c.index_mut-seat.ensures.value in
-    let numbered : AreNumbered (map table_of seats) = subst AreNumbered (c.tables.view_is ∙ sym c.self.invariant) c.tables.invariant.0 in
-    err_more c.with_turn.result _ _ (λ h. subst (λ l. SeatsGoOn l [] (set seats k c.with_turn.new.seat)) c.self.view_is
-    (refusal_goes seats k c.index_mut-seat.result.now c.with_turn.new.seat at numbered c.with_turn.ensures.same c.args.call.now h)) c.with_turn.ensures.err
+returns-clause-err g c = err_more c.ask.result _ _ (λ h. refusal_goes c.args.self.now c.ask.new.self c.args.vm c.args.call.now h) c.ask.ensures.err
