@@ -2,3 +2,4 @@ pub mod Lists
 pub mod Measured
 pub mod Origin
 pub mod Reading
+pub mod Short

@@ -4,8 +4,8 @@ use Rattle.std.specs.Option.{option_map}
 use Rattle.std.specs.List.{list_all}
 use Rattle.http_uri.specs.ByteClasses.{slash, question_mark, is_path_byte, is_query_byte, split_once_front, split_once_back}
 use Rattle.http1_model.specs.Target as model
-use Rattle.h1_head.specs.declared.head.Scheme as scheme
-use Rattle.h1_head.specs.declared.head.Scheme.TheVariants as schemes
+use Rattle.h1_head.specs.declared.target.Scheme as scheme
+use Rattle.h1_head.specs.declared.target.Scheme.TheVariants as schemes
 use Rattle.h1_head.specs.declared.head.TargetForm as form
 use Rattle.h1_head.specs.declared.head.TargetForm.TheVariants as forms
 use Rattle.h1_head.specs.declared.target.Target as code

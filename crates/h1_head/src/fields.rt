@@ -1,12 +1,13 @@
 // The fields of a head, as spans of its text.
-ghost use Rattle.std.specs.Prelude.{◌≡◌, length, All, IfOk};
-ghost use Rattle.http1_model.specs.Fields.{is_listed, is_hop_name, values_of, kept_fields};
+ghost use Rattle.std.specs.Prelude.{◌≡◌, ◌≤◌, length, All};
+ghost use Rattle.http1_model.specs.Fields.{is_listed, is_hop_name, is_response_hop_name, values_of};
+ghost use Rattle.http1_model.specs.Lines.{head_limit};
 ghost use Rattle.http_header.specs.Token.{lowercase};
 ghost use Rattle.httparse.specs.Spans.{IsHeaderWithin, header_bytes};
 ghost use Rattle.h1_head.specs.Spans.{AreLines};
 
 use crate::members::{is_same_word, lists};
-use gate_base::{Octets, OutOfMemory, Pairs};
+use header_maps::{HeaderEnd, HeaderList};
 use httparse::spans::HeaderSpan;
 use std::alloc::Global;
 
@@ -18,17 +19,18 @@ pub enum Lines<'t> {
     Many,
 }
 
-/// The fields of a head: its text, and the spans of their names and values.
+/// The fields of a head: its text, of 65,536 bytes at most, and the spans of their names and values.
 #[derive(Clone, Copy)]
 pub struct Fields<'t> {
     pub text: &'t [u8],
     pub spans: &'t [HeaderSpan],
     pub ghost within: { All (IsHeaderWithin (length text.now)) spans.now },
+    pub ghost short: { length text.now ≤ head_limit },
 }
 
-/// Whether a name, in any case of letters, is that of a field that never passes, or `host`.
-pub fn is_hop_name(name: &[u8]) -> bool
-    ensures { result ≡ is_hop_name (lowercase name.now) }
+/// Whether a name, in any case of letters, is that of a field that never passes.
+fn is_response_hop_name(name: &[u8]) -> bool
+    ensures { result ≡ is_response_hop_name (lowercase name.now) }
 {
     is_same_word(name, b"connection")
         || is_same_word(name, b"keep-alive")
@@ -36,24 +38,25 @@ pub fn is_hop_name(name: &[u8]) -> bool
         || is_same_word(name, b"te")
         || is_same_word(name, b"transfer-encoding")
         || is_same_word(name, b"upgrade")
-        || is_same_word(name, b"host")
 }
 
-/// A field of its own, with its name in lower case.
-fn field(alloc: Global, name: &[u8], value: &[u8]) -> Result<(Octets, Octets), OutOfMemory>
-    ensures { IfOk result (λ field. field ≡ (lowercase name.now, value.now)) }
+/// Whether a name, in any case of letters, is that of a field that never passes, or `host`.
+pub fn is_hop_name(name: &[u8]) -> bool
+    ensures { result ≡ is_hop_name (lowercase name.now) }
 {
-    let name = Octets::from_vec(name.to_ascii_lowercase(alloc)?);
-    Ok((name, Octets::from_slice(alloc, value)?))
+    is_response_hop_name(name) || is_same_word(name, b"host")
 }
 
 impl<'t> Fields<'t> {
+    ghost use Rattle.http1_model.specs.Listed.{with_fields};
     ghost use Rattle.h1_head.specs.Held.{fields_of};
+    ghost use Rattle.h1_head.specs.Seen.{dropped_from, passing_in, IsListed};
 
     /// The name and the value that a field's spans cover.
     pub fn pair_at(&self, span: &HeaderSpan) -> (&'t [u8], &'t [u8])
         requires { IsHeaderWithin (length self.now.text.now) span.now }
-        ensures { (result.0.now, result.1.now) ≡ header_bytes self.now.text.now span.now }
+        ensures pair { (result.0.now, result.1.now) ≡ header_bytes self.now.text.now span.now }
+        ensures short { length result.1.now ≤ head_limit }
     {
         (span.name.of(self.text), span.value.of(self.text))
     }
@@ -91,17 +94,34 @@ impl<'t> Fields<'t> {
         false
     }
 
-    /// The fields that are kept, in order, with their names in lower case.
-    pub fn kept(&self, alloc: Global) -> Result<Pairs, OutOfMemory>
-        ensures { IfOk result (λ kept. kept ≡ kept_fields (fields_of self.now)) }
+    /// Whether a field of this name, in any case of letters, is dropped; `host` may pass, as in a response.
+    fn is_dropped(&self, host_passes: bool, name: &[u8]) -> bool
+        ensures { result ≡ dropped_from host_passes (fields_of self.now) (lowercase name.now) }
     {
-        let mut kept = Pairs::new(alloc);
+        let is_hop = if host_passes {
+            is_response_hop_name(name)
+        } else {
+            is_hop_name(name)
+        };
+        is_hop || self.is_listed(name)
+    }
+
+    /// The list with the fields that pass put last, in order; `host` may pass, as in a response.
+    pub fn passing(
+        &self,
+        alloc: Global,
+        host_passes: bool,
+        list: HeaderList,
+    ) -> Result<HeaderList, HeaderEnd>
+        ensures { IsListed (with_fields list (passing_in host_passes (fields_of self.now))) result }
+    {
+        let mut list = list;
         for span in self.spans {
             let (name, value) = self.pair_at(span);
-            if !is_hop_name(name) && !self.is_listed(name) {
-                kept.push(field(alloc, name, value)?)?;
+            if !self.is_dropped(host_passes, name) {
+                list.add(alloc, name, value)?;
             }
         }
-        Ok(kept)
+        Ok(list)
     }
 }

@@ -1,13 +1,29 @@
-// The head of a request.
+// The head of a message.
 ghost use Rattle.std.specs.Prelude.{◌≡◌};
 
-use gate_base::{Octets, Pairs};
+use header_maps::HeaderList;
 
 /// What a text is: one side's messages.
 #[derive(Clone, Copy, Debug, PartialEq, Eq)]
 pub enum Kind {
     /// The requests of a client.
     Request,
+    /// The response to a request, which may have been a HEAD request.
+    Response { to_head: bool },
+}
+
+impl Kind {
+    ghost use Rattle.h1_head.specs.Seen.{large_number};
+
+    /// The status of a head that has grown too large.
+    pub fn large_number(self) -> u16
+        ensures { result ≡ large_number self }
+    {
+        match self {
+            Kind::Request => 431,
+            Kind::Response { .. } => 502,
+        }
+    }
 }
 
 /// The length of a message's body (RFC 9112 section 6).
@@ -23,13 +39,6 @@ pub enum Length {
     UntilEnd,
 }
 
-/// A scheme that a target may have.
-#[derive(Clone, Copy, Debug, PartialEq, Eq)]
-pub enum Scheme {
-    Http,
-    Https,
-}
-
 /// The form of a request's target (RFC 9112 section 3.2).
 #[derive(Clone, Copy, Debug, PartialEq, Eq)]
 pub enum TargetForm {
@@ -41,20 +50,17 @@ pub enum TargetForm {
     Asterisk,
 }
 
-/// The head of a request, as a gateway takes it in.
+/// The head of a message, as a gateway takes it in.
 #[derive(Debug, Drop)]
 pub struct Head {
-    pub method: Octets,
-    pub form: TargetForm,
-    pub scheme: Scheme,
-    /// The target's authority, or Host's value, or nothing.
-    pub authority: Octets,
-    /// The path with its query, or `*`.
-    pub path: Octets,
+    /// The pseudo-headers, and the fields that pass, in order, with names in lower case.
+    pub fields: HeaderList,
+    /// The fields that stand behind the framing field on the way out. There are none as a head is read.
+    pub tail: HeaderList,
+    /// The form of a request's target.
+    pub form: Option<TargetForm>,
     /// The minor version, 0 or 1.
     pub minor: u8,
-    /// The fields that are kept, in order, with names in lower case.
-    pub fields: Pairs,
     pub length: Length,
     /// The number that Content-Length told, if it did.
     pub told: Option<u64>,
@@ -73,11 +79,11 @@ impl Head {
         self.told.is_some() || matches!(self.length, Length::Chunked)
     }
 
-    /// Whether the target begins with `/`.
+    /// Whether it is a request's, with a target that begins with `/`.
     pub fn is_origin(&self) -> bool
         ensures { result ≡ is_origin (seen_head self.now).form }
     {
-        matches!(self.form, TargetForm::Origin)
+        matches!(self.form, Some(TargetForm::Origin))
     }
 }
 
@@ -88,6 +94,6 @@ pub enum HeadStep {
     Head { head: Head, used: usize },
     /// Nothing as yet.
     NotYet,
-    /// No head: the status of the answer, 400, 431 or 501.
+    /// No head: the status of the answer, 400, 431 or 501 for a request and 502 for a response.
     Refused { number: u16 },
 }

@@ -1,7 +1,7 @@
-// The length of a request's body.
+// The length of a message's body.
 ghost use Rattle.std.specs.Prelude.{◌≡◌, ◌<◌, ◌∷◌, length, IfSome, option_copied, codes};
 ghost use Rattle.http1_model.specs.Fields.{members, values_of};
-ghost use Rattle.http1_model.specs.Length.{number_of, told_measure, request_measure};
+ghost use Rattle.http1_model.specs.Length.{number_of, told_measure, request_measure, response_measure, bodied};
 ghost use Rattle.h1_head.specs.Held.{fields_of};
 ghost use Rattle.h1_head.specs.Measures.{rest_members, agreed, AreTold, seen_measure, seen_measure_result};
 
@@ -145,4 +145,39 @@ pub fn request_measure(fields: &Fields, minor: u8) -> Result<Measure, u16>
         (Lines::Many, Told::Absent) if minor != 0 => Err(501),
         _ => Err(400),
     }
+}
+
+/// The length of a response's body where its status lets it have one, or the number of a refusal (RFC 9112 section 6).
+pub fn response_measure(fields: &Fields, minor: u8) -> Result<Measure, u16>
+    ensures { seen_measure_result result ≡ response_measure minor
+        (values_of (codes "transfer-encoding") (fields_of fields.now))
+        (values_of (codes "content-length") (fields_of fields.now)) }
+{
+    match request_measure(fields, minor) {
+        Ok(
+            Measure {
+                length: Length::Nothing,
+                told: None,
+            },
+        ) => Ok(Measure {
+            length: Length::UntilEnd,
+            told: None,
+        }),
+        Ok(measure) => Ok(measure),
+        Err(_) => Err(502),
+    }
+}
+
+/// A response that has no body whatever its fields tell, where `bare` says so.
+pub fn bodied(bare: bool, measure: Result<Measure, u16>) -> Result<Measure, u16>
+    ensures { seen_measure_result result ≡ bodied bare (seen_measure_result measure) }
+{
+    let measure = measure?;
+    if bare {
+        return Ok(Measure {
+            length: Length::Nothing,
+            told: measure.told,
+        });
+    }
+    Ok(measure)
 }

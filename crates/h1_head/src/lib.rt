@@ -1,4 +1,4 @@
-//! Heads of HTTP/1.1 requests: from a line's bytes to a head, and from a head to the bytes that go up.
+//! Heads of HTTP/1.1 messages: from a line's bytes to a head, and from a request's head to the bytes that go up.
 #![tactic(auto)]
 
 mod fields;
@@ -6,14 +6,19 @@ mod head;
 mod length;
 mod lines;
 mod members;
+mod parts;
 mod read;
+mod request;
+mod response;
 mod target;
 mod write;
 
-pub use head::{Head, HeadStep, Kind, Length, Scheme, TargetForm};
+pub use head::{Head, HeadStep, Kind, Length, TargetForm};
 pub use lines::skip_empty_lines;
 pub use read::read_head;
 pub use write::{request_bytes, write_request};
 
+#[cfg(test)]
+mod table;
 #[cfg(test)]
 mod tests;

@@ -1,12 +1,13 @@
 // What a request's target gives.
 ghost use Rattle.std.specs.List.{list_all};
 ghost use Rattle.std.specs.Prelude.{◌≡◌, ◌<◌, ◌+◌, ◌^◌, ◌==◌, ◌&&◌, length, drop, slice_index, IfOk};
+ghost use Rattle.http1_model.specs.Listed.{scheme_text};
 ghost use Rattle.http1_model.specs.Target.{is_visible, is_path_value_byte, is_path_value, is_options, scheme_of, origin_target, absolute_path, is_absolute_path, absolute_target, target_of, IsTargetOf};
 ghost use Rattle.http_uri.specs.ByteClasses.{slash, question_mark, split_once_front, split_once_back};
 ghost use Rattle.http_uri.specs.Uri.{uri_scheme, uri_authority};
-ghost use Rattle.h1_head.specs.Targets.{seen_scheme_option, seen_target_option, query_passes, is_plain_path_byte, is_plain_query_byte, is_plain_origin};
+ghost use Rattle.h1_head.specs.Targets.{seen_scheme, seen_scheme_option, seen_target_option, query_passes, is_plain_path_byte, is_plain_query_byte, is_plain_origin};
 
-use crate::head::{Scheme, TargetForm};
+use crate::head::TargetForm;
 use gate_base::{Octets, OutOfMemory};
 use http_uri::{Uri, UriError};
 use memchr::memchr;
@@ -14,6 +15,25 @@ use std::alloc::{AllocError, Global};
 
 /// The longest target that `http_uri` reads.
 const TARGET_LIMIT: usize = 65_534;
+
+/// A scheme that a target may have.
+#[derive(Clone, Copy)]
+pub enum Scheme {
+    Http,
+    Https,
+}
+
+impl Scheme {
+    /// The scheme as it is written.
+    pub fn as_bytes(self) -> &'static [u8]
+        ensures { result.now ≡ scheme_text (seen_scheme self) }
+    {
+        match self {
+            Scheme::Http => b"http",
+            Scheme::Https => b"https",
+        }
+    }
+}
 
 /// The parts that a target gives. Where it gives no authority, Host does.
 #[derive(Drop)]

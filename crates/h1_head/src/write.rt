@@ -1,7 +1,8 @@
 // From a head to the bytes that go up.
 ghost use Rattle.std.specs.Prelude.{◌≡◌, ◌++◌, IfOk, OnOk, OnErr};
+ghost use Rattle.header_maps.specs.Pairs.{is_pseudo};
 ghost use Rattle.http1_model.specs.Fields.{is_listed};
-ghost use Rattle.http1_model.specs.Wire.{field_line, field_lines, is_left_out, sent_fields, request_line, via_of, wire_of};
+ghost use Rattle.http1_model.specs.Wire.{field_line, field_lines, is_left_out, sent_fields, pseudo_of, request_line, via_of, wire_of};
 ghost use Rattle.http_header.specs.Token.{lowercase};
 ghost use Rattle.h1_head.specs.Seen.{seen_head};
 
@@ -9,6 +10,7 @@ use crate::fields::is_hop_name;
 use crate::head::Head;
 use crate::members::{is_same_word, lists};
 use gate_base::{Octets, OutOfMemory};
+use header_maps::HeaderList;
 use std::alloc::Global;
 
 /// Puts a field line at the end.
@@ -33,11 +35,28 @@ fn is_listed_in(fields: &[(Octets, Octets)], name: &[u8]) -> bool
     false
 }
 
+/// Whether a name begins with `:`.
+fn is_pseudo(name: &[u8]) -> bool
+    ensures { result ≡ is_pseudo (lowercase name.now) }
+{
+    name.first() == Some(&b':')
+}
+
 /// Whether a field of this name, in any case of letters, does not go out with these fields.
 fn is_left_out(fields: &[(Octets, Octets)], name: &[u8]) -> bool
     ensures { result ≡ is_left_out fields.now (lowercase name.now) }
 {
-    is_hop_name(name) || is_listed_in(fields, name) || is_same_word(name, b"content-length")
+    is_pseudo(name)
+        || is_hop_name(name)
+        || is_listed_in(fields, name)
+        || is_same_word(name, b"content-length")
+}
+
+/// The value of a pseudo-header, or nothing where the list has it not.
+fn pseudo_of<'l>(list: &'l HeaderList, name: &[u8]) -> &'l [u8]
+    ensures { result.now ≡ pseudo_of list.now name.now }
+{
+    list.first(name).unwrap_or(&[])
 }
 
 /// Puts the lines of the fields that go out at the end, in order.
@@ -56,9 +75,9 @@ fn push_fields(out: &mut Octets, fields: &[(Octets, Octets)]) -> Result<(), OutO
 fn push_request_line(out: &mut Octets, head: &Head) -> Result<(), OutOfMemory>
     ensures ok { OnOk result (out.new ≡ out.old ++ request_line (seen_head head.now)) }
 {
-    out.extend_from_slice(head.method.as_slice())?;
+    out.extend_from_slice(pseudo_of(&head.fields, b":method"))?;
     out.extend_from_slice(b" ")?;
-    out.extend_from_slice(head.path.as_slice())?;
+    out.extend_from_slice(pseudo_of(&head.fields, b":path"))?;
     out.extend_from_slice(b" HTTP/1.1\r\n")
 }
 
@@ -81,7 +100,7 @@ pub fn request_bytes(alloc: Global, head: &Head) -> Result<Octets, OutOfMemory>
 {
     let mut out = Octets::new(alloc);
     push_request_line(&mut out, head)?;
-    push_field(&mut out, b"host", head.authority.as_slice())?;
+    push_field(&mut out, b"host", pseudo_of(&head.fields, b":authority"))?;
     push_fields(&mut out, head.fields.as_slice())?;
     push_via(&mut out, head.minor)?;
     push_field(&mut out, b"connection", b"close")?;

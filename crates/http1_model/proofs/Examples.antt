@@ -1,14 +1,17 @@
 -- The worked examples, by computation.
-use Rattle.std.proofs.Common.{[], ◌∷◌, None, Some, Ok, codes, refl, inl, inr, lit<, lit≤}
+use Rattle.std.proofs.Common.{true, false, [], ◌∷◌, None, Some, Ok, codes, refl, inl, inr, lit<, lit≤}
 use Rattle.std.proofs.lemmas.List.Sums.{AllPass-from_list_all}
 use Rattle.std.proofs.lemmas.List.Elements.{All-cons, All-nil}
-use Rattle.httparse.specs.Grammar.{crlf, Field, IsField, RequestHead, IsRequestHead, is_token_byte, is_uri_byte, is_value_byte}
+use Rattle.std.specs.Char.{is_ascii_digit}
+use Rattle.http_header.specs.Token as header
+use Rattle.httparse.specs.Grammar.{crlf, Field, IsField, RequestHead, IsRequestHead, ResponseHead, IsResponseHead, is_token_byte, is_uri_byte, is_value_byte}
 use Rattle.httparse.proofs.OnLiterals.{httparse_on_literals}
 use Rattle.http_uri.proofs.PathLemmas.{IsPathAndQuery_slash}
-use Rattle.http1_model.specs.Head.{found, IsAnswer, not_yet}
-use Rattle.http1_model.specs.Messages.{head}
+use Rattle.http1_model.specs.Head.{found, IsAnswer, IsResponseAnswer, not_yet}
+use Rattle.http1_model.specs.Length.{exactly}
+use Rattle.http1_model.specs.Messages.{head, body, done}
 use Rattle.http1_model.specs.Target.{GivesTarget, origin, http}
-use Rattle.http1_model.specs.Examples.{worked_text, worked_head, WorkedHead, LineExamples, FieldExamples, WireExamples, LengthExamples, TargetExamples, RefusalExamples}
+use Rattle.http1_model.specs.Examples.{worked_text, worked_head, WorkedHead, worked_response_text, worked_response, worked_bare_response, worked_interim_text, worked_interim, WorkedResponse, LineExamples, FieldExamples, WireExamples, LengthExamples, ResponseLengthExamples, BareExamples, ListExamples, TargetExamples, RefusalExamples}
 
 abbrev host_field : Field
 host_field = record { name = codes "Host"; raw = codes " a"; end = crlf }
@@ -51,12 +54,91 @@ worked_target = record {
 }
 
 worked_answer : IsAnswer worked_text (Ok worked_head)
-unfolding httparse_on_literals
+unfolding httparse_on_literals header.is_token_byte
 worked_answer = inl (record {
   head = worked_tree;
   reads = (worked_is_head, refl);
   judged = record { parts = Some (record { form = origin; scheme = http; authority = None; path = codes "/" }); gives = worked_target; is = refl };
 })
+
+-- ---- a response
+
+abbrev length_field : Field
+length_field = record { name = codes "Content-Length"; raw = codes " 3"; end = crlf }
+
+abbrev response_tree : ResponseHead
+response_tree = record {
+  blank = [];
+  minor = 1;
+  digits = codes "200";
+  reason = Some (codes "OK");
+  line_end = crlf;
+  fields = length_field ∷ [];
+  last = crlf;
+}
+
+length_is_field : IsField length_field
+unfolding httparse_on_literals
+length_is_field = record {
+  name = (lit< tt, AllPass-from_list_all is_token_byte (codes "Content-Length") refl);
+  raw = AllPass-from_list_all is_value_byte (codes " 3") refl;
+}
+
+response_is_head : IsResponseHead response_tree
+unfolding httparse_on_literals
+response_is_head = record {
+  minor = lit≤ tt;
+  digits = (refl, AllPass-from_list_all is_ascii_digit (codes "200") refl);
+  reason = AllPass-from_list_all is_value_byte (codes "OK") refl;
+  fields = All-cons IsField length_field [] length_is_field (All-nil IsField);
+}
+
+response_answer : IsResponseAnswer false worked_response_text (Ok worked_response)
+unfolding httparse_on_literals header.is_token_byte
+response_answer = inl (record { head = response_tree; reads = (response_is_head, refl); judged = refl })
+
+bare_answer : IsResponseAnswer true worked_response_text (Ok worked_bare_response)
+unfolding httparse_on_literals header.is_token_byte
+bare_answer = inl (record { head = response_tree; reads = (response_is_head, refl); judged = refl })
+
+abbrev interim_tree : ResponseHead
+interim_tree = record {
+  blank = [];
+  minor = 1;
+  digits = codes "100";
+  reason = Some (codes "Continue");
+  line_end = crlf;
+  fields = [];
+  last = crlf;
+}
+
+interim_is_head : IsResponseHead interim_tree
+unfolding httparse_on_literals
+interim_is_head = record {
+  minor = lit≤ tt;
+  digits = (refl, AllPass-from_list_all is_ascii_digit (codes "100") refl);
+  reason = AllPass-from_list_all is_value_byte (codes "Continue") refl;
+  fields = All-nil IsField;
+}
+
+interim_answer : IsResponseAnswer false worked_interim_text (Ok worked_interim)
+unfolding httparse_on_literals header.is_token_byte
+interim_answer = inl (record { head = interim_tree; reads = (interim_is_head, refl); judged = refl })
+
+pub worked_response_is : WorkedResponse
+worked_response_is = record {
+  spelled = (Ok worked_response, response_answer, refl);
+  read = (
+    25,
+    head,
+    (found worked_interim 25, (Ok worked_interim, interim_answer, refl), refl),
+    refl,
+    refl,
+    (38, body (exactly 3), (found worked_response 38, (Ok worked_response, response_answer, refl), refl), refl, refl, refl),
+  );
+  bare = (38, done, (found worked_bare_response 38, (Ok worked_bare_response, bare_answer, refl), refl), refl, refl, refl);
+  missing = (not_yet, refl, refl);
+}
 
 pub worked_head_is : WorkedHead
 worked_head_is = record {
@@ -82,7 +164,7 @@ line_examples = record {
 
 pub field_examples : FieldExamples
 unfolding httparse_on_literals
-field_examples = record { list = refl; none = refl; listed = refl; part = refl; kept = refl }
+field_examples = record { list = refl; none = refl; listed = refl; part = refl; kept = refl; passing = refl; passing_response = refl }
 
 pub wire_examples : WireExamples
 unfolding httparse_on_literals
@@ -107,6 +189,27 @@ length_examples = record {
   both = refl;
   old = refl;
 }
+
+pub response_length_examples : ResponseLengthExamples
+unfolding httparse_on_literals
+response_length_examples = record {
+  none = refl;
+  five = refl;
+  no_body = refl;
+  differ = refl;
+  chunked_alone = refl;
+  other_coding = refl;
+  old = refl;
+  both = refl;
+}
+
+pub bare_examples : BareExamples
+unfolding httparse_on_literals header.is_token_byte
+bare_examples = record { to_head = refl; no_content = refl; not_modified = refl; switching = refl; low = refl; high = refl }
+
+pub list_examples : ListExamples
+unfolding httparse_on_literals header.is_token_byte
+list_examples = record { request = refl; response = refl; authority = refl; name = refl; value = refl }
 
 pub target_examples : TargetExamples
 target_examples = record {

@@ -1,9 +1,13 @@
 -- Lemmas on the fields of a message, one field after another.
-use Rattle.std.proofs.Common.{◌≡◌, ℕ, Bool, true, false, ◌||◌, List, ◌∷◌, refl, ap, ◌∙◌}
+use Rattle.std.proofs.Common.{◌≡◌, ℕ, Bool, true, false, ◌||◌, List, ◌∷◌, None, Some, refl, ap, ◌∙◌}
 use Rattle.std.specs.Prelude.{codes}
 use Rattle.std.specs.List.{list_any}
 use Rattle.http_header.specs.Token.{lowercase}
-use Rattle.http1_model.specs.Fields.{Pair, is_named, values_of, lists, is_listed, is_dropped, lowered, kept_among}
+use Rattle.http1_model.specs.Fields.{Pair, is_named, values_of, lists, is_listed, is_dropped, lowered, kept_among, passing_among}
+use Rattle.header_maps.specs.Faults.{Fault, add_fault}
+use Rattle.header_maps.specs.Headers.{Headers}
+use Rattle.header_maps.specs.Operations.{added}
+use Rattle.http1_model.specs.Listed.{with_fields}
 use Rattle.http1_model.specs.Wire.{is_left_out, sent_among}
 
 pub values_of-named : (name : List ℕ) (f : Pair) (fs : List Pair) → is_named name f ≡ true
@@ -48,3 +52,21 @@ sent_among-left_out all f fs out = rw out
 pub sent_among-sent : (all : List Pair) (f : Pair) (fs : List Pair) → is_left_out all (lowercase f.0) ≡ false
     → sent_among all (f ∷ fs) ≡ f ∷ sent_among all fs
 sent_among-sent all f fs sent = rw sent
+
+pub passing_among-dropped : (dropped : List ℕ → Bool) (f : Pair) (fs : List Pair) → dropped (lowercase f.0) ≡ true
+    → passing_among dropped (f ∷ fs) ≡ passing_among dropped fs
+passing_among-dropped dropped f fs is = rw is
+
+pub passing_among-passing : (dropped : List ℕ → Bool) (f : Pair) (fs : List Pair) → dropped (lowercase f.0) ≡ false
+    → passing_among dropped (f ∷ fs) ≡ f ∷ passing_among dropped fs
+passing_among-passing dropped f fs is = rw is
+
+-- ---- lists
+
+pub with_fields-taken : (headers : Headers) (f : Pair) (fs : List Pair) → add_fault headers f.0 f.1 ≡ None
+    → with_fields headers (f ∷ fs) ≡ with_fields (added headers f.0 f.1) fs
+with_fields-taken headers f fs none = rw none
+
+pub with_fields-refused : (headers : Headers) (f : Pair) (fs : List Pair) (fault : Fault) → add_fault headers f.0 f.1 ≡ Some fault
+    → with_fields headers (f ∷ fs) ≡ None
+with_fields-refused headers f fs fault some = rw some

@@ -1,14 +1,15 @@
 -- The lines of a head that `httparse` reads.
-use Rattle.std.proofs.Common.{◌≡◌, ℕ, suc, ◌+◌, ◌-◌, ◌<◌, ◌≤◌, Bool, true, false, not, eqb, IsTrue, List, [], ◌∷◌, ◌++◌, map, length, take, drop, Some, refl, sym, ap, ◌∙◌, inl, inr, arith}
+use Rattle.std.proofs.Common.{◌≡◌, ℕ, suc, ◌+◌, ◌-◌, ◌<◌, ◌≤◌, Bool, true, false, not, eqb, IsTrue, List, [], ◌∷◌, ◌++◌, map, length, take, drop, Option, None, Some, refl, sym, ap, ◌∙◌, inl, inr, arith}
 use Rattle.std.proofs.lemmas.Bool.{cond-true, cond-false, ne_eqb, and_from, and_parts, not-true, ltb-false, false≢true, cases_Bool}
 use Rattle.std.proofs.lemmas.List.{append_assoc, append-nil, length-append, length-take-le, take-append-drop, nil_from_length}
 use Rattle.std.proofs.lemmas.List.Elements.{All-head, All-tail}
 use Rattle.std.proofs.lemmas.List.Folds.{list_all-append}
 use Rattle.std.proofs.Math.Seq.{take-append-add}
 use Rattle.std.specs.Prelude.{All, nat_lt}
+use Rattle.std.specs.Char.{is_ascii_digit}
 use Rattle.std.specs.List.{list_all, flat_map}
-use Rattle.httparse.specs.Grammar.{is_token_byte, is_uri_byte, is_value_byte, AllPass, LineEnd, crlf, lf, print_end, print_blank, print_version, Field, IsField, print_field, print_section, RequestHead, IsRequestHead, print_request, ReadsRequest}
-use Rattle.httparse.proofs.GrammarLemmas.{print_request-append}
+use Rattle.httparse.specs.Grammar.{is_token_byte, is_uri_byte, is_value_byte, AllPass, LineEnd, crlf, lf, print_end, print_blank, print_version, Field, IsField, print_field, print_section, print_reason, reason_phrase, RequestHead, IsRequestHead, print_request, ReadsRequest, ResponseHead, IsResponseHead, print_response, ReadsResponse}
+use Rattle.httparse.proofs.GrammarLemmas.{print_request-append, print_response-append}
 use Rattle.http1_model.specs.Lines.{whole_lines, is_empty_line, empty_len, skipped, section_of, whole, too_large, cut_at, cut_lines, cut_of, window_cut, head_cut}
 
 -- a byte that does not end a line
@@ -44,6 +45,9 @@ uri_line line all = IsOneLine_from_pass is_uri_byte (inside_of is_uri_byte refl)
 
 pub value_line : (line : List ℕ) → AllPass is_value_byte line → IsOneLine line
 value_line line all = IsOneLine_from_pass is_value_byte (inside_of is_value_byte refl) line all
+
+pub digit_line : (line : List ℕ) → AllPass is_ascii_digit line → IsOneLine line
+digit_line line all = IsOneLine_from_pass is_ascii_digit (inside_of is_ascii_digit refl) line all
 
 -- ---- a line and its end
 
@@ -127,69 +131,60 @@ section_of-section (f ∷ fields) last more all =
     sym (ap length e ∙ length-append (print_field f) (print_section fields last)) in
     rw (filled, later, count, len)
 
--- ---- a request head
+-- ---- a head
 
--- the request line without its end
-abbrev pub request_words : RequestHead → List ℕ
-request_words h = h.method ++ 32 ∷ (h.target ++ 32 ∷ print_version h.minor)
+-- the empty lines in front of a head, its first line without its end, and the rest of it
+pub record Parts : Type 0 where
+  pub blank : List LineEnd
+  pub words : List ℕ
+  pub line_end : LineEnd
+  pub fields : List Field
+  pub last : LineEnd
 
-pub request_words-line : (h : RequestHead) → IsRequestHead h → IsOneLine (request_words h)
-request_words-line h is =
-    let digit : eqb (48 + h.minor) 10 ≡ false = ne_eqb (48 + h.minor) 10 (λ e. omega (arith, is.minor)) in
-    let version : IsOneLine (print_version h.minor) = rw digit in
-    IsOneLine-append h.method (32 ∷ (h.target ++ 32 ∷ print_version h.minor)) (token_line h.method is.method.1)
-    (IsOneLine-append (32 ∷ h.target) (32 ∷ print_version h.minor)
-    (IsOneLine-append (32 ∷ []) h.target refl (uri_line h.target is.target.1))
-    (IsOneLine-append (32 ∷ []) (print_version h.minor) refl version))
+pub record AreParts (p : Parts) : Type 0 where
+  pub words : IsOneLine p.words
+  pub fields : All IsField p.fields
 
--- the request line
-abbrev pub request_line_of : RequestHead → List ℕ
-request_line_of h = request_words h ++ print_end h.line_end
+-- these are the parts of what is printed
+abbrev pub Prints : List ℕ → Parts → Type 0
+Prints text p =
+    (more : List ℕ) → text ++ more ≡ print_blank p.blank ++ (p.words ++ (print_end p.line_end ++ (print_section p.fields p.last ++ more)))
 
-pub request_line-filled : (h : RequestHead) → IsRequestHead h → is_empty_line (request_line_of h) ≡ false
-request_line-filled h is =
-    ap is_empty_line (append_assoc h.method (32 ∷ (h.target ++ 32 ∷ print_version h.minor)) (print_end h.line_end))
-    ∙ token_first h.method ((32 ∷ (h.target ++ 32 ∷ print_version h.minor)) ++ print_end h.line_end) is.method.0 is.method.1
+-- the first line
+abbrev pub first_line : Parts → List ℕ
+first_line p = p.words ++ print_end p.line_end
 
--- a head without empty lines in front is its request line and its section
-pub print_request-lines : (h : RequestHead) (more : List ℕ) → h.blank ≡ []
-    → print_request h ++ more ≡ request_words h ++ (print_end h.line_end ++ (print_section h.fields h.last ++ more))
-print_request-lines h more none =
-    print_request-append h more ∙ ap (λ b. print_blank b ++ (h.method ++ 32 ∷ (h.target ++ 32 ∷ (print_version h.minor
-    ++ (print_end h.line_end ++ (print_section h.fields h.last ++ more)))))) none
-    ∙ regroup h.method h.target (print_version h.minor) (print_end h.line_end ++ (print_section h.fields h.last ++ more))
-  where
-    regroup : (a b c d : List ℕ) → a ++ 32 ∷ (b ++ 32 ∷ (c ++ d)) ≡ (a ++ 32 ∷ (b ++ 32 ∷ c)) ++ d
-    regroup a b c d =
-        sym (append_assoc a (32 ∷ (b ++ 32 ∷ c)) d ∙ ap (λ t. a ++ 32 ∷ t) (append_assoc b (32 ∷ c) d))
+-- a head without empty lines in front is its first line and its section
+pub printed_lines : (text : List ℕ) (p : Parts) (more : List ℕ) → Prints text p → p.blank ≡ []
+    → text ++ more ≡ p.words ++ (print_end p.line_end ++ (print_section p.fields p.last ++ more))
+printed_lines text p more prints none =
+    prints more ∙ ap (λ b. print_blank b ++ (p.words ++ (print_end p.line_end ++ (print_section p.fields p.last ++ more)))) none
 
-pub whole_lines-request : (h : RequestHead) (more : List ℕ) → IsRequestHead h → h.blank ≡ []
-    → whole_lines (print_request h ++ more)
-    ≡ request_line_of h ∷ (map print_field h.fields ++ print_end h.last ∷ whole_lines more)
-whole_lines-request h more is none =
-    ap whole_lines (print_request-lines h more none)
-    ∙ whole_lines-end (request_words h) h.line_end (print_section h.fields h.last ++ more) (request_words-line h is)
-    ∙ ap (λ ls. request_line_of h ∷ ls) (whole_lines-section h.fields h.last more is.fields)
+pub whole_lines-head : (text : List ℕ) (p : Parts) (more : List ℕ) → Prints text p → AreParts p → p.blank ≡ []
+    → whole_lines (text ++ more) ≡ first_line p ∷ (map print_field p.fields ++ print_end p.last ∷ whole_lines more)
+whole_lines-head text p more prints are none =
+    ap whole_lines (printed_lines text p more prints none)
+    ∙ whole_lines-end p.words p.line_end (print_section p.fields p.last ++ more) are.words
+    ∙ ap (λ ls. first_line p ∷ ls) (whole_lines-section p.fields p.last more are.fields)
 
-pub length-print_request : (h : RequestHead) → h.blank ≡ []
-    → length (print_request h) ≡ length (request_line_of h) + length (print_section h.fields h.last)
-length-print_request h none =
-    let e : print_request h ≡ request_line_of h ++ print_section h.fields h.last =
-    sym (append-nil (print_request h)) ∙ print_request-lines h [] none
-    ∙ ap (λ t. request_words h ++ (print_end h.line_end ++ t)) (append-nil (print_section h.fields h.last))
-    ∙ sym (append_assoc (request_words h) (print_end h.line_end) (print_section h.fields h.last)) in
-    ap length e ∙ length-append (request_line_of h) (print_section h.fields h.last)
+pub length-head : (text : List ℕ) (p : Parts) → Prints text p → p.blank ≡ []
+    → length text ≡ length (first_line p) + length (print_section p.fields p.last)
+length-head text p prints none =
+    let e : text ≡ first_line p ++ print_section p.fields p.last =
+    sym (append-nil text) ∙ printed_lines text p [] prints none
+    ∙ ap (λ t. p.words ++ (print_end p.line_end ++ t)) (append-nil (print_section p.fields p.last))
+    ∙ sym (append_assoc p.words (print_end p.line_end) (print_section p.fields p.last)) in
+    ap length e ∙ length-append (first_line p) (print_section p.fields p.last)
 
 -- the cut of a text that begins with a head
-pub window_cut-request : (h : RequestHead) (more : List ℕ) → IsRequestHead h → h.blank ≡ []
-    → window_cut (print_request h ++ more)
-    ≡ cut_at (length (request_line_of h)) (length h.fields, length (print_section h.fields h.last))
-window_cut-request h more is none =
-    let n = length (print_request h ++ more) in
-    let first = request_line_of h in
-    let after = map print_field h.fields ++ print_end h.last ∷ whole_lines more in
-    ap (cut_of n) (whole_lines-request h more is none)
-    ∙ ap (cut_lines n (length first) (length after)) (section_of-section h.fields h.last (whole_lines more) is.fields)
+pub window_cut-head : (text : List ℕ) (p : Parts) (more : List ℕ) → Prints text p → AreParts p → p.blank ≡ []
+    → window_cut (text ++ more) ≡ cut_at (length (first_line p)) (length p.fields, length (print_section p.fields p.last))
+window_cut-head text p more prints are none =
+    let n = length (text ++ more) in
+    let first = first_line p in
+    let after = map print_field p.fields ++ print_end p.last ∷ whole_lines more in
+    ap (cut_of n) (whole_lines-head text p more prints are none)
+    ∙ ap (cut_lines n (length first) (length after)) (section_of-section p.fields p.last (whole_lines more) are.fields)
 
 -- where so many lines make a whole head, they are at most a hundred, and it ends with them
 pub cut_at-whole : (first lines bytes len : ℕ) → cut_at first (lines, bytes) ≡ whole len → (lines ≤ 100) × (first + bytes ≡ len)
@@ -222,23 +217,96 @@ take_past n xs ys short =
     ap (λ k. take k (xs ++ ys)) e ∙ take-append-add xs ys (n - length xs)
 
 -- A head that is read in the text of a whole head is all of it, and has at most a hundred fields.
+pub fills : (rest : List ℕ) (len : ℕ) (text : List ℕ) (p : Parts) (r : List ℕ) → head_cut rest ≡ whole len → len ≤ 65536
+    → len ≤ length rest → skipped rest ≡ 0 → Prints text p → AreParts p → take len rest ≡ text ++ r
+    → (r ≡ []) × (length p.fields ≤ 100)
+fills rest len text p r cut limit fits none prints are reads =
+    let front = take len rest in
+    let behind = drop len rest in
+    let split : rest ≡ text ++ (r ++ behind) =
+    sym (take-append-drop len rest) ∙ ap (λ t. t ++ behind) reads ∙ append_assoc text r behind in
+    let blank : p.blank ≡ [] =
+    no_blank p.blank _ (ap (λ t. empty_len (whole_lines t)) (sym (split ∙ prints (r ++ behind))) ∙ none) in
+    let front_len : length front ≡ len = length-take-le len rest fits in
+    let whole_len : length front ≡ length text + length r = ap length reads ∙ length-append text r in
+    let short : length (text ++ r) ≤ 65536 = omega (arith, length-append text r) in
+    let joined : rest ≡ (text ++ r) ++ behind = split ∙ sym (append_assoc text r behind) in
+    let more = take (65536 - length (text ++ r)) behind in
+    let window : take 65536 rest ≡ text ++ (r ++ more) =
+    ap (take 65536) joined ∙ take_past 65536 (text ++ r) behind short
+    ∙ append_assoc text r more in
+    let ends = cut_at-whole (length (first_line p)) (length p.fields) (length (print_section p.fields p.last)) len
+    (sym (ap window_cut window ∙ window_cut-head text p (r ++ more) prints are blank) ∙ cut) in
+    (nil_from_length r (omega (arith, length-head text p prints blank, ends.1)), ends.0)
+
+-- ---- a request head
+
+version_line : (minor : ℕ) → minor ≤ 1 → IsOneLine (print_version minor)
+version_line minor low =
+    let digit : eqb (48 + minor) 10 ≡ false = ne_eqb (48 + minor) 10 (λ e. omega (arith, low)) in
+    rw digit
+
+-- the request line without its end
+abbrev pub request_words : RequestHead → List ℕ
+request_words h = h.method ++ 32 ∷ (h.target ++ 32 ∷ print_version h.minor)
+
+abbrev pub request_parts : RequestHead → Parts
+request_parts h = record { blank = h.blank; words = request_words h; line_end = h.line_end; fields = h.fields; last = h.last }
+
+request_words-line : (h : RequestHead) → IsRequestHead h → IsOneLine (request_words h)
+request_words-line h is =
+    IsOneLine-append h.method (32 ∷ (h.target ++ 32 ∷ print_version h.minor)) (token_line h.method is.method.1)
+    (IsOneLine-append (32 ∷ h.target) (32 ∷ print_version h.minor)
+    (IsOneLine-append (32 ∷ []) h.target refl (uri_line h.target is.target.1))
+    (IsOneLine-append (32 ∷ []) (print_version h.minor) refl (version_line h.minor is.minor)))
+
+pub request_prints : (h : RequestHead) → Prints (print_request h) (request_parts h)
+request_prints h more =
+    print_request-append h more
+    ∙ ap (λ t. print_blank h.blank ++ t)
+    (regroup h.method h.target (print_version h.minor) (print_end h.line_end ++ (print_section h.fields h.last ++ more)))
+  where
+    regroup : (a b c d : List ℕ) → a ++ 32 ∷ (b ++ 32 ∷ (c ++ d)) ≡ (a ++ 32 ∷ (b ++ 32 ∷ c)) ++ d
+    regroup a b c d =
+        sym (append_assoc a (32 ∷ (b ++ 32 ∷ c)) d ∙ ap (λ t. a ++ 32 ∷ t) (append_assoc b (32 ∷ c) d))
+
 pub head_fills : (rest : List ℕ) (len : ℕ) (h : RequestHead) (r : List ℕ) → head_cut rest ≡ whole len → len ≤ 65536
     → len ≤ length rest → skipped rest ≡ 0 → ReadsRequest (take len rest) h r → (r ≡ []) × (length h.fields ≤ 100)
 head_fills rest len h r cut limit fits none reads =
-    let front = take len rest in
-    let behind = drop len rest in
-    let split : rest ≡ print_request h ++ (r ++ behind) =
-    sym (take-append-drop len rest) ∙ ap (λ t. t ++ behind) reads.1 ∙ append_assoc (print_request h) r behind in
-    let blank : h.blank ≡ [] =
-    no_blank h.blank _ (ap (λ t. empty_len (whole_lines t)) (sym (split ∙ print_request-append h (r ++ behind))) ∙ none) in
-    let front_len : length front ≡ len = length-take-le len rest fits in
-    let whole_len : length front ≡ length (print_request h) + length r = ap length reads.1 ∙ length-append (print_request h) r in
-    let short : length (print_request h ++ r) ≤ 65536 = omega (arith, length-append (print_request h) r) in
-    let joined : rest ≡ (print_request h ++ r) ++ behind = split ∙ sym (append_assoc (print_request h) r behind) in
-    let more = take (65536 - length (print_request h ++ r)) behind in
-    let window : take 65536 rest ≡ print_request h ++ (r ++ more) =
-    ap (take 65536) joined ∙ take_past 65536 (print_request h ++ r) behind short
-    ∙ append_assoc (print_request h) r more in
-    let ends = cut_at-whole (length (request_line_of h)) (length h.fields) (length (print_section h.fields h.last)) len
-    (sym (ap window_cut window ∙ window_cut-request h (r ++ more) reads.0 blank) ∙ cut) in
-    (nil_from_length r (omega (arith, length-print_request h blank, ends.1)), ends.0)
+    fills rest len (print_request h) (request_parts h) r cut limit fits none (request_prints h)
+    (record { words = request_words-line h reads.0; fields = reads.0.fields }) reads.1
+
+-- ---- a response head
+
+-- the status line without its end
+abbrev pub response_words : ResponseHead → List ℕ
+response_words h = print_version h.minor ++ 32 ∷ (h.digits ++ print_reason h.reason)
+
+abbrev pub response_parts : ResponseHead → Parts
+response_parts h = record { blank = h.blank; words = response_words h; line_end = h.line_end; fields = h.fields; last = h.last }
+
+reason_line : (o : Option (List ℕ)) → AllPass is_value_byte (reason_phrase o) → IsOneLine (print_reason o)
+reason_line None all = refl
+reason_line (Some phrase) all = IsOneLine-append (32 ∷ []) phrase refl (value_line phrase all)
+
+response_words-line : (h : ResponseHead) → IsResponseHead h → IsOneLine (response_words h)
+response_words-line h is =
+    IsOneLine-append (print_version h.minor) (32 ∷ (h.digits ++ print_reason h.reason)) (version_line h.minor is.minor)
+    (IsOneLine-append (32 ∷ h.digits) (print_reason h.reason)
+    (IsOneLine-append (32 ∷ []) h.digits refl (digit_line h.digits is.digits.1)) (reason_line h.reason is.reason))
+
+pub response_prints : (h : ResponseHead) → Prints (print_response h) (response_parts h)
+response_prints h more =
+    print_response-append h more
+    ∙ ap (λ t. print_blank h.blank ++ t)
+    (regroup (print_version h.minor) h.digits (print_reason h.reason) (print_end h.line_end ++ (print_section h.fields h.last ++ more)))
+  where
+    regroup : (a b c d : List ℕ) → a ++ 32 ∷ (b ++ (c ++ d)) ≡ (a ++ 32 ∷ (b ++ c)) ++ d
+    regroup a b c d =
+        sym (append_assoc a (32 ∷ (b ++ c)) d ∙ ap (λ t. a ++ 32 ∷ t) (append_assoc b c d))
+
+pub response_fills : (rest : List ℕ) (len : ℕ) (h : ResponseHead) (r : List ℕ) → head_cut rest ≡ whole len → len ≤ 65536
+    → len ≤ length rest → skipped rest ≡ 0 → ReadsResponse (take len rest) h r → (r ≡ []) × (length h.fields ≤ 100)
+response_fills rest len h r cut limit fits none reads =
+    fills rest len (print_response h) (response_parts h) r cut limit fits none (response_prints h)
+    (record { words = response_words-line h reads.0; fields = reads.0.fields }) reads.1

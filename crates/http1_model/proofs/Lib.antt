@@ -6,3 +6,6 @@ pub mod LineLemmas
 pub mod Readings
 pub mod Received
 pub mod TargetLemmas
+pub mod Framed
+pub mod Listing
+pub mod Taken

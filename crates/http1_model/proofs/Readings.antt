@@ -1,13 +1,13 @@
 -- A text spells one thing, and what it spells stays spelled.
-use Rattle.std.proofs.Common.{◌≡◌, ℕ, ◌+◌, ◌≤◌, Bool, false, List, [], ◌∷◌, ◌++◌, length, take, drop, Option, None, Some, Result, Ok, Err, refl, sym, ap, ◌∙◌, subst, inl, inr, arith}
+use Rattle.std.proofs.Common.{◌≡◌, ℕ, ◌+◌, ◌≤◌, Bool, true, false, List, [], ◌∷◌, ◌++◌, length, take, drop, Option, None, Some, cond, bytes_eq, codes, Result, Ok, Err, refl, sym, ap, ◌∙◌, subst, inl, inr, arith}
 use Rattle.std.proofs.lemmas.List.{take-append-le, drop-append-le, length-drop}
 use Rattle.std.specs.Prelude.{MatchOption}
-use Rattle.httparse.specs.Grammar.{RequestHead}
-use Rattle.httparse.proofs.GrammarLemmas.{request_unique}
+use Rattle.httparse.specs.Grammar.{RequestHead, ResponseHead, status_code}
+use Rattle.httparse.proofs.GrammarLemmas.{request_unique, response_unique}
 use Rattle.http1_model.specs.Fields.{Pair}
 use Rattle.http1_model.specs.Lines.{skipped, after_empty_lines, Cut, whole, too_large, unfinished, head_cut}
-use Rattle.http1_model.specs.Head.{Head, targeted, early_refusal, IsTargeted, IsJudged, pairs_of, IsAnswer, HeadStep, found, not_yet, refused, step_of, IsStepAt, SpellsStep}
-use Rattle.http1_model.specs.Messages.{Item, request, Placed, Due, head, body, Stop, rest, refusal, beyond, Step, item, stop, due_after, step_from, StepsTo, lead_of, SpellsFrom}
+use Rattle.http1_model.specs.Head.{Head, targeted, early_refusal, IsTargeted, IsJudged, pairs_of, pairs_at, IsAnswer, response_judged, IsResponseAnswer, HeadStep, found, not_yet, refused, step_of, IsStepAt, SpellsBy}
+use Rattle.http1_model.specs.Messages.{Item, request, interim, response, Placed, Due, head, body, done, Stop, over, refusal, beyond, Step, item, stop, due_behind, due_after, is_interim, item_of, stop_at, step_from, SpellsHead, StepsTo, lead_of, SpellsFrom}
 use Rattle.http1_model.specs.Laws.{OneStep, StepStays, OneReading, ReadingGrows, RefusalStays}
 use Rattle.http1_model.proofs.TargetLemmas.{IsTargetOf-unique}
 use Rattle.http1_model.proofs.Growth.{IsDone, head_cut-append, head_cut_fits, skip_grows, skipped_fits, after_empty_lines-append}
@@ -32,50 +32,86 @@ IsAnswer-unique front a b (inl x) (inr y) = absurd (y.none x.head x.reads)
 IsAnswer-unique front a b (inr x) (inl y) = absurd (x.none y.head y.reads)
 IsAnswer-unique front a b (inr x) (inr y) = x.is ∙ sym y.is
 
-IsStepAt-unique : (at : ℕ) (text : List ℕ) (c : Cut) (a b : HeadStep) → IsStepAt at text c a → IsStepAt at text c b → a ≡ b
-IsStepAt-unique at text (whole len) a b x y = x.2 ∙ ap (step_of (at + len)) (IsAnswer-unique (take len text) x.0 y.0 x.1 y.1) ∙ sym y.2
-IsStepAt-unique at text too_large a b x y = x ∙ sym y
-IsStepAt-unique at text unfinished a b x y = x ∙ sym y
+IsResponseAnswer-unique : (to_head : Bool) (front : List ℕ) (a b : Result Head ℕ) → IsResponseAnswer to_head front a → IsResponseAnswer to_head front b
+    → a ≡ b
+IsResponseAnswer-unique to_head front a b (inl x) (inl y) =
+    let same = (response_unique front x.head y.head [] [] x.reads y.reads).0 in
+    x.judged ∙ ap (λ (h : ResponseHead). response_judged to_head h.minor (status_code h) (pairs_at h.fields)) same ∙ sym y.judged
+IsResponseAnswer-unique to_head front a b (inl x) (inr y) = absurd (y.none x.head x.reads)
+IsResponseAnswer-unique to_head front a b (inr x) (inl y) = absurd (x.none y.head y.reads)
+IsResponseAnswer-unique to_head front a b (inr x) (inr y) = x.is ∙ sym y.is
+
+-- what the text of a whole head gives
+abbrev Answers : Type 1
+Answers = List ℕ → Result Head ℕ → Type 0
+
+-- it gives one thing
+abbrev AreUnique : Answers → Type 0
+AreUnique answers = (front : List ℕ) (a b : Result Head ℕ) → answers front a → answers front b → a ≡ b
+
+IsStepAt-unique : (answers : Answers) (large at : ℕ) (text : List ℕ) (c : Cut) (a b : HeadStep) → AreUnique answers
+    → IsStepAt answers large at text c a → IsStepAt answers large at text c b → a ≡ b
+IsStepAt-unique answers large at text (whole len) a b one x y =
+    x.2 ∙ ap (step_of (at + len)) (one (take len text) x.0 y.0 x.1 y.1) ∙ sym y.2
+IsStepAt-unique answers large at text too_large a b one x y = x ∙ sym y
+IsStepAt-unique answers large at text unfinished a b one x y = x ∙ sym y
+
+SpellsBy-unique : (answers : Answers) (large : ℕ) (text : List ℕ) (a b : HeadStep) → AreUnique answers
+    → SpellsBy answers large text a → SpellsBy answers large text b → a ≡ b
+SpellsBy-unique answers large text a b one x y =
+    IsStepAt-unique answers large (skipped text) (after_empty_lines text) (head_cut (after_empty_lines text)) a b one x y
 
 pub one_step : OneStep
-one_step text a b = IsStepAt-unique (skipped text) (after_empty_lines text) (head_cut (after_empty_lines text)) a b
+one_step None text a b x y = SpellsBy-unique IsAnswer 431 text a b IsAnswer-unique x y
+one_step (Some asked) text a b x y =
+    let to_head = bytes_eq asked (codes "HEAD") in
+    SpellsBy-unique (IsResponseAnswer to_head) 502 text a b (IsResponseAnswer-unique to_head) x y
 
 -- ---- a step stays
 
 -- a text whose step is not "not yet" has a cut that says something
-done_of : (at : ℕ) (text : List ℕ) (c : Cut) (a : HeadStep) → IsStepAt at text c a → (a ≡ not_yet → ⊥) → IsDone c
-done_of at text (whole len) a x some = λ e. cc
-done_of at text too_large a x some = λ e. cc
-done_of at text unfinished a x some = λ e. some x
+done_of : (answers : Answers) (large at : ℕ) (text : List ℕ) (c : Cut) (a : HeadStep) → IsStepAt answers large at text c a → (a ≡ not_yet → ⊥)
+    → IsDone c
+done_of answers large at text (whole len) a x some = λ e. cc
+done_of answers large at text too_large a x some = λ e. cc
+done_of answers large at text unfinished a x some = λ e. some x
 
-step_moves : (at : ℕ) (text more : List ℕ) (c : Cut) (a : HeadStep) → head_cut text ≡ c → IsStepAt at text c a → IsStepAt at (text ++ more) c a
-step_moves at text more (whole len) a is x =
+step_moves : (answers : Answers) (large at : ℕ) (text more : List ℕ) (c : Cut) (a : HeadStep) → head_cut text ≡ c → IsStepAt answers large at text c a
+    → IsStepAt answers large at (text ++ more) c a
+step_moves answers large at text more (whole len) a is x =
     let same : take len text ≡ take len (text ++ more) = sym (take-append-le len text more (head_cut_fits text len is).0) in
-    (x.0, subst (λ t. IsAnswer t x.0) same x.1, x.2)
-step_moves at text more too_large a is x = x
-step_moves at text more unfinished a is x = x
+    (x.0, subst (λ t. answers t x.0) same x.1, x.2)
+step_moves answers large at text more too_large a is x = x
+step_moves answers large at text more unfinished a is x = x
 
-pub step_stays : StepStays
-step_stays text more a x some =
+SpellsBy-stays : (answers : Answers) (large : ℕ) (text more : List ℕ) (a : HeadStep) → SpellsBy answers large text a → (a ≡ not_yet → ⊥)
+    → SpellsBy answers large (text ++ more) a
+SpellsBy-stays answers large text more a x some =
     let left = after_empty_lines text in
     let at = skipped text in
-    let done : IsDone (head_cut left) = done_of at left (head_cut left) a x some in
-    let moved = step_moves at left more (head_cut left) a refl x in
+    let done : IsDone (head_cut left) = done_of answers large at left (head_cut left) a x some in
+    let moved = step_moves answers large at left more (head_cut left) a refl x in
     let cut_is : head_cut left ≡ head_cut (left ++ more) = sym (head_cut-append left more done) in
     let rest_is : left ++ more ≡ after_empty_lines (text ++ more) = sym (after_empty_lines-append text more done) in
     let at_is : at ≡ skipped (text ++ more) = sym (skip_grows _ text more refl done) in
-    let cut_moved : IsStepAt at (left ++ more) (head_cut (left ++ more)) a = subst (λ c. IsStepAt at (left ++ more) c a) cut_is moved in
-    let rest_moved : IsStepAt at (after_empty_lines (text ++ more)) (head_cut (after_empty_lines (text ++ more))) a =
-    subst (λ t. IsStepAt at t (head_cut t) a) rest_is cut_moved in
-    subst (λ n. IsStepAt n (after_empty_lines (text ++ more)) (head_cut (after_empty_lines (text ++ more))) a) at_is rest_moved
+    let cut_moved : IsStepAt answers large at (left ++ more) (head_cut (left ++ more)) a =
+    subst (λ c. IsStepAt answers large at (left ++ more) c a) cut_is moved in
+    let rest_moved : IsStepAt answers large at (after_empty_lines (text ++ more)) (head_cut (after_empty_lines (text ++ more))) a =
+    subst (λ t. IsStepAt answers large at t (head_cut t) a) rest_is cut_moved in
+    subst (λ n. IsStepAt answers large n (after_empty_lines (text ++ more)) (head_cut (after_empty_lines (text ++ more))) a) at_is rest_moved
+
+pub step_stays : StepStays
+step_stays None text more a x some = SpellsBy-stays IsAnswer 431 text more a x some
+step_stays (Some asked) text more a x some = SpellsBy-stays (IsResponseAnswer (bytes_eq asked (codes "HEAD"))) 502 text more a x some
 
 -- ---- whole readings
 
 StepsTo-unique : (ended : Bool) (asked : Option (List ℕ)) (due : Due) (text : List ℕ) (a b : Step)
     → StepsTo ended asked due text a → StepsTo ended asked due text b → a ≡ b
-StepsTo-unique ended None head text a b x y = x.2 ∙ ap (step_from ended text) (one_step text x.0 y.0 x.1 y.1) ∙ sym y.2
-StepsTo-unique ended None (body len) text a b x y = x ∙ sym y
-StepsTo-unique ended (Some asked) due text a b x y = x ∙ sym y
+StepsTo-unique ended asked head text a b x y =
+    x.2 ∙ ap (step_from ended asked text) (one_step asked text x.0 y.0 x.1 y.1) ∙ sym y.2
+StepsTo-unique ended asked (body len) text a b x y = x ∙ sym y
+StepsTo-unique ended asked done text a b x y = x ∙ sym y
 
 item_is_no_stop : (i : Item) (n : ℕ) (due : Due) (why : Stop) → item i n due ≡ stop why → ⊥
 item_is_no_stop i n due why e = cc
@@ -112,145 +148,181 @@ one_reading text ended asked xs ys v w = SpellsFrom-unique text ended asked head
 -- ---- a longer text
 
 -- an item in a text is a head that is found, whatever follows and whether or not the text has ended
-record IsFoundAt (text : List ℕ) (due : Due) (i : Item) (used : ℕ) (next : Due) : Type 0 where
+record IsFoundAt (asked : Option (List ℕ)) (text : List ℕ) (due : Due) (i : Item) (used : ℕ) (next : Due) : Type 0 where
   of : Head
   is_head : due ≡ head
-  item_is : i ≡ request of
-  next_is : next ≡ due_after of.length
-  spells : SpellsStep text (found of used)
+  is : item i used next ≡ item_of asked of used
+  spells : SpellsHead asked text (found of used)
 
-found_at : (due : Due) (text : List ℕ) (i : Item) (used : ℕ) (next : Due) → StepsTo false None due text (item i used next)
-    → IsFoundAt text due i used next
-found_at head text i used next x = by_step x.0 x.1 x.2
+-- a head that is found is an item that uses up as much
+item_uses : (asked : Option (List ℕ)) (of : Head) (i : Item) (n used : ℕ) (next : Due) → item i used next ≡ item_of asked of n → used ≡ n
+item_uses None of i n used next e = (same_item i (request of) used n next (due_after of.length) e).1
+item_uses (Some asked) of i n used next e = by_kind (is_interim of.fields.kind) e
   where
-    by_step : (h : HeadStep) → SpellsStep text h → item i used next ≡ step_from false text h → IsFoundAt text head i used next
+    by_kind : (b : Bool) → item i used next ≡ cond b (item (interim of) n head) (item (response of) n (due_behind done of.length)) → used ≡ n
+    by_kind true e = (same_item i (interim of) used n next head e).1
+    by_kind false e = (same_item i (response of) used n next (due_behind done of.length) e).1
+
+found_at : (asked : Option (List ℕ)) (due : Due) (text : List ℕ) (i : Item) (used : ℕ) (next : Due) → StepsTo false asked due text (item i used next)
+    → IsFoundAt asked text due i used next
+found_at asked head text i used next x = by_step x.0 x.1 x.2
+  where
+    by_step : (h : HeadStep) → SpellsHead asked text h → item i used next ≡ step_from false asked text h → IsFoundAt asked text head i used next
     by_step (found of n) spells e =
-        let same = same_item i (request of) used n next (due_after of.length) e in
-        record { of = of; is_head = refl; item_is = same.0; next_is = same.2; spells = subst (λ n. SpellsStep text (found of n)) (sym same.1) spells }
-    by_step not_yet spells e = absurd (item_is_no_stop i used next rest e)
+        let same : used ≡ n = item_uses asked of i n used next e in
+        record {
+          of = of;
+          is_head = refl;
+          is = e ∙ ap (item_of asked of) (sym same);
+          spells = subst (λ n. SpellsHead asked text (found of n)) (sym same) spells;
+        }
+    by_step not_yet spells e = absurd (item_is_no_stop i used next (stop_at false asked text) e)
     by_step (refused n) spells e = absurd (item_is_no_stop i used next (refusal n) e)
-found_at (body len) text i used next x = absurd (item_is_no_stop i used next beyond x)
+found_at asked (body len) text i used next x = absurd (item_is_no_stop i used next beyond x)
+found_at asked done text i used next x = absurd (item_is_no_stop i used next over x)
 
 -- what a head uses up is there
-used_fits : (text : List ℕ) (of : Head) (used : ℕ) → SpellsStep text (found of used) → used ≤ length text
-used_fits text of used spells = by_cut (head_cut (after_empty_lines text)) refl spells
+used_by_fits : (answers : Answers) (large : ℕ) (text : List ℕ) (of : Head) (used : ℕ) → SpellsBy answers large text (found of used) → used ≤ length text
+used_by_fits answers large text of used spells = by_cut (head_cut (after_empty_lines text)) refl spells
   where
     used_is : (n : ℕ) (answer : Result Head ℕ) → found of used ≡ step_of n answer → used ≡ n
     used_is n (Ok h) e = cc
     used_is n (Err k) e = absurd (cc)
 
-    by_cut : (c : Cut) → head_cut (after_empty_lines text) ≡ c → IsStepAt (skipped text) (after_empty_lines text) c (found of used) → used ≤ length text
+    by_cut : (c : Cut) → head_cut (after_empty_lines text) ≡ c → IsStepAt answers large (skipped text) (after_empty_lines text) c (found of used)
+        → used ≤ length text
     by_cut (whole len) is x =
         omega (arith, used_is (skipped text + len) x.0 x.2, (head_cut_fits (after_empty_lines text) len is).0, length-drop (skipped text) text, skipped_fits text)
     by_cut too_large is x = absurd (cc)
     by_cut unfinished is x = absurd (cc)
 
+used_fits : (asked : Option (List ℕ)) (text : List ℕ) (of : Head) (used : ℕ) → SpellsHead asked text (found of used) → used ≤ length text
+used_fits None text of used spells = used_by_fits IsAnswer 431 text of used spells
+used_fits (Some asked) text of used spells = used_by_fits (IsResponseAnswer (bytes_eq asked (codes "HEAD"))) 502 text of used spells
+
 found_is_some : (of : Head) (n : ℕ) → found of n ≡ not_yet → ⊥
 found_is_some of n e = cc
 
 -- the empty lines before a head that is found stay the same
-skipped_stays : (text more : List ℕ) (a : HeadStep) → SpellsStep text a → (a ≡ not_yet → ⊥) → skipped (text ++ more) ≡ skipped text
-skipped_stays text more a x some = skip_grows _ text more refl (done_of (skipped text) (after_empty_lines text) (head_cut (after_empty_lines text)) a x some)
+skipped_stays_by : (answers : Answers) (large : ℕ) (text more : List ℕ) (a : HeadStep) → SpellsBy answers large text a → (a ≡ not_yet → ⊥)
+    → skipped (text ++ more) ≡ skipped text
+skipped_stays_by answers large text more a x some =
+    skip_grows _ text more refl (done_of answers large (skipped text) (after_empty_lines text) (head_cut (after_empty_lines text)) a x some)
+
+skipped_stays : (asked : Option (List ℕ)) (text more : List ℕ) (a : HeadStep) → SpellsHead asked text a → (a ≡ not_yet → ⊥)
+    → skipped (text ++ more) ≡ skipped text
+skipped_stays None text more a x some = skipped_stays_by IsAnswer 431 text more a x some
+skipped_stays (Some asked) text more a x some = skipped_stays_by (IsResponseAnswer (bytes_eq asked (codes "HEAD"))) 502 text more a x some
 
 pub record Grows (xs ys : List Placed) : Type 0 where
   pub behind : List Placed
   pub are : ys ≡ xs ++ behind
 
 -- what the longer text spells at the place of a head that is found
-record SameFirst (text more : List ℕ) (ended : Bool) (at used : ℕ) (next : Due) (p : Placed) (ys : List Placed) (w : Stop) : Type 0 where
+record SameFirst (text more : List ℕ) (ended : Bool) (asked : Option (List ℕ)) (at used : ℕ) (next : Due) (p : Placed) (ys : List Placed) (w : Stop) : Type 0 where
   others : List Placed
   are : ys ≡ p ∷ others
-  later : SpellsFrom (text ++ more) ended None next (at + used) others w
+  later : SpellsFrom (text ++ more) ended asked next (at + used) others w
 
-same_first : (text more : List ℕ) (ended : Bool) (due : Due) (at : ℕ) (p : Placed) (used : ℕ) (next : Due) (ys : List Placed) (w : Stop)
-    → at ≤ length text → StepsTo false None due (drop at text) (item p.item used next)
+same_first : (text more : List ℕ) (ended : Bool) (asked : Option (List ℕ)) (due : Due) (at : ℕ) (p : Placed) (used : ℕ) (next : Due) (ys : List Placed) (w : Stop)
+    → at ≤ length text → StepsTo false asked due (drop at text) (item p.item used next)
     → p.from ≡ at + lead_of due (drop at text) → p.to ≡ at + used
-    → SpellsFrom (text ++ more) ended None due at ys w → SameFirst text more ended at used next p ys w
-same_first text more ended due at p used next ys w fits x from to y =
-    let f = found_at due (drop at text) p.item used next x in
+    → SpellsFrom (text ++ more) ended asked due at ys w → SameFirst text more ended asked at used next p ys w
+same_first text more ended asked due at p used next ys w fits x from to y =
+    let f = found_at asked due (drop at text) p.item used next x in
     let split : drop at (text ++ more) ≡ drop at text ++ more = drop-append-le at text more fits in
-    let stays : SpellsStep (drop at (text ++ more)) (found f.of used) =
-    subst (λ t. SpellsStep t (found f.of used)) (sym split) (step_stays (drop at text) more (found f.of used) f.spells (found_is_some f.of used)) in
+    let stays : SpellsHead asked (drop at (text ++ more)) (found f.of used) =
+    subst (λ t. SpellsHead asked t (found f.of used)) (sym split) (step_stays asked (drop at text) more (found f.of used) f.spells (found_is_some f.of used)) in
     let lead : skipped (drop at (text ++ more)) ≡ skipped (drop at text) =
-    ap skipped split ∙ skipped_stays (drop at text) more (found f.of used) f.spells (found_is_some f.of used) in
-    let y_head : SpellsFrom (text ++ more) ended None head at ys w = subst (λ d. SpellsFrom (text ++ more) ended None d at ys w) f.is_head y in
+    ap skipped split ∙ skipped_stays asked (drop at text) more (found f.of used) f.spells (found_is_some f.of used) in
+    let y_head : SpellsFrom (text ++ more) ended asked head at ys w = subst (λ d. SpellsFrom (text ++ more) ended asked d at ys w) f.is_head y in
     let from_head : p.from ≡ at + skipped (drop at text) = from ∙ ap (λ d. at + lead_of d (drop at text)) f.is_head in
-    by_items ys f.of f.item_is f.next_is stays lead y_head from_head
+    let there : StepsTo ended asked head (drop at (text ++ more)) (item p.item used next) = (found f.of used, stays, f.is) in
+    by_items ys there lead y_head from_head
   where
-    there : (of : Head) → SpellsStep (drop at (text ++ more)) (found of used)
-        → StepsTo ended None head (drop at (text ++ more)) (item (request of) used (due_after of.length))
-    there of stays = (found of used, stays, refl)
-
-    by_items : (ys : List Placed) (of : Head) → p.item ≡ request of → next ≡ due_after of.length
-        → SpellsStep (drop at (text ++ more)) (found of used) → skipped (drop at (text ++ more)) ≡ skipped (drop at text)
-        → SpellsFrom (text ++ more) ended None head at ys w → p.from ≡ at + skipped (drop at text)
-        → SameFirst text more ended at used next p ys w
-    by_items [] of item_is next_is stays lead y from =
-        absurd (item_is_no_stop (request of) used (due_after of.length) w
-        (StepsTo-unique ended None head (drop at (text ++ more)) (item (request of) used (due_after of.length)) (stop w) (there of stays) y))
-    by_items (q ∷ ys) of item_is next_is stays lead y from =
-        let same = same_item (request of) q.item used y.0 (due_after of.length) y.1
-        (StepsTo-unique ended None head (drop at (text ++ more)) (item (request of) used (due_after of.length)) (item q.item y.0 y.1) (there of stays) y.2) in
-        let first : q ≡ p = same_placed q p (sym same.0 ∙ sym item_is)
+    by_items : (ys : List Placed) → StepsTo ended asked head (drop at (text ++ more)) (item p.item used next)
+        → skipped (drop at (text ++ more)) ≡ skipped (drop at text)
+        → SpellsFrom (text ++ more) ended asked head at ys w → p.from ≡ at + skipped (drop at text)
+        → SameFirst text more ended asked at used next p ys w
+    by_items [] there lead y from =
+        absurd (item_is_no_stop p.item used next w
+        (StepsTo-unique ended asked head (drop at (text ++ more)) (item p.item used next) (stop w) there y))
+    by_items (q ∷ ys) there lead y from =
+        let same = same_item p.item q.item used y.0 next y.1
+        (StepsTo-unique ended asked head (drop at (text ++ more)) (item p.item used next) (item q.item y.0 y.1) there y.2) in
+        let first : q ≡ p = same_placed q p (sym same.0)
         (y.3 ∙ ap (λ n. at + n) lead ∙ sym from) (y.4 ∙ ap (λ n. at + n) (sym same.1) ∙ sym to) in
-        let used_moved : SpellsFrom (text ++ more) ended None y.1 (at + used) ys w =
-        subst (λ n. SpellsFrom (text ++ more) ended None y.1 (at + n) ys w) (sym same.1) y.5 in
+        let used_moved : SpellsFrom (text ++ more) ended asked y.1 (at + used) ys w =
+        subst (λ n. SpellsFrom (text ++ more) ended asked y.1 (at + n) ys w) (sym same.1) y.5 in
         record {
           others = ys;
           are = ap (λ (r : Placed). r ∷ ys) first;
-          later = subst (λ d. SpellsFrom (text ++ more) ended None d (at + used) ys w) (sym same.2 ∙ sym next_is) used_moved;
+          later = subst (λ d. SpellsFrom (text ++ more) ended asked d (at + used) ys w) (sym same.2) used_moved;
         }
 
-place_fits : (text : List ℕ) (due : Due) (at : ℕ) (i : Item) (used : ℕ) (next : Due) → at ≤ length text
-    → StepsTo false None due (drop at text) (item i used next) → at + used ≤ length text
-place_fits text due at i used next fits x =
-    let f = found_at due (drop at text) i used next x in
-    omega (arith, used_fits (drop at text) f.of used f.spells, length-drop at text)
+place_fits : (text : List ℕ) (asked : Option (List ℕ)) (due : Due) (at : ℕ) (i : Item) (used : ℕ) (next : Due) → at ≤ length text
+    → StepsTo false asked due (drop at text) (item i used next) → at + used ≤ length text
+place_fits text asked due at i used next fits x =
+    let f = found_at asked due (drop at text) i used next x in
+    omega (arith, used_fits asked (drop at text) f.of used f.spells, length-drop at text)
 
-grows_from : (text more : List ℕ) (ended : Bool) (due : Due) (at : ℕ) (xs ys : List Placed) (v w : Stop) → at ≤ length text
-    → SpellsFrom text false None due at xs v → SpellsFrom (text ++ more) ended None due at ys w → Grows xs ys
-grows_from text more ended due at [] ys v w fits x y = record { behind = ys; are = refl }
-grows_from text more ended due at (p ∷ xs) ys v w fits x y =
-    let s = same_first text more ended due at p x.0 x.1 ys w fits x.2 x.3 x.4 y in
-    let later = grows_from text more ended x.1 (at + x.0) xs s.others v w (place_fits text due at p.item x.0 x.1 fits x.2) x.5 s.later in
+grows_from : (text more : List ℕ) (ended : Bool) (asked : Option (List ℕ)) (due : Due) (at : ℕ) (xs ys : List Placed) (v w : Stop) → at ≤ length text
+    → SpellsFrom text false asked due at xs v → SpellsFrom (text ++ more) ended asked due at ys w → Grows xs ys
+grows_from text more ended asked due at [] ys v w fits x y = record { behind = ys; are = refl }
+grows_from text more ended asked due at (p ∷ xs) ys v w fits x y =
+    let s = same_first text more ended asked due at p x.0 x.1 ys w fits x.2 x.3 x.4 y in
+    let later = grows_from text more ended asked x.1 (at + x.0) xs s.others v w (place_fits text asked due at p.item x.0 x.1 fits x.2) x.5 s.later in
     record { behind = later.behind; are = s.are ∙ ap (λ (r : List Placed). p ∷ r) later.are }
 
 pub reading_grows : ReadingGrows
-reading_grows text more ended xs ys v w x y =
-    let g = grows_from text more ended head 0 xs ys v w (omega arith) x y in (g.behind, g.are)
+reading_grows text more ended asked xs ys v w x y =
+    let g = grows_from text more ended asked head 0 xs ys v w (omega arith) x y in (g.behind, g.are)
 
--- a refusal in a text is one in every longer text
-refused_at : (due : Due) (text more : List ℕ) (ended : Bool) (number : ℕ) → StepsTo false None due text (stop (refusal number))
-    → StepsTo ended None due (text ++ more) (stop (refusal number))
-refused_at head text more ended number x = by_step x.0 x.1 x.2
+-- a refusal in a text that has not ended is one in every longer text
+open_no_refusal : (asked : Option (List ℕ)) (text : List ℕ) (number : ℕ) → refusal number ≡ stop_at false asked text → ⊥
+open_no_refusal None text number e = cc
+open_no_refusal (Some asked) text number e = cc
+
+refused_at : (asked : Option (List ℕ)) (due : Due) (text more : List ℕ) (ended : Bool) (number : ℕ)
+    → StepsTo false asked due text (stop (refusal number)) → StepsTo ended asked due (text ++ more) (stop (refusal number))
+refused_at asked head text more ended number x = by_step x.0 x.1 x.2
   where
-    by_step : (h : HeadStep) → SpellsStep text h → stop (refusal number) ≡ step_from false text h
-        → StepsTo ended None head (text ++ more) (stop (refusal number))
-    by_step (found of n) spells e = absurd (item_is_no_stop (request of) n (due_after of.length) (refusal number) (sym e))
-    by_step not_yet spells e = absurd (no_rest (same_stop (refusal number) rest e))
+    no_item : (asked : Option (List ℕ)) (of : Head) (n : ℕ) → stop (refusal number) ≡ item_of asked of n → ⊥
+    no_item None of n e = item_is_no_stop (request of) n (due_after of.length) (refusal number) (sym e)
+    no_item (Some asked) of n e = by_kind (is_interim of.fields.kind) e
       where
-        no_rest : refusal number ≡ rest → ⊥
-        no_rest e = cc
+        by_kind : (b : Bool) → stop (refusal number) ≡ cond b (item (interim of) n head) (item (response of) n (due_behind done of.length)) → ⊥
+        by_kind true e = item_is_no_stop (interim of) n head (refusal number) (sym e)
+        by_kind false e = item_is_no_stop (response of) n (due_behind done of.length) (refusal number) (sym e)
+
+    by_step : (h : HeadStep) → SpellsHead asked text h → stop (refusal number) ≡ step_from false asked text h
+        → StepsTo ended asked head (text ++ more) (stop (refusal number))
+    by_step (found of n) spells e = absurd (no_item asked of n e)
+    by_step not_yet spells e = absurd (open_no_refusal asked text number (same_stop (refusal number) (stop_at false asked text) e))
     by_step (refused n) spells e =
         let same : refusal number ≡ refusal n = same_stop (refusal number) (refusal n) e in
-        (refused n, step_stays text more (refused n) spells (λ e. cc), ap stop same)
-refused_at (body len) text more ended number x = absurd (no_beyond (same_stop (refusal number) beyond x))
+        (refused n, step_stays asked text more (refused n) spells (λ e. cc), ap stop same)
+refused_at asked (body len) text more ended number x = absurd (no_beyond (same_stop (refusal number) beyond x))
   where
     no_beyond : refusal number ≡ beyond → ⊥
     no_beyond e = cc
+refused_at asked done text more ended number x = absurd (no_over (same_stop (refusal number) over x))
+  where
+    no_over : refusal number ≡ over → ⊥
+    no_over e = cc
 
-stays_from : (text more : List ℕ) (ended : Bool) (due : Due) (at : ℕ) (xs ys : List Placed) (number : ℕ) (w : Stop) → at ≤ length text
-    → SpellsFrom text false None due at xs (refusal number) → SpellsFrom (text ++ more) ended None due at ys w
+stays_from : (text more : List ℕ) (ended : Bool) (asked : Option (List ℕ)) (due : Due) (at : ℕ) (xs ys : List Placed) (number : ℕ) (w : Stop) → at ≤ length text
+    → SpellsFrom text false asked due at xs (refusal number) → SpellsFrom (text ++ more) ended asked due at ys w
     → (ys ≡ xs) × (w ≡ refusal number)
-stays_from text more ended due at [] ys number w fits x y =
+stays_from text more ended asked due at [] ys number w fits x y =
     let split : drop at (text ++ more) ≡ drop at text ++ more = drop-append-le at text more fits in
-    let there : SpellsFrom (text ++ more) ended None due at [] (refusal number) =
-    subst (λ t. StepsTo ended None due t (stop (refusal number))) (sym split) (refused_at due (drop at text) more ended number x) in
-    SpellsFrom-unique (text ++ more) ended None due at ys [] w (refusal number) y there
-stays_from text more ended due at (p ∷ xs) ys number w fits x y =
-    let s = same_first text more ended due at p x.0 x.1 ys w fits x.2 x.3 x.4 y in
-    let later = stays_from text more ended x.1 (at + x.0) xs s.others number w (place_fits text due at p.item x.0 x.1 fits x.2) x.5 s.later in
+    let there : SpellsFrom (text ++ more) ended asked due at [] (refusal number) =
+    subst (λ t. StepsTo ended asked due t (stop (refusal number))) (sym split) (refused_at asked due (drop at text) more ended number x) in
+    SpellsFrom-unique (text ++ more) ended asked due at ys [] w (refusal number) y there
+stays_from text more ended asked due at (p ∷ xs) ys number w fits x y =
+    let s = same_first text more ended asked due at p x.0 x.1 ys w fits x.2 x.3 x.4 y in
+    let later = stays_from text more ended asked x.1 (at + x.0) xs s.others number w (place_fits text asked due at p.item x.0 x.1 fits x.2) x.5 s.later in
     (s.are ∙ ap (λ (r : List Placed). p ∷ r) later.0, later.1)
 
 pub refusal_stays : RefusalStays
-refusal_stays text more ended xs ys number w = stays_from text more ended head 0 xs ys number w (omega arith)
+refusal_stays text more ended asked xs ys number w = stays_from text more ended asked head 0 xs ys number w (omega arith)

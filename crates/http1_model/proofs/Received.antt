@@ -11,7 +11,9 @@ use Rattle.httparse.proofs.TrimLemmas.{AllPass-trim_ows}
 use Rattle.http1_model.specs.Fields.{members, values_of}
 use Rattle.http1_model.specs.Length.{nothing, exactly, chunked, Measure, one_number, told_measure, is_chunked, request_measure}
 use Rattle.http1_model.specs.Target.{origin, absolute, asterisk, Scheme, http, Target, is_path_value, is_options, origin_target, scheme_of, is_absolute_path, absolute_parts, target_of, GivesTarget, IsTargetOf}
-use Rattle.http1_model.specs.Head.{Head, head_of, measured, targeted, early_refusal, IsTargeted, is_coded, has_length_field, is_origin}
+use Rattle.http1_model.specs.Head.{Head, host_of, head_of, measured, listed, targeted, early_refusal, IsTargeted, is_coded, has_length_field, is_origin}
+use Rattle.header_maps.specs.Headers.{Headers}
+use Rattle.http1_model.specs.Listed.{request_list}
 use Rattle.http1_model.specs.Laws.{has_line, ToldAsReceived, ValuesAccepted, WholeFits}
 use Rattle.http1_model.proofs.Growth.{head_cut_fits}
 
@@ -55,8 +57,8 @@ measure_tells minor (c ∷ cs) lengths m e =
 abbrev begins : List ℕ → Bool
 begins target = eqb (get_or target 0 0) 47
 
-same_form : (t u : Target) → Some t ≡ Some u → is_origin t.form ≡ is_origin u.form
-same_form t u e = ap (λ (o : Option Target). elim o [ None ↦ false | Some x ↦ is_origin x.form ]) e
+same_form : (t u : Target) → Some t ≡ Some u → is_origin (Some t.form) ≡ is_origin (Some u.form)
+same_form t u e = ap (λ (o : Option Target). elim o [ None ↦ false | Some x ↦ is_origin (Some x.form) ]) e
 
 no_target : (t : Target) → ◌≡◌ {A = Option Target} None (Some t) → ⊥
 no_target t e = cc
@@ -64,7 +66,7 @@ no_target t e = cc
 star_begins : (target : List ℕ) → bytes_eq target (codes "*") ≡ true → begins target ≡ false
 star_begins target e = ap begins ((bytes_eq-Decides target (codes "*")).0 e)
 
-origin_form : (method target : List ℕ) (t : Target) → origin_target method target ≡ Some t → is_origin t.form ≡ begins target
+origin_form : (method target : List ℕ) (t : Target) → origin_target method target ≡ Some t → is_origin (Some t.form) ≡ begins target
 origin_form method target t e =
     elim (cases_Bool (bytes_eq target (codes "*"))) [
       | inl star ↦ by_star (is_options method) (sym (cond-true _ _ _ star) ∙ e) ∙ sym (star_begins target star)
@@ -72,23 +74,23 @@ origin_form method target t e =
     ]
   where
     by_star : (b : Bool) → cond b (Some (record { form = asterisk; scheme = http; authority = None; path = target })) None ≡ Some t
-        → is_origin t.form ≡ false
+        → is_origin (Some t.form) ≡ false
     by_star true e = sym (same_form (record { form = asterisk; scheme = http; authority = None; path = target }) t e)
     by_star false e = absurd (no_target t e)
 
     by_path : (b : Bool) → is_path_value target ≡ b
         → cond b (Some (record { form = origin; scheme = http; authority = None; path = target })) None ≡ Some t
-        → is_origin t.form ≡ begins target
+        → is_origin (Some t.form) ≡ begins target
     by_path true value e =
         sym (same_form (record { form = origin; scheme = http; authority = None; path = target }) t e) ∙ sym (and_parts _ _ value).0
     by_path false value e = absurd (no_target t e)
 
-absolute_form : (s : Option Scheme) (authority path : List ℕ) (t : Target) → absolute_parts s authority path ≡ Some t → is_origin t.form ≡ false
+absolute_form : (s : Option Scheme) (authority path : List ℕ) (t : Target) → absolute_parts s authority path ≡ Some t → is_origin (Some t.form) ≡ false
 absolute_form None authority path t e = absurd (no_target t e)
 absolute_form (Some s) authority path t e = by_test (not (list_any (λ b. eqb b 64) authority) && is_absolute_path path) e
   where
     by_test : (b : Bool) → cond b (Some (record { form = absolute; scheme = s; authority = Some authority; path = path })) None ≡ Some t
-        → is_origin t.form ≡ false
+        → is_origin (Some t.form) ≡ false
     by_test true e = sym (same_form (record { form = absolute; scheme = s; authority = Some authority; path = path }) t e)
     by_test false e = absurd (no_target t e)
 
@@ -96,7 +98,7 @@ not_slash : (target : List ℕ) → (get_or target 0 0 ≡ 47 → ⊥) → begin
 not_slash target other = ne_eqb (get_or target 0 0) 47 other
 
 form_tells : (method target : List ℕ) (s a : Option (List ℕ)) (k : List ℕ) (t : Target) → IsUriText target s a k
-    → target_of method target s a ≡ Some t → is_origin t.form ≡ begins target
+    → target_of method target s a ≡ Some t → is_origin (Some t.form) ≡ begins target
 form_tells method target None None k t h e = origin_form method target t e
 form_tells method target None (Some a) k t h e = absurd (no_target t e)
 form_tells method target (Some s) None k t h e = absurd (no_target t e)
@@ -114,23 +116,31 @@ no_head n h e = cc
 pub told_as_received : ToldAsReceived
 told_as_received method target minor fields head = by_early (early_refusal method minor fields)
   where
-    by_measure : (t : Target) (r : Result Measure ℕ)
+    by_measure : (t : Target) (hs : Headers) (r : Result Measure ℕ)
         → request_measure minor (values_of (codes "transfer-encoding") fields) (values_of (codes "content-length") fields) ≡ r
-        → GivesTarget method target t → Ok head ≡ measured method minor fields t r
+        → GivesTarget method target t → Ok head ≡ measured hs (Some t.form) minor fields r
         → (has_length_field head ≡ (has_line (codes "transfer-encoding") fields || has_line (codes "content-length") fields))
         × (is_origin head.form ≡ begins target)
-    by_measure t (Ok m) is gives e =
-        let same : head ≡ head_of method minor fields t m = same_head (head_of method minor fields t m) head (sym e) in (
+    by_measure t hs (Ok m) is gives e =
+        let same : head ≡ head_of hs (Some t.form) minor fields m = same_head (head_of hs (Some t.form) minor fields m) head (sym e) in (
           ap has_length_field same ∙ measure_tells minor (values_of (codes "transfer-encoding") fields) (values_of (codes "content-length") fields) m is,
           ap (λ (h : Head). is_origin h.form) same ∙ form_tells method target gives.scheme gives.authority gives.kept t gives.reads gives.gives,
         )
-    by_measure t (Err n) is gives e = absurd (no_head n head e)
+    by_measure t hs (Err n) is gives e = absurd (no_head n head e)
+
+    by_list : (t : Target) (o : Option Headers) → GivesTarget method target t
+        → Ok head ≡ listed 400 o (Some t.form) minor fields (request_measure minor (values_of (codes "transfer-encoding") fields) (values_of (codes "content-length") fields))
+        → (has_length_field head ≡ (has_line (codes "transfer-encoding") fields || has_line (codes "content-length") fields))
+        × (is_origin head.form ≡ begins target)
+    by_list t None gives e = absurd (no_head 400 head e)
+    by_list t (Some hs) gives e =
+        by_measure t hs (request_measure minor (values_of (codes "transfer-encoding") fields) (values_of (codes "content-length") fields)) refl gives e
 
     by_parts : (p : Option Target) → IsTargetOf method target p → Ok head ≡ targeted method minor fields p
         → (has_length_field head ≡ (has_line (codes "transfer-encoding") fields || has_line (codes "content-length") fields))
         × (is_origin head.form ≡ begins target)
     by_parts None gives e = absurd (no_head 400 head e)
-    by_parts (Some t) gives e = by_measure t (request_measure minor (values_of (codes "transfer-encoding") fields) (values_of (codes "content-length") fields)) refl gives e
+    by_parts (Some t) gives e = by_list t (request_list method t (host_of (values_of (codes "host") fields)) fields) gives e
 
     by_early : (o : Option ℕ) → MatchOption o (IsTargeted method target minor fields (Ok head)) (λ n. Ok head ≡ Err n)
         → (has_length_field head ≡ (has_line (codes "transfer-encoding") fields || has_line (codes "content-length") fields))

@@ -2,12 +2,15 @@
 use Rattle.std.specs.Prelude.{◌≡◌, ℕ, true, false, List, [], ◌∷◌, ◌++◌, replicate, None, Some, Ok, Err, codes}
 use Rattle.std.specs.List.{flat_map}
 use Rattle.httparse.specs.Ascii.{crlf_bytes}
-use Rattle.http1_model.specs.Fields.{Pair, members, lists, kept_fields}
-use Rattle.http1_model.specs.Length.{nothing, exactly, chunked, number_of, request_measure}
+use Rattle.header_maps.specs.declared.kind.ListKind.TheVariants.{Request}
+use Rattle.header_maps.specs.Operations.{no_headers, added, request_headers, response_headers}
+use Rattle.http1_model.specs.Fields.{Pair, members, lists, kept_fields, passing_fields, passing_response_fields}
+use Rattle.http1_model.specs.Length.{nothing, exactly, chunked, until_end, number_of, request_measure, response_measure}
 use Rattle.http1_model.specs.Lines.{whole, too_large, unfinished, whole_lines, skipped, head_cut}
-use Rattle.http1_model.specs.Target.{origin, absolute, asterisk, http, https, target_of}
-use Rattle.http1_model.specs.Head.{Head, found, early_refusal, SpellsStep}
-use Rattle.http1_model.specs.Messages.{request, rest, over, Messages}
+use Rattle.http1_model.specs.Listed.{request_list, response_list}
+use Rattle.http1_model.specs.Target.{Target, origin, absolute, asterisk, http, https, target_of}
+use Rattle.http1_model.specs.Head.{Head, found, early_refusal, SpellsStep, SpellsResponse, response_judged}
+use Rattle.http1_model.specs.Messages.{request, interim, response, rest, over, refusal, beyond, Messages}
 use Rattle.http1_model.specs.Wire.{sent_fields, wire_of}
 
 -- `GET / HTTP/1.1`, `Host: a`
@@ -16,13 +19,10 @@ worked_text = codes "GET / HTTP/1.1" ++ crlf_bytes ++ codes "Host: a" ++ crlf_by
 
 abbrev pub worked_head : Head
 worked_head = record {
-  method = codes "GET";
-  form = origin;
-  scheme = http;
-  authority = codes "a";
-  path = codes "/";
+  fields = request_headers (codes "GET") (codes "http") (codes "a") (codes "/");
+  tail = no_headers;
+  form = Some origin;
   minor = 1;
-  fields = [];
   length = nothing;
   told = None;
   close = false;
@@ -42,6 +42,49 @@ pub record WorkedHead : Type 0 where
   pub behind_empty_lines : Messages (crlf_bytes ++ 10 ∷ worked_text) false None
       (record { item = request worked_head; from = 3; to = 30 } ∷ []) rest
   pub nothing_unread : Messages (crlf_bytes ++ crlf_bytes) true None [] over
+
+-- `HTTP/1.1 200 OK`, `Content-Length: 3`
+abbrev pub worked_response_text : List ℕ
+worked_response_text = codes "HTTP/1.1 200 OK" ++ crlf_bytes ++ codes "Content-Length: 3" ++ crlf_bytes ++ crlf_bytes
+
+abbrev pub worked_response : Head
+worked_response = record {
+  fields = added (response_headers 200) (codes "content-length") (codes "3");
+  tail = no_headers;
+  form = None;
+  minor = 1;
+  length = exactly 3;
+  told = Some 3;
+  close = false;
+}
+
+-- the same in answer to a HEAD request
+abbrev pub worked_bare_response : Head
+worked_bare_response = record worked_response { length = nothing }
+
+-- `HTTP/1.1 100 Continue`
+abbrev pub worked_interim_text : List ℕ
+worked_interim_text = codes "HTTP/1.1 100 Continue" ++ crlf_bytes ++ crlf_bytes
+
+abbrev pub worked_interim : Head
+worked_interim = record {
+  fields = response_headers 100;
+  tail = no_headers;
+  form = None;
+  minor = 1;
+  length = nothing;
+  told = None;
+  close = false;
+}
+
+-- a response behind an interim head, and what a text spells that ends before a response has come
+pub record WorkedResponse : Type 0 where
+  pub spelled : SpellsResponse false worked_response_text (found worked_response 38)
+  pub read : Messages (worked_interim_text ++ worked_response_text ++ codes "abc") true (Some (codes "GET"))
+      (record { item = interim worked_interim; from = 0; to = 25 } ∷ record { item = response worked_response; from = 25; to = 63 } ∷ []) beyond
+  pub bare : Messages worked_response_text false (Some (codes "HEAD"))
+      (record { item = response worked_bare_response; from = 0; to = 38 } ∷ []) over
+  pub missing : Messages crlf_bytes true (Some (codes "GET")) [] (refusal 502)
 
 -- a request line and so many lines behind it
 abbrev pub lines_text : ℕ → List ℕ
@@ -70,11 +113,13 @@ pub record FieldExamples : Type 0 where
   pub listed : lists (codes "close") (codes "x, CLOSE") ≡ true
   pub part : lists (codes "close") (codes "closed") ≡ false
   pub kept : kept_fields connection_fields ≡ (codes "x-b", []) ∷ (codes "x-b", codes "2") ∷ []
+  pub passing : passing_fields connection_fields ≡ (codes "X-B", []) ∷ (codes "x-b", codes "2") ∷ []
+  pub passing_response : passing_response_fields connection_fields ≡ (codes "Host", codes "a") ∷ (codes "X-B", []) ∷ (codes "x-b", codes "2") ∷ []
 
 -- the number of a refusal, or the length and the number told
 -- what a filter put in of its own goes out only where the gateway does not write it
 pub record WireExamples : Type 0 where
-  pub left_out : sent_fields ((codes "x-a", codes "1") ∷ (codes "content-length", codes "5") ∷ (codes "connection", codes "x-b")
+  pub left_out : sent_fields ((codes ":path", codes "/") ∷ (codes "x-a", codes "1") ∷ (codes "content-length", codes "5") ∷ (codes "connection", codes "x-b")
       ∷ (codes "x-b", codes "2") ∷ (codes "te", []) ∷ (codes "host", codes "b") ∷ (codes "x-c", codes "3") ∷ [])
       ≡ (codes "x-a", codes "1") ∷ (codes "x-c", codes "3") ∷ []
 
@@ -94,6 +139,43 @@ pub record LengthExamples : Type 0 where
   pub two_lines : request_measure 1 (codes "chunked" ∷ codes "chunked" ∷ []) [] ≡ Err 501
   pub both : request_measure 1 (codes "gzip" ∷ []) (codes "5" ∷ []) ≡ Err 400
   pub old : request_measure 0 (codes "chunked" ∷ []) [] ≡ Err 400
+
+-- a response that tells no length goes on until the line ends; all that is wrong is 502
+pub record ResponseLengthExamples : Type 0 where
+  pub none : response_measure 1 [] [] ≡ Ok (record { length = until_end; told = None })
+  pub five : response_measure 1 [] (codes "5" ∷ []) ≡ Ok (record { length = exactly 5; told = Some 5 })
+  pub no_body : response_measure 0 [] (codes "0" ∷ []) ≡ Ok (record { length = nothing; told = Some 0 })
+  pub differ : response_measure 1 [] (codes "5" ∷ codes "6" ∷ []) ≡ Err 502
+  pub chunked_alone : response_measure 1 (codes "chunked" ∷ []) [] ≡ Ok (record { length = chunked; told = None })
+  pub other_coding : response_measure 1 (codes "gzip" ∷ []) [] ≡ Err 502
+  pub old : response_measure 0 (codes "chunked" ∷ []) [] ≡ Err 502
+  pub both : response_measure 1 (codes "chunked" ∷ []) (codes "5" ∷ []) ≡ Err 502
+
+-- what is told is judged where there is no body too, and kept
+pub record BareExamples : Type 0 where
+  pub to_head : response_judged true 1 200 ((codes "Content-Length", codes "3") ∷ []) ≡ Ok worked_bare_response
+  pub no_content : response_judged false 1 204 ((codes "Transfer-Encoding", codes "chunked") ∷ [])
+      ≡ Ok (record { fields = response_headers 204; tail = no_headers; form = None; minor = 1; length = nothing; told = None; close = false })
+  pub not_modified : response_judged false 1 304 ((codes "Content-Length", codes "x") ∷ []) ≡ Err 502
+  pub switching : response_judged false 1 101 [] ≡ Err 502
+  pub low : response_judged false 1 99 [] ≡ Err 502
+  pub high : response_judged false 1 600 [] ≡ Err 502
+
+-- the pseudo-headers first, then the fields that pass, with names in lower case; what no list takes gives none
+abbrev pub worked_target : Target
+worked_target = record { form = origin; scheme = http; authority = None; path = codes "/" }
+
+pub record ListExamples : Type 0 where
+  pub request : request_list (codes "GET") worked_target (codes "a") ((codes "X-A", codes "1") ∷ (codes "TE", codes "x") ∷ [])
+      ≡ Some (record {
+        kind = Request;
+        pairs = (codes ":method", codes "GET") ∷ (codes ":scheme", codes "http")
+            ∷ (codes ":authority", codes "a") ∷ (codes ":path", codes "/") ∷ (codes "x-a", codes "1") ∷ [];
+      })
+  pub response : response_list 404 ((codes "Server", codes "b") ∷ []) ≡ Some (added (response_headers 404) (codes "server") (codes "b"))
+  pub authority : request_list (codes "GET") worked_target (codes "a b") [] ≡ None
+  pub name : request_list (codes "GET") worked_target (codes "a") ((codes "x y", []) ∷ []) ≡ None
+  pub value : response_list 200 ((codes "x", 10 ∷ []) ∷ []) ≡ None
 
 pub record TargetExamples : Type 0 where
   pub query : target_of (codes "GET") (codes "/a?b") None None

@@ -38,9 +38,32 @@ hop_names =
 abbrev pub is_hop_name : List ℕ → Bool
 is_hop_name name = list_any (bytes_eq name) hop_names
 
+-- the same of a response, in which `host` is a field like any other
+abbrev pub response_hop_names : List (List ℕ)
+response_hop_names =
+    codes "connection" ∷ codes "keep-alive" ∷ codes "proxy-connection" ∷ codes "te" ∷ codes "transfer-encoding" ∷ codes "upgrade" ∷ []
+
+abbrev pub is_response_hop_name : List ℕ → Bool
+is_response_hop_name name = list_any (bytes_eq name) response_hop_names
+
 -- a field of this name, in lower case, is dropped from a request with these fields
 abbrev pub is_dropped : List Pair → List ℕ → Bool
 is_dropped fields name = is_hop_name name || is_listed name fields
+
+-- the same of a response
+abbrev pub is_dropped_from_response : List Pair → List ℕ → Bool
+is_dropped_from_response fields name = is_response_hop_name name || is_listed name fields
+
+-- those of the fields whose names, in lower case, are not dropped, as they were received
+abbrev pub passing_among : (List ℕ → Bool) → List Pair → List Pair
+passing_among dropped fields = filter (λ (f : Pair). not (dropped (lowercase f.0))) fields
+
+-- the fields that pass, of a request head and of a response head with these fields
+abbrev pub passing_fields : List Pair → List Pair
+passing_fields fields = passing_among (is_dropped fields) fields
+
+abbrev pub passing_response_fields : List Pair → List Pair
+passing_response_fields fields = passing_among (is_dropped_from_response fields) fields
 
 -- the name in lower case
 abbrev pub lowered : Pair → Pair
@@ -52,3 +75,6 @@ kept_among all fields = filter (λ (f : Pair). not (is_dropped all f.0)) (map lo
 
 abbrev pub kept_fields : List Pair → List Pair
 kept_fields fields = kept_among fields fields
+
+abbrev pub kept_response_fields : List Pair → List Pair
+kept_response_fields fields = map lowered (passing_response_fields fields)

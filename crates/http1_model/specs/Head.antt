@@ -1,23 +1,24 @@
--- The head of a request, and what a text spells where one is due (RFC 9112, sections 2 to 6).
-use Rattle.std.specs.Prelude.{◌≡◌, ◌⊎◌, ℕ, ◌+◌, Bool, true, false, ◌||◌, List, [], ◌∷◌, map, take, Option, None, Some, MatchOption, is_some, Result, Ok, Err, codes, bytes_eq, ◌==◌, unwrap_or, if◌then◌else◌}
+-- The head of a message, and what a text spells where one is due (RFC 9112, sections 2 to 6).
+use Rattle.std.specs.Prelude.{◌≡◌, ◌⊎◌, ℕ, ◌+◌, Bool, true, false, ◌||◌, List, [], ◌∷◌, map, take, Option, None, Some, MatchOption, is_some, Result, Ok, Err, codes, bytes_eq, ◌==◌, if◌then◌else◌}
 use Rattle.std.specs.List.{list_all}
-use Rattle.httparse.specs.Grammar.{RequestHead, ReadsRequest}
+use Rattle.httparse.specs.Grammar.{Field, RequestHead, ReadsRequest, ResponseHead, ReadsResponse, status_code}
 use Rattle.httparse.specs.Spans.{name_and_value}
-use Rattle.http1_model.specs.Fields.{Pair, values_of, is_listed, kept_fields}
-use Rattle.http1_model.specs.Length.{BodyLength, nothing, exactly, chunked, until_end, Measure, request_measure}
+use Rattle.header_maps.specs.Headers.{Headers}
+use Rattle.header_maps.specs.Operations.{no_headers}
+use Rattle.http1_model.specs.Fields.{Pair, values_of, is_listed}
+use Rattle.http1_model.specs.Length.{BodyLength, nothing, exactly, chunked, until_end, Measure, request_measure, response_measure, is_without_body, bodied}
 use Rattle.http1_model.specs.Lines.{Cut, whole, too_large, unfinished, head_cut, skipped, after_empty_lines}
-use Rattle.http1_model.specs.Target.{TargetForm, origin, absolute, asterisk, Scheme, Target, is_visible, IsTargetOf}
+use Rattle.http1_model.specs.Listed.{request_list, response_list}
+use Rattle.http1_model.specs.Target.{TargetForm, origin, absolute, asterisk, Target, is_visible, IsTargetOf}
 
--- a request head as a gateway takes it in: `fields` are those that are kept, with names in lower case;
--- `told` is the number of Content-Length; `close` says that Connection lists `close`
+-- a head as a gateway takes it in: `fields` are its pseudo-headers and the fields that pass, with names in lower case; `tail`
+-- are those that stand behind the framing field on the way out, of which there are none as yet; `form` is the form of a
+-- request's target; `told` is the number of Content-Length; `close` says that Connection lists `close`
 pub record Head : Type 0 where
-  pub method : List ℕ
-  pub form : TargetForm
-  pub scheme : Scheme
-  pub authority : List ℕ
-  pub path : List ℕ
+  pub fields : Headers
+  pub tail : Headers
+  pub form : Option TargetForm
   pub minor : ℕ
-  pub fields : List Pair
   pub length : BodyLength
   pub told : Option ℕ
   pub close : Bool
@@ -33,31 +34,33 @@ abbrev pub host_of : List (List ℕ) → List ℕ
 host_of [] = []
 host_of (host ∷ hosts) = host
 
--- the head of these parts
-abbrev pub head_of : List ℕ → ℕ → List Pair → Target → Measure → Head
-head_of method minor fields target measure = record {
-  method = method;
-  form = target.form;
-  scheme = target.scheme;
-  authority = unwrap_or target.authority (host_of (values_of (codes "host") fields));
-  path = target.path;
+-- the head of a message that has this list, and these fields as they were received
+abbrev pub head_of : Headers → Option TargetForm → ℕ → List Pair → Measure → Head
+head_of headers form minor fields measure = record {
+  fields = headers;
+  tail = no_headers;
+  form = form;
   minor = minor;
-  fields = kept_fields fields;
   length = measure.length;
   told = measure.told;
   close = is_listed (codes "close") fields;
 }
 
 -- the rule of length comes last
-abbrev pub measured : List ℕ → ℕ → List Pair → Target → Result Measure ℕ → Result Head ℕ
-measured method minor fields target (Ok measure) = Ok (head_of method minor fields target measure)
-measured method minor fields target (Err number) = Err number
+abbrev pub measured : Headers → Option TargetForm → ℕ → List Pair → Result Measure ℕ → Result Head ℕ
+measured headers form minor fields (Ok measure) = Ok (head_of headers form minor fields measure)
+measured headers form minor fields (Err number) = Err number
+
+-- what no header list takes is malformed, which has this number
+abbrev pub listed : ℕ → Option Headers → Option TargetForm → ℕ → List Pair → Result Measure ℕ → Result Head ℕ
+listed malformed None form minor fields measure = Err malformed
+listed malformed (Some headers) form minor fields measure = measured headers form minor fields measure
 
 -- the head that such a target gives, or the number of a refusal; a target that gives no parts is malformed
 abbrev pub targeted : List ℕ → ℕ → List Pair → Option Target → Result Head ℕ
 targeted method minor fields None = Err 400
 targeted method minor fields (Some target) =
-    measured method minor fields target
+    listed 400 (request_list method target (host_of (values_of (codes "host") fields)) fields) (Some target.form) minor fields
     (request_measure minor (values_of (codes "transfer-encoding") fields) (values_of (codes "content-length") fields))
 
 -- what is refused before the target is looked at: CONNECT (501) first, then Host (400)
@@ -78,8 +81,11 @@ IsJudged method target minor fields answer =
     MatchOption (early_refusal method minor fields) (IsTargeted method target minor fields answer) (λ number. answer ≡ Err number)
 
 -- the names and values of the fields of a head that was read
+abbrev pub pairs_at : List Field → List Pair
+pairs_at fields = map name_and_value fields
+
 abbrev pub pairs_of : RequestHead → List Pair
-pairs_of h = map name_and_value h.fields
+pairs_of h = pairs_at h.fields
 
 -- the text of a whole head, its lines and the empty line, is read as a head, which is judged
 pub record IsHeadText (front : List ℕ) (answer : Result Head ℕ) : Type 0 where
@@ -97,6 +103,27 @@ pub record IsNoHeadText (front : List ℕ) (answer : Result Head ℕ) : Type 0 w
 abbrev pub IsAnswer : List ℕ → Result Head ℕ → Type 0
 IsAnswer front answer = IsHeadText front answer ⊎ IsNoHeadText front answer
 
+-- what a gateway makes of a response head with this status and these fields: the head that it takes in, or the number of a
+-- refusal; `to_head` says that it answers a HEAD request. Fields that tell a length are judged where there is no body too.
+abbrev pub response_judged : Bool → ℕ → ℕ → List Pair → Result Head ℕ
+response_judged to_head minor status fields =
+    listed 502 (response_list status fields) None minor fields
+    (bodied (is_without_body to_head status)
+    (response_measure minor (values_of (codes "transfer-encoding") fields) (values_of (codes "content-length") fields)))
+
+-- the same two for a response
+pub record IsResponseText (to_head : Bool) (front : List ℕ) (answer : Result Head ℕ) : Type 0 where
+  pub head : ResponseHead
+  pub reads : ReadsResponse front head []
+  pub judged : answer ≡ response_judged to_head head.minor (status_code head) (pairs_at head.fields)
+
+pub record IsNoResponseText (front : List ℕ) (answer : Result Head ℕ) : Type 0 where
+  pub none : (head : ResponseHead) → ReadsResponse front head [] → ⊥
+  pub is : answer ≡ Err 502
+
+abbrev pub IsResponseAnswer : Bool → List ℕ → Result Head ℕ → Type 0
+IsResponseAnswer to_head front answer = IsResponseText to_head front answer ⊎ IsNoResponseText front answer
+
 -- what a text spells where a head is due: a head, with how many bytes it uses up; nothing as yet; or a refusal's number
 pub data HeadStep : Type 0 where
   found : Head → ℕ → HeadStep
@@ -108,18 +135,27 @@ abbrev pub step_of : ℕ → Result Head ℕ → HeadStep
 step_of used (Ok head) = found head used
 step_of used (Err number) = refused number
 
--- a text whose empty lines at the front take so many bytes, and the rest of it
-abbrev pub IsStepAt : ℕ → List ℕ → Cut → HeadStep → Type 0
-IsStepAt at text (whole len) step =
-    (answer : Result Head ℕ) × IsAnswer (take len text) answer × (step ≡ step_of (at + len) answer)
-IsStepAt at text too_large step = step ≡ refused 431
-IsStepAt at text unfinished step = step ≡ not_yet
+-- A text whose empty lines at the front take so many bytes, and the rest of it. `answers` says what the text of a whole head
+-- gives; `large` is the number of a head that has grown too large.
+abbrev pub IsStepAt : (List ℕ → Result Head ℕ → Type 0) → ℕ → ℕ → List ℕ → Cut → HeadStep → Type 0
+IsStepAt answers large at text (whole len) step =
+    (answer : Result Head ℕ) × answers (take len text) answer × (step ≡ step_of (at + len) answer)
+IsStepAt answers large at text too_large step = step ≡ refused large
+IsStepAt answers large at text unfinished step = step ≡ not_yet
 
--- What a text spells where a request head is due. Empty lines before it are skipped and used up with it; it is judged when
--- its empty line has come, and too large before malformed.
+-- Empty lines before a head are skipped and used up with it; it is judged when its empty line has come, and too large before
+-- malformed.
+abbrev pub SpellsBy : (List ℕ → Result Head ℕ → Type 0) → ℕ → List ℕ → HeadStep → Type 0
+SpellsBy answers large text step =
+    let rest = after_empty_lines text in IsStepAt answers large (skipped text) rest (head_cut rest) step
+
+-- what a text spells where a request head is due
 abbrev pub SpellsStep : List ℕ → HeadStep → Type 0
-SpellsStep text step =
-    let rest = after_empty_lines text in IsStepAt (skipped text) rest (head_cut rest) step
+SpellsStep text step = SpellsBy IsAnswer 431 text step
+
+-- what a text spells where the head of a response is due, to a HEAD request or to another
+abbrev pub SpellsResponse : Bool → List ℕ → HeadStep → Type 0
+SpellsResponse to_head text step = SpellsBy (IsResponseAnswer to_head) 502 text step
 
 -- Two questions on a head that a text spells, as it was received: has it a Content-Length or a Transfer-Encoding field, and
 -- does its target begin with `/`?
@@ -132,7 +168,8 @@ is_coded until_end = false
 abbrev pub has_length_field : Head → Bool
 has_length_field head = is_some head.told || is_coded head.length
 
-abbrev pub is_origin : TargetForm → Bool
-is_origin origin = true
-is_origin absolute = false
-is_origin asterisk = false
+abbrev pub is_origin : Option TargetForm → Bool
+is_origin (Some origin) = true
+is_origin (Some absolute) = false
+is_origin (Some asterisk) = false
+is_origin None = false

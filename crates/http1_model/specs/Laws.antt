@@ -1,20 +1,29 @@
 -- What holds of every text: it spells one thing, and what it spells stays spelled when more bytes come.
-use Rattle.std.specs.Prelude.{◌≡◌, ◌==◌, ◌≤◌, ◌||◌, ℕ, Bool, false, List, ◌++◌, length, slice_index, All, Option, None, Ok, codes, nat_lt}
+use Rattle.std.specs.List.{list_all, flat_map}
+use Rattle.std.specs.Prelude.{◌≡◌, [], ◌∷◌, true, Some, unwrap_or, ◌==◌, ◌≤◌, ◌||◌, ℕ, Bool, false, List, ◌++◌, length, slice_index, All, Option, None, IsSome, Ok, codes, nat_lt}
 use Rattle.http_header.specs.FieldValue.{IsFieldValue}
 use Rattle.http_uri.specs.ByteClasses.{slash}
-use Rattle.httparse.specs.Grammar.{Field, field_value, RequestHead, ReadsRequest}
-use Rattle.http1_model.specs.Fields.{Pair, values_of}
-use Rattle.http1_model.specs.Head.{Head, IsJudged, has_length_field, is_origin, HeadStep, not_yet, SpellsStep}
-use Rattle.http1_model.specs.Lines.{head_limit, whole, head_cut}
-use Rattle.http1_model.specs.Messages.{Placed, Stop, refusal, Messages}
+use Rattle.httparse.specs.Grammar.{Field, field_value, RequestHead, ReadsRequest, ResponseHead, ReadsResponse, status_code}
+use Rattle.header_maps.specs.declared.kind.ListKind.TheVariants.{Request}
+use Rattle.header_maps.specs.Judged.{status_text}
+use Rattle.header_maps.specs.Operations.{request_headers, status_kind}
+use Rattle.http1_model.specs.Fields.{Pair, values_of, members, kept_fields, kept_response_fields}
+use Rattle.http1_model.specs.Length.{exactly, chunked, Measure, number_of, is_number, is_chunked, request_measure, response_measure}
+use Rattle.http1_model.specs.Listed.{scheme_text, request_list, response_list}
+use Rattle.http1_model.specs.Target.{Target, GivesTarget}
+use Rattle.http1_model.specs.Head.{Head, pairs_at, pairs_of, early_refusal, host_of, response_judged, IsJudged, has_length_field, is_origin, HeadStep, not_yet}
+use Rattle.http1_model.specs.Lines.{head_limit, line_limit, whole, head_cut}
+use Rattle.http1_model.specs.Messages.{Placed, Stop, refusal, SpellsHead, Messages}
 
 -- where a head is due, a text spells one thing
 abbrev pub OneStep : Type 0
-OneStep = (text : List ℕ) (a b : HeadStep) → SpellsStep text a → SpellsStep text b → a ≡ b
+OneStep = (asked : Option (List ℕ)) (text : List ℕ) (a b : HeadStep) → SpellsHead asked text a → SpellsHead asked text b → a ≡ b
 
 -- a head or a refusal that a text spells, every longer text spells
 abbrev pub StepStays : Type 0
-StepStays = (text more : List ℕ) (a : HeadStep) → SpellsStep text a → (a ≡ not_yet → ⊥) → SpellsStep (text ++ more) a
+StepStays =
+    (asked : Option (List ℕ)) (text more : List ℕ) (a : HeadStep) → SpellsHead asked text a → (a ≡ not_yet → ⊥)
+    → SpellsHead asked (text ++ more) a
 
 -- two readings of one text are equal
 abbrev pub OneReading : Type 0
@@ -25,15 +34,15 @@ OneReading =
 -- a reading of a longer text begins with the items of the shorter
 abbrev pub ReadingGrows : Type 0
 ReadingGrows =
-    (text more : List ℕ) (ended : Bool) (items others : List Placed) (why reason : Stop)
-    → Messages text false None items why → Messages (text ++ more) ended None others reason
+    (text more : List ℕ) (ended : Bool) (asked : Option (List ℕ)) (items others : List Placed) (why reason : Stop)
+    → Messages text false asked items why → Messages (text ++ more) ended asked others reason
     → (behind : List Placed) × (others ≡ items ++ behind)
 
 -- and a refusal stays
 abbrev pub RefusalStays : Type 0
 RefusalStays =
-    (text more : List ℕ) (ended : Bool) (items others : List Placed) (number : ℕ) (reason : Stop)
-    → Messages text false None items (refusal number) → Messages (text ++ more) ended None others reason
+    (text more : List ℕ) (ended : Bool) (asked : Option (List ℕ)) (items others : List Placed) (number : ℕ) (reason : Stop)
+    → Messages text false asked items (refusal number) → Messages (text ++ more) ended asked others reason
     → (others ≡ items) × (reason ≡ refusal number)
 
 -- there is a field line of that name, which is in lower case
@@ -56,3 +65,51 @@ ValuesAccepted =
 -- a whole head is a front of the text of 65,536 bytes at most
 abbrev pub WholeFits : Type 0
 WholeFits = (text : List ℕ) (len : ℕ) → head_cut text ≡ whole len → (len ≤ length text) × (len ≤ head_limit)
+
+-- the list of a head that is taken in is its pseudo-headers, and behind them exactly the fields that are not dropped, in order,
+-- with names in lower case; of a request these are four, of a response one
+abbrev pub RequestListed : Type 0
+RequestListed =
+    (method target : List ℕ) (minor : ℕ) (fields : List Pair) (head : Head) → IsJudged method target minor fields (Ok head)
+    → (parts : Target) × GivesTarget method target parts
+    × (head.fields.kind ≡ Request)
+    × (head.fields.pairs
+    ≡ (request_headers method (scheme_text parts.scheme) (unwrap_or parts.authority (host_of (values_of (codes "host") fields))) parts.path).pairs
+    ++ kept_fields fields)
+
+abbrev pub ResponseListed : Type 0
+ResponseListed =
+    (to_head : Bool) (minor status : ℕ) (fields : List Pair) (head : Head) → response_judged to_head minor status fields ≡ Ok head
+    → (head.fields.kind ≡ status_kind status)
+    × (head.fields.pairs ≡ (codes ":status", status_text status) ∷ kept_response_fields fields)
+
+-- A message that is taken in is framed in one way alone, so no reader behind the gateway can see another end of it: under the
+-- chunked coding there is no Content-Length and one Transfer-Encoding line, which is `chunked`; a length of n comes only where
+-- there is no Transfer-Encoding, and every member of every Content-Length line writes n (RFC 9112, section 11.2).
+pub record IsFramedOnce (minor : ℕ) (codings lengths : List (List ℕ)) (measure : Measure) : Type 0 where
+  pub chunked_alone : measure.length ≡ chunked → (lengths ≡ []) × (is_chunked codings ≡ true) × (minor ≡ 0 → ⊥)
+  pub one_length : (n : ℕ) → measure.length ≡ exactly n
+      → (codings ≡ []) × (list_all (λ m. is_number (number_of m) n) (flat_map members lengths) ≡ true) × (measure.told ≡ Some n)
+  pub told_alone : (n : ℕ) → measure.told ≡ Some n
+      → (codings ≡ []) × (list_all (λ m. is_number (number_of m) n) (flat_map members lengths) ≡ true)
+
+pub record FramedOnce : Type 0 where
+  pub request : (minor : ℕ) (codings lengths : List (List ℕ)) (measure : Measure) → request_measure minor codings lengths ≡ Ok measure
+      → IsFramedOnce minor codings lengths measure
+  pub response : (minor : ℕ) (codings lengths : List (List ℕ)) (measure : Measure) → response_measure minor codings lengths ≡ Ok measure
+      → IsFramedOnce minor codings lengths measure
+
+-- No head that is read is refused for what its list takes: where a request's Host lines are right and its target gives parts,
+-- it has a list; and so has a response with a status that is taken. What is left to refuse it is the rule of length.
+abbrev pub RequestTaken : Type 0
+RequestTaken =
+    (text : List ℕ) (head : RequestHead) (rest : List ℕ) (parts : Target) → ReadsRequest text head rest → length text ≤ head_limit
+    → length head.fields ≤ line_limit → early_refusal head.method head.minor (pairs_of head) ≡ None
+    → GivesTarget head.method head.target parts
+    → IsSome (request_list head.method parts (host_of (values_of (codes "host") (pairs_of head))) (pairs_of head))
+
+abbrev pub ResponseTaken : Type 0
+ResponseTaken =
+    (text : List ℕ) (head : ResponseHead) (rest : List ℕ) → ReadsResponse text head rest → length text ≤ head_limit
+    → length head.fields ≤ line_limit → 100 ≤ status_code head → status_code head ≤ 599 → (status_code head ≡ 101 → ⊥)
+    → IsSome (response_list (status_code head) (pairs_at head.fields))

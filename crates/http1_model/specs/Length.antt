@@ -66,3 +66,31 @@ abbrev pub request_measure : ℕ → List (List ℕ) → List (List ℕ) → Res
 request_measure minor [] [] = Ok (record { length = nothing; told = None })
 request_measure minor [] (value ∷ values) = told_measure (one_number (flat_map members (value ∷ values)))
 request_measure minor (coding ∷ codings) lengths = coded_measure minor (coding ∷ codings) lengths
+
+-- a response that tells no length goes on until the line ends
+abbrev pub open_measure : Measure
+open_measure = record { length = until_end; told = None }
+
+-- Whatever is wrong with the length of a response, the response is malformed (502). So it is where its last coding is not
+-- `chunked`, where RFC 9112 section 6.3 would have its body go on until the line ends.
+abbrev pub or_malformed : Result Measure ℕ → Result Measure ℕ
+or_malformed (Ok measure) = Ok measure
+or_malformed (Err number) = Err 502
+
+-- the length of a response's body from the values of the same lines, where its status lets it have one
+abbrev pub response_measure : ℕ → List (List ℕ) → List (List ℕ) → Result Measure ℕ
+response_measure minor [] [] = Ok open_measure
+response_measure minor [] (value ∷ values) = or_malformed (request_measure minor [] (value ∷ values))
+response_measure minor (coding ∷ codings) lengths = or_malformed (request_measure minor (coding ∷ codings) lengths)
+
+-- the response to a HEAD request, an interim head, and one of 204 or 304 have no body, whatever their fields tell
+-- (RFC 9112, section 6.3)
+abbrev pub is_without_body : Bool → ℕ → Bool
+is_without_body to_head status = (to_head || nat_lt status 200) || (status == 204 || status == 304)
+
+abbrev pub without_body : Bool → Measure → Measure
+without_body bare measure = if bare then record { length = nothing; told = measure.told } else measure
+
+abbrev pub bodied : Bool → Result Measure ℕ → Result Measure ℕ
+bodied bare (Ok measure) = Ok (without_body bare measure)
+bodied bare (Err number) = Err number

@@ -4,6 +4,7 @@ pub mod Head
 pub mod Laws
 pub mod Length
 pub mod Lines
+pub mod Listed
 pub mod Messages
 pub mod Target
 pub mod Wire

@@ -1,8 +1,8 @@
 //! What the bytes of an HTTP/1.1 line spell: definitions, worked examples and laws.
 #![tactic(auto)]
 
-ghost use Rattle.http1_model.specs.Examples.{WorkedHead, LineExamples, FieldExamples, WireExamples, LengthExamples, TargetExamples, RefusalExamples};
-ghost use Rattle.http1_model.specs.Laws.{OneStep, StepStays, OneReading, ReadingGrows, RefusalStays, ToldAsReceived, ValuesAccepted, WholeFits};
+ghost use Rattle.http1_model.specs.Examples.{WorkedHead, WorkedResponse, LineExamples, FieldExamples, WireExamples, LengthExamples, ResponseLengthExamples, BareExamples, ListExamples, TargetExamples, RefusalExamples};
+ghost use Rattle.http1_model.specs.Laws.{OneStep, StepStays, OneReading, ReadingGrows, RefusalStays, ToldAsReceived, ValuesAccepted, WholeFits, RequestListed, ResponseListed, FramedOnce, RequestTaken, ResponseTaken};
 
 /// Where a head is due, a text spells one thing.
 pub fn one_step()
@@ -34,6 +34,31 @@ pub fn told_as_received()
     ensures { ToldAsReceived }
 {}
 
+/// A request's list is its four pseudo-headers and then exactly the fields that are not dropped.
+pub fn request_listed()
+    ensures { RequestListed }
+{}
+
+/// A response's list is its status and then exactly the fields that are not dropped.
+pub fn response_listed()
+    ensures { ResponseListed }
+{}
+
+/// A message that is taken in is framed in one way alone: by one length, or by the chunked coding, or by neither.
+pub fn framed_once()
+    ensures { FramedOnce }
+{}
+
+/// No request head that is read is refused for what its list takes.
+pub fn request_taken()
+    ensures { RequestTaken }
+{}
+
+/// No response head that is read, with a status that is taken, is refused for what its list takes.
+pub fn response_taken()
+    ensures { ResponseTaken }
+{}
+
 /// Every value that is read is one that a header map takes.
 pub fn values_accepted()
     ensures { ValuesAccepted }
@@ -47,10 +72,14 @@ pub fn whole_fits()
 /// The definitions, worked on texts that are written out.
 pub fn worked_examples()
     ensures head { WorkedHead }
+    ensures response { WorkedResponse }
     ensures lines { LineExamples }
     ensures fields { FieldExamples }
     ensures wires { WireExamples }
     ensures lengths { LengthExamples }
+    ensures response_lengths { ResponseLengthExamples }
+    ensures bare { BareExamples }
+    ensures lists { ListExamples }
     ensures targets { TargetExamples }
     ensures refusals { RefusalExamples }
 {}

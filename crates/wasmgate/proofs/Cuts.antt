@@ -76,7 +76,7 @@ read_twice n x y lines line o p none number ended (stays e any) q =
 read_twice n x y lines line o p none number ended (sends h used asked spells built e) q =
     let first : Line = record (with_bytes x line) { asked = true } in
     let next : Reads lines (with_bytes y first) true (went p) = on_kept n y lines first o (went p) none number ended (ap (λ (r : Outcome). r.state) e) q in
-    let longer : SpellsStep ((line.text ++ x) ++ y) (found h used) = step_stays (line.text ++ x) y (found h used) spells (no_not_yet h used) in
+    let longer : SpellsStep ((line.text ++ x) ++ y) (found h used) = step_stays None (line.text ++ x) y (found h used) spells (no_not_yet h used) in
     let spelled : SpellsStep (line.text ++ (x ++ y)) (found h used) = subst (λ (t : List ℕ). SpellsStep t (found h used)) (append_assoc line.text x y) longer in
     let at_once : Reads lines (with_bytes (x ++ y) line) line.asked (went (sent_in lines (with_bytes (x ++ y) line) h)) =
     found_reads lines (with_bytes (x ++ y) line) line.asked h used asked spelled built in
@@ -204,20 +204,20 @@ uncut_plays state (c ∷ cs) a after distinct p =
 
 -- a line whose reading is not built, however much more comes
 stays_refused : (lines : State) (line : Line) (more : List ℕ) (h : HeadStep) → line.ended ≡ false → SpellsStep line.text h
-    → not_built ≡ read_answer lines line (step_from line.ended line.text h) → Reads lines (with_bytes more line) false not_built
+    → not_built ≡ read_answer lines line (step_from line.ended None line.text h) → Reads lines (with_bytes more line) false not_built
 unfolding Reads
 stays_refused lines line more (found h used) ended spells e = elim (either (is_built h)) [
   | inl b ↦ absurd (is_no_stop _ (sym (e ∙ when (is_built h) (sends_up lines line h) not_built b)))
   | inr b ↦ (
-    step_from line.ended (line.text ++ more) (found h used),
-    (found h used, step_stays line.text more (found h used) spells (no_not_yet h used), refl),
+    step_from line.ended None (line.text ++ more) (found h used),
+    (found h used, step_stays None line.text more (found h used) spells (no_not_yet h used), refl),
     sym (unless (is_built h) (sends_up lines (with_bytes more line) h) not_built b),
   )
 ]
 stays_refused lines line more not_yet ended spells e =
     absurd (is_no_stop (kept_in lines line) (sym (e ∙ ap (λ (b : Bool). read_answer lines line (stop (stop_unfinished b line.text))) ended)))
 stays_refused lines line more (refused k) ended spells e =
-    (step_from line.ended (line.text ++ more) (refused k), (refused k, step_stays line.text more (refused k) spells (refused_some k), refl), refl)
+    (step_from line.ended None (line.text ++ more) (refused k), (refused k, step_stays None line.text more (refused k) spells (refused_some k), refl), refl)
 
 reads_refused : (lines : State) (line : Line) (more : List ℕ) (asked : Bool) → line.ended ≡ false → Reads lines line asked not_built
     → Reads lines (with_bytes more line) asked not_built

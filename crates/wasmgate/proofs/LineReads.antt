@@ -1,5 +1,5 @@
 -- What the reading of a line comes to: it stays, its request goes up, or it is closed.
-use Rattle.std.proofs.Common.{◌≡◌, ◌⊎◌, inl, inr, ℕ, Bool, true, false, [], ◌∷◌, ◌++◌, length, refl, ap, sym, ◌∙◌, subst}
+use Rattle.std.proofs.Common.{◌≡◌, ◌⊎◌, inl, inr, ℕ, Bool, true, false, [], ◌∷◌, ◌++◌, length, None, refl, ap, sym, ◌∙◌, subst}
 use Rattle.std.specs.Prelude.{◌==◌, if◌then◌else◌}
 use Rattle.gate_io.specs.declared.event.Sent.TheVariants as sent
 use Rattle.gate_io.specs.declared.event.Side.TheVariants.{Down, Up}
@@ -42,13 +42,13 @@ pub found_reads : (lines : State) (line : Line) (asked : Bool) (h : Head) (used 
 unfolding Reads
 found_reads lines line asked h used is spells built =
     subst (λ (b : Bool). Reads lines line b (went (sent_in lines line h))) (sym is)
-    (step_from line.ended line.text (found h used), (found h used, spells, refl), sym (when (is_built h) (sends_up lines line h) not_built built))
+    (step_from line.ended None line.text (found h used), (found h used, spells, refl), sym (when (is_built h) (sends_up lines line h) not_built built))
 
 -- a reading of a line whose head has not come
 not_yet_reads : (lines : State) (line : Line) (o : Outcome) → SpellsStep line.text not_yet
     → went o ≡ read_answer lines line (stop (stop_unfinished line.ended line.text)) → Reads lines line false (went o)
 unfolding Reads
-not_yet_reads lines line o spells is = (step_from line.ended line.text not_yet, (not_yet, spells, refl), is)
+not_yet_reads lines line o spells is = (step_from line.ended None line.text not_yet, (not_yet, spells, refl), is)
 
 of_found : (lines : State) (line : Line) (o : Outcome) (h : Head) (used : ℕ) → SpellsStep line.text (found h used)
     → went o ≡ (if is_built h then sends_up lines line h else not_built) → Reading lines line false o
@@ -80,7 +80,7 @@ of_not_yet lines line o spells e = elim (either line.ended) [
 ]
 
 of_head : (lines : State) (line : Line) (o : Outcome) (h : HeadStep) → SpellsStep line.text h
-    → went o ≡ read_answer lines line (step_from line.ended line.text h) → Reading lines line false o
+    → went o ≡ read_answer lines line (step_from line.ended None line.text h) → Reading lines line false o
 of_head lines line o (found h used) spells e = of_found lines line o h used spells e
 of_head lines line o not_yet spells e = of_not_yet lines line o spells e
 of_head lines line o (refused n) spells e = absurd (is_no_stop o e)

@@ -17,7 +17,7 @@ reads_one : (lines : State) (line : Line) (asked : Bool) (a b : Answer) → Read
 unfolding Reads
 reads_one lines line true a b x y = x ∙ sym y
 reads_one lines line false a b x y =
-    x.2 ∙ ap (read_answer lines line) (x.1.2 ∙ ap (step_from line.ended line.text) (one_step line.text x.1.0 y.1.0 x.1.1 y.1.1) ∙ sym y.1.2) ∙ sym y.2
+    x.2 ∙ ap (read_answer lines line) (x.1.2 ∙ ap (step_from line.ended None line.text) (one_step None line.text x.1.0 y.1.0 x.1.1 y.1.1) ∙ sym y.1.2) ∙ sym y.2
 
 comes_on_one : (number : ℕ) (state : State) (line : Line) (more : Line → Line) (ended : Bool) (a b : Answer)
     → ComesOn number state line more ended a → ComesOn number state line more ended b → a ≡ b

@@ -7,7 +7,7 @@ use Rattle.gate_io.specs.declared.event.Sent.{Sent}
 use Rattle.gate_io.specs.declared.event.Sent.TheVariants as sent
 use Rattle.gate_io.specs.declared.event.Side.TheVariants.{Down, Up}
 use Rattle.http1_model.specs.Head.{Head, HeadStep, SpellsStep, is_origin, has_length_field}
-use Rattle.http1_model.specs.Messages.{request, Step, item, stop, rest, over, refusal, beyond, head, StepsTo, step_from}
+use Rattle.http1_model.specs.Messages.{request, interim, response, Step, item, stop, rest, over, refusal, beyond, head, StepsTo, step_from}
 use Rattle.http1_model.specs.Wire.{wire_of}
 use Rattle.wasmgate.specs.declared.line.Line.{Line}
 
@@ -73,6 +73,8 @@ sends_up lines line h = went (record {
 -- has ended with nothing unread is closed; the answer to a refused head is not built, and what is no head neither.
 abbrev pub read_answer : State → Line → Step → Answer
 read_answer lines line (item (request h) used due) = if is_built h then sends_up lines line h else not_built
+read_answer lines line (item (interim h) used due) = not_built
+read_answer lines line (item (response h) used due) = not_built
 read_answer lines line (stop rest) = went (record { state = lines ++ (line ∷ []); sent = [] })
 read_answer lines line (stop over) = went (record { state = lines; sent = sent.Close line.number Down ∷ [] })
 read_answer lines line (stop (refusal number)) = not_built
@@ -121,7 +123,7 @@ reads_asked lines line answer asked is = subst (λ (b : Bool). Reads lines line 
 
 -- what the text spells where a head is due decides
 pub reads_step : (lines : State) (line : Line) (h : HeadStep) (answer : Answer) → line.asked ≡ false → SpellsStep line.text h
-    → answer ≡ read_answer lines line (step_from line.ended line.text h) → Reads lines line line.asked answer
+    → answer ≡ read_answer lines line (step_from line.ended None line.text h) → Reads lines line line.asked answer
 unfolding Reads
 reads_step lines line h answer asked spelled is =
-    subst (λ (b : Bool). Reads lines line b answer) (sym asked) (step_from line.ended line.text h, (h, spelled, refl), is)
+    subst (λ (b : Bool). Reads lines line b answer) (sym asked) (step_from line.ended None line.text h, (h, spelled, refl), is)

@@ -18,7 +18,7 @@ returns-then-is_none c =
     let rest = fields_at c.args.fields.now.text.now (drop i c.args.fields.now.spans.now) in
     let fs = fields_at c.args.fields.now.text.now (drop (i + 1) c.args.fields.now.spans.now) in
     let f : Pair = (c.pair_at.result.0.now, c.pair_at.result.1.now) in
-    let here : rest ≡ f ∷ fs = fields_at-more c.args.fields.now.text.now c.args.fields.now.spans.now i _ c.loop-span-test.true ∙ ap (λ (p : Pair). p ∷ fs) (sym c.pair_at.ensures) in
+    let here : rest ≡ f ∷ fs = fields_at-more c.args.fields.now.text.now c.args.fields.now.spans.now i _ c.loop-span-test.true ∙ ap (λ (p : Pair). p ∷ fs) (sym c.pair_at.ensures.pair) in
     let named : is_named name f ≡ true = sym c.if-is_same_word.ensures in
     let line = told-line name f fs rest c.loop-span.told c.agreed-told.result here named c.agreed-told.ensures in
     record {
@@ -33,7 +33,7 @@ loop-span-preserved c =
     let rest = fields_at c.args.fields.now.text.now (drop i c.args.fields.now.spans.now) in
     let fs = fields_at c.args.fields.now.text.now (drop (i + 1) c.args.fields.now.spans.now) in
     let f : Pair = (c.pair_at.result.0.now, c.pair_at.result.1.now) in
-    let here : rest ≡ f ∷ fs = fields_at-more c.args.fields.now.text.now c.args.fields.now.spans.now i _ c.loop-span-test.true ∙ ap (λ (p : Pair). p ∷ fs) (sym c.pair_at.ensures) in
+    let here : rest ≡ f ∷ fs = fields_at-more c.args.fields.now.text.now c.args.fields.now.spans.now i _ c.loop-span-test.true ∙ ap (λ (p : Pair). p ∷ fs) (sym c.pair_at.ensures.pair) in
     elim c.if-is_same_word.branch [
       | then-is_same_word+else-is_none w ↦
           let named : is_named name f ≡ true = sym w.if-is_same_word.ensures in

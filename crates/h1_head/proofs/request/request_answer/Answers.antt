@@ -2,7 +2,7 @@ use Rattle.std.proofs.Common.{refl, take}
 use Rattle.h1_head.specs.Seen.{seen_answer}
 use Rattle.h1_head.proofs.Lists.{IfOk-map}
 use Rattle.h1_head.proofs.Reading.{head_text, no_head_text}
-use Rattle.h1_head.proofs.read.answer.Goals as goal
+use Rattle.h1_head.proofs.request.request_answer.Goals as goal
 
 pub returns-in-Some : goal.returns-in-Some
 returns-in-Some c =

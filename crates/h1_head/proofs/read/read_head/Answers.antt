@@ -2,7 +2,7 @@ use Rattle.std.proofs.Common.{drop, ap, ◌∙◌}
 use Rattle.std.proofs.lemmas.List.{take_rest}
 use Rattle.http1_model.specs.Lines.{skipped}
 use Rattle.http1_model.proofs.LineLemmas.{skipped-after_empty_lines}
-use Rattle.h1_head.proofs.read.request_step.Goals as goal
+use Rattle.h1_head.proofs.read.read_head.Goals as goal
 
 pub answer-requires-clause-filled : goal.answer-requires-clause-filled
 answer-requires-clause-filled c =

@@ -1,0 +1,153 @@
+// From the text of a whole request head to what a gateway makes of it.
+ghost use Rattle.std.specs.List.{list_all};
+ghost use Rattle.std.specs.Option.{option_map};
+ghost use Rattle.std.specs.Prelude.{◌≡◌, ◌≤◌, ℕ, List, codes, length, take, IfOk, IfSome, IfNone, option_copied};
+ghost use Rattle.header_maps.specs.Kept.{byte_limit};
+ghost use Rattle.http1_model.specs.Fields.{values_of};
+ghost use Rattle.http1_model.specs.Head.{host_of, IsTargeted, IsJudged, IsAnswer};
+ghost use Rattle.http1_model.specs.Lines.{head_cut, head_limit, skipped, whole};
+ghost use Rattle.http1_model.specs.Listed.{request_list};
+ghost use Rattle.http1_model.specs.Target.{is_visible};
+ghost use Rattle.httparse.specs.Grammar.{RequestHead, ReadsRequest};
+ghost use Rattle.httparse.specs.Spans.{IsRequestWithin, IsRequestOf};
+ghost use Rattle.h1_head.specs.Held.{fields_of};
+ghost use Rattle.h1_head.specs.Seen.{seen_answer, IsHost, IsListed};
+ghost use Rattle.h1_head.specs.Targets.{seen_target};
+
+use crate::fields::{Fields, Lines};
+use crate::length::request_measure;
+use crate::parts::{Answer, FIELD_LIMIT, measured, refusal_of};
+use crate::target::{Target, is_visible, target_of};
+use gate_base::OutOfMemory;
+use header_maps::{HeaderEnd, HeaderList};
+use httparse::Status;
+use httparse::spans::{EMPTY_HEADER_SPAN, HeaderSpan, RequestSpans, parse_request};
+use std::alloc::Global;
+
+/// Whether all bytes of a value are visible.
+fn is_all_visible(value: &[u8]) -> bool
+    ensures { result ≡ list_all is_visible value.now }
+{
+    value.iter().all(|b| is_visible(*b))
+}
+
+/// The value of Host, or nothing in a head of HTTP/1.0 without one; none where the Host lines are wrong
+/// (RFC 9112 section 3.2).
+fn host_value<'t>(fields: &Fields<'t>, minor: u8) -> Option<&'t [u8]>
+    ensures { IsHost minor (values_of (codes "host") (fields_of fields.now)) (option_copied result) }
+{
+    match fields.lines_of(b"host") {
+        Lines::Absent if minor == 0 => Some(&[]),
+        Lines::One(host) if is_all_visible(host) => Some(host),
+        _ => None,
+    }
+}
+
+/// The header list of a request.
+fn request_list(
+    alloc: Global,
+    method: &[u8],
+    target: &Target,
+    host: &[u8],
+    fields: &Fields,
+) -> Result<HeaderList, HeaderEnd>
+    requires method { length method.now ≤ byte_limit }
+    requires host { length host.now ≤ byte_limit }
+    requires authority { IfSome (seen_target target.now).authority (λ a. length a ≤ byte_limit) }
+    requires path { length (seen_target target.now).path ≤ byte_limit }
+    ensures { IsListed (request_list method.now (seen_target target.now) host.now (fields_of fields.now)) result }
+{
+    let authority = match &target.authority {
+        Some(authority) => authority.as_slice(),
+        None => host,
+    };
+    let scheme = target.scheme.as_bytes();
+    let list = HeaderList::request(alloc, method, scheme, authority, target.path.as_slice())?;
+    fields.passing(alloc, false, list)
+}
+
+/// A head by what its target gives.
+fn targeted(
+    alloc: Global,
+    method: &[u8],
+    target: &[u8],
+    minor: u8,
+    fields: &Fields,
+    host: &[u8],
+) -> Result<Answer, OutOfMemory>
+    requires host { host.now ≡ host_of (values_of (codes "host") (fields_of fields.now)) }
+    requires method { length method.now ≤ head_limit }
+    requires target { length target.now ≤ head_limit }
+    ensures { IfOk result (λ answer.
+        IsTargeted method.now target.now minor (fields_of fields.now) (seen_answer answer)) }
+{
+    let Some(target) = target_of(alloc, method, target)? else {
+        return Ok(Err(400));
+    };
+    let list = match request_list(alloc, method, &target, host, fields) {
+        Ok(list) => list,
+        Err(end) => return Ok(Err(refusal_of(end, 400)?)),
+    };
+    let measure = request_measure(fields, minor);
+    Ok(measured(alloc, list, Some(target.form), minor, fields, measure))
+}
+
+/// What a gateway makes of a head of these parts.
+fn judged(
+    alloc: Global,
+    method: &[u8],
+    target: &[u8],
+    minor: u8,
+    fields: &Fields,
+) -> Result<Answer, OutOfMemory>
+    requires method { length method.now ≤ head_limit }
+    requires target { length target.now ≤ head_limit }
+    ensures { IfOk result (λ answer.
+        IsJudged method.now target.now minor (fields_of fields.now) (seen_answer answer)) }
+{
+    if method == b"CONNECT".as_slice() {
+        return Ok(Err(501));
+    }
+    match host_value(fields, minor) {
+        Some(host) => targeted(alloc, method, target, minor, fields, host),
+        None => Ok(Err(400)),
+    }
+}
+
+/// The head that a text begins with, if it has one of at most so many fields as there are spans for.
+fn spans_of(text: &[u8], headers: &mut [HeaderSpan]) -> Option<RequestSpans>
+    ensures within { IfSome result (IsRequestWithin text.now headers.new) }
+    ensures some { IfSome result (IsRequestOf text.now headers.new) }
+    ensures none { IfNone result ((head : RequestHead) (rest : List ℕ) → ReadsRequest text.now head rest
+        → length head.fields ≤ length headers.old → ⊥) }
+{
+    match parse_request(text, headers) {
+        Ok(Status::Complete(head)) => Some(head),
+        _ => None,
+    }
+}
+
+/// What the whole request head gives that takes the first `len` bytes of a text.
+pub fn request_answer(alloc: Global, text: &[u8], len: usize) -> Result<Answer, OutOfMemory>
+    requires fits { len ≤ length text.now }
+    requires limit { len ≤ head_limit }
+    requires cut { head_cut text.now ≡ whole len }
+    requires filled { skipped text.now ≡ 0 }
+    ensures { IfOk result (λ answer. IsAnswer (take len text.now) (seen_answer answer)) }
+{
+    let front = &text[..len];
+    let mut headers = [EMPTY_HEADER_SPAN; FIELD_LIMIT];
+    match spans_of(front, &mut headers) {
+        Some(head) => judged(
+            alloc,
+            head.method.of(front),
+            head.path.of(front),
+            head.version,
+            &Fields {
+                text: front,
+                spans: &headers[..head.headers],
+            },
+        ),
+        None => Ok(Err(400)),
+    }
+}

@@ -1,0 +1,102 @@
+// From the text of a whole response head to what a gateway makes of it.
+ghost use Rattle.std.specs.Prelude.{◌≡◌, ◌≤◌, ℕ, List, length, take, IfOk, IfSome, IfNone};
+ghost use Rattle.http1_model.specs.Head.{response_judged, IsResponseAnswer};
+ghost use Rattle.http1_model.specs.Length.{is_without_body};
+ghost use Rattle.http1_model.specs.Lines.{head_cut, head_limit, skipped, whole};
+ghost use Rattle.http1_model.specs.Listed.{response_list};
+ghost use Rattle.httparse.specs.Grammar.{ResponseHead, ReadsResponse};
+ghost use Rattle.httparse.specs.Spans.{IsResponseWithin, IsResponseOf};
+ghost use Rattle.h1_head.specs.Held.{fields_of};
+ghost use Rattle.h1_head.specs.Seen.{seen_answer, IsListed};
+
+use crate::fields::Fields;
+use crate::length::{bodied, response_measure};
+use crate::parts::{Answer, FIELD_LIMIT, measured, refusal_of};
+use gate_base::OutOfMemory;
+use header_maps::{HeaderEnd, HeaderList};
+use httparse::Status;
+use httparse::spans::{EMPTY_HEADER_SPAN, HeaderSpan, ResponseSpans, parse_response};
+use std::alloc::Global;
+
+/// The header list of a response or of an interim head. 101 is none, since no upgrade is asked for.
+fn response_list(alloc: Global, status: u16, fields: &Fields) -> Result<HeaderList, HeaderEnd>
+    ensures { IsListed (response_list status (fields_of fields.now)) result }
+{
+    if status == 101 {
+        return Err(HeaderEnd::BadValue);
+    }
+    let list = HeaderList::response(alloc, status)?;
+    fields.passing(alloc, true, list)
+}
+
+/// Whether a response has no body, whatever its fields tell (RFC 9112 section 6.3).
+fn is_without_body(to_head: bool, status: u16) -> bool
+    ensures { result ≡ is_without_body to_head status }
+{
+    to_head || status < 200 || status == 204 || status == 304
+}
+
+/// What a gateway makes of a response head with this status and these fields.
+fn response_judged(
+    alloc: Global,
+    to_head: bool,
+    minor: u8,
+    status: u16,
+    fields: &Fields,
+) -> Result<Answer, OutOfMemory>
+    ensures { IfOk result (λ answer.
+        seen_answer answer ≡ response_judged to_head minor status (fields_of fields.now)) }
+{
+    let list = match response_list(alloc, status, fields) {
+        Ok(list) => list,
+        Err(end) => return Ok(Err(refusal_of(end, 502)?)),
+    };
+    let measure = bodied(
+        is_without_body(to_head, status),
+        response_measure(fields, minor),
+    );
+    Ok(measured(alloc, list, None, minor, fields, measure))
+}
+
+/// The head that a text begins with, if it has one of at most so many fields as there are spans for.
+fn spans_of(text: &[u8], headers: &mut [HeaderSpan]) -> Option<ResponseSpans>
+    ensures within { IfSome result (IsResponseWithin text.now headers.new) }
+    ensures some { IfSome result (IsResponseOf text.now headers.new) }
+    ensures none { IfNone result ((head : ResponseHead) (rest : List ℕ) → ReadsResponse text.now head rest
+        → length head.fields ≤ length headers.old → ⊥) }
+{
+    match parse_response(text, headers) {
+        Ok(Status::Complete(head)) => Some(head),
+        _ => None,
+    }
+}
+
+/// What the whole response head gives that takes the first `len` bytes of a text.
+pub fn response_answer(
+    alloc: Global,
+    text: &[u8],
+    len: usize,
+    to_head: bool,
+) -> Result<Answer, OutOfMemory>
+    requires fits { len ≤ length text.now }
+    requires limit { len ≤ head_limit }
+    requires cut { head_cut text.now ≡ whole len }
+    requires filled { skipped text.now ≡ 0 }
+    ensures { IfOk result (λ answer. IsResponseAnswer to_head (take len text.now) (seen_answer answer)) }
+{
+    let front = &text[..len];
+    let mut headers = [EMPTY_HEADER_SPAN; FIELD_LIMIT];
+    match spans_of(front, &mut headers) {
+        Some(head) => response_judged(
+            alloc,
+            to_head,
+            head.version,
+            head.code,
+            &Fields {
+                text: front,
+                spans: &headers[..head.headers],
+            },
+        ),
+        None => Ok(Err(502)),
+    }
+}
