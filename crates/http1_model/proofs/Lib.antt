@@ -1,3 +1,4 @@
+pub mod ChunkExamples
 pub mod Examples
 pub mod FieldLemmas
 pub mod GrammarLines

@@ -1,3 +1,6 @@
+pub mod ChunkExamples
+pub mod ChunkWire
+pub mod Chunks
 pub mod Examples
 pub mod Fields
 pub mod Head
@@ -7,4 +10,5 @@ pub mod Lines
 pub mod Listed
 pub mod Messages
 pub mod Target
+pub mod Trailers
 pub mod Wire

@@ -1,6 +1,7 @@
 //! What the bytes of an HTTP/1.1 line spell: definitions, worked examples and laws.
 #![tactic(auto)]
 
+ghost use Rattle.http1_model.specs.ChunkExamples.{WorkedBody, SizeExamples, PlaceExamples, TrailerExamples, ChunkWireExamples};
 ghost use Rattle.http1_model.specs.Examples.{WorkedHead, WorkedResponse, LineExamples, FieldExamples, WireExamples, LengthExamples, ResponseLengthExamples, BareExamples, ListExamples, TargetExamples, RefusalExamples};
 ghost use Rattle.http1_model.specs.Laws.{OneStep, StepStays, OneReading, ReadingGrows, RefusalStays, ToldAsReceived, ValuesAccepted, WholeFits, RequestListed, ResponseListed, FramedOnce, RequestTaken, ResponseTaken};
 
@@ -82,4 +83,13 @@ pub fn worked_examples()
     ensures lists { ListExamples }
     ensures targets { TargetExamples }
     ensures refusals { RefusalExamples }
+{}
+
+/// The definitions of the chunked coding, worked on texts that are written out.
+pub fn chunk_examples()
+    ensures body { WorkedBody }
+    ensures sizes { SizeExamples }
+    ensures places { PlaceExamples }
+    ensures trailers { TrailerExamples }
+    ensures wires { ChunkWireExamples }
 {}
