@@ -1,11 +1,12 @@
 -- The worked examples of the chunked coding, by computation.
-use Rattle.std.proofs.Common.{◌≡◌, ℕ, true, false, List, [], ◌∷◌, ◌++◌, get_or, None, Some, codes, refl, sym, ap, ◌∙◌, lit<, arith}
+use Rattle.std.proofs.Common.{◌≡◌, ℕ, false, List, [], ◌∷◌, ◌++◌, get_or, None, Some, codes, refl, sym, ap, ◌∙◌, lit<, arith}
 use Rattle.std.proofs.lemmas.Bool.{false≢true}
 use Rattle.std.specs.Prelude.{IsTrue}
 use Rattle.std.proofs.lemmas.List.Sums.{AllPass-from_list_all}
 use Rattle.std.proofs.lemmas.List.Elements.{All-cons, All-nil, All-head}
-use Rattle.httparse.specs.Grammar.{LineEnd, crlf, lf, print_end, Field, IsField, print_section, is_token_byte, is_value_byte, AllPass, ReadsSection}
+use Rattle.httparse.specs.Grammar.{LineEnd, crlf, lf, Field, IsField, print_section, is_token_byte, is_value_byte, AllPass, ReadsSection}
 use Rattle.httparse.proofs.OnLiterals.{httparse_on_literals}
+use Rattle.http1_model.specs.Chunks.{run_of}
 use Rattle.http1_model.specs.ChunkExamples.{WorkedBody, SizeExamples, PlaceExamples, TrailerExamples, ChunkWireExamples}
 
 pub size_examples : SizeExamples
@@ -101,7 +102,7 @@ no_blank_field (f ∷ fields) last reads =
     no_blank_name f.name f.raw f.end fields last (All-head IsField f fields reads.0).name.1 reads.1
 
 pub worked_body : WorkedBody
-unfolding httparse_on_literals sum_field blank_line
+unfolding httparse_on_literals sum_field blank_line run_of
 worked_body = record {
   data_first = refl;
   end_behind = record {

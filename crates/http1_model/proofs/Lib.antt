@@ -1,4 +1,5 @@
 pub mod ChunkExamples
+pub mod ChunkLaws
 pub mod Examples
 pub mod FieldLemmas
 pub mod GrammarLines

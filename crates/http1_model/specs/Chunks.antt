@@ -78,8 +78,12 @@ pub data Place : Type 0 where
   inside : ℕ → Place
   over : Place
 
--- what a text has next, from a place on: behind so many bytes of the coding stands a byte of data, of a chunk of which so many are
--- left; behind so many bytes, the last chunk's line with them, a trailer section is due; its front is there and no more; or
+-- where a body begins
+abbrev pub start : Place
+start = size_line
+
+-- what a text has next, from a place on: behind so many bytes of the coding stands a byte of data, of a chunk of which so many bytes are
+-- left, that byte among them; behind so many bytes, the last chunk's line with them, a trailer section is due; its front is there and no more; or
 -- it is malformed
 pub data Sought : Type 0 where
   data_at : ℕ → ℕ → Sought
@@ -137,7 +141,7 @@ if_data waiting other some = other
 if_data malformed other some = other
 
 -- The first `room` bytes of data that a text carries from a place on, or as many as there are.
-abbrev pub run_of : ℕ → Place → List ℕ → Run
+unfoldable pub run_of : ℕ → Place → List ℕ → Run
 run_of zero place text = no_run place
 run_of (suc room) place text =
     if_data (sought place text) (no_run place)

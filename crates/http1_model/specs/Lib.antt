@@ -1,4 +1,5 @@
 pub mod ChunkExamples
+pub mod ChunkLaws
 pub mod ChunkWire
 pub mod Chunks
 pub mod Examples

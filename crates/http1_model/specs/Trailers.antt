@@ -29,12 +29,14 @@ kept_trailers fields = trailers_among fields fields
 
 -- ---- sections
 
+-- the section at the front of a text, of which no more is looked at
+abbrev pub window_section : List ℕ → Cut
+window_section window = let lines = whole_lines window in cut_lines (length window) 0 (length lines) (section_of lines)
+
 -- Where a trailer section ends, its empty line with it. It has the bounds of a head, the last chunk's size line being its first
 -- line: 65,536 bytes from behind that line, and 100 field lines.
 abbrev pub section_cut : List ℕ → Cut
-section_cut text =
-    let window = take head_limit text in
-    let lines = whole_lines window in cut_lines (length window) 0 (length lines) (section_of lines)
+section_cut text = window_section (take head_limit text)
 
 -- the text of a whole section is read as field lines, of which these are kept
 pub record IsSectionText (front : List ℕ) (trailers : List Pair) : Type 0 where
@@ -73,6 +75,13 @@ IsEnd at text (whole len) step = EndsWith at (take len text) step
 IsEnd at text too_large step = step ≡ refused 400
 IsEnd at text unfinished step = step ≡ not_yet
 
+-- the place behind a step: that behind the data, that behind the body's end, or the place as it was
+abbrev pub place_after : chunks.Place → ChunkStep → chunks.Place
+place_after place (carried run) = run.place
+place_after place (ended trailers used) = chunks.over
+place_after place not_yet = place
+place_after place (refused number) = place
+
 -- how many bytes of data come at a time, at most
 abbrev pub piece_limit : ℕ
 piece_limit = 16384
@@ -84,7 +93,8 @@ IsBehind place text chunks.waiting step = step ≡ not_yet
 IsBehind place text chunks.malformed step = step ≡ refused 400
 
 -- What a text spells from a place in a chunked body on: up to 16,384 bytes of data, however many chunks they come in; or the
--- body's end; or nothing as yet; or it is refused, as soon as no bytes that follow can make it the coding. (Malformed: 400. Of a
--- response it is the reader of messages that says 502.)
+-- body's end; or nothing as yet; or it is refused. A size line and the CR LF behind a chunk's data are refused as soon as no
+-- bytes that follow can make them right, a trailer section when its empty line has come or it is past a bound. (Malformed: 400.
+-- Of a response it is the reader of messages that says 502.)
 abbrev pub SpellsChunks : chunks.Place → List ℕ → ChunkStep → Type 0
 SpellsChunks place text step = IsBehind place text (chunks.sought place text) step

@@ -2,6 +2,7 @@
 #![tactic(auto)]
 
 ghost use Rattle.http1_model.specs.ChunkExamples.{WorkedBody, SizeExamples, PlaceExamples, TrailerExamples, ChunkWireExamples};
+ghost use Rattle.http1_model.specs.ChunkLaws.{OneChunkStep, SizeStays, SoughtStays, RunsJoin, LastStepStays};
 ghost use Rattle.http1_model.specs.Examples.{WorkedHead, WorkedResponse, LineExamples, FieldExamples, WireExamples, LengthExamples, ResponseLengthExamples, BareExamples, ListExamples, TargetExamples, RefusalExamples};
 ghost use Rattle.http1_model.specs.Laws.{OneStep, StepStays, OneReading, ReadingGrows, RefusalStays, ToldAsReceived, ValuesAccepted, WholeFits, RequestListed, ResponseListed, FramedOnce, RequestTaken, ResponseTaken};
 
@@ -92,4 +93,29 @@ pub fn chunk_examples()
     ensures places { PlaceExamples }
     ensures trailers { TrailerExamples }
     ensures wires { ChunkWireExamples }
+{}
+
+/// From a place in a chunked body on, a text spells one thing.
+pub fn one_chunk_step()
+    ensures { OneChunkStep }
+{}
+
+/// A size line stays the size line of every longer text, and what can be none stays none.
+pub fn size_stays()
+    ensures { SizeStays }
+{}
+
+/// A byte of data, the place of a trailer section and a fault stay those of every longer text.
+pub fn sought_stays()
+    ensures { SoughtStays }
+{}
+
+/// The data of a longer text is that of its front, and then what is carried from the place behind it.
+pub fn runs_join()
+    ensures { RunsJoin }
+{}
+
+/// An end or a refusal that a text spells in a chunked body, every longer text spells.
+pub fn last_step_stays()
+    ensures { LastStepStays }
 {}
