@@ -1,0 +1,5 @@
+pub mod Ends
+pub mod Lists
+pub mod Runs
+pub mod Sections
+pub mod Sizes

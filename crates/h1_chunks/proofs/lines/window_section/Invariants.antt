@@ -1,0 +1,16 @@
+use Rattle.std.proofs.Common.{◌≡◌, ◌≤◌, length, drop, ◌-◌}
+use Rattle.http1_model.specs.Lines.{whole_lines}
+use Rattle.http1_model.specs.Trailers.{window_section}
+use Rattle.http1_model.proofs.LineLemmas.{cut_from}
+use Rattle.h1_chunks.proofs.lines.window_section.Given as goal
+
+-- what is left gives the cut of the whole
+abbrev pub invariant-loop-len : goal.invariant-loop-len
+invariant-loop-len l = record {
+  within : l.at ≤ length l.window;
+  few : l.lines ≤ l.at;
+  cut : cut_from (length l.window) l.at l.lines (whole_lines (drop l.at l.window)) ≡ window_section l.window;
+}
+
+abbrev pub decreases-loop-len : goal.decreases-loop-len
+decreases-loop-len l = length l.window - l.at

@@ -1,0 +1,31 @@
+-- What an answer of the reader says.
+use Rattle.std.specs.Prelude.{◌≡◌, ◌≤◌, ⊤, ℕ, List}
+use Rattle.http1_model.specs.Chunks.{Place, Run}
+use Rattle.http1_model.specs.Trailers as model
+use Rattle.h1_chunks.specs.declared.reader.ChunkStep as step
+use Rattle.h1_chunks.specs.declared.reader.ChunkStep.TheVariants as steps
+use Rattle.h1_chunks.specs.declared.reader.Run as run
+use Rattle.h1_chunks.specs.Seen.{seen_place}
+
+-- bytes of data with what they use up, as a run
+abbrev pub seen_run : run.Run → Run
+seen_run r = record { bytes = r.bytes; used = r.used; place = seen_place r.place }
+
+-- the step that a value says, where this is the place behind it
+abbrev pub seen_step : Place → step.ChunkStep → model.ChunkStep
+seen_step behind (steps.Data bytes used) = model.carried (record { bytes = bytes; used = used; place = behind })
+seen_step behind (steps.End trailers used) = model.ended trailers.pairs used
+seen_step behind steps.NotYet = model.not_yet
+seen_step behind (steps.Refused number) = model.refused number
+
+-- from the place on, the text spells the step, and this is the place behind it
+pub record Answers (place : Place) (text : List ℕ) (step : step.ChunkStep) (behind : Place) : Type 0 where
+  pub spelled : model.SpellsChunks place text (seen_step behind step)
+  pub leaves : behind ≡ model.place_after place (seen_step behind step)
+
+-- a step uses up at most so many bytes
+abbrev pub UsesWithin : ℕ → step.ChunkStep → Type 0
+UsesWithin n (steps.Data bytes used) = used ≤ n
+UsesWithin n (steps.End trailers used) = used ≤ n
+UsesWithin n steps.NotYet = ⊤
+UsesWithin n (steps.Refused number) = ⊤

@@ -1,0 +1,57 @@
+-- The places and steps of the model that the code's values say.
+use Rattle.std.specs.Prelude.{◌≡◌, ◌≤◌, ◌<◌, ⊤, ℕ, ◌+◌, ◌^◌, List, Option, None, Some, Result, Ok, Err}
+use Rattle.http1_model.specs.Fields.{Pair}
+use Rattle.http1_model.specs.Chunks as model
+use Rattle.http1_model.specs.Lines as lines
+use Rattle.http1_model.specs.Trailers as trailers
+use Rattle.header_maps.specs.Headers.{Headers}
+use Rattle.h1_chunks.specs.declared.lines.Cut as cut
+use Rattle.h1_chunks.specs.declared.lines.Cut.TheVariants as cuts
+use Rattle.h1_chunks.specs.declared.size.SizeStep as size
+use Rattle.h1_chunks.specs.declared.size.SizeStep.TheVariants as sizes
+use Rattle.h1_chunks.specs.declared.place.Place as place
+use Rattle.h1_chunks.specs.declared.place.Place.TheVariants as places
+use Rattle.h1_chunks.specs.declared.place.Sought as sought
+use Rattle.h1_chunks.specs.declared.place.Sought.TheVariants as soughts
+
+-- what a text spells where a size line is due
+abbrev pub seen_size : size.SizeStep → model.SizeStep
+seen_size (sizes.Size n used) = model.sized n used
+seen_size sizes.Open = model.size_open
+seen_size sizes.Malformed = model.no_size
+
+-- a size line lies within so many bytes
+abbrev pub SizeWithin : ℕ → size.SizeStep → Type 0
+SizeWithin n (sizes.Size size used) = used ≤ n
+SizeWithin n sizes.Open = ⊤
+SizeWithin n sizes.Malformed = ⊤
+
+abbrev pub seen_place : place.Place → model.Place
+seen_place places.SizeLine = model.size_line
+seen_place (places.Inside left) = model.inside left
+seen_place places.Over = model.over
+
+abbrev pub seen_sought : sought.Sought → model.Sought
+seen_sought (soughts.Data at left) = model.data_at at left
+seen_sought (soughts.Section at) = model.section_at at
+seen_sought soughts.Waiting = model.waiting
+seen_sought soughts.Malformed = model.malformed
+
+-- a byte of data, or a section, lies within so many bytes
+abbrev pub SoughtWithin : ℕ → sought.Sought → Type 0
+SoughtWithin n (soughts.Data at left) = (at < n) × (0 < left)
+SoughtWithin n (soughts.Section at) = at ≤ n
+SoughtWithin n soughts.Waiting = ⊤
+SoughtWithin n soughts.Malformed = ⊤
+
+-- the cut that a value says
+abbrev pub seen_cut : cut.Cut → lines.Cut
+seen_cut (cuts.Whole len) = lines.whole len
+seen_cut cuts.TooLarge = lines.too_large
+seen_cut cuts.Unfinished = lines.unfinished
+
+-- a whole section lies within so many bytes
+abbrev pub CutWithin : ℕ → cut.Cut → Type 0
+CutWithin n (cuts.Whole len) = len ≤ n
+CutWithin n cuts.TooLarge = ⊤
+CutWithin n cuts.Unfinished = ⊤

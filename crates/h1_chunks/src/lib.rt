@@ -1,0 +1,14 @@
+//! The chunked coding of HTTP/1.1: from a body's bytes to its data and its trailers.
+#![tactic(auto)]
+
+mod lines;
+mod members;
+mod place;
+mod reader;
+mod section;
+mod size;
+
+pub use reader::{ChunkReader, ChunkStep};
+
+#[cfg(test)]
+mod tests;

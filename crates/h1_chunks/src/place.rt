@@ -1,0 +1,89 @@
+// Places in the chunked coding, and the next byte of data.
+ghost use Rattle.std.specs.Prelude.{◌≡◌, ◌≤◌, ◌+◌, ◌<◌, ◌^◌, length};
+ghost use Rattle.http1_model.specs.Chunks.{behind_size, behind_data, moved, sought};
+ghost use Rattle.h1_chunks.specs.Seen.{seen_size, SizeWithin, seen_place, seen_sought, SoughtWithin};
+
+use crate::size::{SizeStep, size_step};
+
+/// What is due in a chunked body.
+#[derive(Clone, Copy, Debug, PartialEq, Eq)]
+pub enum Place {
+    /// A size line.
+    SizeLine,
+    /// So many bytes of a chunk's data, and then CR LF.
+    Inside(u64),
+    /// Nothing, behind the body's end.
+    Over,
+}
+
+/// What a text has next, from a place on.
+#[derive(Clone, Copy)]
+pub enum Sought {
+    /// Behind `at` bytes of the coding a byte of data, of a chunk of which `left` bytes are left.
+    Data { at: usize, left: u64 },
+    /// Behind `at` bytes, the last chunk's line with them, a trailer section.
+    Section { at: usize },
+    /// Its front, and no more.
+    Waiting,
+    /// What no bytes that follow can make the coding.
+    Malformed,
+}
+
+/// What stands behind a size line.
+fn behind_size(text: &[u8], step: SizeStep) -> Sought
+    requires { SizeWithin (length text.now) step }
+    ensures sought { seen_sought result ≡ behind_size text.now (seen_size step) }
+    ensures within { SoughtWithin (length text.now) result }
+{
+    match step {
+        SizeStep::Size { size: 0, used } => Sought::Section { at: used },
+        SizeStep::Size { size, used } if used < text.len() => Sought::Data {
+            at: used,
+            left: size,
+        },
+        SizeStep::Size { .. } | SizeStep::Open => Sought::Waiting,
+        SizeStep::Malformed => Sought::Malformed,
+    }
+}
+
+/// The same behind two bytes more.
+fn behind_two(sought: Sought, len: usize) -> Sought
+    requires within { SoughtWithin len sought }
+    requires room { 2 + len < 2 ^ 64 }
+    ensures sought { seen_sought result ≡ moved 2 (seen_sought sought) }
+    ensures within { SoughtWithin (2 + len) result }
+{
+    match sought {
+        Sought::Data { at, left } => Sought::Data { at: 2 + at, left },
+        Sought::Section { at } => Sought::Section { at: 2 + at },
+        Sought::Waiting => Sought::Waiting,
+        Sought::Malformed => Sought::Malformed,
+    }
+}
+
+/// What stands behind the last byte of a chunk's data: CR LF, and then a size line.
+fn behind_data(text: &[u8]) -> Sought
+    ensures sought { seen_sought result ≡ behind_data text.now }
+    ensures within { SoughtWithin (length text.now) result }
+{
+    match text {
+        [] | [b'\r'] => Sought::Waiting,
+        [b'\r', b'\n', rest @ ..] => behind_two(behind_size(rest, size_step(rest)), rest.len()),
+        _ => Sought::Malformed,
+    }
+}
+
+impl Place {
+    /// What a text has next, from the place on.
+    pub fn sought(self, text: &[u8]) -> Sought
+        ensures sought { seen_sought result ≡ sought (seen_place self) text.now }
+        ensures within { SoughtWithin (length text.now) result }
+    {
+        match self {
+            Place::SizeLine => behind_size(text, size_step(text)),
+            Place::Inside(0) => behind_data(text),
+            Place::Inside(left) if !text.is_empty() => Sought::Data { at: 0, left },
+            Place::Inside(_) | Place::Over => Sought::Waiting,
+        }
+    }
+}

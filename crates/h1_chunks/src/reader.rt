@@ -1,0 +1,149 @@
+// The reader of a chunked body.
+ghost use Rattle.std.specs.Prelude.{◌≡◌, ◌≤◌, ◌<◌, length, IfOk, OnErr};
+ghost use Rattle.http1_model.specs.Chunks.{start, sought, section_at, run_of};
+ghost use Rattle.http1_model.specs.Trailers.{piece_limit};
+ghost use Rattle.h1_chunks.specs.Answers.{seen_run, Answers, UsesWithin};
+ghost use Rattle.h1_chunks.specs.Seen.{seen_place};
+
+use crate::lines::{Cut, section_cut};
+use crate::place::{Place, Sought};
+use crate::section::trailers;
+use gate_base::{Octets, OutOfMemory};
+use header_maps::HeaderList;
+use std::alloc::Global;
+use std::marker::Model;
+
+/// How many bytes of data come at a time, at most.
+const PIECE_LIMIT: usize = 16_384;
+
+/// What a text spells in a chunked body.
+#[derive(Debug, Drop)]
+pub enum ChunkStep {
+    /// 1 to 16,384 bytes of data, however many chunks they come in, and how many bytes of the text they use up.
+    Data { bytes: Octets, used: usize },
+    /// The body's end with its trailers, of which none may be left, and how many bytes of the text it uses up.
+    End { trailers: HeaderList, used: usize },
+    /// Nothing as yet.
+    NotYet,
+    /// What is not the coding: the status of the answer, 400.
+    Refused { number: u16 },
+}
+
+/// Bytes of data, how many bytes of the text they take, and the place behind them.
+#[derive(Drop)]
+pub struct Run {
+    pub bytes: Octets,
+    pub used: usize,
+    pub place: Place,
+}
+
+/// Reads a chunked body (RFC 9112 section 7.1). It keeps its place in the coding and no bytes; clauses see the place.
+#[derive(Debug, Drop)]
+pub struct ChunkReader {
+    place: Place,
+}
+
+impl Model for ChunkReader {
+    ghost use Rattle.http1_model.specs.Chunks.{Place};
+    ghost use Rattle.h1_chunks.specs.Seen.{seen_place};
+
+    ghost Value = { Place };
+
+    ghost view = { λ r. seen_place r.place };
+}
+
+/// How many bytes come next: those that are there, of those that are left in the chunk, of those that there is room for.
+fn next_len(there: usize, left: u64, room: usize) -> usize
+    ensures there { result ≤ there }
+    ensures left { result ≤ left }
+    ensures room { result ≤ room }
+    ensures some { 0 < there → 0 < left → 0 < room → 0 < result }
+{
+    let most = there.min(room);
+    if left < most as u64 {
+        left as usize
+    } else {
+        most
+    }
+}
+
+/// The first 16,384 bytes of data that a text carries from a place on, or as many as there are.
+fn run_from(alloc: Global, place: Place, text: &[u8]) -> Result<Run, OutOfMemory>
+    ensures run { IfOk result (λ run. seen_run run ≡ run_of piece_limit (seen_place place) text.now) }
+    ensures within { IfOk result (λ run. run.used ≤ length text.now) }
+{
+    let mut run = Run {
+        bytes: Octets::new(alloc),
+        used: 0,
+        place,
+    };
+    while run.bytes.len() < PIECE_LIMIT {
+        let rest = &text[run.used..];
+        let Sought::Data { at, left } = run.place.sought(rest) else {
+            break;
+        };
+        let len = next_len(rest.len() - at, left, PIECE_LIMIT - run.bytes.len());
+        run.bytes.extend_from_slice(&rest[at..at + len])?;
+        run.used += at + len;
+        run.place = Place::Inside(left - len as u64);
+    }
+    Ok(run)
+}
+
+impl ChunkReader {
+    /// The reader of a body of which nothing has come. It takes no memory.
+    pub fn new() -> Self
+        ensures { result ≡ start }
+    {
+        ChunkReader {
+            place: Place::SizeLine,
+        }
+    }
+
+    /// What a text spells from the reader's place on. The text is what follows the bytes that earlier answers used. Data comes
+    /// as soon as a byte of it is there. After the body's end the answer is `NotYet`; a refusal comes again.
+    pub fn next(&mut self, alloc: Global, text: &[u8]) -> Result<ChunkStep, OutOfMemory>
+        ensures ok { IfOk result (λ step. Answers self.old text.now step self.new) }
+        ensures within { IfOk result (UsesWithin (length text.now)) }
+        ensures err { OnErr result (self.new ≡ self.old) }
+    {
+        match self.place.sought(text) {
+            Sought::Data { .. } => {
+                let run = run_from(alloc, self.place, text)?;
+                self.place = run.place;
+                Ok(ChunkStep::Data {
+                    bytes: run.bytes,
+                    used: run.used,
+                })
+            }
+            Sought::Section { at } => self.end(alloc, text, at),
+            Sought::Waiting => Ok(ChunkStep::NotYet),
+            Sought::Malformed => Ok(ChunkStep::Refused { number: 400 }),
+        }
+    }
+
+    /// What the text spells behind the last chunk's line, which ends at a place.
+    fn end(&mut self, alloc: Global, text: &[u8], at: usize) -> Result<ChunkStep, OutOfMemory>
+        requires sought { sought self.old text.now ≡ section_at at }
+        requires within { at ≤ length text.now }
+        ensures ok { IfOk result (λ step. Answers self.old text.now step self.new) }
+        ensures within { IfOk result (UsesWithin (length text.now)) }
+        ensures err { OnErr result (self.new ≡ self.old) }
+    {
+        let rest = &text[at..];
+        match section_cut(rest) {
+            Cut::Whole { len } => match trailers(alloc, rest, len)? {
+                Some(trailers) => {
+                    self.place = Place::Over;
+                    Ok(ChunkStep::End {
+                        trailers,
+                        used: at + len,
+                    })
+                }
+                None => Ok(ChunkStep::Refused { number: 400 }),
+            },
+            Cut::TooLarge => Ok(ChunkStep::Refused { number: 400 }),
+            Cut::Unfinished => Ok(ChunkStep::NotYet),
+        }
+    }
+}
