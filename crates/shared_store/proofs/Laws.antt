@@ -8,7 +8,6 @@ use Rattle.atomic_table.proofs.Lists.{at_map, at_longer, at_last}
 use Rattle.store_model.specs.History.{IsLegal, store_acts}
 use Rattle.store_model.specs.Made.{Made}
 use Rattle.turn_table.specs.declared.view.Ended.{Ended}
-use Rattle.store_model.specs.declared.entry.Entry.{Entry}
 use Rattle.turn_table.specs.Views.{ended}
 use Rattle.turn_table.specs.Seats.{Seated, TurnTableId, IsSameSeat, Joined, HasAll, first_seat, next_seat}
 use Rattle.turn_table.proofs.Places.{at_below}
@@ -47,7 +46,7 @@ joined_at tables old ended new p q j = same_map table_of old new j.as_many
     ap (λ (s : Seated). s.table) (j.each k v u.0 w at_v u.1 at_w).seat) ∙ p
 
 -- a member of a mapped list comes of one
-mapped_of : {A B : Type 0} (f : A → B) (l : List A) (k : ℕ) (b : B) → get_elem? (map f l) k ≡ some b → (a : A) × (get_elem? l k ≡ some a) × (f a ≡ b)
+pub mapped_of : {A B : Type 0} (f : A → B) (l : List A) (k : ℕ) (b : B) → get_elem? (map f l) k ≡ some b → (a : A) × (get_elem? l k ≡ some a) × (f a ≡ b)
 mapped_of f [] k b e = absurd (some-ne-none b (sym e))
 mapped_of f (x ∷ l) zero b e = (x, refl, some-injective (f x) b e)
 mapped_of f (x ∷ l) (suc k) b e = mapped_of f l k b e
@@ -83,7 +82,7 @@ each_mapped : (f : Seated → Seated) (P Q : Seated → Type 0) → ((v : Seated
 each_mapped f P Q more seats each vm w at = let m = mapped_of f seats vm w at in subst Q m.2 (more m.0 (each vm m.0 m.1))
 
 -- a fact of each seat that holds of what it goes on to
-each_on : (Q : Seated → Type 0) (old new : List Seated) (calls : List Made) → SeatsGoOn old calls new → ((v w : Seated) → IsSameSeat v w → Q v → Q w) → ((vm : ℕ) (v : Seated) → get_elem? old vm ≡ some v → Q v) → (vm : ℕ) (w : Seated) → get_elem? new vm ≡ some w → Q w
+pub each_on : (Q : Seated → Type 0) (old new : List Seated) (calls : List Made) → SeatsGoOn old calls new → ((v w : Seated) → IsSameSeat v w → Q v → Q w) → ((vm : ℕ) (v : Seated) → get_elem? old vm ≡ some v → Q v) → (vm : ℕ) (w : Seated) → get_elem? new vm ≡ some w → Q w
 each_on Q old new calls goes keeps each vm w at =
     let v = there old vm (let h = at_below new vm w at in let e = goes.as_many in omega arith) in
     keeps v.0 w (goes.each vm v.0 w v.1 at).same (each vm v.0 v.1)
@@ -142,7 +141,7 @@ first_joins tables given joined old ended new p q f of j = record {
         (v.0, v.1, u.0, u.1, j.each vm v.0 u.0 w v.1 u.1 at)
 
 -- a fact of each seat by its VM is one of all seats
-all_seats : (P : Seated → Type 0) (seats : List Seated) → ((vm : ℕ) (v : Seated) → get_elem? seats vm ≡ some v → P v) → All P seats
+pub all_seats : (P : Seated → Type 0) (seats : List Seated) → ((vm : ℕ) (v : Seated) → get_elem? seats vm ≡ some v → P v) → All P seats
 all_seats P seats each k d h = let v = there seats k h in subst P (sym (get_at seats k v.0 d v.1)) (each k v.0 v.1)
 
 pub may_split : (given joined : ℕ) (seats : List Seated) → given < 8 → AreFirst given joined seats → All (λ s. (s.number ≡ 1) × (s.given < 8)) seats

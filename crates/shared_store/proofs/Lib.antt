@@ -1,4 +1,5 @@
 mod Crew
+mod Gathering
 mod Laws
 mod Meets
 mod One

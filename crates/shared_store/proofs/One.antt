@@ -1,5 +1,5 @@
 -- One call on one seat.
-use Rattle.std.proofs.Common.{Result, Ok, Err, IfOk, ◌≡◌, ◌≢◌, ℕ, List, [], ◌∷◌, ◌++◌, cond, map, set, refl, ap, sym, subst, ◌∙◌, ⊎_elim, ◌⊎◌, append_assoc, length-set, eq-eqb, ne_eqb}
+use Rattle.std.proofs.Common.{Result, Ok, Err, IfOk, ◌≡◌, ◌≢◌, ℕ, List, [], ◌∷◌, ◌++◌, cond, map, set, refl, ap, sym, subst, ◌∙◌, ⊎_elim, append_assoc, length-set, eq-eqb, ne_eqb}
 use Rattle.std.specs.Prelude.{OnErr}
 use Rattle.std.proofs.lemmas.List.{append-nil}
 use lib.Seq.{map-set}
@@ -73,6 +73,10 @@ module _ {A E : Type 0} where
   pub ok_more : (r : Result A E) (P Q : A → Type 0) → ((x : A) → P x → Q x) → IfOk r P → IfOk r Q
   ok_more (Ok x) P Q f h = f x h
   ok_more (Err e) P Q f h = tt
+
+  pub ok_both : (r : Result A E) (P Q R : A → Type 0) → ((x : A) → P x → Q x → R x) → IfOk r P → IfOk r Q → IfOk r R
+  ok_both (Ok x) P Q R f p q = f x p q
+  ok_both (Err e) P Q R f p q = tt
 
   pub err_more : (r : Result A E) (P Q : Type 0) → (P → Q) → OnErr r P → OnErr r Q
   err_more (Ok x) P Q f h = tt

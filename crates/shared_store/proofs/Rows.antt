@@ -1,5 +1,5 @@
 -- Seats by their places.
-use Rattle.std.proofs.Common.{◌≡◌, ◌≢◌, ◌⊎◌, ℕ, zero, suc, ◌+◌, ◌<◌, ◌≤◌, List, [], ◌∷◌, ◌++◌, All, map, length, get_or, set, take, drop, refl, ap, sym, subst, ◌∙◌, ⊎_elim, inl, inr, arith, length-set, append_assoc}
+use Rattle.std.proofs.Common.{◌≡◌, ◌≢◌, ℕ, zero, suc, ◌+◌, ◌<◌, ◌≤◌, List, [], ◌∷◌, ◌++◌, All, map, length, get_or, set, take, drop, refl, ap, sym, subst, ◌∙◌, ⊎_elim, arith, length-set, append_assoc}
 use mathlib.Core.Option.{some, some-injective, some-ne-none}
 use lib.ListN.{get_elem?, length-map}
 use Rattle.atomic_table.proofs.Lists.{at_set, at_index, at_map, at_longer, at_last}

@@ -6,7 +6,6 @@ use Rattle.atomic_table.specs.Seated.{TableId}
 use Rattle.store_model.specs.Made.{Made, made, entries_on}
 use Rattle.store_model.specs.declared.call.Reply.{Reply}
 use Rattle.store_model.specs.declared.call.Reply.TheVariants.{Done, CasMismatch}
-use Rattle.store_model.specs.declared.entry.Entry.{Entry}
 use Rattle.shared_store.specs.Moving.{GoesOn}
 use Rattle.shared_store.specs.SeatRows.{second_at, first_done, second_stale, call_on_second_table, call_on_wrong_table, reply_of_an_old_copy, begun_anew}
 use Rattle.turn_table.specs.Rows.{set_k}

@@ -1,8 +1,8 @@
 -- Worked examples: what calls over seats come to, and what they do not.
-use Rattle.std.specs.Prelude.{◌≡◌, ℕ, List, [], ◌∷◌}
+use Rattle.std.specs.Prelude.{ℕ, List, [], ◌∷◌}
 use Rattle.atomic_table.specs.Seated.{TableId}
 use Rattle.store_model.specs.History.{entry}
-use Rattle.store_model.specs.Made.{Made, made}
+use Rattle.store_model.specs.Made.{made}
 use Rattle.store_model.specs.declared.call.Reply.TheVariants.{Done, CasMismatch}
 use Rattle.store_model.specs.declared.entry.Entry.{Entry}
 use Rattle.turn_table.specs.Rows.{set_k}

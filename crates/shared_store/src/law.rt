@@ -3,6 +3,8 @@ ghost use Rattle.std.specs.Prelude.{◌≡◌, ◌<◌, ◌+◌, ℕ, List, All}
 ghost use Rattle.shared_store.specs.Moving.{SeatsGoOn};
 ghost use Rattle.shared_store.specs.SeatRows.{call_on_second_table, call_on_wrong_table, reply_of_an_old_copy, begun_anew};
 ghost use Rattle.shared_store.specs.Tables.{AreAt, AreFirst, AreLegal, AreNumbered, AreOf, SeatsJoined, after_split, first_seats, next_seats};
+ghost use Rattle.shared_store.specs.Workers.{AreAll, ListsGoOn};
+ghost use Rattle.std.specs.Global.{Vec};
 ghost use Rattle.store_model.specs.Made.{Made};
 ghost use Rattle.turn_table.specs.Seats.{HasAll, Seated, TurnTableId};
 
@@ -40,4 +42,9 @@ pub fn workers_come_and_go()
     ensures may_split { (given joined : ℕ) (seats : List Seated) → given < 8 → AreFirst given joined seats → All (λ s. (s.number ≡ 1) × (s.given < 8)) seats }
     ensures may_join { (given joined : ℕ) (seats : List Seated) → AreFirst given joined seats → All (λ s. s.number ≡ 1) seats }
     ensures may_shut { (given : ℕ) (seats : List Seated) → AreFirst given given seats → All (λ s. (s.number ≡ 1) × HasAll s) seats }
+{}
+
+/// All seats are still there after calls of each worker.
+pub fn no_seat_gets_lost()
+    ensures { (tables : List TurnTableId) (old new : List (Vec Seated)) → AreAll tables old → ListsGoOn old new → AreAll tables new }
 {}

@@ -6,6 +6,7 @@ mod alone;
 mod asks;
 mod closed;
 mod law;
+mod lists;
 mod seats;
 mod store;
 mod tables;
@@ -14,7 +15,8 @@ mod turned;
 pub use alone::Alone;
 pub use closed::{ClosedStore, ClosedStores};
 pub use law::{
-    seats_stay_at_their_tables, what_seats_have_seen_is_legal, worked_seats, workers_come_and_go,
+    no_seat_gets_lost, seats_stay_at_their_tables, what_seats_have_seen_is_legal, worked_seats,
+    workers_come_and_go,
 };
 pub use seats::StoreSeat;
 pub use shared_queues::OctetsList;

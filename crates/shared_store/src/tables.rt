@@ -1,6 +1,6 @@
 // The turn tables of all stores.
 ghost use Rattle.std.specs.Prelude.{◌≡◌, ◌<◌, ◌≤◌, length, All, IfOk, OnErr};
-ghost use Rattle.shared_store.specs.Tables.{AreAt, first_seats, after_split, next_seats, SeatsJoined, TablesClosed};
+ghost use Rattle.shared_store.specs.Tables.{AreAt, AreNumbered, first_seats, after_split, next_seats, SeatsJoined, TablesClosed};
 ghost use Rattle.turn_table.specs.Seats.{HasAll};
 
 use crate::{ClosedStore, ClosedStores, Store};
@@ -35,6 +35,7 @@ impl Tables {
     pub fn new(alloc: Global, vms: u8) -> Result<(Tables, Vec<Seat>), OutOfMemory>
         requires { vms ≤ 16 }
         ensures tables { IfOk result (λ t. length t.0 ≡ vms) }
+        ensures numbered { IfOk result (λ t. AreNumbered t.0) }
         ensures seats { IfOk result (λ t. t.1.items ≡ first_seats t.0) }
     {
         let closed = Vec::with_capacity(alloc, usize::from(vms))?;
@@ -79,10 +80,11 @@ impl Tables {
     }
 
     /// Ends the tables, at which no other seat is left. It takes no memory.
-    pub fn shut(self, seats: Vec<Seat>) -> ClosedStores
+    pub fn close(self, seats: Vec<Seat>) -> ClosedStores
         requires at { AreAt self seats.items }
         requires first { All (λ s. (s.number ≡ 1) × HasAll s) seats.items }
-        ensures { TablesClosed seats.items result }
+        ensures closed { TablesClosed seats.items result }
+        ensures numbered { AreNumbered self }
     {
         let Tables { tables, closed } = self;
         let mut stores = closed;

@@ -1,4 +1,4 @@
-use Rattle.std.proofs.Common.{◌≡◌, ◌<◌, length, map, set, sym, subst, ◌∙◌}
+use Rattle.std.proofs.Common.{◌<◌, length, map, sym, subst, ◌∙◌}
 use Rattle.atomic_table.proofs.Lists.{at_index}
 use Rattle.store_model.specs.History.{store_acts}
 use Rattle.turn_table.specs.Seats.{Called, Refused}

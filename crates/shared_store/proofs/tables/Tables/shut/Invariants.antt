@@ -1,17 +1,13 @@
-use Rattle.std.proofs.Common.{◌≡◌, ◌≤◌, length, drop, ◌++◌, vec_capacity}
+use Rattle.std.proofs.Common.{◌≡◌, ◌++◌, drop, length}
 use Rattle.std.specs.Vec.Iter.{into_iter_items, into_iter_len}
-use Rattle.shared_store.proofs.Rows.{ClosedSoFar}
+use Rattle.shared_store.proofs.Gathering.{Gathered}
 use Rattle.shared_store.proofs.tables.Tables.shut.Given as goal
 
--- the tables so far were closed with their seats, and there is room for the stores of the others
-abbrev pub invariant-loop-table : goal.invariant-loop-table
-invariant-loop-table l =
-    (goal.iterator-loop-table).can_next l.table-iterator
-    × (goal.iterator-loop-table).is_finite l.table-iterator
-    × (length (into_iter_items l.table-iterator) ≡ into_iter_len l.table-iterator)
-    × (l.yielded ++ into_iter_items l.table-iterator ≡ l.fn.self)
-    × (into_iter_items l.rest ≡ drop (length l.yielded) l.fn.seats.items)
-    × (length (into_iter_items l.rest) ≡ into_iter_len l.rest)
-    × (length l.stores.items ≡ length l.yielded)
-    × ClosedSoFar l.fn.seats.items l.stores.items
-    × (length l.fn.self ≤ vec_capacity l.stores)
+-- the lists so far were joined
+abbrev pub invariant-loop-seats : goal.invariant-loop-seats
+invariant-loop-seats l =
+    (goal.iterator-loop-seats).can_next l.seats-iterator
+    × (goal.iterator-loop-seats).is_finite l.seats-iterator
+    × (length (into_iter_items l.seats-iterator) ≡ into_iter_len l.seats-iterator)
+    × (l.yielded ++ into_iter_items l.seats-iterator ≡ drop 1 l.fn.lists.items)
+    × Gathered l.fn.self l.fn.lists.items (length l.yielded) l.first.items

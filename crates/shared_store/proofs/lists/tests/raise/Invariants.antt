@@ -1,6 +1,6 @@
 use Rattle.std.proofs.Common.{◌≡◌, List}
 use Rattle.store_model.specs.Made.{Made}
-use Rattle.shared_store.proofs.seats.tests.set_in_turn.Given as goal
+use Rattle.shared_store.proofs.lists.tests.raise.Given as goal
 
 -- calls were made, and the stores are as many
 abbrev pub invariant-loop : goal.invariant-loop
