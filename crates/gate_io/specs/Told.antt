@@ -1,5 +1,5 @@
 -- What an object of the outside tells of its content: `Some` of it, or `None` where it does not tell.
-use Rattle.std.specs.Prelude.{◌≡◌, ℕ, ◌-◌, ◌^◌, ◌<◌, ◌≤◌, List, [], ◌++◌, length, Option, None, Some, Result, Ok, Err, refl}
+use Rattle.std.specs.Prelude.{◌≡◌, ℕ, ◌-◌, ◌^◌, ◌<◌, List, [], ◌++◌, Option, None, Some, Result, Ok, Err, refl}
 use Rattle.std.proofs.Common.{append_assoc, ap, sym, ◌∙◌}
 use Rattle.std.proofs.lemmas.List.{append-nil}
 

@@ -1,4 +1,4 @@
-use Rattle.std.proofs.Common.{arith, ℕ, length-take, ◌+◌, ◌≤◌, length, take}
+use Rattle.std.proofs.Common.{arith, ℕ, length-take, take}
 use Rattle.gate_io.proofs.Fronts.{on_err, took_more}
 use Rattle.gate_io.proofs.source.read_whole.Goals as goal
 

@@ -1,4 +1,4 @@
-use Rattle.std.proofs.Common.{◌≡◌, ◌+◌, ◌≤◌, ℕ, length, ◌-◌}
+use Rattle.std.proofs.Common.{◌≡◌, ◌+◌, ◌≤◌, length, ◌-◌}
 use Rattle.gate_io.specs.Told.{Loses}
 use Rattle.gate_io.proofs.source.read_whole.Given as goal
 
