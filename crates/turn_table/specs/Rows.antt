@@ -13,7 +13,7 @@ use Rattle.turn_table.specs.declared.view.View.{View}
 use Rattle.turn_table.specs.Histories.{value_after, IsLegalFor}
 use Rattle.turn_table.specs.Rule.{Kept, AreApart}
 use Rattle.turn_table.specs.Seats.{Seated, turn_table, Called}
-use Rattle.turn_table.specs.Views.{first_view, after_split, split_off, longer, ended}
+use Rattle.turn_table.specs.Views.{first_view, after_split, split_off, longer}
 
 -- the key "k" is set to this byte
 abbrev pub set_k : ℕ → ℕ → Call

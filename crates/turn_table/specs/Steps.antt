@@ -4,7 +4,7 @@ use mathlib.Core.List.{IsPrefix}
 use mathlib.Core.Option.{some}
 use lib.ListN.{get_elem?}
 use Rattle.atomic_table.specs.Table.{Me, Step}
-use Rattle.store_model.specs.History.{Acts, own, entry}
+use Rattle.store_model.specs.History.{Acts, own}
 use Rattle.store_model.specs.declared.entry.Entry.{Entry}
 use Rattle.turn_table.specs.declared.view.Ended.{Ended}
 use Rattle.turn_table.specs.declared.view.View.{View}
