@@ -1,13 +1,16 @@
 -- Worked examples: what calls over seats come to, and what they do not.
-use Rattle.std.specs.Prelude.{ℕ, List, [], ◌∷◌}
+use Rattle.std.specs.Global.{Vec}
+use Rattle.std.specs.Prelude.{◌≡◌, ℕ, List, [], ◌∷◌}
 use Rattle.atomic_table.specs.Seated.{TableId}
-use Rattle.store_model.specs.History.{entry}
+use Rattle.store_model.specs.History.{entry, store_after}
 use Rattle.store_model.specs.Made.{made}
 use Rattle.store_model.specs.declared.call.Reply.TheVariants.{Done, CasMismatch}
 use Rattle.store_model.specs.declared.entry.Entry.{Entry}
 use Rattle.turn_table.specs.Rows.{set_k}
 use Rattle.turn_table.specs.Seats.{Seated, turn_table}
 use Rattle.shared_store.specs.Moving.{SeatsGoOn}
+use Rattle.shared_store.specs.Workers.{HasOneHistory}
+use Rattle.shared_store.specs.declared.closed.ClosedStore.{ClosedStore}
 
 -- worker 2's seat at the table of this VM, which has seen this
 abbrev pub second_at : TableId → ℕ → List Entry → Seated
@@ -38,3 +41,16 @@ reply_of_an_old_copy = (t : TableId) →
 -- the history that a seat had seen cannot be put aside
 abbrev pub begun_anew : Type 0
 begun_anew = (t : TableId) → SeatsGoOn (second_at t 0 (first_done ∷ []) ∷ []) [] (second_at t 0 [] ∷ []) → ⊥
+
+-- worker 1's seat at the table of VM 0, which has seen this and gave out one number
+abbrev pub leader : TableId → List Entry → Seated
+leader t seen = record { table = turn_table t 0; number = 1; seen = seen; given = 2; ended = [] }
+
+-- Both workers called, and worker 1 has not seen the other's entry: the one history has both, and the store is what it leaves.
+abbrev pub one_history_of_two : Type 0
+one_history_of_two = (t : TableId) (one two : Vec Seated) → one.items ≡ leader t (first_done ∷ []) ∷ [] → two.items ≡ second_at t 0 (first_done ∷ second_stale ∷ []) ∷ [] →
+    HasOneHistory 0 (one ∷ two ∷ []) (record { store = store_after 0 (first_done ∷ second_stale ∷ []); calls = 2 })
+
+-- an entry of a worker that had no seat
+abbrev pub entry_of_nobody : Type 0
+entry_of_nobody = (t : TableId) (one : Vec Seated) (c : ClosedStore) → one.items ≡ leader t (second_stale ∷ []) ∷ [] → HasOneHistory 0 (one ∷ []) c → ⊥

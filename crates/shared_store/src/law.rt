@@ -1,7 +1,7 @@
 // Worked examples of the definitions, and laws above them. Nothing here does anything when it runs.
 ghost use Rattle.std.specs.Prelude.{◌≡◌, ◌<◌, ◌+◌, ℕ, List, All};
 ghost use Rattle.shared_store.specs.Moving.{SeatsGoOn};
-ghost use Rattle.shared_store.specs.SeatRows.{call_on_second_table, call_on_wrong_table, reply_of_an_old_copy, begun_anew};
+ghost use Rattle.shared_store.specs.SeatRows.{call_on_second_table, call_on_wrong_table, reply_of_an_old_copy, begun_anew, one_history_of_two, entry_of_nobody};
 ghost use Rattle.shared_store.specs.Tables.{AreAt, AreFirst, AreLegal, AreNumbered, AreOf, SeatsJoined, after_split, first_seats, next_seats};
 ghost use Rattle.shared_store.specs.Workers.{AreAll, ListsGoOn};
 ghost use Rattle.std.specs.Global.{Vec};
@@ -14,6 +14,12 @@ pub fn worked_seats()
     ensures call_on_wrong_table { call_on_wrong_table }
     ensures reply_of_an_old_copy { reply_of_an_old_copy }
     ensures begun_anew { begun_anew }
+{}
+
+/// Worked examples of the one history of all workers, and of what is none.
+pub fn worked_workers()
+    ensures one_history_of_two { one_history_of_two }
+    ensures entry_of_nobody { entry_of_nobody }
 {}
 
 /// Seats stay at their tables: those that are made, that a split leaves or gives, and those after calls or a join.

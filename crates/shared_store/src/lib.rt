@@ -16,7 +16,7 @@ pub use alone::Alone;
 pub use closed::{ClosedStore, ClosedStores};
 pub use law::{
     no_seat_gets_lost, seats_stay_at_their_tables, what_seats_have_seen_is_legal, worked_seats,
-    workers_come_and_go,
+    worked_workers, workers_come_and_go,
 };
 pub use seats::StoreSeat;
 pub use shared_queues::OctetsList;
