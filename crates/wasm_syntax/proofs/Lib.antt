@@ -18,3 +18,5 @@ pub mod TypingLaws
 pub mod FaultPlaces
 pub mod WorkedBodies
 pub mod WorkedValidity
+pub mod OperandTable
+pub mod MemoryLaws

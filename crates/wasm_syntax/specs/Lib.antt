@@ -14,3 +14,8 @@ pub mod RowsByBytes
 pub mod CutLists
 pub mod ValidExamples
 pub mod Operators
+pub mod Memory
+pub mod Numeric
+pub mod Stores
+pub mod StoreExamples
+pub mod OperandRows

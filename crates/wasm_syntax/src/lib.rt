@@ -11,6 +11,7 @@ mod opcode;
 mod row;
 mod section;
 pub mod spelled_laws;
+pub mod store_laws;
 mod types;
 pub mod typing_laws;
 mod valid;

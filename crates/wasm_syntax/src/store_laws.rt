@@ -1,0 +1,56 @@
+//! Laws of memories, numeric instructions and what instances begin with. The functions have nothing to do: their
+//! contracts are the laws.
+
+ghost use Rattle.std.specs.Prelude.{◌≡◌, ℕ, ◌*◌, ◌-◌, ◌^◌, pos, negsuc, List, [], ◌∷◌, length, Some, None};
+ghost use Rattle.wasm_syntax.specs.declared.types.Value.TheVariants as value;
+ghost use Rattle.wasm_syntax.specs.declared.instr.Instr.{Instr as Instrs};
+ghost use Rattle.wasm_syntax.specs.declared.instr.Instr.TheVariants as instr;
+ghost use Rattle.wasm_syntax.specs.Memory.{load, store, loads, stores, page, most_pages, grow_answer, grown};
+ghost use Rattle.wasm_syntax.specs.OperandRows.{AgreesWithRow};
+ghost use Rattle.wasm_syntax.specs.Stores.{with_segments, offset_of, initial_stores, growth_bound};
+ghost use Rattle.wasm_syntax.specs.StoreExamples.{at_most, no_maximum, four_bytes, two_segments, with_table};
+
+/// Loads and stores, worked out by hand.
+pub fn worked_loads_and_stores()
+    ensures lowest_first { load four_bytes 0 4 ≡ Some 67305985 }
+    ensures inner { load four_bytes 1 2 ≡ Some 770 }
+    ensures to_the_end { load four_bytes 3 1 ≡ Some 4 }
+    ensures past_the_end { load four_bytes 3 2 ≡ None }
+    ensures behind_the_end { load four_bytes 4 1 ≡ None }
+    ensures lowest_byte_alone { store four_bytes 1 1 773 ≡ Some (1 ∷ 5 ∷ 3 ∷ 4 ∷ []) }
+    ensures two_bytes { store four_bytes 2 2 773 ≡ Some (1 ∷ 2 ∷ 5 ∷ 3 ∷ []) }
+    ensures nothing_outside { store four_bytes 3 2 773 ≡ None }
+    ensures by_sign { loads (instr.I32Load8S (record { align = 0; offset = 1 })) (0 ∷ 255 ∷ []) 0 ≡ Some (2 ^ 32 - 1) }
+    ensures by_long_sign { loads (instr.I64Load8S (record { align = 0; offset = 1 })) (0 ∷ 128 ∷ []) 0 ≡ Some (2 ^ 64 - 128) }
+    ensures without_sign { loads (instr.I64Load8U (record { align = 0; offset = 0 })) (0 ∷ 255 ∷ []) 1 ≡ Some 255 }
+    ensures without_wrapping { loads (instr.I32Load8U (record { align = 0; offset = 1 })) four_bytes (2 ^ 32 - 1) ≡ None }
+    ensures low_half { stores (instr.I64Store16 (record { align = 0; offset = 2 })) four_bytes 0 66564 ≡ Some (1 ∷ 2 ∷ 4 ∷ 4 ∷ []) }
+{}
+
+/// An instruction has an operator, a load or a store exactly where its row says so, and of the types and the
+/// width of its row.
+pub fn operands_are_those_of_rows()
+    ensures { (i : Instrs) → AgreesWithRow i }
+{}
+
+/// Growth, worked out by hand, of a memory of one page that may have three.
+pub fn worked_growth()
+    ensures bound { most_pages (at_most 3) 128 ≡ 3 }
+    ensures host_bound { most_pages (at_most 300) 128 ≡ 128 }
+    ensures no_maximum { most_pages no_maximum 128 ≡ 128 }
+    ensures old_size { (memory : List ℕ) → length memory ≡ page → grow_answer 3 memory 2 ≡ 1 }
+    ensures three_pages { (memory : List ℕ) → length memory ≡ page → length (grown 3 memory 2) ≡ 3 * page }
+    ensures past_the_bound { (memory : List ℕ) → length memory ≡ 3 * page → grow_answer 3 memory 1 ≡ 4294967295 }
+    ensures by_nothing { (memory : List ℕ) → length memory ≡ 3 * page → grow_answer 3 memory 0 ≡ 3 }
+    ensures unchanged { (memory : List ℕ) → length memory ≡ 3 * page → grown 3 memory 1 ≡ memory }
+{}
+
+/// What modules begin with, worked out by hand.
+pub fn worked_stores()
+    ensures later_over_earlier { with_segments (1 ∷ 2 ∷ 3 ∷ 4 ∷ []) two_segments ≡ 7 ∷ 8 ∷ 5 ∷ 6 ∷ [] }
+    ensures table { (initial_stores with_table).table ≡ None ∷ Some 5 ∷ Some 4 ∷ None ∷ [] }
+    ensures globals { (initial_stores with_table).globals ≡ value.I32 9 ∷ [] }
+    ensures no_memory { (initial_stores with_table).memory ≡ [] }
+    ensures no_growth { growth_bound with_table 128 ≡ 0 }
+    ensures high_offset { offset_of (instr.I32Const (negsuc 0) ∷ instr.End ∷ []) ≡ 2 ^ 32 - 1 }
+{}
