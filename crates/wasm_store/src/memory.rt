@@ -1,0 +1,128 @@
+//! Memories (WebAssembly Core 1.0 section 4.2.8).
+
+ghost use Rattle.std.specs.Prelude.{◌≡◌, ◌≤◌, ◌<◌, ◌+◌, ◌*◌, length, replicate, Some, None, IfOk, IfSome, IfNone};
+ghost use Rattle.wasm_syntax.specs.Memory.{load, store, written, page, pages_of, grow_answer, grown};
+ghost use Rattle.wasm_store.specs.Memories.{IsWidth};
+
+use gate_base::OutOfMemory;
+use std::alloc::Global;
+use std::marker::Model;
+
+/// The bytes of a page.
+pub const PAGE: usize = 65_536;
+
+/// The bytes of an instance, a whole number of pages of 65,536. Clauses see the bytes, and the number of
+/// pages that it never grows past. All that it may grow to is reserved from the start.
+#[derive(Debug, Drop)]
+pub struct Memory {
+    bytes: Vec<u8>,
+    most: u32,
+}
+
+impl Model for Memory {
+    ghost use Rattle.std.specs.Prelude.{◌≡◌, ◌≤◌, ◌*◌, ◌/◌, length};
+    ghost use Rattle.std.specs.Vec.{vec_capacity, vec_len};
+    ghost use Rattle.wasm_store.specs.Memories.{Bounded};
+
+    ghost Value = { Bounded };
+
+    ghost view = { λ a. record { bytes = a.bytes.items; most = a.most } };
+
+    ghost invariant = { λ a. (vec_len a.bytes ≡ 65536 * (vec_len a.bytes / 65536)) × (vec_len a.bytes ≤ 16777216) × (a.most ≤ 256) × (65536 * a.most ≤ vec_capacity a.bytes) };
+}
+
+impl Memory {
+    /// So many pages of zeros, of which there may never be more than `most`.
+    pub(crate) fn new(alloc: Global, pages: u32, most: u32) -> Result<Memory, OutOfMemory>
+        requires pages { pages ≤ 256 }
+        requires most { most ≤ 256 }
+        ensures bytes { IfOk result (λ m. m.bytes ≡ replicate (page * pages) 0) }
+        ensures most { IfOk result (λ m. m.most ≡ most) }
+    {
+        let mut bytes = Vec::with_capacity(alloc, most as usize * PAGE)?;
+        bytes.resize(pages as usize * PAGE, 0)?;
+        Ok(Memory { bytes, most })
+    }
+
+    /// How many pages there are.
+    pub fn pages(&self) -> u32
+        ensures { result ≡ pages_of self.now.bytes }
+    {
+        (self.bytes.len() / PAGE) as u32
+    }
+
+    /// The bytes.
+    pub fn as_slice(&self) -> &[u8]
+        ensures { result.now ≡ self.now.bytes }
+    {
+        self.bytes.as_slice()
+    }
+
+    /// The number of `width` bytes, 1, 2, 4 or 8, that stands at a place, the lowest byte first: none
+    /// exactly where the access is outside. It takes no memory.
+    pub fn load(&self, at: u64, width: u8) -> Option<u64>
+        requires { IsWidth width }
+        ensures { result ≡ load self.now.bytes at width }
+    {
+        let from = self.bytes.as_slice().get(at as usize..)?;
+        match width {
+            1 => Some(u64::from(*from.first()?)),
+            2 => Some(u64::from(u16::from_le_bytes(*from.first_chunk::<2>()?))),
+            4 => Some(u64::from(u32::from_le_bytes(*from.first_chunk::<4>()?))),
+            8 => Some(u64::from_le_bytes(*from.first_chunk::<8>()?)),
+            _ => unreachable!(),
+        }
+    }
+
+    /// Writes the lowest `width` bytes of a number, 1, 2, 4 or 8 of them, at a place, the lowest first: none,
+    /// with nothing changed, exactly where the access is outside. It takes no memory.
+    pub fn store(&mut self, at: u64, width: u8, v: u64) -> Option<()>
+        requires { IsWidth width }
+        ensures some { IfSome result (λ _. store self.old.bytes at width v ≡ Some self.new.bytes) }
+        ensures none { IfNone result ((store self.old.bytes at width v ≡ None) × (self.new.bytes ≡ self.old.bytes)) }
+        ensures most { self.new.most ≡ self.old.most }
+    {
+        let low = v.to_le_bytes();
+        match width {
+            1 => self.write(at, &low[..1]),
+            2 => self.write(at, &low[..2]),
+            4 => self.write(at, &low[..4]),
+            8 => self.write(at, &low),
+            _ => unreachable!(),
+        }
+    }
+
+    /// Writes bytes from a place on: none, with nothing changed, exactly where they are not all inside. It takes
+    /// no memory.
+    pub fn write(&mut self, at: u64, bytes: &[u8]) -> Option<()>
+        ensures some { IfSome result (λ _. (at + length bytes.now ≤ length self.old.bytes) × (self.new.bytes ≡ written self.old.bytes at bytes.now)) }
+        ensures none { IfNone result ((length self.old.bytes < at + length bytes.now) × (self.new.bytes ≡ self.old.bytes)) }
+        ensures most { self.new.most ≡ self.old.most }
+    {
+        let from = at as usize;
+        let size = self.bytes.len();
+        if from > size || bytes.len() > size - from {
+            return None;
+        }
+        self.bytes.as_mut_slice()[from..from + bytes.len()].copy_from_slice(bytes);
+        Some(())
+    }
+
+    /// Grows by so many pages of zeros, and answers how many there were: 4,294,967,295 with nothing
+    /// changed exactly where there would be more than it may have. It takes no memory.
+    pub fn grow(&mut self, by: u32) -> u32
+        ensures answer { result ≡ grow_answer self.old.most self.old.bytes by }
+        ensures bytes { self.new.bytes ≡ grown self.old.most self.old.bytes by }
+        ensures most { self.new.most ≡ self.old.most }
+    {
+        let old = self.pages();
+        let size = u64::from(old) + u64::from(by);
+        if size > u64::from(self.most) {
+            return u32::MAX;
+        }
+        match self.bytes.resize(size as usize * PAGE, 0) {
+            Ok(()) => old,
+            Err(_) => unreachable!(),
+        }
+    }
+}
