@@ -1,11 +1,11 @@
 //! Laws of memories, numeric instructions and what instances begin with. The functions have nothing to do: their
 //! contracts are the laws.
 
-ghost use Rattle.std.specs.Prelude.{◌≡◌, ℕ, ◌*◌, ◌-◌, ◌^◌, pos, negsuc, List, [], ◌∷◌, length, Some, None};
+ghost use Rattle.std.specs.Prelude.{◌≡◌, ◌↔◌, ℕ, ◌+◌, ◌*◌, ◌-◌, ◌%◌, ◌^◌, ◌<◌, ◌≤◌, pos, negsuc, List, [], ◌∷◌, ◌++◌, length, take, drop, replicate, Some, None};
 ghost use Rattle.wasm_syntax.specs.declared.types.Value.TheVariants as value;
 ghost use Rattle.wasm_syntax.specs.declared.instr.Instr.{Instr as Instrs};
 ghost use Rattle.wasm_syntax.specs.declared.instr.Instr.TheVariants as instr;
-ghost use Rattle.wasm_syntax.specs.Memory.{load, store, loads, stores, page, most_pages, grow_answer, grown};
+ghost use Rattle.wasm_syntax.specs.Memory.{load, store, loads, stores, page, pages_of, most_pages, grow_answer, grown};
 ghost use Rattle.wasm_syntax.specs.OperandRows.{AgreesWithRow};
 ghost use Rattle.wasm_syntax.specs.Stores.{with_segments, offset_of, initial_stores, growth_bound};
 ghost use Rattle.wasm_syntax.specs.StoreExamples.{at_most, no_maximum, four_bytes, two_segments, with_table};
@@ -25,6 +25,21 @@ pub fn worked_loads_and_stores()
     ensures without_sign { loads (instr.I64Load8U (record { align = 0; offset = 0 })) (0 ∷ 255 ∷ []) 1 ≡ Some 255 }
     ensures without_wrapping { loads (instr.I32Load8U (record { align = 0; offset = 1 })) four_bytes (2 ^ 32 - 1) ≡ None }
     ensures low_half { stores (instr.I64Store16 (record { align = 0; offset = 2 })) four_bytes 0 66564 ≡ Some (1 ∷ 2 ∷ 4 ∷ 4 ∷ []) }
+{}
+
+/// What was stored is loaded again, modulo what fits its width. All other bytes stay, and so does the length.
+pub fn stored_is_loaded()
+    ensures back { (old new : List ℕ) (at width v : ℕ) → store old at width v ≡ Some new → load new at width ≡ Some (v % 2 ^ (8 * width)) }
+    ensures length { (old new : List ℕ) (at width v : ℕ) → store old at width v ≡ Some new → length new ≡ length old }
+    ensures below { (old new : List ℕ) (at width v : ℕ) → store old at width v ≡ Some new → take at new ≡ take at old }
+    ensures above { (old new : List ℕ) (at width v : ℕ) → store old at width v ≡ Some new → drop (at + width) new ≡ drop (at + width) old }
+    ensures outside { (old : List ℕ) (at width v : ℕ) → (store old at width v ≡ None) ↔ (load old at width ≡ None) }
+{}
+
+/// Growth leaves the old bytes and adds pages of zeros, where the pages may be added, and changes nothing where not.
+pub fn growth_adds_pages()
+    ensures added { (most : ℕ) (memory : List ℕ) (by : ℕ) → pages_of memory + by ≤ most → (grow_answer most memory by ≡ pages_of memory) × (grown most memory by ≡ memory ++ replicate (page * by) 0) }
+    ensures past { (most : ℕ) (memory : List ℕ) (by : ℕ) → most < pages_of memory + by → (grow_answer most memory by ≡ 4294967295) × (grown most memory by ≡ memory) }
 {}
 
 /// An instruction has an operator, a load or a store exactly where its row says so, and of the types and the
@@ -48,7 +63,7 @@ pub fn worked_growth()
 /// What modules begin with, worked out by hand.
 pub fn worked_stores()
     ensures later_over_earlier { with_segments (1 ∷ 2 ∷ 3 ∷ 4 ∷ []) two_segments ≡ 7 ∷ 8 ∷ 5 ∷ 6 ∷ [] }
-    ensures table { (initial_stores with_table).table ≡ None ∷ Some 5 ∷ Some 4 ∷ None ∷ [] }
+    ensures table { (initial_stores with_table).table ≡ None ∷ Some 2 ∷ Some 1 ∷ None ∷ [] }
     ensures globals { (initial_stores with_table).globals ≡ value.I32 9 ∷ [] }
     ensures no_memory { (initial_stores with_table).memory ≡ [] }
     ensures no_growth { growth_bound with_table 128 ≡ 0 }
