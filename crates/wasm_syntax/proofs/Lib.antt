@@ -17,6 +17,7 @@ pub mod NestingLaws
 pub mod TypingLaws
 pub mod FaultPlaces
 pub mod WorkedBodies
+pub mod WorkedRuns
 pub mod WorkedValidity
 pub mod OperandTable
 pub mod MemoryLaws

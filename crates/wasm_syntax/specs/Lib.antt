@@ -13,6 +13,12 @@ pub mod Spelled
 pub mod RowsByBytes
 pub mod CutLists
 pub mod ValidExamples
+pub mod ReductionRows
+pub mod Reduction
+pub mod ReductionSteps
+pub mod ReductionRuns
+pub mod ReductionPrograms
+pub mod ReductionExamples
 pub mod Operators
 pub mod Memory
 pub mod Numeric

@@ -8,6 +8,7 @@ mod leb;
 mod module;
 pub mod module_laws;
 mod opcode;
+pub mod reduction_laws;
 mod row;
 mod section;
 pub mod spelled_laws;
