@@ -18,6 +18,8 @@ pub mod TypingLaws
 pub mod FaultPlaces
 pub mod WorkedBodies
 pub mod WorkedRuns
+pub mod WorkedCases
+pub mod RunLaws
 pub mod WorkedValidity
 pub mod OperandTable
 pub mod MemoryLaws

@@ -51,7 +51,7 @@ pub never_set : run_body (element_body 1 1) 3 ≡ has_trapped cause.Table 0
 unfolding walk nests
 never_set = refl
 
-pub other_type : run_body (element_body 0 0) 3 ≡ has_trapped cause.Type 0
+pub other_type : run_body (element_body 0 2) 3 ≡ has_trapped cause.Type 0
 unfolding walk nests
 other_type = refl
 

@@ -19,6 +19,8 @@ pub mod ReductionSteps
 pub mod ReductionRuns
 pub mod ReductionPrograms
 pub mod ReductionExamples
+pub mod ReductionCases
+pub mod ReductionLaws
 pub mod Operators
 pub mod Memory
 pub mod Numeric

@@ -1,13 +1,18 @@
 //! Runs that were worked out by hand. The functions have nothing to do: their contracts are the laws.
 
-ghost use Rattle.std.specs.Prelude.{◌≡◌, List, [], ◌∷◌, Some};
+ghost use Rattle.std.specs.Prelude.{◌≡◌, pos, List, [], ◌∷◌, Some};
 ghost use Rattle.gate_base.specs.declared.cause.Cause.TheVariants as cause;
 ghost use Rattle.wasm_syntax.specs.declared.types.Value.TheVariants as value;
 ghost use Rattle.wasm_syntax.specs.ReductionRuns.{has_finished, has_asked, has_trapped, has_spent, ran};
+ghost use Rattle.wasm_syntax.specs.declared.instr.Instr.TheVariants as instr;
+ghost use Rattle.wasm_syntax.specs.ReductionSteps.{answered_config, idle_config};
+ghost use Rattle.wasm_syntax.specs.ReductionRuns.{run};
+ghost use Rattle.wasm_syntax.specs.ReductionCases.{pair_module, run_pair, asked_of, calls_pair, calls_element, asks_pair, resumed, called_while, then_resumed, small, run_small, gave, select_body, shift_body, quotient_body, lone_if_body, dropping_body, tee_body, globals_body, load_body, store_body, grow_body, standing, none};
+ghost use Rattle.wasm_syntax.specs.ReductionLaws.{RunsToItsEnd, HostedRunsToItsEnd, EachHasItsRule};
 ghost use Rattle.wasm_syntax.specs.ReductionPrograms.{first_config, program_of};
 ghost use Rattle.wasm_syntax.specs.ReductionExamples.{call, sum_module, run_body, rests, unreachable_body, divide_body, overflow_body, memory_body, element_body, endless_body, if_body, table_body, return_body, asking_module, echo, exit, ask};
 
-/// The function that sums the numbers up to its argument pays 6 units, and 13 more for each of them;
+/// The function that sums the numbers up to its argument n pays 13 n + 6 units, for 0, 1 and 3;
 /// with one unit less the fuel is spent.
 pub fn worked_sums()
     ensures sum_of_0 { call sum_module 0 (value.I32 0 ∷ []) 6 ≡ has_finished (Some (value.I32 0)) (first_config sum_module) 0 }
@@ -26,7 +31,7 @@ pub fn worked_traps()
     ensures outside { run_body memory_body 2 ≡ has_trapped cause.Memory 0 }
     ensures past_table { run_body (element_body 2 1) 3 ≡ has_trapped cause.Table 0 }
     ensures never_set { run_body (element_body 1 1) 3 ≡ has_trapped cause.Table 0 }
-    ensures other_type { run_body (element_body 0 0) 3 ≡ has_trapped cause.Type 0 }
+    ensures other_type { run_body (element_body 0 2) 3 ≡ has_trapped cause.Type 0 }
     ensures stack { run_body endless_body 256 ≡ has_trapped cause.Stack 0 }
     ensures exits { ask exit 1 [] 3 ≡ ran (has_trapped cause.Exit 0) ((value.I32 6 ∷ []) ∷ []) }
     ensures spent_first { run_body unreachable_body 0 ≡ has_spent 0 }
@@ -49,4 +54,66 @@ pub fn worked_control()
 pub fn worked_host_calls()
     ensures asked { ask echo 1 [] 4 ≡ ran (has_finished (Some (value.I32 11)) (first_config asking_module) 0) ((value.I32 6 ∷ []) ∷ []) }
     ensures invoked { ask echo 0 (value.I32 8 ∷ []) 0 ≡ ran (has_finished (Some (value.I32 8)) (first_config asking_module) 0) ((value.I32 8 ∷ []) ∷ []) }
+{}
+
+/// Arguments stand in their order, whether a function is called, called by an element, invoked or the
+/// host's; and what a call from outside does while the host's answer is waited for leaves the rest as it
+/// was.
+pub fn worked_orders()
+    ensures by_call { run_pair calls_pair 2 [] 6 ≡ has_finished (Some (value.I32 5)) (first_config (pair_module calls_pair)) 0 }
+    ensures by_element { run_pair calls_element 2 [] 7 ≡ has_finished (Some (value.I32 5)) (first_config (pair_module calls_element)) 0 }
+    ensures from_outside { run_pair calls_pair 1 (value.I32 9 ∷ value.I32 4 ∷ []) 3 ≡ has_finished (Some (value.I32 5)) (first_config (pair_module calls_pair)) 0 }
+    ensures host_asked { asked_of (run_pair asks_pair 2 [] 4) ≡ Some (0, value.I32 9 ∷ value.I32 4 ∷ []) }
+    ensures host_from_outside { asked_of (run_pair asks_pair 0 (value.I32 9 ∷ value.I32 4 ∷ []) 0) ≡ Some (0, value.I32 9 ∷ value.I32 4 ∷ []) }
+    ensures answered { resumed (program_of (pair_module asks_pair) 1) (Some (value.I32 1)) 1 (run_pair asks_pair 2 [] 4) ≡ has_finished (Some (value.I32 99)) (first_config (pair_module asks_pair)) 0 }
+    ensures called_meanwhile { then_resumed (program_of (pair_module asks_pair) 1) (Some (value.I32 1)) 1 (called_while (program_of (pair_module asks_pair) 1) 1 (value.I32 9 ∷ value.I32 4 ∷ []) 3 (run_pair asks_pair 2 [] 4)) ≡ has_finished (Some (value.I32 99)) (first_config (pair_module asks_pair)) 0 }
+{}
+
+/// Instructions of each kind, with the units up to the end.
+pub fn worked_instructions()
+    ensures select_upper { run_small (select_body 0) 4 ≡ gave 9 small }
+    ensures select_lower { run_small (select_body 2) 4 ≡ gave 7 small }
+    ensures shift_signed { run_small (shift_body instr.I32ShrS) 3 ≡ gave 4294967292 small }
+    ensures shift_unsigned { run_small (shift_body instr.I32ShrU) 3 ≡ gave 2147483644 small }
+    ensures quotient { run_small quotient_body 3 ≡ gave 3 small }
+    ensures if_taken { run_small (lone_if_body 3) 5 ≡ gave 1 small }
+    ensures if_passed { run_small (lone_if_body 0) 3 ≡ gave 0 small }
+    ensures drops_lower { run_small dropping_body 5 ≡ gave 3 small }
+    ensures tee { run_small tee_body 4 ≡ gave 10 small }
+    ensures globals { run_small globals_body 6 ≡ gave 30 (record small { globals = value.I32 21 ∷ value.I64 30 ∷ [] }) }
+    ensures load_signed { run_small (load_body (instr.I32Load8S (record { align = 0; offset = 2 }))) 2 ≡ gave 4294967172 small }
+    ensures load_unsigned { run_small (load_body (instr.I32Load16U (record { align = 0; offset = 2 }))) 2 ≡ gave 0x584 small }
+    ensures load_past { run_small (load_body (instr.I32Load (record { align = 0; offset = 4 }))) 2 ≡ has_trapped cause.Memory 0 }
+    ensures load_spent { run_small (load_body (instr.I32Load (record { align = 0; offset = 4 }))) 1 ≡ has_spent 0 }
+    ensures store { run_small (store_body 5) 4 ≡ gave 0 (record small { memory = 1 ∷ 2 ∷ 3 ∷ 0x84 ∷ 5 ∷ 6 ∷ 0x67 ∷ 0x45 ∷ [] }) }
+    ensures store_past { run_small (store_body 6) 3 ≡ has_trapped cause.Memory 0 }
+    ensures grow { run_small grow_body 5 ≡ gave 0 small }
+{}
+
+/// 32,768 values may stand, of which these runs have one in a local; past them is the trap, which is
+/// not paid where a host's answer came too many.
+pub fn worked_bounds()
+    ensures room { run none 1 (standing 32766 (instr.I32Const (pos 1))) ≡ has_finished (Some (value.I32 1)) (idle_config small) 0 }
+    ensures no_room { run none 1 (standing 32767 (instr.I32Const (pos 1))) ≡ has_trapped cause.Stack 0 }
+    ensures nop_at_bound { run none 1 (standing 32767 instr.Nop) ≡ has_finished (Some (value.I32 1)) (idle_config small) 0 }
+    ensures tee_below_bound { run none 1 (standing 32766 (instr.LocalTee 0)) ≡ has_finished (Some (value.I32 1)) (idle_config small) 0 }
+    ensures tee_at_bound { run none 1 (standing 32767 (instr.LocalTee 0)) ≡ has_trapped cause.Stack 0 }
+    ensures tee_spent { run none 0 (standing 32767 (instr.LocalTee 0)) ≡ has_spent 0 }
+    ensures answer_past_bound { run none 0 (answered_config (Some (value.I32 1)) (standing 32767 instr.Nop)) ≡ has_trapped cause.Stack 0 }
+{}
+
+/// A run takes as many steps as it needs: it is never cut short.
+pub fn runs_take_their_steps()
+    ensures { RunsToItsEnd }
+{}
+
+/// Neither is a run with a host that leaves the calls as they wait and gives back no more fuel than it
+/// was given.
+pub fn hosted_runs_take_their_steps<H>()
+    ensures { HostedRunsToItsEnd H }
+{}
+
+/// Each instruction that holds no others has its rule.
+pub fn instructions_have_rules()
+    ensures { EachHasItsRule }
 {}
