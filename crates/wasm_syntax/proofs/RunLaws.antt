@@ -1,5 +1,5 @@
 -- Runs take as many steps as they need, and each instruction has its rule.
-use Rattle.std.proofs.Common.{◌≡◌, ℕ, zero, suc, ◌+◌, ◌*◌, ◌<◌, ◌≤◌, Bool, true, false, List, [], ◌∷◌, length, Option, Some, None, refl, ap, ◌∙◌, arith}
+use Rattle.std.proofs.Common.{◌≡◌, ℕ, zero, suc, ◌+◌, ◌*◌, ◌<◌, ◌≤◌, Bool, true, false, List, [], ◌∷◌, length, Option, Some, None, refl, ap, subst, ◌∙◌, arith}
 use Rattle.std.specs.Prelude.{nat_le, nat_lt, nat_eq, slice_get, if◌then◌else◌}
 use Rattle.wasm_syntax.specs.declared.types.Value.{Value}
 use Rattle.wasm_syntax.specs.declared.instr.Instr.TheVariants as instr
@@ -9,8 +9,8 @@ use Rattle.wasm_syntax.specs.Stores.{Stores}
 use Rattle.wasm_syntax.specs.ReductionRows.{Done, gives, faults, lacks, Act, does, does_over, traps_with, branches, branches_if, branches_by, leaves, calls, calls_element, holds, act_of}
 use Rattle.wasm_syntax.specs.Reduction.{Function, imported, inside, Program, Thread, code, label, frame, at_host, Cost, free, paid, paid_over, Reduced, goes, ended, leaving, returning, asking, trapping, stuck, after_doing, doing, topmost, branching_if, branching_by, choosing, invoking, Found, found, fails, unknown, called_by, invoking_found, flows, in_label, in_frame, in_host, reduce}
 use Rattle.wasm_syntax.specs.ReductionSteps.{Calling, calling, Config, config, Stepped, moves, finished, asks_host, traps, overflows, no_step, moved, moved_over, is_paid_by, most_values, all_values, ending_call, stepped_by, step_calls, step_if, is_within, step, answered, answer_first, answered_config}
-use Rattle.wasm_syntax.specs.ReductionRuns.{Stopped, has_finished, has_asked, has_trapped, has_spent, goes_on, is_stuck, walk_by, walk, depth_in, all_depth, enough, run, Answer, answers, ends, waits, Host, Ran, hosted, hosted_by, walk_hosted}
-use Rattle.wasm_syntax.specs.ReductionLaws.{IsCutShort, RunsToItsEnd, GivesBack, IsWithin, HostedRunsToItsEnd, EachHasItsRule}
+use Rattle.wasm_syntax.specs.ReductionRuns.{Stopped, has_finished, has_asked, has_trapped, has_spent, goes_on, is_stuck, pay, walk_by, walk, depth_in, all_depth, enough, run, Answer, answers, ends, waits, Host, Ran, hosted, hosted_by, walk_hosted}
+use Rattle.wasm_syntax.specs.ReductionLaws.{IsCutShort, RunsToItsEnd, GivesBack, IsWithin, HostedRunsToItsEnd, EachHasItsRule, HasMore, FuelOnlyBounds}
 
 -- ---- each instruction has its rule
 
@@ -276,3 +276,31 @@ walks_hosted host p within (suc g) n h c lt = hosted_ends host g (3 * n + all_de
 
 pub hosted_runs_to_its_end : (H : Type 0) → HostedRunsToItsEnd H
 hosted_runs_to_its_end H host p n h c within = let lt : 3 * n + all_depth c.calls < enough n c = omega arith in walks_hosted host p within (enough n c) n h c lt
+
+-- ---- more fuel
+
+paid_more : (k : ℕ) (m : ℕ) (go more : ℕ → Stopped) → HasMore k (go m) (more (m + k)) → HasMore k (pay true (suc m) go) (pay true (suc m + k) more)
+paid_more k m go more h = let e : suc (m + k) ≡ suc m + k = omega arith in subst (λ (n : ℕ). HasMore k (go m) (pay true n more)) e h
+
+more_by : (p : Program) (g more n k : ℕ) (s : Stepped) → ((m : ℕ) (c : Config) → HasMore k (walk p g m c) (walk p more (m + k) c)) →
+    HasMore k (walk_by s n (λ m d. walk p g m d)) (walk_by s (n + k) (λ m d. walk p more m d))
+more_by p g more n k (moves false d) ih = ih n d
+more_by p g more zero k (moves true d) ih = tt
+more_by p g more (suc m) k (moves true d) ih = paid_more k m (λ n. walk p g n d) (λ n. walk p more n d) (ih m d)
+more_by p g more n k (finished v d) ih = refl
+more_by p g more n k (asks_host false x args d) ih = refl
+more_by p g more zero k (asks_host true x args d) ih = tt
+more_by p g more (suc m) k (asks_host true x args d) ih = paid_more k m (λ n. has_asked x args d n) (λ n. has_asked x args d n) refl
+more_by p g more zero k (traps c) ih = tt
+more_by p g more (suc m) k (traps c) ih = paid_more k m (λ n. has_trapped c n) (λ n. has_trapped c n) refl
+more_by p g more n k overflows ih = refl
+more_by p g more n k no_step ih = refl
+
+walks_more : (p : Program) (g more n k : ℕ) (c : Config) → g ≤ more → HasMore k (walk p g n c) (walk p more (n + k) c)
+unfolding walk
+walks_more p zero more n k c le = tt
+walks_more p (suc g) zero n k c le = absurd (omega (arith, le))
+walks_more p (suc g) (suc more) n k c le = more_by p g more n k (step p c) (λ m d. walks_more p g more m k d (omega (arith, le)))
+
+pub fuel_only_bounds : FuelOnlyBounds
+fuel_only_bounds p n k c = let le : enough n c ≤ enough (n + k) c = omega arith in walks_more p (enough n c) (enough (n + k) c) n k c le
