@@ -1,0 +1,12 @@
+pub mod Fetched
+pub mod Below
+pub mod Carries
+pub mod Exits
+pub mod Follows
+pub mod Blocks
+pub mod Counts
+pub mod Runs
+pub mod Aims
+pub mod Outside
+pub mod Modules
+pub mod Worked

@@ -1,0 +1,9 @@
+pub mod Parts
+pub mod Flat
+pub mod Stands
+pub mod Follows
+pub mod Runs
+pub mod RunsFollow
+pub mod Targets
+pub mod Outside
+pub mod Modules

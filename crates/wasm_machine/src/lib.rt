@@ -1,0 +1,7 @@
+//! The machine: flat code with one stack of values, one of locals, and one of labels and frames.
+#![tactic(auto)]
+
+mod control;
+pub mod laws;
+
+pub use control::{Control, Target};
