@@ -1,3 +1,5 @@
 pub mod Placing
 pub mod Outside
 pub mod Lowest
+pub mod Constants
+pub mod Kept

@@ -1,2 +1,5 @@
 pub mod Memories
+pub mod Instances
 pub mod Linking
+pub mod Parted
+pub mod LinkExamples

@@ -17,6 +17,7 @@ use Rattle.wasm_store.specs.declared.links.Judged.TheVariants as judged
 use Rattle.wasm_store.specs.declared.instance.LinkEnd.{LinkEnd}
 use Rattle.wasm_store.specs.declared.instance.LinkEnd.TheVariants as end
 use Rattle.wasm_store.specs.declared.instance.Instance.{Instance}
+use Rattle.wasm_store.specs.Instances.{Instantiated}
 
 -- what a host says of a function by the two names (of the module that it is wanted from, and its own there) and the type that a module wants
 abbrev pub Host : Type 0
@@ -87,17 +88,16 @@ link_fault host m pages =
 -- ---- how linking ends
 
 -- the instance has the module, and begins as the module says
-pub record IsLinked (m : Module) (pages : ℕ) (i : Instance) : Type 0 where
-  pub same : i.module ≡ m
+pub record IsLinked (m : Module) (pages : ℕ) (i : Instantiated) : Type 0 where
+  pub same : i.of ≡ m
   pub memory : i.memory.bytes ≡ (initial_stores m).memory
   pub most : i.memory.most ≡ growth_bound m pages
   pub table : i.table ≡ (initial_stores m).table
   pub globals : i.globals ≡ (initial_stores m).globals
 
--- memory ran out, or the module is linked exactly where nothing stands against it and is refused for the first cause
--- otherwise
+-- The module is refused exactly where something stands against it, for the first cause. Otherwise it is linked, or
+-- memory ran out.
 abbrev pub Links : Option LinkEnd → Module → ℕ → Result Instance LinkEnd → Type 0
 Links None m pages (Ok i) = IsLinked m pages i
 Links None m pages (Err e) = e ≡ end.OutOfMemory
-Links (Some fault) m pages (Ok i) = ⊥
-Links (Some fault) m pages (Err e) = (e ≡ fault) ⊎ (e ≡ end.OutOfMemory)
+Links (Some fault) m pages r = r ≡ Err fault

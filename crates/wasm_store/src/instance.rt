@@ -1,8 +1,11 @@
 //! How a module becomes an instance.
 
-ghost use Rattle.std.specs.Prelude.{◌≡◌, ◌≤◌, ◌*◌, not, None, IfOk};
+ghost use Rattle.std.specs.Prelude.{◌≡◌, ◌≤◌, length, not, None, IfOk};
 ghost use Rattle.wasm_syntax.specs.Stores.{fits, first_pages as first_pages_of, table_size as table_size_of, growth_bound as growth_bound_of, initial_stores};
 ghost use Rattle.wasm_store.specs.Linking.{Links as LinksAs, judgement, is_unknown as tells_unknown, is_other_type as tells_other_type, first_unknown as first_unknown_of, first_other_type as first_other_type_of, first_element_outside as first_element_of, first_segment_outside as first_segment_of, link_fault};
+ghost use Rattle.wasm_store.specs.Memories.{IsWhole};
+ghost use Rattle.wasm_store.specs.Instances.{IsInstance};
+ghost use Rattle.wasm_store.specs.Parted.{seen_as};
 
 use crate::globals::Globals;
 use crate::links::{Judged, Links};
@@ -11,12 +14,32 @@ use crate::segments::offset;
 use crate::table::Table;
 use gate_base::OutOfMemory;
 use std::alloc::Global;
+use std::marker::Model;
 use wasm_syntax::{Import, ImportKind, Module, ValidModule};
 
 /// A module with its memory, its table and its globals. A module without a memory has one of no bytes that
 /// never grows, and one without a table has one of no elements.
 #[derive(Debug, Drop)]
 pub struct Instance {
+    module: ValidModule,
+    memory: Memory,
+    table: Table,
+    globals: Globals,
+}
+
+impl Model for Instance {
+    ghost use Rattle.wasm_store.specs.Instances.{Instantiated, IsInstance};
+
+    ghost Value = { Instantiated };
+
+    ghost view = { λ a. record { of = a.module; memory = a.memory; table = a.table; globals = a.globals } };
+
+    ghost invariant = { λ a. IsInstance (record { of = a.module; memory = a.memory; table = a.table; globals = a.globals }) };
+}
+
+/// The parts of an instance.
+#[derive(Debug, Drop)]
+pub struct Parts {
     /// The module.
     pub module: ValidModule,
     /// Its memory.
@@ -79,10 +102,52 @@ impl Instance {
             globals,
         })
     }
+
+    /// Its module.
+    pub fn module(&self) -> &Module
+        ensures is { result.now ≡ self.now.of }
+        ensures kept { IsInstance self.now }
+    {
+        self.module.module()
+    }
+
+    /// Its memory.
+    pub fn memory(&self) -> &Memory
+        ensures { result.now ≡ self.now.memory }
+    {
+        &self.memory
+    }
+
+    /// Its table.
+    pub fn table(&self) -> &Table
+        ensures { result.now ≡ self.now.table }
+    {
+        &self.table
+    }
+
+    /// Its globals.
+    pub fn globals(&self) -> &Globals
+        ensures { result.now ≡ self.now.globals }
+    {
+        &self.globals
+    }
+
+    /// Its parts.
+    pub fn into_parts(self) -> Parts
+        ensures same { seen_as result ≡ self }
+        ensures kept { IsInstance (seen_as result) }
+    {
+        Parts {
+            module: self.module,
+            memory: self.memory,
+            table: self.table,
+            globals: self.globals,
+        }
+    }
 }
 
 /// The first cause why a module cannot be linked.
-fn fault<L: Links>(links: &L, m: &Module, pages: u32) -> Option<LinkEnd>
+pub(crate) fn fault<L: Links>(links: &L, m: &Module, pages: u32) -> Option<LinkEnd>
     ensures { result ≡ link_fault (L.judged links.now) m.now pages }
 {
     if let Some(index) = first_unknown(links, m) {
@@ -157,7 +222,7 @@ fn first_other_type<L: Links>(links: &L, m: &Module) -> Option<usize>
 }
 
 /// The pages that the memory begins with.
-fn first_pages(m: &Module) -> u32
+pub(crate) fn first_pages(m: &Module) -> u32
     ensures { result ≡ first_pages_of m.now }
 {
     match m.memories.as_slice().first() {
@@ -177,7 +242,7 @@ fn table_size(m: &Module) -> u32
 }
 
 /// The pages that the memory never grows past.
-fn growth_bound(m: &Module, pages: u32) -> u32
+pub(crate) fn growth_bound(m: &Module, pages: u32) -> u32
     ensures is { result ≡ growth_bound_of m.now pages }
     ensures most { result ≤ pages }
 {
@@ -222,12 +287,13 @@ fn first_segment_outside(m: &Module) -> Option<usize>
 }
 
 /// The memory at the start, with all data segments.
-fn filled_memory(alloc: Global, m: &Module, pages: u32) -> Result<Memory, OutOfMemory>
+pub(crate) fn filled_memory(alloc: Global, m: &Module, pages: u32) -> Result<Memory, OutOfMemory>
     requires cap { pages ≤ 256 }
-    requires within { first_pages_of m.now ≤ pages }
+    requires within { first_pages_of m.now ≤ growth_bound_of m.now pages }
     requires inside { first_segment_of m.now ≡ None }
     ensures bytes { IfOk result (λ a. a.bytes ≡ (initial_stores m.now).memory) }
     ensures most { IfOk result (λ a. a.most ≡ growth_bound_of m.now pages) }
+    ensures whole { IfOk result IsWhole }
 {
     let mut memory = Memory::new(alloc, first_pages(m), growth_bound(m, pages))?;
     for s in m.segments.as_slice() {
@@ -240,9 +306,10 @@ fn filled_memory(alloc: Global, m: &Module, pages: u32) -> Result<Memory, OutOfM
 }
 
 /// The table at the start, with all elements.
-fn filled_table(alloc: Global, m: &Module) -> Result<Table, OutOfMemory>
+pub(crate) fn filled_table(alloc: Global, m: &Module) -> Result<Table, OutOfMemory>
     requires { first_element_of m.now ≡ None }
-    ensures { IfOk result (λ t. t ≡ (initial_stores m.now).table) }
+    ensures is { IfOk result (λ t. t ≡ (initial_stores m.now).table) }
+    ensures size { IfOk result (λ t. length t ≡ table_size_of m.now) }
 {
     let mut table = Table::new(alloc, table_size(m))?;
     for e in m.elements.as_slice() {

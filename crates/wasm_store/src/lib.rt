@@ -4,13 +4,17 @@
 
 mod globals;
 mod instance;
+pub mod laws;
 mod links;
 mod memory;
 mod segments;
 mod table;
 
 pub use globals::Globals;
-pub use instance::{Instance, LinkEnd};
+pub use instance::{Instance, LinkEnd, Parts};
 pub use links::{Judged, Links, NoLinks};
 pub use memory::{Memory, PAGE};
 pub use table::Table;
+
+#[cfg(test)]
+mod tests;

@@ -2,7 +2,7 @@
 
 ghost use Rattle.std.specs.Prelude.{◌≡◌, ◌≤◌, ◌<◌, ◌+◌, ◌*◌, length, replicate, Some, None, IfOk, IfSome, IfNone};
 ghost use Rattle.wasm_syntax.specs.Memory.{load, store, written, page, pages_of, grow_answer, grown};
-ghost use Rattle.wasm_store.specs.Memories.{IsWidth};
+ghost use Rattle.wasm_store.specs.Memories.{IsWidth, IsWhole};
 
 use gate_base::OutOfMemory;
 use std::alloc::Global;
@@ -20,24 +20,25 @@ pub struct Memory {
 }
 
 impl Model for Memory {
-    ghost use Rattle.std.specs.Prelude.{◌≡◌, ◌≤◌, ◌*◌, ◌/◌, length};
-    ghost use Rattle.std.specs.Vec.{vec_capacity, vec_len};
-    ghost use Rattle.wasm_store.specs.Memories.{Bounded};
+    ghost use Rattle.std.specs.Prelude.{◌≤◌, ◌*◌};
+    ghost use Rattle.std.specs.Vec.{vec_capacity};
+    ghost use Rattle.wasm_store.specs.Memories.{Bounded, IsWhole};
 
     ghost Value = { Bounded };
 
     ghost view = { λ a. record { bytes = a.bytes.items; most = a.most } };
 
-    ghost invariant = { λ a. (vec_len a.bytes ≡ 65536 * (vec_len a.bytes / 65536)) × (vec_len a.bytes ≤ 16777216) × (a.most ≤ 256) × (65536 * a.most ≤ vec_capacity a.bytes) };
+    ghost invariant = { λ a. IsWhole (record { bytes = a.bytes.items; most = a.most }) × (65536 * a.most ≤ vec_capacity a.bytes) };
 }
 
 impl Memory {
     /// So many pages of zeros, of which there may never be more than `most`.
     pub(crate) fn new(alloc: Global, pages: u32, most: u32) -> Result<Memory, OutOfMemory>
-        requires pages { pages ≤ 256 }
+        requires pages { pages ≤ most }
         requires most { most ≤ 256 }
         ensures bytes { IfOk result (λ m. m.bytes ≡ replicate (page * pages) 0) }
         ensures most { IfOk result (λ m. m.most ≡ most) }
+        ensures whole { IfOk result IsWhole }
     {
         let mut bytes = Vec::with_capacity(alloc, most as usize * PAGE)?;
         bytes.resize(pages as usize * PAGE, 0)?;
@@ -46,7 +47,8 @@ impl Memory {
 
     /// How many pages there are.
     pub fn pages(&self) -> u32
-        ensures { result ≡ pages_of self.now.bytes }
+        ensures is { result ≡ pages_of self.now.bytes }
+        ensures whole { IsWhole self.now }
     {
         (self.bytes.len() / PAGE) as u32
     }
@@ -81,6 +83,7 @@ impl Memory {
         ensures some { IfSome result (λ _. store self.old.bytes at width v ≡ Some self.new.bytes) }
         ensures none { IfNone result ((store self.old.bytes at width v ≡ None) × (self.new.bytes ≡ self.old.bytes)) }
         ensures most { self.new.most ≡ self.old.most }
+        ensures whole { IsWhole self.new }
     {
         let low = v.to_le_bytes();
         match width {
@@ -98,6 +101,7 @@ impl Memory {
         ensures some { IfSome result (λ _. (at + length bytes.now ≤ length self.old.bytes) × (self.new.bytes ≡ written self.old.bytes at bytes.now)) }
         ensures none { IfNone result ((length self.old.bytes < at + length bytes.now) × (self.new.bytes ≡ self.old.bytes)) }
         ensures most { self.new.most ≡ self.old.most }
+        ensures whole { IsWhole self.new }
     {
         let from = at as usize;
         let size = self.bytes.len();
@@ -114,6 +118,7 @@ impl Memory {
         ensures answer { result ≡ grow_answer self.old.most self.old.bytes by }
         ensures bytes { self.new.bytes ≡ grown self.old.most self.old.bytes by }
         ensures most { self.new.most ≡ self.old.most }
+        ensures whole { IsWhole self.new }
     {
         let old = self.pages();
         let size = u64::from(old) + u64::from(by);
