@@ -3,3 +3,4 @@ pub mod Outside
 pub mod Lowest
 pub mod Constants
 pub mod Kept
+pub mod Empty

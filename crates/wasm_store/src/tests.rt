@@ -1,5 +1,6 @@
 ghost use Rattle.std.specs.Prelude.{◌≡◌, ◌≤◌, IfOk};
 ghost use Rattle.wasm_syntax.specs.Grammar.{empty_module};
+ghost use Rattle.wasm_syntax.specs.Validity.{IsValid};
 
 use super::*;
 use crate::instance::{fault, filled_memory, filled_table, first_pages, growth_bound};
@@ -8,7 +9,7 @@ use std::alloc::Global;
 use std::test::Fail;
 use wasm_syntax::{
     Element, Expression, FunctionType, GlobalType, Import, ImportKind, Instr, Limits, Module,
-    Segment, Value, ValueType,
+    Segment, ValidModule, Value, ValueType,
 };
 
 /// A host that knows each function that has a name, and has those of at most 16 parameters.
@@ -401,5 +402,18 @@ fn globals_begin_with_their_constants(rt: HostRuntime) -> Result<(), Fail> {
         assert_eq!(rt; globals.get(1), Value::I64(9));
     }
     assert_eq!(rt; globals.as_slice().len(), 2);
+    Ok(())
+}
+
+#[test]
+fn a_module_with_nothing_has_nothing(rt: HostRuntime) -> Result<(), Fail> {
+    let alloc = rt.alloc();
+    let m = ValidModule::hold(empty(alloc));
+    let i = Instance::new(alloc, m, &NoLinks, 128)?;
+    assert_eq!(rt; i.globals().len(), 0);
+    let mut parts = i.into_parts();
+    assert_eq!(rt; parts.memory.grow(1), u32::MAX);
+    let of = taking(alloc, 0)?;
+    assert_eq!(rt; NoLinks.judge(b"env", b"f", &of), Judged::Unknown);
     Ok(())
 }
