@@ -1,5 +1,5 @@
 -- The worked examples, by computation.
-use Rattle.std.proofs.Common.{true, false, [], ◌∷◌, None, Some, Ok, codes, refl, inl, inr, lit<, lit≤}
+use Rattle.std.proofs.Common.{◌≡◌, ℕ, List, Option, true, false, [], ◌∷◌, None, Some, Ok, codes, refl, inl, inr, lit<, lit≤, arith}
 use Rattle.std.proofs.lemmas.List.Sums.{AllPass-from_list_all}
 use Rattle.std.proofs.lemmas.List.Elements.{All-cons, All-nil}
 use Rattle.std.specs.Char.{is_ascii_digit}
@@ -7,11 +7,13 @@ use Rattle.http_header.specs.Token as header
 use Rattle.httparse.specs.Grammar.{crlf, Field, IsField, RequestHead, IsRequestHead, ResponseHead, IsResponseHead, is_token_byte, is_uri_byte, is_value_byte}
 use Rattle.httparse.proofs.OnLiterals.{httparse_on_literals}
 use Rattle.http_uri.proofs.PathLemmas.{IsPathAndQuery_slash}
+use Rattle.http_uri.proofs.UriLemmas.{cut_long}
+use Rattle.http_uri.specs.Grammar.{IsUriText}
 use Rattle.http1_model.specs.Head.{found, IsAnswer, IsResponseAnswer, not_yet}
 use Rattle.http1_model.specs.Length.{exactly}
 use Rattle.http1_model.specs.Messages.{head, body, done}
-use Rattle.http1_model.specs.Target.{GivesTarget, origin, http}
-use Rattle.http1_model.specs.Examples.{worked_text, worked_head, WorkedHead, worked_response_text, worked_response, worked_bare_response, worked_interim_text, worked_interim, WorkedResponse, LineExamples, FieldExamples, WireExamples, LengthExamples, ResponseLengthExamples, BareExamples, ListExamples, TargetExamples, RefusalExamples}
+use Rattle.http1_model.specs.Target.{Target, GivesTarget, target_of, origin, http}
+use Rattle.http1_model.specs.Examples.{closing_text, closing_head, worked_text, worked_head, WorkedHead, ClosingHead, ResponseExamples, OrderExamples, worked_response_text, worked_response, worked_bare_response, worked_interim_text, worked_interim, WorkedResponse, LineExamples, FieldExamples, WireExamples, LengthExamples, ResponseLengthExamples, BareExamples, ListExamples, TargetExamples, RefusalExamples}
 
 abbrev host_field : Field
 host_field = record { name = codes "Host"; raw = codes " a"; end = crlf }
@@ -60,6 +62,61 @@ worked_answer = inl (record {
   reads = (worked_is_head, refl);
   judged = record { parts = Some (record { form = origin; scheme = http; authority = None; path = codes "/" }); gives = worked_target; is = refl };
 })
+
+-- ---- a request of HTTP/1.0 that closes
+
+abbrev close_field : Field
+close_field = record { name = codes "Connection"; raw = codes " close"; end = crlf }
+
+abbrev plain_field : Field
+plain_field = record { name = codes "X-B"; raw = codes " 1"; end = crlf }
+
+abbrev closing_tree : RequestHead
+closing_tree = record {
+  blank = [];
+  method = codes "GET";
+  target = codes "/";
+  minor = 0;
+  line_end = crlf;
+  fields = host_field ∷ close_field ∷ plain_field ∷ [];
+  last = crlf;
+}
+
+close_is_field : IsField close_field
+unfolding httparse_on_literals
+close_is_field = record {
+  name = (lit< tt, AllPass-from_list_all is_token_byte (codes "Connection") refl);
+  raw = AllPass-from_list_all is_value_byte (codes " close") refl;
+}
+
+plain_is_field : IsField plain_field
+unfolding httparse_on_literals
+plain_is_field = record {
+  name = (lit< tt, AllPass-from_list_all is_token_byte (codes "X-B") refl);
+  raw = AllPass-from_list_all is_value_byte (codes " 1") refl;
+}
+
+closing_is_head : IsRequestHead closing_tree
+unfolding httparse_on_literals lib.Utf8.encode
+closing_is_head = record {
+  method = (lit< tt, AllPass-from_list_all is_token_byte (codes "GET") refl);
+  target = (lit< tt, AllPass-from_list_all is_uri_byte (codes "/") refl);
+  target_text = (codes "/", (refl, refl));
+  minor = lit≤ tt;
+  fields = All-cons IsField host_field (close_field ∷ plain_field ∷ []) host_is_field
+      (All-cons IsField close_field (plain_field ∷ []) close_is_field (All-cons IsField plain_field [] plain_is_field (All-nil IsField)));
+}
+
+closing_answer : IsAnswer closing_text (Ok closing_head)
+unfolding httparse_on_literals header.is_token_byte
+closing_answer = inl (record {
+  head = closing_tree;
+  reads = (closing_is_head, refl);
+  judged = record { parts = Some (record { form = origin; scheme = http; authority = None; path = codes "/" }); gives = worked_target; is = refl };
+})
+
+pub closing_head_is : ClosingHead
+closing_head_is = record { spelled = (Ok closing_head, closing_answer, refl); sent = refl }
 
 -- ---- a response
 
@@ -147,6 +204,32 @@ worked_head_is = record {
   read = (27, head, (found worked_head 27, (Ok worked_head, worked_answer, refl), refl), refl, refl, (not_yet, refl, refl));
   behind_empty_lines = (30, head, (found worked_head 30, (Ok worked_head, worked_answer, refl), refl), refl, refl, (not_yet, refl, refl));
   nothing_unread = (not_yet, refl, refl);
+}
+
+pub response_examples : ResponseExamples
+unfolding httparse_on_literals header.is_token_byte
+response_examples = record { chunks = refl; closing = refl; closing_interim = refl; both = refl; interim_length = refl }
+
+no_target : (t : Target) → ◌≡◌ {A = Option Target} None (Some t) → ⊥
+no_target t e = cc
+
+-- `*` is a target of OPTIONS alone
+no_star : (t : Target) → GivesTarget (codes "GET") (codes "*") t → ⊥
+no_star t g = by_form g.scheme g.authority g.kept g.reads g.gives
+  where
+    by_form : (s a : Option (List ℕ)) (k : List ℕ) → IsUriText (codes "*") s a k → target_of (codes "GET") (codes "*") s a ≡ Some t → ⊥
+    by_form None None k h e = no_target t e
+    by_form None (Some a) k h e = no_target t e
+    by_form (Some s) None k h e = no_target t e
+    by_form (Some s) (Some a) k h e = omega (arith, cut_long (codes "*") s a k h.1)
+
+pub order_examples : OrderExamples
+unfolding httparse_on_literals header.is_token_byte
+order_examples = record {
+  host_first = refl;
+  target_first = record { parts = None; gives = no_star; is = refl };
+  too_large = refl;
+  too_large_response = refl;
 }
 
 pub line_examples : LineExamples

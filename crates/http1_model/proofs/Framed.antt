@@ -4,7 +4,7 @@ use Rattle.std.proofs.lemmas.Bool.{and_from, eq-eqb, lt-ltb, false≢true}
 use Rattle.std.specs.Prelude.{nat_lt}
 use Rattle.std.specs.List.{list_all, flat_map}
 use Rattle.http1_model.specs.Fields.{members}
-use Rattle.http1_model.specs.Length.{nothing, exactly, chunked, Measure, number_of, is_number, all_as, one_number, told_measure, is_chunked, request_measure, open_measure, or_malformed, response_measure}
+use Rattle.http1_model.specs.Length.{nothing, exactly, chunked, until_end, Measure, number_of, is_number, all_as, one_number, told_measure, is_chunked, request_measure, open_measure, or_malformed, response_measure}
 use Rattle.http1_model.specs.Laws.{IsFramedOnce, FramedOnce}
 
 same_measure : (m n : Measure) → ◌≡◌ {A = Result Measure ℕ} (Ok m) (Ok n) → m ≡ n
@@ -13,13 +13,15 @@ same_measure m n e = cc
 no_measure : (k : ℕ) (m : Measure) → ◌≡◌ {A = Result Measure ℕ} (Err k) (Ok m) → ⊥
 no_measure k m e = cc
 
--- a measure that tells nothing and is neither chunked nor a number
-bare : (minor : ℕ) (codings lengths : List (List ℕ)) (m : Measure) → (m.length ≡ chunked → ⊥) → ((n : ℕ) → m.length ≡ exactly n → ⊥)
-    → m.told ≡ None → IsFramedOnce minor codings lengths m
-bare minor codings lengths m no_chunks no_number none = record {
+-- a measure that tells nothing and is neither chunked nor a number, where there is no field
+bare : (minor : ℕ) (m : Measure) → (m.length ≡ chunked → ⊥) → ((n : ℕ) → m.length ≡ exactly n → ⊥)
+    → m.told ≡ None → IsFramedOnce minor [] [] m
+bare minor m no_chunks no_number none = record {
   chunked_alone = λ e. absurd (no_chunks e);
   one_length = λ n e. absurd (no_number n e);
   told_alone = λ n e. absurd (cc (none, e));
+  untold = λ _ _. (refl, refl);
+  unending = λ _. (refl, refl);
 }
 
 -- ---- a number
@@ -53,6 +55,10 @@ no_chunked : (n : ℕ) (b : Bool) → cond b nothing (exactly n) ≡ chunked →
 no_chunked n true e = cc
 no_chunked n false e = cc
 
+not_open : (n : ℕ) (b : Bool) → cond b nothing (exactly n) ≡ until_end → ⊥
+not_open n true e = cc
+not_open n false e = cc
+
 told_framed : (minor : ℕ) (lengths : List (List ℕ)) (o : Option ℕ) (m : Measure) → one_number (flat_map members lengths) ≡ o
     → told_measure o ≡ Ok m → IsFramedOnce minor [] lengths m
 told_framed minor lengths None m is e = absurd (no_measure 400 m e)
@@ -63,6 +69,8 @@ told_framed minor lengths (Some n) m is e =
           (refl, subst (λ x. list_all (λ m. is_number (number_of m) x) (flat_map members lengths) ≡ true) same (one_written (flat_map members lengths) n is), ap (λ x. Some x) same));
       told_alone = λ k c. (let same : n ≡ k = cc in
           (refl, subst (λ x. list_all (λ m. is_number (number_of m) x) (flat_map members lengths) ≡ true) same (one_written (flat_map members lengths) n is)));
+      untold = λ _ x. absurd (cc);
+      unending = λ c. absurd (not_open n (eqb n 0) c);
     })
 
 -- ---- the chunked coding
@@ -83,6 +91,8 @@ coded_framed minor codings lengths false false true m la lb lc e =
       chunked_alone = λ _. (no_lines lengths la, lc, λ z. false≢true (sym lb ∙ ap (λ v. eqb v 0) z));
       one_length = λ k x. absurd (cc);
       told_alone = λ k x. absurd (cc);
+      untold = λ x _. absurd (cc);
+      unending = λ x. absurd (cc);
     })
 
 -- ---- messages
@@ -91,7 +101,7 @@ request_framed : (minor : ℕ) (codings lengths : List (List ℕ)) (m : Measure)
     → IsFramedOnce minor codings lengths m
 request_framed minor [] [] m e =
     subst (IsFramedOnce minor [] []) (same_measure (record { length = nothing; told = None }) m e)
-    (bare minor [] [] (record { length = nothing; told = None }) (λ x. cc) (λ n x. cc) refl)
+    (bare minor (record { length = nothing; told = None }) (λ x. cc) (λ n x. cc) refl)
 request_framed minor [] (v ∷ vs) m e = told_framed minor (v ∷ vs) (one_number (flat_map members (v ∷ vs))) m refl e
 request_framed minor (c ∷ cs) lengths m e =
     coded_framed minor (c ∷ cs) lengths (nat_lt 0 (length lengths)) (eqb minor 0) (is_chunked (c ∷ cs)) m refl refl refl e
@@ -103,7 +113,7 @@ kept_ok (Err k) m e = absurd (no_measure 502 m e)
 response_framed : (minor : ℕ) (codings lengths : List (List ℕ)) (m : Measure) → response_measure minor codings lengths ≡ Ok m
     → IsFramedOnce minor codings lengths m
 response_framed minor [] [] m e =
-    subst (IsFramedOnce minor [] []) (same_measure open_measure m e) (bare minor [] [] open_measure (λ x. cc) (λ n x. cc) refl)
+    subst (IsFramedOnce minor [] []) (same_measure open_measure m e) (bare minor open_measure (λ x. cc) (λ n x. cc) refl)
 response_framed minor [] (v ∷ vs) m e =
     request_framed minor [] (v ∷ vs) m (kept_ok (request_measure minor [] (v ∷ vs)) m e)
 response_framed minor (c ∷ cs) lengths m e =

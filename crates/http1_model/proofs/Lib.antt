@@ -11,3 +11,5 @@ pub mod TargetLemmas
 pub mod Framed
 pub mod Listing
 pub mod Taken
+pub mod Numbers
+pub mod ResponseReceived

@@ -9,7 +9,7 @@ use Rattle.http1_model.specs.Length.{nothing, exactly, chunked, until_end, numbe
 use Rattle.http1_model.specs.Lines.{whole, too_large, unfinished, whole_lines, skipped, head_cut}
 use Rattle.http1_model.specs.Listed.{request_list, response_list}
 use Rattle.http1_model.specs.Target.{Target, origin, absolute, asterisk, http, https, target_of}
-use Rattle.http1_model.specs.Head.{Head, found, early_refusal, SpellsStep, SpellsResponse, response_judged}
+use Rattle.http1_model.specs.Head.{Head, found, refused, early_refusal, IsJudged, SpellsStep, SpellsResponse, response_judged}
 use Rattle.http1_model.specs.Messages.{request, interim, response, rest, over, refusal, beyond, Messages}
 use Rattle.http1_model.specs.Wire.{sent_fields, wire_of}
 
@@ -42,6 +42,34 @@ pub record WorkedHead : Type 0 where
   pub behind_empty_lines : Messages (crlf_bytes ++ 10 ∷ worked_text) false None
       (record { item = request worked_head; from = 3; to = 30 } ∷ []) rest
   pub nothing_unread : Messages (crlf_bytes ++ crlf_bytes) true None [] over
+
+-- `GET / HTTP/1.0`, `Host: a`, `Connection: close`, `X-B: 1`
+abbrev pub closing_text : List ℕ
+closing_text =
+    codes "GET / HTTP/1.0" ++ crlf_bytes ++ codes "Host: a" ++ crlf_bytes ++ codes "Connection: close" ++ crlf_bytes
+    ++ codes "X-B: 1" ++ crlf_bytes ++ crlf_bytes
+
+abbrev pub closing_head : Head
+closing_head = record {
+  fields = added (request_headers (codes "GET") (codes "http") (codes "a") (codes "/")) (codes "x-b") (codes "1");
+  tail = no_headers;
+  form = Some origin;
+  minor = 0;
+  length = nothing;
+  told = None;
+  close = true;
+}
+
+-- its wire: the field that passes stands between `host` and `via`, which tells the version received (the program sends no
+-- request of HTTP/1.0 up as yet)
+abbrev pub closing_wire : List ℕ
+closing_wire =
+    codes "GET / HTTP/1.1" ++ crlf_bytes ++ codes "host: a" ++ crlf_bytes ++ codes "x-b: 1" ++ crlf_bytes
+    ++ codes "via: 1.0 wasmgate" ++ crlf_bytes ++ codes "connection: close" ++ crlf_bytes ++ crlf_bytes
+
+pub record ClosingHead : Type 0 where
+  pub spelled : SpellsStep closing_text (found closing_head 54)
+  pub sent : wire_of closing_head ≡ closing_wire
 
 -- `HTTP/1.1 200 OK`, `Content-Length: 3`
 abbrev pub worked_response_text : List ℕ
@@ -116,13 +144,13 @@ pub record FieldExamples : Type 0 where
   pub passing : passing_fields connection_fields ≡ (codes "X-B", []) ∷ (codes "x-b", codes "2") ∷ []
   pub passing_response : passing_response_fields connection_fields ≡ (codes "Host", codes "a") ∷ (codes "X-B", []) ∷ (codes "x-b", codes "2") ∷ []
 
--- the number of a refusal, or the length and the number told
 -- what a filter put in of its own goes out only where the gateway does not write it
 pub record WireExamples : Type 0 where
   pub left_out : sent_fields ((codes ":path", codes "/") ∷ (codes "x-a", codes "1") ∷ (codes "content-length", codes "5") ∷ (codes "connection", codes "x-b")
       ∷ (codes "x-b", codes "2") ∷ (codes "te", []) ∷ (codes "host", codes "b") ∷ (codes "x-c", codes "3") ∷ [])
       ≡ (codes "x-a", codes "1") ∷ (codes "x-c", codes "3") ∷ []
 
+-- the number of a refusal, or the length and the number told
 pub record LengthExamples : Type 0 where
   pub none : request_measure 1 [] [] ≡ Ok (record { length = nothing; told = None })
   pub five : request_measure 1 [] (codes "5" ∷ []) ≡ Ok (record { length = exactly 5; told = Some 5 })
@@ -160,6 +188,25 @@ pub record BareExamples : Type 0 where
   pub switching : response_judged false 1 101 [] ≡ Err 502
   pub low : response_judged false 1 99 [] ≡ Err 502
   pub high : response_judged false 1 600 [] ≡ Err 502
+
+-- what the fields of a response tell of its head, though they do not pass
+pub record ResponseExamples : Type 0 where
+  pub chunks : response_judged false 1 200 ((codes "Transfer-Encoding", codes "chunked") ∷ [])
+      ≡ Ok (record { fields = response_headers 200; tail = no_headers; form = None; minor = 1; length = chunked; told = None; close = false })
+  pub closing : response_judged false 0 200 ((codes "Connection", codes "x, Close") ∷ [])
+      ≡ Ok (record { fields = response_headers 200; tail = no_headers; form = None; minor = 0; length = until_end; told = None; close = true })
+  pub closing_interim : response_judged false 1 103 ((codes "Connection", codes "close") ∷ [])
+      ≡ Ok (record { fields = response_headers 103; tail = no_headers; form = None; minor = 1; length = nothing; told = None; close = true })
+  pub both : response_judged false 1 200 ((codes "Transfer-Encoding", codes "chunked") ∷ (codes "Content-Length", codes "3") ∷ []) ≡ Err 502
+  pub interim_length : response_judged false 1 103 ((codes "Content-Length", codes "x") ∷ []) ≡ Err 502
+
+-- what is judged first: Host and then the target (400) before a coding that is not implemented (501), and too large before
+-- malformed (431, of a response 502)
+pub record OrderExamples : Type 0 where
+  pub host_first : IsJudged (codes "GET") (codes "/") 1 ((codes "Transfer-Encoding", codes "gzip") ∷ []) (Err 400)
+  pub target_first : IsJudged (codes "GET") (codes "*") 1 ((codes "Host", codes "a") ∷ (codes "Transfer-Encoding", codes "gzip") ∷ []) (Err 400)
+  pub too_large : SpellsStep (lines_text 101 ++ 10 ∷ []) (refused 431)
+  pub too_large_response : SpellsResponse false (lines_text 101 ++ 10 ∷ []) (refused 502)
 
 -- the pseudo-headers first, then the fields that pass, with names in lower case; what no list takes gives none
 abbrev pub worked_target : Target

@@ -13,7 +13,8 @@ use Rattle.http1_model.specs.Target.{TargetForm, origin, absolute, asterisk, Tar
 
 -- a head as a gateway takes it in: `fields` are its pseudo-headers and the fields that pass, with names in lower case; `tail`
 -- are those that stand behind the framing field on the way out, of which there are none as yet; `form` is the form of a
--- request's target; `told` is the number of Content-Length; `close` says that Connection lists `close`
+-- request's target, kept only because the program answers no other than the origin form as yet; `told` is the number of
+-- Content-Length; `close` says that Connection lists `close`
 pub record Head : Type 0 where
   pub fields : Headers
   pub tail : Headers
@@ -157,8 +158,9 @@ SpellsStep text step = SpellsBy IsAnswer 431 text step
 abbrev pub SpellsResponse : Bool → List ℕ → HeadStep → Type 0
 SpellsResponse to_head text step = SpellsBy (IsResponseAnswer to_head) 502 text step
 
--- Two questions on a head that a text spells, as it was received: has it a Content-Length or a Transfer-Encoding field, and
--- does its target begin with `/`?
+-- Two questions on a request head that a text spells, as it was received: has it a Content-Length or a Transfer-Encoding field,
+-- and does its target begin with `/`? (A response without a body keeps no sign of Transfer-Encoding, so the first is
+-- a question on requests alone.)
 abbrev pub is_coded : BodyLength → Bool
 is_coded nothing = false
 is_coded (exactly n) = false

@@ -1,17 +1,17 @@
 -- What holds of every text: it spells one thing, and what it spells stays spelled when more bytes come.
 use Rattle.std.specs.List.{list_all, flat_map}
-use Rattle.std.specs.Prelude.{◌≡◌, [], ◌∷◌, true, Some, unwrap_or, ◌==◌, ◌≤◌, ◌||◌, ℕ, Bool, false, List, ◌++◌, length, slice_index, All, Option, None, IsSome, Ok, codes, nat_lt}
+use Rattle.std.specs.Prelude.{◌≡◌, [], ◌∷◌, true, Some, unwrap_or, ◌==◌, ◌≤◌, ◌||◌, ℕ, Bool, ◌&&◌, not, false, List, ◌++◌, length, slice_index, All, Option, None, IsSome, is_some, Ok, codes, nat_lt}
 use Rattle.http_header.specs.FieldValue.{IsFieldValue}
 use Rattle.http_uri.specs.ByteClasses.{slash}
 use Rattle.httparse.specs.Grammar.{Field, field_value, RequestHead, ReadsRequest, ResponseHead, ReadsResponse, status_code}
 use Rattle.header_maps.specs.declared.kind.ListKind.TheVariants.{Request}
 use Rattle.header_maps.specs.Judged.{status_text}
 use Rattle.header_maps.specs.Operations.{request_headers, status_kind}
-use Rattle.http1_model.specs.Fields.{Pair, values_of, members, kept_fields, kept_response_fields}
-use Rattle.http1_model.specs.Length.{exactly, chunked, Measure, number_of, is_number, is_chunked, request_measure, response_measure}
+use Rattle.http1_model.specs.Fields.{Pair, values_of, is_listed, members, kept_fields, kept_response_fields}
+use Rattle.http1_model.specs.Length.{nothing, exactly, chunked, until_end, Measure, number_of, is_number, is_chunked, request_measure, response_measure, is_without_body}
 use Rattle.http1_model.specs.Listed.{scheme_text, request_list, response_list}
 use Rattle.http1_model.specs.Target.{Target, GivesTarget}
-use Rattle.http1_model.specs.Head.{Head, pairs_at, pairs_of, early_refusal, host_of, response_judged, IsJudged, has_length_field, is_origin, HeadStep, not_yet}
+use Rattle.http1_model.specs.Head.{Head, pairs_at, pairs_of, early_refusal, host_of, response_judged, IsJudged, is_coded, has_length_field, is_origin, HeadStep, not_yet, refused, SpellsStep, SpellsResponse}
 use Rattle.http1_model.specs.Lines.{head_limit, line_limit, whole, head_cut}
 use Rattle.http1_model.specs.Messages.{Placed, Stop, refusal, SpellsHead, Messages}
 
@@ -49,12 +49,34 @@ RefusalStays =
 abbrev pub has_line : List ℕ → List Pair → Bool
 has_line name fields = nat_lt 0 (length (values_of name fields))
 
--- a head that is taken in tells whether it was received with a length field, and whether its target begins with `/`
+-- a request head that is taken in tells whether it was received with a length field, and whether its target begins with `/`
 abbrev pub ToldAsReceived : Type 0
 ToldAsReceived =
     (method target : List ℕ) (minor : ℕ) (fields : List Pair) (head : Head) → IsJudged method target minor fields (Ok head)
     → (has_length_field head ≡ (has_line (codes "transfer-encoding") fields || has_line (codes "content-length") fields))
     × (is_origin head.form ≡ (slice_index target 0 == slash))
+
+-- A response head that is taken in tells a number exactly where it was received with Content-Length. It is under the chunked
+-- coding exactly where it was received with Transfer-Encoding and may have a body. Its version is the one received, and `close`
+-- is what Connection lists, though that field does not pass.
+pub record IsResponseAsReceived (to_head : Bool) (minor status : ℕ) (fields : List Pair) (head : Head) : Type 0 where
+  pub told : is_some head.told ≡ has_line (codes "content-length") fields
+  pub coded : is_coded head.length ≡ (not (is_without_body to_head status) && has_line (codes "transfer-encoding") fields)
+  pub version : head.minor ≡ minor
+  pub close : head.close ≡ is_listed (codes "close") fields
+
+abbrev pub ResponseAsReceived : Type 0
+ResponseAsReceived =
+    (to_head : Bool) (minor status : ℕ) (fields : List Pair) (head : Head) → response_judged to_head minor status fields ≡ Ok head
+    → IsResponseAsReceived to_head minor status fields head
+
+-- a request is refused with 400, 431 or 501 alone, a response with 502 alone
+abbrev pub is_request_refusal : ℕ → Bool
+is_request_refusal number = number == 400 || (number == 431 || number == 501)
+
+pub record RefusalNumbers : Type 0 where
+  pub request : (text : List ℕ) (number : ℕ) → SpellsStep text (refused number) → is_request_refusal number ≡ true
+  pub response : (to_head : Bool) (text : List ℕ) (number : ℕ) → SpellsResponse to_head text (refused number) → number ≡ 502
 
 -- every value that is read is one that `http_header` takes
 abbrev pub ValuesAccepted : Type 0
@@ -85,13 +107,17 @@ ResponseListed =
 
 -- A message that is taken in is framed in one way alone, so no reader behind the gateway can see another end of it: under the
 -- chunked coding there is no Content-Length and one Transfer-Encoding line, which is `chunked`; a length of n comes only where
--- there is no Transfer-Encoding, and every member of every Content-Length line writes n (RFC 9112, section 11.2).
+-- there is no Transfer-Encoding, and every member of every Content-Length line writes n; and a message that tells nothing, or
+-- goes on until the line ends, was received with neither field (RFC 9112, section 11.2). The measure of a response is the one
+-- before `bodied` takes away the length of a response that has no body.
 pub record IsFramedOnce (minor : ℕ) (codings lengths : List (List ℕ)) (measure : Measure) : Type 0 where
   pub chunked_alone : measure.length ≡ chunked → (lengths ≡ []) × (is_chunked codings ≡ true) × (minor ≡ 0 → ⊥)
   pub one_length : (n : ℕ) → measure.length ≡ exactly n
       → (codings ≡ []) × (list_all (λ m. is_number (number_of m) n) (flat_map members lengths) ≡ true) × (measure.told ≡ Some n)
   pub told_alone : (n : ℕ) → measure.told ≡ Some n
       → (codings ≡ []) × (list_all (λ m. is_number (number_of m) n) (flat_map members lengths) ≡ true)
+  pub untold : measure.length ≡ nothing → measure.told ≡ None → (codings ≡ []) × (lengths ≡ [])
+  pub unending : measure.length ≡ until_end → (codings ≡ []) × (lengths ≡ [])
 
 pub record FramedOnce : Type 0 where
   pub request : (minor : ℕ) (codings lengths : List (List ℕ)) (measure : Measure) → request_measure minor codings lengths ≡ Ok measure

@@ -3,8 +3,8 @@
 
 ghost use Rattle.http1_model.specs.ChunkExamples.{WorkedBody, SizeExamples, PlaceExamples, TrailerExamples, ChunkWireExamples};
 ghost use Rattle.http1_model.specs.ChunkLaws.{OneChunkStep, SizeStays, SoughtStays, RunsJoin, LastStepStays};
-ghost use Rattle.http1_model.specs.Examples.{WorkedHead, WorkedResponse, LineExamples, FieldExamples, WireExamples, LengthExamples, ResponseLengthExamples, BareExamples, ListExamples, TargetExamples, RefusalExamples};
-ghost use Rattle.http1_model.specs.Laws.{OneStep, StepStays, OneReading, ReadingGrows, RefusalStays, ToldAsReceived, ValuesAccepted, WholeFits, RequestListed, ResponseListed, FramedOnce, RequestTaken, ResponseTaken};
+ghost use Rattle.http1_model.specs.Examples.{WorkedHead, ClosingHead, WorkedResponse, ResponseExamples, OrderExamples, LineExamples, FieldExamples, WireExamples, LengthExamples, ResponseLengthExamples, BareExamples, ListExamples, TargetExamples, RefusalExamples};
+ghost use Rattle.http1_model.specs.Laws.{OneStep, StepStays, OneReading, ReadingGrows, RefusalStays, ToldAsReceived, ResponseAsReceived, RefusalNumbers, ValuesAccepted, WholeFits, RequestListed, ResponseListed, FramedOnce, RequestTaken, ResponseTaken};
 
 /// Where a head is due, a text spells one thing.
 pub fn one_step()
@@ -31,9 +31,20 @@ pub fn refusal_stays()
     ensures { RefusalStays }
 {}
 
-/// A head that is taken in tells whether a length field was received, and whether its target begins with `/`.
+/// A request head that is taken in tells whether a length field was received, and whether its target begins with `/`.
 pub fn told_as_received()
     ensures { ToldAsReceived }
+{}
+
+/// A response head that is taken in tells a number exactly where Content-Length was received, is chunked exactly where
+/// Transfer-Encoding was and it may have a body, and keeps its version and whether Connection lists `close`.
+pub fn response_as_received()
+    ensures { ResponseAsReceived }
+{}
+
+/// A request is refused with 400, 431 or 501 alone, a response with 502 alone.
+pub fn refusal_numbers()
+    ensures { RefusalNumbers }
 {}
 
 /// A request's list is its four pseudo-headers and then exactly the fields that are not dropped.
@@ -46,7 +57,8 @@ pub fn response_listed()
     ensures { ResponseListed }
 {}
 
-/// A message that is taken in is framed in one way alone: by one length, or by the chunked coding, or by neither.
+/// A message that is taken in is framed in one way alone: by one length, or by the chunked coding, or by neither, where
+/// neither field was received.
 pub fn framed_once()
     ensures { FramedOnce }
 {}
@@ -74,6 +86,7 @@ pub fn whole_fits()
 /// The definitions, worked on texts that are written out.
 pub fn worked_examples()
     ensures head { WorkedHead }
+    ensures closing { ClosingHead }
     ensures response { WorkedResponse }
     ensures lines { LineExamples }
     ensures fields { FieldExamples }
@@ -81,6 +94,8 @@ pub fn worked_examples()
     ensures lengths { LengthExamples }
     ensures response_lengths { ResponseLengthExamples }
     ensures bare { BareExamples }
+    ensures responses { ResponseExamples }
+    ensures order { OrderExamples }
     ensures lists { ListExamples }
     ensures targets { TargetExamples }
     ensures refusals { RefusalExamples }
