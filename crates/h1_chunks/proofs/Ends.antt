@@ -1,5 +1,5 @@
 -- Lemmas on what a text spells, by what is sought in it.
-use Rattle.std.proofs.Common.{◌≡◌, ℕ, ◌+◌, ◌≤◌, List, length, take, drop, Option, refl, sym, ap, subst, ◌∙◌}
+use Rattle.std.proofs.Common.{◌≡◌, ℕ, ◌+◌, ◌≤◌, List, length, take, drop, Option, sym, ap, subst}
 use Rattle.std.proofs.lemmas.List.{length-take-le}
 use Rattle.http1_model.specs.Chunks.{Place, Sought, section_at, sought}
 use Rattle.http1_model.specs.Fields.{Pair}

@@ -1,12 +1,12 @@
 -- Lemmas on trailer sections.
 use Rattle.std.proofs.Common.{◌≡◌, ℕ, ◌+◌, ◌-◌, ◌<◌, ◌≤◌, Bool, true, List, [], ◌∷◌, ◌++◌, map, filter, length, take, drop, get_or, slice_range, Some, None, refl, sym, ap, subst, ◌∙◌, arith}
-use Rattle.std.proofs.lemmas.Bool.{cond-true, and_from, lt-ltb, le-leb}
+use Rattle.std.proofs.lemmas.Bool.{and_from, lt-ltb, le-leb}
 use Rattle.std.proofs.lemmas.List.{append_assoc, append-nil, length-append, length-map, length-take, length-take-le, length-drop, take-append-drop, drop_all, get_or-map}
 use Rattle.std.proofs.lemmas.List.Elements.{All-head, All-tail, All-cons, All-nil}
 use Rattle.std.proofs.lemmas.List.Filters.{length-filter_both}
 use Rattle.std.proofs.lemmas.List.Sums.{list_all-from_AllPass}
 use Rattle.std.proofs.Math.Seq.{take-append-add}
-use Rattle.std.specs.Prelude.{All, nat_lt, nat_le, not}
+use Rattle.std.specs.Prelude.{All, not}
 use Rattle.std.specs.List.{flat_map}
 use Rattle.httparse.specs.declared.spans.HeaderSpan.{HeaderSpan}
 use Rattle.httparse.specs.Grammar as grammar
@@ -14,13 +14,13 @@ use Rattle.httparse.specs.Grammar.{LineEnd, print_end, Field, IsField, print_fie
 use Rattle.httparse.specs.Spans.{IsSectionAt, name_and_value, header_bytes}
 use Rattle.httparse.proofs.TrimLemmas.{AllPass-trim_ows}
 use Rattle.http_header.specs.Token as token
-use Rattle.header_maps.specs.Faults.{add_fault, first_fault, is_few}
+use Rattle.header_maps.specs.Faults.{add_fault, is_few}
 use Rattle.header_maps.specs.Headers.{Headers}
-use Rattle.header_maps.specs.Judged.{is_field_name, is_field_value, is_token_text}
+use Rattle.header_maps.specs.Judged.{is_field_name, is_field_value}
 use Rattle.header_maps.specs.Operations.{added}
 use Rattle.header_maps.specs.Pairs.{is_plain, plain_count}
 use Rattle.http1_model.specs.Fields.{Pair}
-use Rattle.http1_model.specs.Lines.{whole_lines, section_of, cut_at, cut_lines, whole}
+use Rattle.http1_model.specs.Lines.{whole_lines, section_of, cut_lines, whole}
 use Rattle.http1_model.specs.Trailers.{window_section, section_cut}
 use Rattle.http1_model.proofs.GrammarLines.{whole_lines-section, section_of-section, cut_at-whole}
 use Rattle.h1_chunks.specs.Spans.{fields_at, IsTaken, AreTaken}

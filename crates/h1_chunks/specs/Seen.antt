@@ -1,10 +1,7 @@
 -- The places and steps of the model that the code's values say.
-use Rattle.std.specs.Prelude.{◌≡◌, ◌≤◌, ◌<◌, ⊤, ℕ, ◌+◌, ◌^◌, List, Option, None, Some, Result, Ok, Err}
-use Rattle.http1_model.specs.Fields.{Pair}
+use Rattle.std.specs.Prelude.{◌≤◌, ◌<◌, ⊤, ℕ}
 use Rattle.http1_model.specs.Chunks as model
 use Rattle.http1_model.specs.Lines as lines
-use Rattle.http1_model.specs.Trailers as trailers
-use Rattle.header_maps.specs.Headers.{Headers}
 use Rattle.h1_chunks.specs.declared.lines.Cut as cut
 use Rattle.h1_chunks.specs.declared.lines.Cut.TheVariants as cuts
 use Rattle.h1_chunks.specs.declared.size.SizeStep as size

@@ -32,6 +32,11 @@ size_examples = record {
   other = refl;
   longest = refl;
   longest_open = refl;
+  longest_return = refl;
+  sixteen_zeros = refl;
+  upper_limit = refl;
+  return_in_extension = refl;
+  control_in_extension = refl;
   too_long = refl;
 }
 
@@ -61,7 +66,7 @@ trailer_examples = record {
 }
 
 pub wire_examples : ChunkWireExamples
-wire_examples = record { five = refl; lower_case = refl; empty = refl }
+wire_examples = record { five = refl; lower_case = refl; nine = refl; ten = refl; fifteen = refl; sixteen = refl; bare_end = refl; end_with_trailers = refl; empty = refl }
 
 sum_field : Field
 sum_field = record { name = codes "X-Sum"; raw = codes " 1"; end = crlf }
@@ -118,6 +123,8 @@ worked_body = record {
   part = refl;
   joined = refl;
   cut = refl;
+  before_fault = refl;
+  behind_data = refl;
   no_trailers = record {
     trailers = Some [];
     section = record { fields = []; last = crlf; reads = (All-nil IsField, refl); are = refl };

@@ -1,7 +1,7 @@
 -- The laws of the chunked coding.
 use Rattle.std.proofs.Common.{◌≡◌, ℕ, zero, suc, ◌+◌, ◌-◌, ◌*◌, ◌<◌, ◌≤◌, Bool, true, false, cond, not, eqb, ◌&&◌, List, [], ◌∷◌, ◌++◌, map, length, take, drop, get_or, Option, None, Some, refl, sym, ap, subst, ◌∙◌, inl, inr, arith}
-use Rattle.std.proofs.lemmas.Bool.{cond-true, cond-false, cases_Bool, cases_lt, ne_eqb, eq-eqb, lt-ltb, ltb-true, lt-leb, or_right, le-leb, leb-true, and_from, and_parts, false≢true}
-use Rattle.std.proofs.lemmas.List.{append_assoc, append-nil, length-append, length-drop, length-take, take-append-le, take-append-drop, take_all, drop_all, drop-drop, drop-append-le, get_or_append_left, drop_more}
+use Rattle.std.proofs.lemmas.Bool.{cond-true, cond-false, cases_lt, ne_eqb, eq-eqb, lt-ltb, ltb-true, lt-leb, or_right, le-leb, leb-true, and_from, and_parts, false≢true}
+use Rattle.std.proofs.lemmas.List.{length-append, length-drop, length-take, take-append-le, take_all, drop_all, drop-drop, drop-append-le, get_or_append_left}
 use Rattle.std.proofs.lemmas.List.Folds.{prefix_len-append, length-prefix_len, list_all-append}
 use Rattle.std.proofs.lemmas.List.Sums.{prefix_len-le-length}
 use Rattle.std.proofs.Math.Seq.{take-append-add}
@@ -10,14 +10,14 @@ use Rattle.http1_model.specs.Length.{length_limit}
 use Rattle.std.specs.List.{list_all, prefix_len, take_while}
 use Rattle.std.specs.Char.{is_ascii_hexdigit, digit_value}
 use Rattle.std.specs.Str.Parse.{digits_value_after, digits_value}
-use Rattle.httparse.specs.Grammar.{is_ows, skip_ows, LineEnd, Field, ReadsSection}
+use Rattle.httparse.specs.Grammar.{is_ows, skip_ows, Field}
 use Rattle.httparse.specs.Spans.{name_and_value}
 use Rattle.httparse.proofs.GrammarLemmas.{section_unique}
 use Rattle.http1_model.specs.Fields.{Pair}
-use Rattle.http1_model.specs.Lines.{Cut, whole, too_large, unfinished, whole_lines, section_of, cut_at, cut_open, cut_lines}
+use Rattle.http1_model.specs.Lines.{Cut, whole, too_large, unfinished, whole_lines, section_of, cut_open, cut_lines}
 use Rattle.http1_model.proofs.Growth.{lines_grow, section_of-append, ManyOrNone, section_of-longer, IsDone, section_fits}
 use Rattle.http1_model.specs.Chunks.{is_before_end, front_of, number_of_digits, is_no_line_end, are_extensions, size_told, line_ended, told_step, front_step, SizeStep, sized, size_open, no_size, size_step, Place, size_line, inside, over, Sought, data_at, section_at, waiting, malformed, sought, behind_size, behind_data, moved, Run, no_run, with_byte, if_data, run_of}
-use Rattle.http1_model.specs.Trailers.{ChunkStep, carried, not_yet, EndsWith, window_section, IsSection, IsSectionText, kept_trailers, end_of, IsEnd, IsBehind, SpellsChunks, section_cut}
+use Rattle.http1_model.specs.Trailers.{ChunkStep, carried, not_yet, EndsWith, window_section, IsSection, kept_trailers, end_of, IsEnd, IsBehind, SpellsChunks, section_cut}
 use Rattle.http1_model.specs.ChunkLaws.{OneChunkStep, is_last, LastStepStays, SizeStays, SoughtStays, joined, RunsJoin}
 
 -- ---- one step

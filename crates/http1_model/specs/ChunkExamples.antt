@@ -4,10 +4,10 @@ use Rattle.std.specs.List.{flat_map}
 use Rattle.httparse.specs.Ascii.{crlf_bytes}
 use Rattle.http1_model.specs.Fields.{Pair}
 use Rattle.http1_model.specs.Lines.{whole, too_large, unfinished}
-use Rattle.http1_model.specs.Chunks.{sized, size_open, no_size, size_told, size_step, size_line, inside, over, data_at, section_at, malformed, sought, run_of}
+use Rattle.http1_model.specs.Chunks.{sized, size_open, no_size, size_step, size_line, inside, over, data_at, section_at, malformed, sought, run_of}
 use Rattle.http1_model.specs.Chunks as chunks
 use Rattle.http1_model.specs.Trailers.{kept_trailers, section_cut, carried, ended, not_yet, refused, SpellsChunks}
-use Rattle.http1_model.specs.ChunkWire.{chunk_of, chunks_of, last_chunk}
+use Rattle.http1_model.specs.ChunkWire.{chunk_of, chunks_of, last_chunk, body_end}
 
 -- `5`, `abcde`, `0`, `X-Sum: 1`
 abbrev pub chunked_text : List ℕ
@@ -27,6 +27,8 @@ pub record WorkedBody : Type 0 where
   pub part : SpellsChunks size_line (codes "5" ++ crlf_bytes ++ codes "ab") (carried (record { bytes = codes "ab"; used = 5; place = inside 3 }))
   pub joined : run_of 16384 size_line split_text ≡ record { bytes = codes "abcde"; used = 28; place = inside 0 }
   pub cut : run_of 2 size_line split_text ≡ record { bytes = codes "ab"; used = 10; place = inside 0 }
+  pub before_fault : SpellsChunks size_line (codes "1" ++ crlf_bytes ++ codes "aX") (carried (record { bytes = codes "a"; used = 4; place = inside 0 }))
+  pub behind_data : SpellsChunks (inside 0) (codes "X") (refused 400)
   pub no_trailers : SpellsChunks size_line (last_chunk ++ crlf_bytes) (ended [] 5)
   pub no_end : SpellsChunks (inside 0) (crlf_bytes ++ codes "0" ++ crlf_bytes ++ codes "X-Sum: 1" ++ crlf_bytes) not_yet
   pub no_field : SpellsChunks size_line (codes "0" ++ crlf_bytes ++ codes " X" ++ crlf_bytes ++ crlf_bytes) (refused 400)
@@ -53,6 +55,11 @@ pub record SizeExamples : Type 0 where
   pub other : size_step (codes "5 a") ≡ no_size
   pub longest : size_step (codes "5;" ++ replicate 4092 97 ++ crlf_bytes) ≡ sized 5 4096
   pub longest_open : size_step (codes "5;" ++ replicate 4092 97) ≡ size_open
+  pub longest_return : size_step (codes "5;" ++ replicate 4092 97 ++ codes "\r") ≡ size_open
+  pub sixteen_zeros : size_step (codes "0000000000000000" ++ crlf_bytes) ≡ sized 0 18
+  pub upper_limit : size_step (codes "7FFFFFFFFFFFFFFF" ++ crlf_bytes) ≡ sized 9223372036854775807 18
+  pub return_in_extension : size_step (codes "5;a\rb") ≡ no_size
+  pub control_in_extension : size_step (codes "5;" ++ 0 ∷ crlf_bytes) ≡ sized 5 5
   pub too_long : size_step (codes "5;" ++ replicate 4093 97) ≡ no_size
 
 pub record PlaceExamples : Type 0 where
@@ -87,4 +94,10 @@ pub record TrailerExamples : Type 0 where
 pub record ChunkWireExamples : Type 0 where
   pub five : chunk_of (codes "abcde") ≡ codes "5" ++ crlf_bytes ++ codes "abcde" ++ crlf_bytes
   pub lower_case : chunk_of (replicate 171 97) ≡ codes "ab" ++ crlf_bytes ++ replicate 171 97 ++ crlf_bytes
+  pub nine : chunk_of (replicate 9 97) ≡ codes "9" ++ crlf_bytes ++ replicate 9 97 ++ crlf_bytes
+  pub ten : chunk_of (replicate 10 97) ≡ codes "a" ++ crlf_bytes ++ replicate 10 97 ++ crlf_bytes
+  pub fifteen : chunk_of (replicate 15 97) ≡ codes "f" ++ crlf_bytes ++ replicate 15 97 ++ crlf_bytes
+  pub sixteen : chunk_of (replicate 16 97) ≡ codes "10" ++ crlf_bytes ++ replicate 16 97 ++ crlf_bytes
+  pub bare_end : body_end [] ≡ codes "0" ++ crlf_bytes ++ crlf_bytes
+  pub end_with_trailers : body_end ((codes "x-sum", codes "1") ∷ []) ≡ codes "0" ++ crlf_bytes ++ codes "x-sum: 1" ++ crlf_bytes ++ crlf_bytes
   pub empty : chunks_of (codes "a" ∷ [] ∷ codes "b" ∷ []) ≡ codes "1" ++ crlf_bytes ++ codes "a" ++ crlf_bytes ++ codes "1" ++ crlf_bytes ++ codes "b" ++ crlf_bytes

@@ -1,7 +1,7 @@
 -- What holds of every text of a chunked body: it spells one thing from a place on, and what it spells stays spelled when more
 -- bytes come.
 use Rattle.std.specs.Prelude.{◌≡◌, ◌+◌, ◌-◌, ℕ, Bool, true, false, List, ◌++◌, length, drop}
-use Rattle.http1_model.specs.Chunks.{SizeStep, sized, size_open, no_size, size_step, Place, Sought, waiting, sought, Run, run_of}
+use Rattle.http1_model.specs.Chunks.{SizeStep, size_open, size_step, Place, Sought, waiting, sought, Run, run_of}
 use Rattle.http1_model.specs.Trailers.{ChunkStep, carried, ended, not_yet, refused, SpellsChunks}
 
 -- from a place on, a text spells one thing

@@ -3,6 +3,8 @@ use Rattle.std.specs.Prelude.{ℕ, ◌+◌, List, [], ◌∷◌, ◌++◌, lengt
 use Rattle.std.specs.Int.Digits.{digits_of}
 use Rattle.std.specs.List.{flat_map}
 use Rattle.httparse.specs.Ascii.{crlf_bytes}
+use Rattle.http1_model.specs.Fields.{Pair}
+use Rattle.http1_model.specs.Wire.{field_lines}
 
 -- a digit below 16, in lower case
 abbrev pub hex_digit : ℕ → ℕ
@@ -20,6 +22,10 @@ chunk_of (b ∷ bytes) = hex_text (length (b ∷ bytes)) ++ crlf_bytes ++ (b ∷
 abbrev pub chunks_of : List (List ℕ) → List ℕ
 chunks_of pieces = flat_map chunk_of pieces
 
--- the last chunk; the trailers' field lines and an empty line follow it
+-- the last chunk
 abbrev pub last_chunk : List ℕ
 last_chunk = codes "0" ++ crlf_bytes
+
+-- the end of a body: the last chunk, the field lines of its trailers, and the empty line
+abbrev pub body_end : List Pair → List ℕ
+body_end trailers = last_chunk ++ field_lines trailers ++ crlf_bytes

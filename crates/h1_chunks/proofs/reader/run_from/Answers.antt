@@ -1,6 +1,6 @@
 use Rattle.std.proofs.Common.{◌≡◌, ◌+◌, ◌-◌, ◌<◌, ◌≤◌, ◌++◌, slice_range, length, take, drop, ap, sym, ◌∙◌, arith}
 use Rattle.std.proofs.lemmas.List.{take_rest, length-drop}
-use Rattle.h1_chunks.specs.Seen.{seen_place, seen_sought}
+use Rattle.h1_chunks.specs.Seen.{seen_place}
 use Rattle.h1_chunks.proofs.Runs.{gathers_none, gathers_more, gathers_full, gathers_all, more_length, not_data}
 use Rattle.h1_chunks.proofs.reader.run_from.Goals.{else-loop-rest-test, then-loop-rest-test+in_default}
 use Rattle.h1_chunks.proofs.reader.run_from.Goals as goal

@@ -1,4 +1,3 @@
-use Rattle.std.proofs.Common.{take}
 use Rattle.h1_chunks.proofs.Sections.{are_taken, few_fields}
 use Rattle.h1_chunks.proofs.section.trailers.Goals as goal
 
