@@ -2,6 +2,7 @@
 #![tactic(auto)]
 
 mod apply;
+mod instr;
 pub mod laws;
 mod narrow;
 mod op;
@@ -9,8 +10,11 @@ mod operator;
 mod wide;
 
 pub use apply::{apply1, apply2};
+pub use instr::{Numeric, operator_of};
 pub use op::{NumTrap, Op1, Op2};
 pub use operator::{Arithmetic, Bitwise, Operator, Relation, Shift};
 
+#[cfg(test)]
+mod instr_tests;
 #[cfg(test)]
 mod tests;
