@@ -4,3 +4,4 @@ pub mod Lowest
 pub mod Constants
 pub mod Kept
 pub mod Empty
+pub mod Causes

@@ -3,3 +3,4 @@ pub mod Instances
 pub mod Linking
 pub mod Parted
 pub mod LinkExamples
+pub mod LinkCauses

@@ -5,6 +5,7 @@
 mod globals;
 mod instance;
 pub mod laws;
+pub mod link_laws;
 mod links;
 mod memory;
 mod segments;
