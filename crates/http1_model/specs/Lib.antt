@@ -9,7 +9,9 @@ pub mod Laws
 pub mod Length
 pub mod Lines
 pub mod Listed
+pub mod LocalReply
 pub mod Messages
+pub mod Moment
 pub mod Target
 pub mod Trailers
 pub mod Wire

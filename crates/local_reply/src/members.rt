@@ -1,0 +1,43 @@
+// Values, and the members of a list in a value.
+ghost use Rattle.std.specs.Prelude.{◌≡◌, bytes_eq};
+ghost use Rattle.http1_model.specs.Fields.{lists};
+ghost use Rattle.http_header.specs.Token.{lowercase};
+ghost use Rattle.httparse.specs.Grammar.{is_ows, trim_ows};
+
+/// Whether a byte is a space or a tab.
+fn is_blank(byte: u8) -> bool
+    ensures { result ≡ is_ows byte }
+{
+    byte == b' ' || byte == b'\t'
+}
+
+/// The bytes without the blanks at both ends (RFC 9110 section 5.5).
+pub fn trim(bytes: &[u8]) -> &[u8]
+    ensures { result.now ≡ trim_ows bytes.now }
+{
+    let mut start = 0;
+    let mut end = bytes.len();
+    while start < end && is_blank(bytes[start]) {
+        start += 1;
+    }
+    while start < end && is_blank(bytes[end - 1]) {
+        end -= 1;
+    }
+    &bytes[start..end]
+}
+
+/// Whether two texts are equal but for the case of letters.
+pub fn is_same_word(a: &[u8], b: &[u8]) -> bool
+    ensures { result ≡ bytes_eq (lowercase a.now) (lowercase b.now) }
+{
+    a.eq_ignore_ascii_case(b)
+}
+
+/// Whether a member of a value is this name, in any case of letters (RFC 9110 section 5.6.1).
+pub fn lists(value: &[u8], name: &[u8]) -> bool
+    ensures { result ≡ lists (lowercase name.now) value.now }
+{
+    value
+        .split(|b| *b == b',')
+        .any(|member| is_same_word(trim(member), name))
+}
