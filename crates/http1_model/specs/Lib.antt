@@ -4,6 +4,7 @@ pub mod ChunkWire
 pub mod Chunks
 pub mod Examples
 pub mod Fields
+pub mod Framing
 pub mod Head
 pub mod Laws
 pub mod Length

@@ -1,3 +1,5 @@
 pub mod Examples
+pub mod FramingProofs
 pub mod Lists
 pub mod Moments
+pub mod Wires

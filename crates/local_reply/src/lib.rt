@@ -7,7 +7,9 @@ mod laws;
 mod members;
 mod reply;
 
-pub use laws::{moments_have_texts, worked_examples};
+pub use laws::{
+    framing_examples, head_is_wire, moments_have_texts, reply_is_wire, worked_examples,
+};
 pub use reply::local;
 
 #[cfg(test)]
