@@ -10,3 +10,14 @@ pub mod Aims
 pub mod Outside
 pub mod Modules
 pub mod Worked
+pub mod Splits
+pub mod Operands
+pub mod Acts
+pub mod Flows
+pub mod Keeps
+pub mod Typed
+pub mod Valid
+pub mod Unstuck
+pub mod Hosted
+pub mod WorkedThreads
+pub mod Made

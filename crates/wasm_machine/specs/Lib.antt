@@ -7,3 +7,7 @@ pub mod RunsFollow
 pub mod Targets
 pub mod Outside
 pub mod Modules
+pub mod Holds
+pub mod Sound
+pub mod HoldsExamples
+pub mod Made

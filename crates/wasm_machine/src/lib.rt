@@ -3,5 +3,6 @@
 
 mod control;
 pub mod laws;
+pub mod safety;
 
 pub use control::{Control, Target};
