@@ -1,13 +1,14 @@
 //! Type safety: a valid module never gets stuck. The functions have nothing to do: their contracts are the laws.
 
-ghost use Rattle.std.specs.Prelude.{List, [], ◌∷◌};
+ghost use Rattle.std.specs.Prelude.{List, [], ◌∷◌, Some};
+ghost use Rattle.wasm_syntax.specs.declared.types.Value.{Value};
 ghost use Rattle.wasm_syntax.specs.declared.types.ValueType.{ValueType};
 ghost use Rattle.wasm_syntax.specs.declared.types.ValueType.TheVariants.{I32, I64};
-ghost use Rattle.wasm_machine.specs.HoldsExamples.{Leaves, LeavesWith, adding, adding_long, branching, half};
+ghost use Rattle.wasm_machine.specs.HoldsExamples.{Leaves, LeavesWith, adding, adding_long, branching, half, IsFullStore, word, long, IsCallWith};
 ghost use Rattle.wasm_machine.specs.Sound.{ReductionKeepsTypes, StepKeepsTypes, RunKeepsTypes, AnswerKeepsTypes, CallKeepsTypes, HostedIsNeverStuck, FlatStepsFollowTyped, FlatRunsFollowTyped, ModuleIsSound, FirstStoreIsTyped, ModuleIsNeverStuck, FlatModuleFollows};
 ghost use Rattle.wasm_machine.specs.Made.{MadeIsSound, MadeHasStep, MadeIsNeverStuck, FlatFollowsMade, AnsweredRuns, NoneChangesNothing};
 
-/// Preservation and progress (WebAssembly Core 1.0, appendix A.5) of one reduction: it leaves a thread
+/// Preservation and progress (WebAssembly Core 1.0, appendix on soundness) of one reduction: it leaves a thread
 /// that fits the typing rules, a branch or a `return` with what its label or its function takes, values
 /// of the types of the thread, a question to the host with arguments of the function's parameters, or
 /// a trap. It is never stuck.
@@ -73,4 +74,15 @@ pub fn worked_threads()
     ensures branches { Leaves branching (I32 ∷ []) }
     ensures waits { LeavesWith (I32 ∷ []) half (I32 ∷ []) }
     ensures waits_for_no_long { (after : List ValueType) → LeavesWith (I64 ∷ []) half after → ⊥ }
+{}
+
+/// Stores and calls that were worked out by hand: in a module with two functions and two globals that
+/// are words no global may be long and no element the third function; and a function that takes nothing
+/// is called with no argument.
+pub fn worked_calls()
+    ensures words { IsFullStore (Some 1 ∷ Some 0 ∷ []) (word ∷ word ∷ []) }
+    ensures no_long { IsFullStore (Some 1 ∷ Some 0 ∷ []) (word ∷ long ∷ []) → ⊥ }
+    ensures no_third { IsFullStore (Some 2 ∷ []) (word ∷ word ∷ []) → ⊥ }
+    ensures no_arguments { IsCallWith [] }
+    ensures one_too_many { (v : Value) → IsCallWith (v ∷ []) → ⊥ }
 {}
