@@ -1,5 +1,9 @@
 pub mod Parts
 pub mod Flat
+pub mod Holds
+pub mod Sound
+pub mod Made
+pub mod HoldsExamples
 pub mod Stands
 pub mod Follows
 pub mod Runs
@@ -7,7 +11,3 @@ pub mod RunsFollow
 pub mod Targets
 pub mod Outside
 pub mod Modules
-pub mod Holds
-pub mod Sound
-pub mod HoldsExamples
-pub mod Made
