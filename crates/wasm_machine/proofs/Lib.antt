@@ -21,3 +21,4 @@ pub mod Aims
 pub mod Outside
 pub mod Modules
 pub mod Worked
+pub mod Crossed

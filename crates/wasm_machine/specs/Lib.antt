@@ -9,5 +9,6 @@ pub mod Follows
 pub mod Runs
 pub mod RunsFollow
 pub mod Targets
+pub mod Edges
 pub mod Outside
 pub mod Modules

@@ -2,7 +2,12 @@
 #![tactic(auto)]
 
 mod control;
+mod jumps;
 pub mod laws;
 pub mod safety;
 
 pub use control::{Control, Target};
+pub use jumps::Targets;
+
+#[cfg(test)]
+mod tests;
