@@ -22,3 +22,6 @@ pub mod Outside
 pub mod Modules
 pub mod Worked
 pub mod Crossed
+pub mod Reversed
+pub mod Taken
+pub mod Operands

@@ -10,5 +10,7 @@ pub mod Runs
 pub mod RunsFollow
 pub mod Targets
 pub mod Edges
+pub mod Held
+pub mod Acted
 pub mod Outside
 pub mod Modules
