@@ -3,6 +3,7 @@
 
 mod fields;
 mod head;
+mod item;
 mod length;
 mod lines;
 mod members;
@@ -14,9 +15,12 @@ mod target;
 mod write;
 
 pub use head::{Head, HeadStep, Kind, Length, TargetForm};
+pub use item::Item;
 pub use lines::skip_empty_lines;
 pub use read::read_head;
-pub use write::{request_bytes, write_request};
+pub use write::{
+    pseudo_of, push_field, push_fields, push_request_line, request_bytes, write_request,
+};
 
 #[cfg(test)]
 mod table;

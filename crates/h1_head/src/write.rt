@@ -1,5 +1,5 @@
 // From a head to the bytes that go up.
-ghost use Rattle.std.specs.Prelude.{◌≡◌, ◌++◌, IfOk, OnOk, OnErr};
+ghost use Rattle.std.specs.Prelude.{◌≡◌, ◌++◌, length, take, IfOk, OnOk, OnErr};
 ghost use Rattle.header_maps.specs.Pairs.{is_pseudo};
 ghost use Rattle.http1_model.specs.Fields.{is_listed};
 ghost use Rattle.http1_model.specs.Wire.{field_line, field_lines, is_left_out, sent_fields, pseudo_of, request_line, via_of, wire_of};
@@ -13,9 +13,10 @@ use gate_base::{Octets, OutOfMemory};
 use header_maps::HeaderList;
 use std::alloc::Global;
 
-/// Puts a field line at the end.
-fn push_field(out: &mut Octets, name: &[u8], value: &[u8]) -> Result<(), OutOfMemory>
+/// Puts a field line at the end (RFC 9112 section 5). Where memory is out, a front of the line may stand there.
+pub fn push_field(out: &mut Octets, name: &[u8], value: &[u8]) -> Result<(), OutOfMemory>
     ensures ok { OnOk result (out.new ≡ out.old ++ field_line (name.now, value.now)) }
+    ensures err { OnErr result (take (length out.old) out.new ≡ out.old) }
 {
     out.extend_from_slice(name)?;
     out.extend_from_slice(b": ")?;
@@ -53,15 +54,16 @@ fn is_left_out(fields: &[(Octets, Octets)], name: &[u8]) -> bool
 }
 
 /// The value of a pseudo-header, or nothing where the list has it not.
-fn pseudo_of<'l>(list: &'l HeaderList, name: &[u8]) -> &'l [u8]
+pub fn pseudo_of<'l>(list: &'l HeaderList, name: &[u8]) -> &'l [u8]
     ensures { result.now ≡ pseudo_of list.now name.now }
 {
     list.first(name).unwrap_or(&[])
 }
 
-/// Puts the lines of the fields that go out at the end, in order.
-fn push_fields(out: &mut Octets, fields: &[(Octets, Octets)]) -> Result<(), OutOfMemory>
+/// Puts the lines of the fields that go out at the end, in order. Where memory is out, a front of the lines may stand there.
+pub fn push_fields(out: &mut Octets, fields: &[(Octets, Octets)]) -> Result<(), OutOfMemory>
     ensures ok { OnOk result (out.new ≡ out.old ++ field_lines (sent_fields fields.now)) }
+    ensures err { OnErr result (take (length out.old) out.new ≡ out.old) }
 {
     for (name, value) in fields {
         if !is_left_out(fields, name.as_slice()) {
@@ -71,9 +73,10 @@ fn push_fields(out: &mut Octets, fields: &[(Octets, Octets)]) -> Result<(), OutO
     Ok(())
 }
 
-/// Puts the request line at the end.
-fn push_request_line(out: &mut Octets, head: &Head) -> Result<(), OutOfMemory>
+/// Puts the request line at the end (RFC 9112 section 3). Where memory is out, a front of the line may stand there.
+pub fn push_request_line(out: &mut Octets, head: &Head) -> Result<(), OutOfMemory>
     ensures ok { OnOk result (out.new ≡ out.old ++ request_line (seen_head head.now)) }
+    ensures err { OnErr result (take (length out.old) out.new ≡ out.old) }
 {
     out.extend_from_slice(pseudo_of(&head.fields, b":method"))?;
     out.extend_from_slice(b" ")?;
