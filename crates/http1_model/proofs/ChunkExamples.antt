@@ -68,11 +68,11 @@ trailer_examples = record {
 pub wire_examples : ChunkWireExamples
 wire_examples = record { five = refl; lower_case = refl; nine = refl; ten = refl; fifteen = refl; sixteen = refl; bare_end = refl; end_with_trailers = refl; empty = refl }
 
-sum_field : Field
+abbrev pub sum_field : Field
 sum_field = record { name = codes "X-Sum"; raw = codes " 1"; end = crlf }
 
-sum_is_field : IsField sum_field
-unfolding httparse_on_literals sum_field
+pub sum_is_field : IsField sum_field
+unfolding httparse_on_literals
 sum_is_field = record {
   name = (lit< tt, AllPass-from_list_all is_token_byte (codes "X-Sum") refl);
   raw = AllPass-from_list_all is_value_byte (codes " 1") refl;
@@ -107,7 +107,7 @@ no_blank_field (f ∷ fields) last reads =
     no_blank_name f.name f.raw f.end fields last (All-head IsField f fields reads.0).name.1 reads.1
 
 pub worked_body : WorkedBody
-unfolding httparse_on_literals sum_field blank_line run_of
+unfolding httparse_on_literals blank_line run_of
 worked_body = record {
   data_first = refl;
   end_behind = record {

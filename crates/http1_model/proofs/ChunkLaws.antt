@@ -1,5 +1,5 @@
 -- The laws of the chunked coding.
-use Rattle.std.proofs.Common.{◌≡◌, ℕ, zero, suc, ◌+◌, ◌-◌, ◌*◌, ◌<◌, ◌≤◌, Bool, true, false, cond, not, eqb, ◌&&◌, List, [], ◌∷◌, ◌++◌, map, length, take, drop, get_or, Option, None, Some, refl, sym, ap, subst, ◌∙◌, inl, inr, arith}
+use Rattle.std.proofs.Common.{◌≡◌, ℕ, zero, suc, ◌+◌, ◌-◌, ◌*◌, ◌<◌, ◌≤◌, Bool, true, false, cond, eqb, ◌&&◌, List, [], ◌∷◌, ◌++◌, map, length, take, drop, get_or, Option, None, Some, refl, sym, ap, subst, ◌∙◌, inl, inr, arith}
 use Rattle.std.proofs.lemmas.Bool.{cond-true, cond-false, cases_lt, ne_eqb, eq-eqb, lt-ltb, ltb-true, lt-leb, or_right, le-leb, leb-true, and_from, and_parts, false≢true}
 use Rattle.std.proofs.lemmas.List.{length-append, length-drop, length-take, take-append-le, take_all, drop_all, drop-drop, drop-append-le, get_or_append_left}
 use Rattle.std.proofs.lemmas.List.Folds.{prefix_len-append, length-prefix_len, list_all-append}
@@ -30,7 +30,7 @@ one_section front (Some a) (Some b) x y =
     let same = section_unique front x.fields y.fields x.last y.last [] [] x.reads y.reads in
     ap Some (x.are ∙ ap (λ (fs : List Field). kept_trailers (map name_and_value fs)) same.0 ∙ sym y.are)
 
-one_end : (at : ℕ) (text : List ℕ) (cut : Cut) (a b : ChunkStep) → IsEnd at text cut a → IsEnd at text cut b → a ≡ b
+pub one_end : (at : ℕ) (text : List ℕ) (cut : Cut) (a b : ChunkStep) → IsEnd at text cut a → IsEnd at text cut b → a ≡ b
 one_end at text (whole len) a b x y =
     x.is ∙ ap (end_of (at + length (take len text))) (one_section (take len text) x.trailers y.trailers x.section y.section) ∙ sym y.is
 one_end at text too_large a b x y = x ∙ sym y
@@ -357,7 +357,7 @@ data_fits (cr ∷ lf ∷ text) at left e = by_test (eqb cr 13 && eqb lf 10) e
         omega (arith, moved_fits text (behind_size text (size_step text)) at left (λ a l is. size_fits text (size_step text) a l is) e)
     by_test false e = absurd (cc)
 
-sought_fits : (p : Place) (text : List ℕ) (at left : ℕ) → sought p text ≡ data_at at left → at < length text
+pub sought_fits : (p : Place) (text : List ℕ) (at left : ℕ) → sought p text ≡ data_at at left → at < length text
 sought_fits size_line text at left e = size_fits text (size_step text) at left e
 sought_fits over text at left e = absurd (cc)
 sought_fits (inside n) text at left e = by_left (eqb n 0) e
@@ -371,15 +371,15 @@ sought_fits (inside n) text at left e = by_left (eqb n 0) e
     by_left false e = by_text (nat_lt 0 (length text)) refl e
 
 -- the run behind what is sought
-abbrev run_behind : ℕ → Place → List ℕ → Sought → Run
+abbrev pub run_behind : ℕ → Place → List ℕ → Sought → Run
 run_behind room p text s =
     if_data s (no_run p) (λ at left. with_byte (get_or text at 0) (at + 1) (run_of room (inside (left - 1)) (drop (at + 1) text)))
 
-run_step : (room : ℕ) (p : Place) (text : List ℕ) (s : Sought) → sought p text ≡ s → run_of (suc room) p text ≡ run_behind room p text s
+pub run_step : (room : ℕ) (p : Place) (text : List ℕ) (s : Sought) → sought p text ≡ s → run_of (suc room) p text ≡ run_behind room p text s
 unfolding run_of
 run_step room p text s is = ap (run_behind room p text) is
 
-run_zero : (p : Place) (text : List ℕ) → run_of 0 p text ≡ no_run p
+pub run_zero : (p : Place) (text : List ℕ) → run_of 0 p text ≡ no_run p
 unfolding run_of
 run_zero p text = refl
 
@@ -491,7 +491,7 @@ cut_stays text more done =
     ]
 
 -- a whole section lies within its text
-cut_fits : (text : List ℕ) (len : ℕ) → section_cut text ≡ whole len → len ≤ length text
+pub cut_fits : (text : List ℕ) (len : ℕ) → section_cut text ≡ whole len → len ≤ length text
 cut_fits text len cut = by_section (section_of (whole_lines (take 65536 text))) refl cut
   where
     same_len : (n : ℕ) → whole n ≡ whole len → n ≡ len
@@ -578,7 +578,7 @@ data_section (cr ∷ lf ∷ text) at e = by_test (eqb cr 13 && eqb lf 10) e
         omega (arith, moved_section text (behind_size text (size_step text)) at (λ a is. size_section text (size_step text) a refl is) e)
     by_test false e = absurd (cc)
 
-section_within : (p : Place) (text : List ℕ) (at : ℕ) → sought p text ≡ section_at at → at ≤ length text
+pub section_within : (p : Place) (text : List ℕ) (at : ℕ) → sought p text ≡ section_at at → at ≤ length text
 section_within size_line text at e = size_section text (size_step text) at refl e
 section_within over text at e = absurd (cc)
 section_within (inside n) text at e = by_left (eqb n 0) e
@@ -596,7 +596,7 @@ section_within (inside n) text at e = by_left (eqb n 0) e
 not_last : (s step : ChunkStep) → step ≡ s → is_last s ≡ false → is_last step ≡ true → ⊥
 not_last s step is other last = false≢true (sym other ∙ sym (ap is_last is) ∙ last)
 
-end_stays : (at : ℕ) (t more : List ℕ) (cut : Cut) (step : ChunkStep) → section_cut t ≡ cut → IsEnd at t cut step → is_last step ≡ true
+pub end_stays : (at : ℕ) (t more : List ℕ) (cut : Cut) (step : ChunkStep) → section_cut t ≡ cut → IsEnd at t cut step → is_last step ≡ true
     → IsEnd at (t ++ more) (section_cut (t ++ more)) step
 end_stays at t more (whole len) step is end last =
     let stays : section_cut (t ++ more) ≡ whole len = cut_stays t more (λ e. not_open (sym is ∙ e)) ∙ is in

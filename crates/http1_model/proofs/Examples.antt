@@ -10,12 +10,11 @@ use Rattle.http_uri.proofs.PathLemmas.{IsPathAndQuery_slash}
 use Rattle.http_uri.proofs.UriLemmas.{cut_long}
 use Rattle.http_uri.specs.Grammar.{IsUriText}
 use Rattle.http1_model.specs.Head.{found, IsAnswer, IsResponseAnswer, not_yet}
-use Rattle.http1_model.specs.Length.{exactly}
-use Rattle.http1_model.specs.Messages.{head, body, done}
+use Rattle.http1_model.specs.Messages.{head, body, done, counted}
 use Rattle.http1_model.specs.Target.{Target, GivesTarget, target_of, origin, http}
 use Rattle.http1_model.specs.Examples.{closing_text, closing_head, worked_text, worked_head, WorkedHead, ClosingHead, ResponseExamples, OrderExamples, worked_response_text, worked_response, worked_bare_response, worked_interim_text, worked_interim, WorkedResponse, LineExamples, FieldExamples, WireExamples, LengthExamples, ResponseLengthExamples, BareExamples, ListExamples, TargetExamples, RefusalExamples}
 
-abbrev host_field : Field
+abbrev pub host_field : Field
 host_field = record { name = codes "Host"; raw = codes " a"; end = crlf }
 
 abbrev worked_tree : RequestHead
@@ -29,7 +28,7 @@ worked_tree = record {
   last = crlf;
 }
 
-host_is_field : IsField host_field
+pub host_is_field : IsField host_field
 unfolding httparse_on_literals
 host_is_field = record {
   name = (lit< tt, AllPass-from_list_all is_token_byte (codes "Host") refl);
@@ -191,7 +190,37 @@ worked_response_is = record {
     (found worked_interim 25, (Ok worked_interim, interim_answer, refl), refl),
     refl,
     refl,
-    (38, body (exactly 3), (found worked_response 38, (Ok worked_response, response_answer, refl), refl), refl, refl, refl),
+    (
+      38,
+      body (counted 3),
+      (found worked_response 38, (Ok worked_response, response_answer, refl), refl),
+      refl,
+      refl,
+      (
+        1,
+        body (counted 2),
+        refl,
+        refl,
+        refl,
+        (1, body (counted 1), refl, refl, refl, (1, body (counted 0), refl, refl, refl, (0, done, refl, refl, refl, refl))),
+      ),
+    ),
+  );
+  short = (
+    38,
+    body (counted 3),
+    (found worked_response 38, (Ok worked_response, response_answer, refl), refl),
+    refl,
+    refl,
+    (1, body (counted 2), refl, refl, refl, refl),
+  );
+  going_on = (
+    38,
+    body (counted 3),
+    (found worked_response 38, (Ok worked_response, response_answer, refl), refl),
+    refl,
+    refl,
+    (1, body (counted 2), refl, refl, refl, refl),
   );
   bare = (38, done, (found worked_bare_response 38, (Ok worked_bare_response, bare_answer, refl), refl), refl, refl, refl);
   missing = (not_yet, refl, refl);

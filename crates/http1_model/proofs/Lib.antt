@@ -1,10 +1,17 @@
+pub mod Carried
+pub mod Chains
 pub mod ChunkExamples
 pub mod ChunkLaws
+pub mod Cuts
+pub mod EmptyLines
 pub mod Examples
 pub mod FieldLemmas
 pub mod GrammarLines
 pub mod Growth
 pub mod LineLemmas
+pub mod ReadingExamples
+pub mod Parts
+pub mod Pieces
 pub mod Readings
 pub mod Received
 pub mod TargetLemmas

@@ -1,14 +1,18 @@
 -- A text spells one thing, and what it spells stays spelled.
-use Rattle.std.proofs.Common.{◌≡◌, ℕ, ◌+◌, ◌≤◌, Bool, true, false, List, [], ◌∷◌, ◌++◌, length, take, drop, Option, None, Some, cond, bytes_eq, codes, Result, Ok, Err, refl, sym, ap, ◌∙◌, subst, inl, inr, arith}
-use Rattle.std.proofs.lemmas.List.{take-append-le, drop-append-le, length-drop}
+use Rattle.std.proofs.Common.{◌≡◌, ℕ, zero, suc, ◌+◌, ◌-◌, ◌<◌, ◌≤◌, Bool, true, false, List, [], ◌∷◌, ◌++◌, length, take, drop, get_or, Option, None, Some, cond, bytes_eq, codes, Result, Ok, Err, refl, sym, ap, ◌∙◌, subst, inl, inr, arith}
+use Rattle.std.proofs.lemmas.List.{take-append-le, drop-append-le, length-drop, length-take, get_or_append_left}
 use Rattle.std.specs.Prelude.{MatchOption}
 use Rattle.httparse.specs.Grammar.{RequestHead, ResponseHead, status_code}
 use Rattle.httparse.proofs.GrammarLemmas.{request_unique, response_unique}
 use Rattle.http1_model.specs.Fields.{Pair}
 use Rattle.http1_model.specs.Lines.{skipped, after_empty_lines, Cut, whole, too_large, unfinished, head_cut}
 use Rattle.http1_model.specs.Head.{Head, targeted, early_refusal, IsTargeted, IsJudged, pairs_of, pairs_at, IsAnswer, response_judged, IsResponseAnswer, HeadStep, found, not_yet, refused, step_of, IsStepAt, SpellsBy}
-use Rattle.http1_model.specs.Messages.{Item, request, interim, response, Placed, Due, head, body, done, Stop, over, refusal, beyond, Step, item, stop, due_behind, due_after, is_interim, item_of, stop_at, step_from, SpellsHead, StepsTo, lead_of, SpellsFrom}
+use Rattle.http1_model.specs.Messages.{Item, request, interim, response, octet, end, trailers, Placed, counted, coded, unbounded, Due, head, body, done, Stop, rest, over, refusal, Step, item, stop, due_behind, due_after, due_next, is_interim, item_of, stop_at, step_from, SpellsHead, malformed, counted_step, unbounded_step, trailers_left, end_step, section_step, IsCodedStep, coding_before, StepsTo, lead_of, SpellsFrom}
+use Rattle.http1_model.specs.Chunks as chunks
+use Rattle.http1_model.specs.Trailers as trailing
+use Rattle.http1_model.specs.Trailers.{section_cut, end_of, IsEnd}
 use Rattle.http1_model.specs.Laws.{OneStep, StepStays, OneReading, ReadingGrows, RefusalStays}
+use Rattle.http1_model.proofs.ChunkLaws.{one_end, sought_fits, sought_stays, section_within, end_stays}
 use Rattle.http1_model.proofs.TargetLemmas.{IsTargetOf-unique}
 use Rattle.http1_model.proofs.Growth.{IsDone, head_cut-append, head_cut_fits, skip_grows, skipped_fits, after_empty_lines-append}
 
@@ -42,7 +46,7 @@ IsResponseAnswer-unique to_head front a b (inr x) (inl y) = absurd (x.none y.hea
 IsResponseAnswer-unique to_head front a b (inr x) (inr y) = x.is ∙ sym y.is
 
 -- what the text of a whole head gives
-abbrev Answers : Type 1
+abbrev pub Answers : Type 1
 Answers = List ℕ → Result Head ℕ → Type 0
 
 -- it gives one thing
@@ -106,26 +110,37 @@ step_stays (Some asked) text more a x some = SpellsBy-stays (IsResponseAnswer (b
 
 -- ---- whole readings
 
-StepsTo-unique : (ended : Bool) (asked : Option (List ℕ)) (due : Due) (text : List ℕ) (a b : Step)
+coded_unique : (ended : Bool) (asked : Option (List ℕ)) (text : List ℕ) (s : chunks.Sought) (a b : Step)
+    → IsCodedStep ended asked text s a → IsCodedStep ended asked text s b → a ≡ b
+coded_unique ended asked text (chunks.data_at at left) a b x y = x ∙ sym y
+coded_unique ended asked text (chunks.section_at at) a b x y =
+    x.2 ∙ ap (section_step ended asked) (one_end at (drop at text) (section_cut (drop at text)) x.0 y.0 x.1 y.1) ∙ sym y.2
+coded_unique ended asked text chunks.waiting a b x y = x ∙ sym y
+coded_unique ended asked text chunks.malformed a b x y = x ∙ sym y
+
+-- from a place on, one step comes
+pub StepsTo-unique : (ended : Bool) (asked : Option (List ℕ)) (due : Due) (text : List ℕ) (a b : Step)
     → StepsTo ended asked due text a → StepsTo ended asked due text b → a ≡ b
 StepsTo-unique ended asked head text a b x y =
     x.2 ∙ ap (step_from ended asked text) (one_step asked text x.0 y.0 x.1 y.1) ∙ sym y.2
-StepsTo-unique ended asked (body len) text a b x y = x ∙ sym y
+StepsTo-unique ended asked (body (counted n)) text a b x y = x ∙ sym y
+StepsTo-unique ended asked (body (coded place)) text a b x y = coded_unique ended asked text (chunks.sought place text) a b x y
+StepsTo-unique ended asked (body unbounded) text a b x y = x ∙ sym y
 StepsTo-unique ended asked done text a b x y = x ∙ sym y
 
-item_is_no_stop : (i : Item) (n : ℕ) (due : Due) (why : Stop) → item i n due ≡ stop why → ⊥
+pub item_is_no_stop : (i : Item) (n : ℕ) (due : Due) (why : Stop) → item i n due ≡ stop why → ⊥
 item_is_no_stop i n due why e = cc
 
-same_stop : (v w : Stop) → stop v ≡ stop w → v ≡ w
+pub same_stop : (v w : Stop) → stop v ≡ stop w → v ≡ w
 same_stop v w e = cc
 
-same_item : (i j : Item) (n m : ℕ) (d e : Due) → item i n d ≡ item j m e → (i ≡ j) × (n ≡ m) × (d ≡ e)
+pub same_item : (i j : Item) (n m : ℕ) (d e : Due) → item i n d ≡ item j m e → (i ≡ j) × (n ≡ m) × (d ≡ e)
 same_item i j n m d e x = (cc, cc, cc)
 
 same_placed : (p q : Placed) → p.item ≡ q.item → p.from ≡ q.from → p.to ≡ q.to → p ≡ q
 same_placed p q i f t = λ k. record { item = i k; from = f k; to = t k }
 
-SpellsFrom-unique : (text : List ℕ) (ended : Bool) (asked : Option (List ℕ)) (due : Due) (at : ℕ) (xs ys : List Placed) (v w : Stop)
+pub SpellsFrom-unique : (text : List ℕ) (ended : Bool) (asked : Option (List ℕ)) (due : Due) (at : ℕ) (xs ys : List Placed) (v w : Stop)
     → SpellsFrom text ended asked due at xs v → SpellsFrom text ended asked due at ys w → (xs ≡ ys) × (v ≡ w)
 SpellsFrom-unique text ended asked due at [] [] v w x y =
     (refl, same_stop v w (StepsTo-unique ended asked due (drop at text) (stop v) (stop w) x y))
@@ -147,13 +162,6 @@ one_reading text ended asked xs ys v w = SpellsFrom-unique text ended asked head
 
 -- ---- a longer text
 
--- an item in a text is a head that is found, whatever follows and whether or not the text has ended
-record IsFoundAt (asked : Option (List ℕ)) (text : List ℕ) (due : Due) (i : Item) (used : ℕ) (next : Due) : Type 0 where
-  of : Head
-  is_head : due ≡ head
-  is : item i used next ≡ item_of asked of used
-  spells : SpellsHead asked text (found of used)
-
 -- a head that is found is an item that uses up as much
 item_uses : (asked : Option (List ℕ)) (of : Head) (i : Item) (n used : ℕ) (next : Due) → item i used next ≡ item_of asked of n → used ≡ n
 item_uses None of i n used next e = (same_item i (request of) used n next (due_after of.length) e).1
@@ -162,24 +170,6 @@ item_uses (Some asked) of i n used next e = by_kind (is_interim of.fields.kind) 
     by_kind : (b : Bool) → item i used next ≡ cond b (item (interim of) n head) (item (response of) n (due_behind done of.length)) → used ≡ n
     by_kind true e = (same_item i (interim of) used n next head e).1
     by_kind false e = (same_item i (response of) used n next (due_behind done of.length) e).1
-
-found_at : (asked : Option (List ℕ)) (due : Due) (text : List ℕ) (i : Item) (used : ℕ) (next : Due) → StepsTo false asked due text (item i used next)
-    → IsFoundAt asked text due i used next
-found_at asked head text i used next x = by_step x.0 x.1 x.2
-  where
-    by_step : (h : HeadStep) → SpellsHead asked text h → item i used next ≡ step_from false asked text h → IsFoundAt asked text head i used next
-    by_step (found of n) spells e =
-        let same : used ≡ n = item_uses asked of i n used next e in
-        record {
-          of = of;
-          is_head = refl;
-          is = e ∙ ap (item_of asked of) (sym same);
-          spells = subst (λ n. SpellsHead asked text (found of n)) (sym same) spells;
-        }
-    by_step not_yet spells e = absurd (item_is_no_stop i used next (stop_at false asked text) e)
-    by_step (refused n) spells e = absurd (item_is_no_stop i used next (refusal n) e)
-found_at asked (body len) text i used next x = absurd (item_is_no_stop i used next beyond x)
-found_at asked done text i used next x = absurd (item_is_no_stop i used next over x)
 
 -- what a head uses up is there
 used_by_fits : (answers : Answers) (large : ℕ) (text : List ℕ) (of : Head) (used : ℕ) → SpellsBy answers large text (found of used) → used ≤ length text
@@ -214,11 +204,123 @@ skipped_stays : (asked : Option (List ℕ)) (text more : List ℕ) (a : HeadStep
 skipped_stays None text more a x some = skipped_stays_by IsAnswer 431 text more a x some
 skipped_stays (Some asked) text more a x some = skipped_stays_by (IsResponseAnswer (bytes_eq asked (codes "HEAD"))) 502 text more a x some
 
+-- An item in a text that goes on is one in every longer text, whether or not that ends; as many bytes stand in front of it there,
+-- and those that it uses are in the text.
+pub record Stays (ended : Bool) (asked : Option (List ℕ)) (due : Due) (text more : List ℕ) (i : Item) (used : ℕ) (next : Due) : Type 0 where
+  pub there : StepsTo ended asked due (text ++ more) (item i used next)
+  pub lead : lead_of due (text ++ more) ≡ lead_of due text
+  pub fits : used ≤ length text
+
+head_stays : (ended : Bool) (asked : Option (List ℕ)) (text more : List ℕ) (i : Item) (used : ℕ) (next : Due)
+    → StepsTo false asked head text (item i used next) → Stays ended asked head text more i used next
+head_stays ended asked text more i used next x = by_step x.0 x.1 x.2
+  where
+    by_step : (h : HeadStep) → SpellsHead asked text h → item i used next ≡ step_from false asked text h → Stays ended asked head text more i used next
+    by_step (found of n) spells e = record {
+      there = (found of n, step_stays asked text more (found of n) spells (found_is_some of n), e);
+      lead = skipped_stays asked text more (found of n) spells (found_is_some of n);
+      fits = omega (arith, item_uses asked of i n used next e, used_fits asked text of n spells);
+    }
+    by_step not_yet spells e = absurd (item_is_no_stop i used next (stop_at false asked text) e)
+    by_step (refused n) spells e = absurd (item_is_no_stop i used next (refusal n) e)
+
+counted_stays : (ended : Bool) (asked : Option (List ℕ)) (n : ℕ) (text more : List ℕ) (i : Item) (used : ℕ) (next : Due)
+    → item i used next ≡ counted_step false asked n text → Stays ended asked (body (counted n)) text more i used next
+counted_stays ended asked zero text more i used next e =
+    record { there = e; lead = refl; fits = omega (arith, (same_item i end used 0 next (due_next asked) e).1) }
+counted_stays ended asked (suc n) [] more i used next e = absurd (item_is_no_stop i used next rest e)
+counted_stays ended asked (suc n) (b ∷ text) more i used next e =
+    record { there = e; lead = refl; fits = omega (arith, (same_item i (octet b) used 1 next (body (counted n)) e).1) }
+
+unbounded_stays : (ended : Bool) (asked : Option (List ℕ)) (text more : List ℕ) (i : Item) (used : ℕ) (next : Due)
+    → item i used next ≡ unbounded_step false asked text → Stays ended asked (body unbounded) text more i used next
+unbounded_stays ended asked [] more i used next e = absurd (item_is_no_stop i used next rest e)
+unbounded_stays ended asked (b ∷ text) more i used next e =
+    record { there = e; lead = refl; fits = omega (arith, (same_item i (octet b) used 1 next (body unbounded) e).1) }
+
+-- the end of a chunked body uses up so many bytes
+end_uses : (asked : Option (List ℕ)) (n : ℕ) (fields : List Pair) (i : Item) (used : ℕ) (next : Due) → item i used next ≡ end_step asked n fields
+    → used ≡ n
+end_uses asked n [] i used next e = (same_item i end used n next (due_next asked) e).1
+end_uses asked n (f ∷ fields) i used next e = (same_item i (trailers (f ∷ fields)) used n next (due_next asked) e).1
+
+-- a section's end is in its text
+end_within : (at : ℕ) (text : List ℕ) (cut : Cut) (fields : List Pair) (used : ℕ) → section_cut text ≡ cut → IsEnd at text cut (trailing.ended fields used)
+    → used ≤ at + length text
+end_within at text (whole len) fields used is x = by_trailers x.trailers x.is
+  where
+    same_used : (fs : List Pair) (n : ℕ) → trailing.ended fields used ≡ trailing.ended fs n → used ≡ n
+    same_used fs n e = cc
+
+    by_trailers : (o : Option (List Pair)) → trailing.ended fields used ≡ end_of (at + length (take len text)) o → used ≤ at + length text
+    by_trailers None e = absurd (cc)
+    by_trailers (Some fs) e = omega (arith, same_used fs (at + length (take len text)) e, length-take len text)
+end_within at text too_large fields used is x = absurd (cc)
+end_within at text unfinished fields used is x = absurd (cc)
+
+coded_stays : (ended : Bool) (asked : Option (List ℕ)) (place : chunks.Place) (text more : List ℕ) (i : Item) (used : ℕ) (next : Due)
+    → (s : chunks.Sought) → chunks.sought place text ≡ s → IsCodedStep false asked text s (item i used next)
+    → Stays ended asked (body (coded place)) text more i used next
+coded_stays ended asked place text more i used next (chunks.data_at at left) is x =
+    let fits : at < length text = sought_fits place text at left is in
+    let stays : chunks.sought place (text ++ more) ≡ chunks.data_at at left = sought_stays place text more (chunks.data_at at left) is no_waiting in
+    let same : get_or text at 0 ≡ get_or (text ++ more) at 0 = sym (get_or_append_left text more 0 at fits) in
+    let later : IsCodedStep ended asked (text ++ more) (chunks.data_at at left) (item i used next) =
+    x ∙ ap (λ b. item (octet b) (at + 1) (body (coded (chunks.inside (left - 1))))) same in
+    record {
+      there = subst (λ (s : chunks.Sought). IsCodedStep ended asked (text ++ more) s (item i used next)) (sym stays) later;
+      lead = ap coding_before stays ∙ sym (ap coding_before is);
+      fits = omega (arith, fits, (same_item i (octet (get_or text at 0)) used (at + 1) next (body (coded (chunks.inside (left - 1)))) x).1);
+    }
+  where
+    no_waiting : chunks.data_at at left ≡ chunks.waiting → ⊥
+    no_waiting e = cc
+coded_stays ended asked place text more i used next (chunks.section_at at) is x = by_step x.0 x.1 x.2
+  where
+    no_waiting : chunks.section_at at ≡ chunks.waiting → ⊥
+    no_waiting e = cc
+
+    by_step : (c : trailing.ChunkStep) → IsEnd at (drop at text) (section_cut (drop at text)) c → item i used next ≡ section_step false asked c
+        → Stays ended asked (body (coded place)) text more i used next
+    by_step (trailing.carried run) it e = absurd (item_is_no_stop i used next rest e)
+    by_step trailing.not_yet it e = absurd (item_is_no_stop i used next rest e)
+    by_step (trailing.refused n) it e = absurd (item_is_no_stop i used next (malformed asked) e)
+    by_step (trailing.ended fields n) it e =
+        let within : at ≤ length text = section_within place text at is in
+        let split : drop at (text ++ more) ≡ drop at text ++ more = drop-append-le at text more within in
+        let stays : chunks.sought place (text ++ more) ≡ chunks.section_at at = sought_stays place text more (chunks.section_at at) is no_waiting in
+        let longer = end_stays at (drop at text) more (section_cut (drop at text)) (trailing.ended fields n) refl it refl in
+        let there : IsEnd at (drop at (text ++ more)) (section_cut (drop at (text ++ more))) (trailing.ended fields n) =
+        subst (λ (t : List ℕ). IsEnd at t (section_cut t) (trailing.ended fields n)) (sym split) longer in
+        let later : IsCodedStep ended asked (text ++ more) (chunks.section_at at) (item i used next) = (trailing.ended fields n, there, e) in
+        record {
+          there = subst (λ (s : chunks.Sought). IsCodedStep ended asked (text ++ more) s (item i used next)) (sym stays) later;
+          lead = ap coding_before stays ∙ sym (ap coding_before is);
+          fits = omega (
+            arith,
+            within,
+            end_uses asked n (trailers_left asked fields) i used next e,
+            end_within at (drop at text) (section_cut (drop at text)) fields n refl it,
+            length-drop at text,
+          );
+        }
+coded_stays ended asked place text more i used next chunks.waiting is x = absurd (item_is_no_stop i used next rest x)
+coded_stays ended asked place text more i used next chunks.malformed is x = absurd (item_is_no_stop i used next (malformed asked) x)
+
+pub item_stays : (ended : Bool) (asked : Option (List ℕ)) (due : Due) (text more : List ℕ) (i : Item) (used : ℕ) (next : Due)
+    → StepsTo false asked due text (item i used next) → Stays ended asked due text more i used next
+item_stays ended asked head text more i used next x = head_stays ended asked text more i used next x
+item_stays ended asked (body (counted n)) text more i used next x = counted_stays ended asked n text more i used next x
+item_stays ended asked (body (coded place)) text more i used next x =
+    coded_stays ended asked place text more i used next (chunks.sought place text) refl x
+item_stays ended asked (body unbounded) text more i used next x = unbounded_stays ended asked text more i used next x
+item_stays ended asked done text more i used next x = absurd (item_is_no_stop i used next over x)
+
 pub record Grows (xs ys : List Placed) : Type 0 where
   pub behind : List Placed
   pub are : ys ≡ xs ++ behind
 
--- what the longer text spells at the place of a head that is found
+-- what the longer text spells at the place of an item
 record SameFirst (text more : List ℕ) (ended : Bool) (asked : Option (List ℕ)) (at used : ℕ) (next : Due) (p : Placed) (ys : List Placed) (w : Stop) : Type 0 where
   others : List Placed
   are : ys ≡ p ∷ others
@@ -229,27 +331,22 @@ same_first : (text more : List ℕ) (ended : Bool) (asked : Option (List ℕ)) (
     → p.from ≡ at + lead_of due (drop at text) → p.to ≡ at + used
     → SpellsFrom (text ++ more) ended asked due at ys w → SameFirst text more ended asked at used next p ys w
 same_first text more ended asked due at p used next ys w fits x from to y =
-    let f = found_at asked due (drop at text) p.item used next x in
+    let s = item_stays ended asked due (drop at text) more p.item used next x in
     let split : drop at (text ++ more) ≡ drop at text ++ more = drop-append-le at text more fits in
-    let stays : SpellsHead asked (drop at (text ++ more)) (found f.of used) =
-    subst (λ t. SpellsHead asked t (found f.of used)) (sym split) (step_stays asked (drop at text) more (found f.of used) f.spells (found_is_some f.of used)) in
-    let lead : skipped (drop at (text ++ more)) ≡ skipped (drop at text) =
-    ap skipped split ∙ skipped_stays asked (drop at text) more (found f.of used) f.spells (found_is_some f.of used) in
-    let y_head : SpellsFrom (text ++ more) ended asked head at ys w = subst (λ d. SpellsFrom (text ++ more) ended asked d at ys w) f.is_head y in
-    let from_head : p.from ≡ at + skipped (drop at text) = from ∙ ap (λ d. at + lead_of d (drop at text)) f.is_head in
-    let there : StepsTo ended asked head (drop at (text ++ more)) (item p.item used next) = (found f.of used, stays, f.is) in
-    by_items ys there lead y_head from_head
+    let there : StepsTo ended asked due (drop at (text ++ more)) (item p.item used next) =
+    subst (λ (t : List ℕ). StepsTo ended asked due t (item p.item used next)) (sym split) s.there in
+    let lead : lead_of due (drop at (text ++ more)) ≡ lead_of due (drop at text) = ap (lead_of due) split ∙ s.lead in
+    by_items ys there lead y
   where
-    by_items : (ys : List Placed) → StepsTo ended asked head (drop at (text ++ more)) (item p.item used next)
-        → skipped (drop at (text ++ more)) ≡ skipped (drop at text)
-        → SpellsFrom (text ++ more) ended asked head at ys w → p.from ≡ at + skipped (drop at text)
-        → SameFirst text more ended asked at used next p ys w
-    by_items [] there lead y from =
+    by_items : (ys : List Placed) → StepsTo ended asked due (drop at (text ++ more)) (item p.item used next)
+        → lead_of due (drop at (text ++ more)) ≡ lead_of due (drop at text)
+        → SpellsFrom (text ++ more) ended asked due at ys w → SameFirst text more ended asked at used next p ys w
+    by_items [] there lead y =
         absurd (item_is_no_stop p.item used next w
-        (StepsTo-unique ended asked head (drop at (text ++ more)) (item p.item used next) (stop w) there y))
-    by_items (q ∷ ys) there lead y from =
+        (StepsTo-unique ended asked due (drop at (text ++ more)) (item p.item used next) (stop w) there y))
+    by_items (q ∷ ys) there lead y =
         let same = same_item p.item q.item used y.0 next y.1
-        (StepsTo-unique ended asked head (drop at (text ++ more)) (item p.item used next) (item q.item y.0 y.1) there y.2) in
+        (StepsTo-unique ended asked due (drop at (text ++ more)) (item p.item used next) (item q.item y.0 y.1) there y.2) in
         let first : q ≡ p = same_placed q p (sym same.0)
         (y.3 ∙ ap (λ n. at + n) lead ∙ sym from) (y.4 ∙ ap (λ n. at + n) (sym same.1) ∙ sym to) in
         let used_moved : SpellsFrom (text ++ more) ended asked y.1 (at + used) ys w =
@@ -260,11 +357,10 @@ same_first text more ended asked due at p used next ys w fits x from to y =
           later = subst (λ d. SpellsFrom (text ++ more) ended asked d (at + used) ys w) (sym same.2) used_moved;
         }
 
-place_fits : (text : List ℕ) (asked : Option (List ℕ)) (due : Due) (at : ℕ) (i : Item) (used : ℕ) (next : Due) → at ≤ length text
+pub place_fits : (text : List ℕ) (asked : Option (List ℕ)) (due : Due) (at : ℕ) (i : Item) (used : ℕ) (next : Due) → at ≤ length text
     → StepsTo false asked due (drop at text) (item i used next) → at + used ≤ length text
 place_fits text asked due at i used next fits x =
-    let f = found_at asked due (drop at text) i used next x in
-    omega (arith, used_fits asked (drop at text) f.of used f.spells, length-drop at text)
+    omega (arith, (item_stays false asked due (drop at text) [] i used next x).fits, length-drop at text)
 
 grows_from : (text more : List ℕ) (ended : Bool) (asked : Option (List ℕ)) (due : Due) (at : ℕ) (xs ys : List Placed) (v w : Stop) → at ≤ length text
     → SpellsFrom text false asked due at xs v → SpellsFrom (text ++ more) ended asked due at ys w → Grows xs ys
@@ -283,9 +379,9 @@ open_no_refusal : (asked : Option (List ℕ)) (text : List ℕ) (number : ℕ) �
 open_no_refusal None text number e = cc
 open_no_refusal (Some asked) text number e = cc
 
-refused_at : (asked : Option (List ℕ)) (due : Due) (text more : List ℕ) (ended : Bool) (number : ℕ)
-    → StepsTo false asked due text (stop (refusal number)) → StepsTo ended asked due (text ++ more) (stop (refusal number))
-refused_at asked head text more ended number x = by_step x.0 x.1 x.2
+head_refused : (ended : Bool) (asked : Option (List ℕ)) (text more : List ℕ) (number : ℕ)
+    → StepsTo false asked head text (stop (refusal number)) → StepsTo ended asked head (text ++ more) (stop (refusal number))
+head_refused ended asked text more number x = by_step x.0 x.1 x.2
   where
     no_item : (asked : Option (List ℕ)) (of : Head) (n : ℕ) → stop (refusal number) ≡ item_of asked of n → ⊥
     no_item None of n e = item_is_no_stop (request of) n (due_after of.length) (refusal number) (sym e)
@@ -302,10 +398,67 @@ refused_at asked head text more ended number x = by_step x.0 x.1 x.2
     by_step (refused n) spells e =
         let same : refusal number ≡ refusal n = same_stop (refusal number) (refusal n) e in
         (refused n, step_stays asked text more (refused n) spells (λ e. cc), ap stop same)
-refused_at asked (body len) text more ended number x = absurd (no_beyond (same_stop (refusal number) beyond x))
+
+no_rest : (number : ℕ) → stop (refusal number) ≡ stop rest → ⊥
+no_rest number e = no (same_stop (refusal number) rest e)
   where
-    no_beyond : refusal number ≡ beyond → ⊥
-    no_beyond e = cc
+    no : refusal number ≡ rest → ⊥
+    no e = cc
+
+no_item_refused : (number : ℕ) (i : Item) (used : ℕ) (next : Due) → stop (refusal number) ≡ item i used next → ⊥
+no_item_refused number i used next e = item_is_no_stop i used next (refusal number) (sym e)
+
+no_end_refused : (number : ℕ) (asked : Option (List ℕ)) (used : ℕ) (fields : List Pair) → stop (refusal number) ≡ end_step asked used fields → ⊥
+no_end_refused number asked used [] e = no_item_refused number end used (due_next asked) e
+no_end_refused number asked used (f ∷ fields) e = no_item_refused number (trailers (f ∷ fields)) used (due_next asked) e
+
+counted_refused : (asked : Option (List ℕ)) (n : ℕ) (text : List ℕ) (number : ℕ) → stop (refusal number) ≡ counted_step false asked n text → ⊥
+counted_refused asked zero text number e = no_item_refused number end 0 (due_next asked) e
+counted_refused asked (suc n) [] number e = no_rest number e
+counted_refused asked (suc n) (b ∷ text) number e = no_item_refused number (octet b) 1 (body (counted n)) e
+
+unbounded_refused : (asked : Option (List ℕ)) (text : List ℕ) (number : ℕ) → stop (refusal number) ≡ unbounded_step false asked text → ⊥
+unbounded_refused asked [] number e = no_rest number e
+unbounded_refused asked (b ∷ text) number e = no_item_refused number (octet b) 1 (body unbounded) e
+
+coded_refused : (ended : Bool) (asked : Option (List ℕ)) (place : chunks.Place) (text more : List ℕ) (number : ℕ)
+    → (s : chunks.Sought) → chunks.sought place text ≡ s → IsCodedStep false asked text s (stop (refusal number))
+    → StepsTo ended asked (body (coded place)) (text ++ more) (stop (refusal number))
+coded_refused ended asked place text more number (chunks.data_at at left) is x =
+    absurd (no_item_refused number (octet (get_or text at 0)) (at + 1) (body (coded (chunks.inside (left - 1)))) x)
+coded_refused ended asked place text more number (chunks.section_at at) is x = by_step x.0 x.1 x.2
+  where
+    no_waiting : chunks.section_at at ≡ chunks.waiting → ⊥
+    no_waiting e = cc
+
+    by_step : (c : trailing.ChunkStep) → IsEnd at (drop at text) (section_cut (drop at text)) c → stop (refusal number) ≡ section_step false asked c
+        → StepsTo ended asked (body (coded place)) (text ++ more) (stop (refusal number))
+    by_step (trailing.carried run) it e = absurd (no_rest number e)
+    by_step trailing.not_yet it e = absurd (no_rest number e)
+    by_step (trailing.ended fields n) it e = absurd (no_end_refused number asked n (trailers_left asked fields) e)
+    by_step (trailing.refused n) it e =
+        let split : drop at (text ++ more) ≡ drop at text ++ more = drop-append-le at text more (section_within place text at is) in
+        let stays : chunks.sought place (text ++ more) ≡ chunks.section_at at = sought_stays place text more (chunks.section_at at) is no_waiting in
+        let longer = end_stays at (drop at text) more (section_cut (drop at text)) (trailing.refused n) refl it refl in
+        let there : IsEnd at (drop at (text ++ more)) (section_cut (drop at (text ++ more))) (trailing.refused n) =
+        subst (λ (t : List ℕ). IsEnd at t (section_cut t) (trailing.refused n)) (sym split) longer in
+        let later : IsCodedStep ended asked (text ++ more) (chunks.section_at at) (stop (refusal number)) = (trailing.refused n, there, e) in
+        subst (λ (s : chunks.Sought). IsCodedStep ended asked (text ++ more) s (stop (refusal number))) (sym stays) later
+coded_refused ended asked place text more number chunks.waiting is x = absurd (no_rest number x)
+coded_refused ended asked place text more number chunks.malformed is x =
+    subst (λ (s : chunks.Sought). IsCodedStep ended asked (text ++ more) s (stop (refusal number)))
+    (sym (sought_stays place text more chunks.malformed is no_waiting)) x
+  where
+    no_waiting : chunks.malformed ≡ chunks.waiting → ⊥
+    no_waiting e = cc
+
+pub refused_at : (asked : Option (List ℕ)) (due : Due) (text more : List ℕ) (ended : Bool) (number : ℕ)
+    → StepsTo false asked due text (stop (refusal number)) → StepsTo ended asked due (text ++ more) (stop (refusal number))
+refused_at asked head text more ended number x = head_refused ended asked text more number x
+refused_at asked (body (counted n)) text more ended number x = absurd (counted_refused asked n text number x)
+refused_at asked (body (coded place)) text more ended number x =
+    coded_refused ended asked place text more number (chunks.sought place text) refl x
+refused_at asked (body unbounded) text more ended number x = absurd (unbounded_refused asked text number x)
 refused_at asked done text more ended number x = absurd (no_over (same_stop (refusal number) over x))
   where
     no_over : refusal number ≡ over → ⊥

@@ -10,7 +10,7 @@ use Rattle.http1_model.specs.Lines.{whole, too_large, unfinished, whole_lines, s
 use Rattle.http1_model.specs.Listed.{request_list, response_list}
 use Rattle.http1_model.specs.Target.{Target, origin, absolute, asterisk, http, https, target_of}
 use Rattle.http1_model.specs.Head.{Head, found, refused, early_refusal, IsJudged, SpellsStep, SpellsResponse, response_judged}
-use Rattle.http1_model.specs.Messages.{request, interim, response, rest, over, refusal, beyond, Messages}
+use Rattle.http1_model.specs.Messages.{request, interim, response, octet, end, rest, over, refusal, Messages}
 use Rattle.http1_model.specs.Wire.{sent_fields, wire_of}
 
 -- `GET / HTTP/1.1`, `Host: a`
@@ -105,11 +105,18 @@ worked_interim = record {
   close = false;
 }
 
--- a response behind an interim head, and what a text spells that ends before a response has come
+-- a response behind an interim head with its body, byte by byte; one that breaks off; and what a text spells that ends before a
+-- response has come
 pub record WorkedResponse : Type 0 where
   pub spelled : SpellsResponse false worked_response_text (found worked_response 38)
   pub read : Messages (worked_interim_text ++ worked_response_text ++ codes "abc") true (Some (codes "GET"))
-      (record { item = interim worked_interim; from = 0; to = 25 } ∷ record { item = response worked_response; from = 25; to = 63 } ∷ []) beyond
+      (record { item = interim worked_interim; from = 0; to = 25 } ∷ record { item = response worked_response; from = 25; to = 63 }
+      ∷ record { item = octet 97; from = 63; to = 64 } ∷ record { item = octet 98; from = 64; to = 65 } ∷ record { item = octet 99; from = 65; to = 66 }
+      ∷ record { item = end; from = 66; to = 66 } ∷ []) over
+  pub short : Messages (worked_response_text ++ codes "a") true (Some (codes "GET"))
+      (record { item = response worked_response; from = 0; to = 38 } ∷ record { item = octet 97; from = 38; to = 39 } ∷ []) (refusal 502)
+  pub going_on : Messages (worked_response_text ++ codes "a") false (Some (codes "GET"))
+      (record { item = response worked_response; from = 0; to = 38 } ∷ record { item = octet 97; from = 38; to = 39 } ∷ []) rest
   pub bare : Messages worked_response_text false (Some (codes "HEAD"))
       (record { item = response worked_bare_response; from = 0; to = 38 } ∷ []) over
   pub missing : Messages crlf_bytes true (Some (codes "GET")) [] (refusal 502)

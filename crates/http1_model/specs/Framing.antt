@@ -1,5 +1,5 @@
 -- How a message is framed on its way out, and its bytes (RFC 9112, sections 2 to 7; RFC 9110, section 8.6).
-use Rattle.std.specs.Prelude.{ℕ, Bool, false, true, ◌||◌, not, List, [], ◌∷◌, ◌++◌, ◌==◌, Option, None, Some, codes, decimal, nat_lt, if◌then◌else◌}
+use Rattle.std.specs.Prelude.{ℕ, Bool, true, ◌||◌, not, List, [], ◌++◌, ◌==◌, Option, None, Some, codes, decimal, nat_lt, if◌then◌else◌}
 use Rattle.std.specs.List.{flat_map}
 use Rattle.httparse.specs.Ascii.{crlf_bytes}
 use Rattle.header_maps.specs.declared.kind.ListKind.{ListKind}

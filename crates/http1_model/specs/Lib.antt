@@ -13,6 +13,9 @@ pub mod Listed
 pub mod LocalReply
 pub mod Messages
 pub mod Moment
+pub mod ReadingExamples
+pub mod ReadingLaws
 pub mod Target
 pub mod Trailers
+pub mod Unread
 pub mod Wire

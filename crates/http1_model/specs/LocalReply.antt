@@ -1,5 +1,5 @@
 -- The bytes of a response that a gateway answers by itself (RFC 9110, sections 6.6.1, 8.6 and 15; RFC 9112, sections 4 and 9.6).
-use Rattle.std.specs.Prelude.{ℕ, Bool, false, List, [], ◌∷◌, ◌++◌, length, codes, decimal, if◌then◌else◌}
+use Rattle.std.specs.Prelude.{ℕ, Bool, false, List, [], ◌++◌, length, codes, decimal, if◌then◌else◌}
 use Rattle.std.specs.List.{list_any}
 use Rattle.httparse.specs.Ascii.{crlf_bytes}
 use Rattle.header_maps.specs.Judged.{status_text}

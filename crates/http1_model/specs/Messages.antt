@@ -1,37 +1,50 @@
--- What the text of one side of a line spells, item by item (RFC 9112, sections 2 to 7).
-use Rattle.std.specs.Prelude.{◌≡◌, ℕ, ◌+◌, Bool, true, false, ◌==◌, List, [], ◌∷◌, length, drop, bytes_eq, codes, Option, None, Some, if◌then◌else◌}
+-- What the text of one side of a line spells, item by item (RFC 9112, sections 2 to 8).
+use Rattle.std.specs.Prelude.{◌≡◌, ℕ, zero, suc, ◌+◌, ◌-◌, Bool, true, false, ◌==◌, List, [], ◌∷◌, length, drop, slice_index, bytes_eq, codes, Option, None, Some, if◌then◌else◌}
 use Rattle.header_maps.specs.declared.kind.ListKind.{ListKind}
 use Rattle.header_maps.specs.declared.kind.ListKind.TheVariants as kinds
+use Rattle.header_maps.specs.Operations.{without}
+use Rattle.http1_model.specs.Fields.{Pair}
 use Rattle.http1_model.specs.Length.{BodyLength, nothing, exactly, chunked, until_end}
 use Rattle.http1_model.specs.Lines.{skipped, after_empty_lines}
 use Rattle.http1_model.specs.Head.{Head, HeadStep, found, not_yet, refused, SpellsStep, SpellsResponse}
+use Rattle.http1_model.specs.Chunks as chunks
+use Rattle.http1_model.specs.Trailers as trailing
 
--- an item of a message; a body's bytes and its end, and trailers, will be cases of their own
--- (that a message has no body is told by its head's `length`)
+-- An item of a message: a head; one byte of a body; the end of a body, behind which no trailers stand; or trailers, with which
+-- the body ends. (That a message has no body is told by its head's `length`; no end of its own follows.)
 pub data Item : Type 0 where
   request : Head → Item
   interim : Head → Item
   response : Head → Item
+  octet : ℕ → Item
+  end : Item
+  trailers : List Pair → Item
 
--- an item, and the places in the text at which it begins and ends; empty lines in front of a head are in no item
+-- an item, and the places in the text at which it begins and ends. Empty lines in front of a head are in no item, nor is the coding
+-- in front of a byte or of a trailer section; the end of a chunked body, or its trailers, is the section.
 pub record Placed : Type 0 where
   pub item : Item
   pub from : ℕ
   pub to : ℕ
 
--- what is due at a place: a head; a body of that length; or nothing, since a response is whole
+-- where a body goes on: so many bytes are to come; a place in the chunked coding; or all that comes until the line ends
+pub data Body : Type 0 where
+  counted : ℕ → Body
+  coded : chunks.Place → Body
+  unbounded : Body
+
+-- what is due at a place: a head; what is left of a body; or nothing, since a response is whole
 pub data Due : Type 0 where
   head : Due
-  body : BodyLength → Due
+  body : Body → Due
   done : Due
 
 -- why no further item comes: the text is a rest that spells no whole item; nothing of it is left unread where it has ended, or
--- a response is whole; it is refused with this number; or what is due is a body, of which nothing is said here as yet
+-- a response is whole; or it is refused with this number
 pub data Stop : Type 0 where
   rest : Stop
   over : Stop
   refusal : ℕ → Stop
-  beyond : Stop
 
 -- what stands at a place: an item that uses up so many bytes, and then this is due; or no further item
 pub data Step : Type 0 where
@@ -41,11 +54,16 @@ pub data Step : Type 0 where
 -- what is due behind a head with a body of this length, where `bare` is due behind one without
 abbrev pub due_behind : Due → BodyLength → Due
 due_behind bare nothing = bare
-due_behind bare (exactly n) = body (exactly n)
-due_behind bare chunked = body chunked
-due_behind bare until_end = body until_end
+due_behind bare (exactly n) = body (counted n)
+due_behind bare chunked = body (coded chunks.start)
+due_behind bare until_end = body unbounded
 
--- behind a request without a body the next request is due
+-- what is due behind a whole message: behind a request the next one, and nothing behind a response
+abbrev pub due_next : Option (List ℕ) → Due
+due_next None = head
+due_next (Some asked) = done
+
+-- behind the head of a request
 abbrev pub due_after : BodyLength → Due
 due_after len = due_behind head len
 
@@ -91,17 +109,88 @@ abbrev pub SpellsHead : Option (List ℕ) → List ℕ → HeadStep → Type 0
 SpellsHead None text step = SpellsStep text step
 SpellsHead (Some asked) text step = SpellsResponse (bytes_eq asked (codes "HEAD")) text step
 
+-- ---- bodies
+
+-- what is malformed, or ends too early: 400 of a request, 502 of a response
+abbrev pub malformed : Option (List ℕ) → Stop
+malformed None = refusal 400
+malformed (Some asked) = refusal 502
+
+-- no more of a body has come; where none will come, the message is incomplete (as RFC 9112, section 8 says of bodies; an end within
+-- the coding behind the last chunk is one too)
+abbrev pub stop_short : Bool → Option (List ℕ) → Stop
+stop_short false asked = rest
+stop_short true asked = malformed asked
+
+-- a body of so many bytes (RFC 9112, section 6.2)
+abbrev pub counted_step : Bool → Option (List ℕ) → ℕ → List ℕ → Step
+counted_step ended asked zero text = item end 0 (due_next asked)
+counted_step ended asked (suc n) [] = stop (stop_short ended asked)
+counted_step ended asked (suc n) (b ∷ text) = item (octet b) 1 (body (counted n))
+
+-- a body that ends with the line, as a response's may (RFC 9112, section 6.3)
+abbrev pub unbounded_step : Bool → Option (List ℕ) → List ℕ → Step
+unbounded_step false asked [] = stop rest
+unbounded_step true asked [] = item end 0 (due_next asked)
+unbounded_step ended asked (b ∷ text) = item (octet b) 1 (body unbounded)
+
+-- The trailers that a message keeps, of those that its section keeps: a request's have no `host`, which is the gateway's to write.
+abbrev pub trailers_left : Option (List ℕ) → List Pair → List Pair
+trailers_left None fields = without (codes "host") fields
+trailers_left (Some asked) fields = fields
+
+-- the end of a chunked body, of which these trailers are left
+abbrev pub end_step : Option (List ℕ) → ℕ → List Pair → Step
+end_step asked used [] = item end used (due_next asked)
+end_step asked used (f ∷ fields) = item (trailers (f ∷ fields)) used (due_next asked)
+
+-- behind the last chunk's line (where no data is carried)
+abbrev pub section_step : Bool → Option (List ℕ) → trailing.ChunkStep → Step
+section_step ended asked (trailing.carried run) = stop rest
+section_step ended asked (trailing.ended fields used) = end_step asked used (trailers_left asked fields)
+section_step ended asked trailing.not_yet = stop (stop_short ended asked)
+section_step ended asked (trailing.refused number) = stop (malformed asked)
+
+-- the chunked coding, where this comes next in it (RFC 9112, section 7.1)
+abbrev pub IsCodedStep : Bool → Option (List ℕ) → List ℕ → chunks.Sought → Step → Type 0
+IsCodedStep ended asked text (chunks.data_at at left) step =
+    step ≡ item (octet (slice_index text at)) (at + 1) (body (coded (chunks.inside (left - 1))))
+IsCodedStep ended asked text (chunks.section_at at) step =
+    (c : trailing.ChunkStep) × trailing.IsEnd at (drop at text) (trailing.section_cut (drop at text)) c × (step ≡ section_step ended asked c)
+IsCodedStep ended asked text chunks.waiting step = step ≡ stop (stop_short ended asked)
+IsCodedStep ended asked text chunks.malformed step = step ≡ stop (malformed asked)
+
+-- what stands at a place in a body
+abbrev pub BodyStepsTo : Bool → Option (List ℕ) → Body → List ℕ → Step → Type 0
+BodyStepsTo ended asked (counted n) text step = step ≡ counted_step ended asked n text
+BodyStepsTo ended asked (coded place) text step = IsCodedStep ended asked text (chunks.sought place text) step
+BodyStepsTo ended asked unbounded text step = step ≡ unbounded_step ended asked text
+
+-- how many bytes of the coding stand in front of what comes next in it
+abbrev pub coding_before : chunks.Sought → ℕ
+coding_before (chunks.data_at at left) = at
+coding_before (chunks.section_at at) = at
+coding_before chunks.waiting = 0
+coding_before chunks.malformed = 0
+
+abbrev pub body_lead : Body → List ℕ → ℕ
+body_lead (counted n) text = 0
+body_lead (coded place) text = coding_before (chunks.sought place text)
+body_lead unbounded text = 0
+
+-- ---- the whole
+
 -- From a place on, where that is due, this step comes. `ended` says that no bytes follow; `asked` is the method that a
 -- response answers, and none in a text of requests.
 abbrev pub StepsTo : Bool → Option (List ℕ) → Due → List ℕ → Step → Type 0
 StepsTo ended asked head text step = (h : HeadStep) × SpellsHead asked text h × (step ≡ step_from ended asked text h)
-StepsTo ended asked (body len) text step = step ≡ stop beyond
+StepsTo ended asked (body b) text step = BodyStepsTo ended asked b text step
 StepsTo ended asked done text step = step ≡ stop over
 
--- how many bytes stand in front of what is due: the empty lines before a head
+-- how many bytes stand in front of what is due: the empty lines before a head, or the coding before a byte, the end or trailers
 abbrev pub lead_of : Due → List ℕ → ℕ
 lead_of head text = skipped text
-lead_of (body len) text = 0
+lead_of (body b) text = body_lead b text
 lead_of done text = 0
 
 -- from the place `at` of the text on, where that is due, the text spells these items, one behind the other, and then stops so

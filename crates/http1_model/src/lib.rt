@@ -4,6 +4,8 @@
 ghost use Rattle.http1_model.specs.ChunkExamples.{WorkedBody, SizeExamples, PlaceExamples, TrailerExamples, ChunkWireExamples};
 ghost use Rattle.http1_model.specs.ChunkLaws.{OneChunkStep, SizeStays, SoughtStays, RunsJoin, LastStepStays};
 ghost use Rattle.http1_model.specs.Examples.{WorkedHead, ClosingHead, WorkedResponse, ResponseExamples, OrderExamples, LineExamples, FieldExamples, WireExamples, LengthExamples, ResponseLengthExamples, BareExamples, ListExamples, TargetExamples, RefusalExamples};
+ghost use Rattle.http1_model.specs.ReadingExamples.{CountedExamples, UnboundedExamples, CodedExamples, PlacedExamples};
+ghost use Rattle.http1_model.specs.ReadingLaws.{OnePart, PiecesAreWhole, CutsAlike, RefusedStays, UnreadIsCut};
 ghost use Rattle.http1_model.specs.Laws.{OneStep, StepStays, OneReading, ReadingGrows, RefusalStays, ToldAsReceived, ResponseAsReceived, RefusalNumbers, ValuesAccepted, WholeFits, RequestListed, ResponseListed, FramedOnce, RequestTaken, ResponseTaken};
 
 /// Where a head is due, a text spells one thing.
@@ -133,4 +135,38 @@ pub fn runs_join()
 /// An end or a refusal that a text spells in a chunked body, every longer text spells.
 pub fn last_step_stays()
     ensures { LastStepStays }
+{}
+
+/// From a place in a line's text on, one part is unread next.
+pub fn one_part()
+    ensures { OnePart }
+{}
+
+/// What is handed on of a text in pieces, however it is cut, is what the whole text spells.
+pub fn pieces_are_whole()
+    ensures { PiecesAreWhole }
+{}
+
+/// Two readings of one text with the same end hand on the same heads, bytes of bodies, ends and trailers, and stop for the same
+/// reason (segmentation independence).
+pub fn cuts_alike()
+    ensures { CutsAlike }
+{}
+
+/// A refusal stays, whatever comes behind it.
+pub fn refused_stays()
+    ensures { RefusedStays }
+{}
+
+/// What is unread of a text from a place on is what it spells there, with each body cut after each 16,384 bytes.
+pub fn unread_is_cut()
+    ensures { UnreadIsCut }
+{}
+
+/// What is unread of bodies, worked on texts that are written out.
+pub fn reading_examples()
+    ensures counted { CountedExamples }
+    ensures unbounded { UnboundedExamples }
+    ensures coded { CodedExamples }
+    ensures placed { PlacedExamples }
 {}

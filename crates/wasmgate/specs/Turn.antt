@@ -7,7 +7,7 @@ use Rattle.gate_io.specs.declared.event.Sent.{Sent}
 use Rattle.gate_io.specs.declared.event.Sent.TheVariants as sent
 use Rattle.gate_io.specs.declared.event.Side.TheVariants.{Down, Up}
 use Rattle.http1_model.specs.Head.{Head, HeadStep, SpellsStep, is_origin, has_length_field}
-use Rattle.http1_model.specs.Messages.{request, interim, response, Step, item, stop, rest, over, refusal, beyond, head, StepsTo, step_from}
+use Rattle.http1_model.specs.Messages.{request, interim, response, octet, end, trailers, Step, item, stop, rest, over, refusal, head, StepsTo, step_from}
 use Rattle.http1_model.specs.Wire.{wire_of}
 use Rattle.wasmgate.specs.declared.line.Line.{Line}
 
@@ -75,10 +75,12 @@ abbrev pub read_answer : State → Line → Step → Answer
 read_answer lines line (item (request h) used due) = if is_built h then sends_up lines line h else not_built
 read_answer lines line (item (interim h) used due) = not_built
 read_answer lines line (item (response h) used due) = not_built
+read_answer lines line (item (octet b) used due) = not_built
+read_answer lines line (item end used due) = not_built
+read_answer lines line (item (trailers fields) used due) = not_built
 read_answer lines line (stop rest) = went (record { state = lines ++ (line ∷ []); sent = [] })
 read_answer lines line (stop over) = went (record { state = lines; sent = sent.Close line.number Down ∷ [] })
 read_answer lines line (stop (refusal number)) = not_built
-read_answer lines line (stop beyond) = not_built
 
 -- The text of a line is read up to its first head. Behind a head that went up it stays unread.
 unfoldable pub Reads : State → Line → Bool → Answer → Type 0

@@ -1,0 +1,10 @@
+use Rattle.http1_model.proofs.ReadingExamples.{counted_examples, unbounded_examples, coded_examples, placed_examples}
+use Rattle.http1_model.proofs.reading_examples.Goals as goal
+
+pub returns : goal.returns
+returns c = record {
+  counted = counted_examples;
+  unbounded = unbounded_examples;
+  coded = coded_examples;
+  placed = placed_examples;
+}
