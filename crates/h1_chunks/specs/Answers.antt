@@ -1,11 +1,18 @@
 -- What an answer of the reader says.
-use Rattle.std.specs.Prelude.{◌≡◌, ◌≤◌, ⊤, ℕ, List}
-use Rattle.http1_model.specs.Chunks.{Place, Run}
+use Rattle.std.specs.Prelude.{◌≡◌, ◌≤◌, ⊤, ℕ, Bool, true, false, List}
+use Rattle.http1_model.specs.Chunks.{Place, Sought, data_at, section_at, waiting, malformed, Run}
 use Rattle.http1_model.specs.Trailers as model
 use Rattle.h1_chunks.specs.declared.reader.ChunkStep as step
 use Rattle.h1_chunks.specs.declared.reader.ChunkStep.TheVariants as steps
 use Rattle.h1_chunks.specs.declared.reader.Run as run
 use Rattle.h1_chunks.specs.Seen.{seen_place}
+
+-- a byte of data comes next
+abbrev pub is_data : Sought → Bool
+is_data (data_at at left) = true
+is_data (section_at at) = false
+is_data waiting = false
+is_data malformed = false
 
 -- bytes of data with what they use up, as a run
 abbrev pub seen_run : run.Run → Run

@@ -2,7 +2,7 @@
 ghost use Rattle.std.specs.Prelude.{◌≡◌, ◌≤◌, ◌<◌, length, IfOk, OnErr};
 ghost use Rattle.http1_model.specs.Chunks.{start, sought, section_at, run_of};
 ghost use Rattle.http1_model.specs.Trailers.{piece_limit};
-ghost use Rattle.h1_chunks.specs.Answers.{seen_run, Answers, UsesWithin};
+ghost use Rattle.h1_chunks.specs.Answers.{is_data, seen_run, Answers, UsesWithin};
 ghost use Rattle.h1_chunks.specs.Seen.{seen_place};
 
 use crate::lines::{Cut, section_cut};
@@ -98,6 +98,20 @@ impl ChunkReader {
         ChunkReader {
             place: Place::SizeLine,
         }
+    }
+
+    /// A reader at the same place. It takes no memory.
+    pub fn copy(&self) -> Self
+        ensures { result ≡ self.now }
+    {
+        ChunkReader { place: self.place }
+    }
+
+    /// Whether a byte of data is what a text has next, from the reader's place on. It takes no memory.
+    pub fn has_data(&self, text: &[u8]) -> bool
+        ensures { result ≡ is_data (sought self.now text.now) }
+    {
+        matches!(self.place.sought(text), Sought::Data { .. })
     }
 
     /// What a text spells from the reader's place on. The text is what follows the bytes that earlier answers used. Data comes

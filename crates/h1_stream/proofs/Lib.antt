@@ -1,0 +1,4 @@
+pub mod Answered
+pub mod Bodies
+pub mod Coded
+pub mod Heads

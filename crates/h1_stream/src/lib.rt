@@ -1,0 +1,12 @@
+//! One side of a line: from the bytes that come, in whatever pieces, to the items of its messages.
+#![tactic(auto)]
+
+mod body;
+mod next;
+mod reader;
+mod unread;
+
+pub use reader::{MessageReader, Step};
+
+#[cfg(test)]
+mod tests;

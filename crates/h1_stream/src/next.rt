@@ -1,0 +1,149 @@
+// What is unread next, where a head is due; and what all bodies share.
+ghost use Rattle.std.specs.Prelude.{◌≡◌, ◌≤◌, Some, length, IfOk};
+ghost use Rattle.http1_model.specs.Messages.{head, due_next, malformed, stop_short, item_of, stop_at};
+ghost use Rattle.http1_model.specs.Messages as model;
+ghost use Rattle.http1_model.specs.Unread.{IsNext, by_itself};
+ghost use Rattle.h1_head.specs.Seen.{seen_head};
+ghost use Rattle.h1_head.specs.Measures.{seen_length};
+ghost use Rattle.h1_stream.specs.Seen.{asked_of, is_nothing, seen_due, seen_stop, seen_next, IsWithin, IsFlagged};
+
+use gate_base::OutOfMemory;
+use h1_chunks::ChunkReader;
+use h1_head::{Head, HeadStep, Item, Kind, Length, read_head, skip_empty_lines};
+use header_maps::ListKind;
+use std::alloc::Global;
+
+/// Where a body goes on.
+#[derive(Debug, Drop)]
+pub(crate) enum Body {
+    /// So many bytes are to come.
+    Counted(u64),
+    /// A place in the chunked coding.
+    Coded(ChunkReader),
+    /// All that comes until the line ends.
+    Unbounded,
+}
+
+/// What is due in a text.
+#[derive(Debug, Drop)]
+pub(crate) enum Due {
+    /// A head.
+    Head,
+    /// What is left of a body.
+    Body(Body),
+    /// Nothing: a response is whole.
+    Done,
+}
+
+/// Why no further item comes.
+#[derive(Clone, Copy, Debug)]
+pub(crate) enum Stop {
+    /// What is there spells no whole item.
+    Rest,
+    /// All is read.
+    Over,
+    /// It is refused, with the status of the answer.
+    Refusal(u16),
+}
+
+/// What is unread next.
+#[derive(Debug, Drop)]
+pub(crate) enum Next {
+    /// An item that uses up so many bytes, and what is due behind it.
+    Part { item: Item, used: usize, due: Due },
+    /// No item.
+    Halt(Stop),
+}
+
+/// What is due behind a whole message.
+pub(crate) fn due_next(kind: Kind) -> Due
+    ensures { seen_due result ≡ due_next (asked_of kind) }
+{
+    match kind {
+        Kind::Request => Due::Head,
+        Kind::Response { .. } => Due::Done,
+    }
+}
+
+/// What is malformed, or ends too early.
+pub(crate) fn malformed(kind: Kind) -> Stop
+    ensures { seen_stop result ≡ malformed (asked_of kind) }
+{
+    match kind {
+        Kind::Request => Stop::Refusal(400),
+        Kind::Response { .. } => Stop::Refusal(502),
+    }
+}
+
+/// Where no more of a body has come.
+pub(crate) fn stop_short(kind: Kind, ended: bool) -> Stop
+    ensures { seen_stop result ≡ stop_short ended (asked_of kind) }
+{
+    if ended { malformed(kind) } else { Stop::Rest }
+}
+
+/// What is due behind a head with a body of that length.
+fn due_behind(kind: Kind, length: Length) -> Due
+    ensures { seen_due result ≡ model.due_behind (due_next (asked_of kind)) (seen_length length) }
+{
+    match length {
+        Length::Nothing => due_next(kind),
+        Length::Exactly(left) => Due::Body(Body::Counted(left)),
+        Length::Chunked => Due::Body(Body::Coded(ChunkReader::new())),
+        Length::UntilEnd => Due::Body(Body::Unbounded),
+    }
+}
+
+/// The item that a head is, which uses up so many bytes.
+fn head_item(kind: Kind, head: Head, used: usize) -> Next
+    ensures next { by_itself (item_of (asked_of kind) (seen_head head) used) ≡ Some (seen_next result) }
+    ensures used { IsWithin used result }
+    ensures flagged { IsFlagged result }
+{
+    let is_interim = matches!(head.fields.kind(), ListKind::Interim);
+    if is_interim && !matches!(kind, Kind::Request) {
+        return Next::Part {
+            item: Item::Interim { head },
+            used,
+            due: Due::Head,
+        };
+    }
+    let due = due_behind(kind, head.length);
+    let end = matches!(head.length, Length::Nothing);
+    Next::Part {
+        item: Item::Head { head, end },
+        used,
+        due,
+    }
+}
+
+/// Why an unfinished head does not come.
+fn stop_at(kind: Kind, ended: bool, text: &[u8]) -> Stop
+    ensures { seen_stop result ≡ stop_at ended (asked_of kind) text.now }
+{
+    if !ended {
+        return Stop::Rest;
+    }
+    match kind {
+        Kind::Request if skip_empty_lines(text) == text.len() => Stop::Over,
+        Kind::Request | Kind::Response { .. } => malformed(kind),
+    }
+}
+
+/// What is unread next where a head is due.
+pub(crate) fn head_next(
+    alloc: Global,
+    kind: Kind,
+    ended: bool,
+    text: &[u8],
+) -> Result<Next, OutOfMemory>
+    ensures next { IfOk result (λ n. IsNext ended (asked_of kind) head text.now (seen_next n)) }
+    ensures within { IfOk result (IsWithin (length text.now)) }
+    ensures flagged { IfOk result IsFlagged }
+{
+    match read_head(alloc, text, kind)? {
+        HeadStep::Head { head, used } => Ok(head_item(kind, head, used)),
+        HeadStep::NotYet => Ok(Next::Halt(stop_at(kind, ended, text))),
+        HeadStep::Refused { number } => Ok(Next::Halt(Stop::Refusal(number))),
+    }
+}
