@@ -1,0 +1,15 @@
+//! Messages on their way out: how they are framed, and from an item to its bytes.
+#![tactic(auto)]
+
+mod body;
+mod framing;
+mod head;
+mod laws;
+mod write;
+
+pub use framing::{Framing, framing_of};
+pub use laws::{pieces_read_back, trailers_read_back};
+pub use write::write_item;
+
+#[cfg(test)]
+mod tests;
