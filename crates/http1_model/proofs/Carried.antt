@@ -6,28 +6,28 @@ use Rattle.http1_model.specs.Unread.{Carries}
 use Rattle.http1_model.proofs.ChunkLaws.{run_behind, run_step, run_zero}
 
 -- what a run carries
-abbrev pub IsCarried : Bool → Option (List ℕ) → Place → List ℕ → Run → Type 0
-IsCarried ended asked place text run = Carries ended asked (body (coded place)) text run.bytes run.used (body (coded run.place))
+abbrev pub IsCarried : Bool → Option (List ℕ) → List (List ℕ) → Place → List ℕ → Run → Type 0
+IsCarried ended asked connection place text run = Carries ended asked (body (coded connection place)) text run.bytes run.used (body (coded connection run.place))
 
 -- the data of a chunked body
-pub run_carries : (ended : Bool) (asked : Option (List ℕ)) (room : ℕ) (place : Place) (text : List ℕ)
-    → Carries ended asked (body (coded place)) text (run_of room place text).bytes (run_of room place text).used (body (coded (run_of room place text).place))
-run_carries ended asked zero place text = subst (IsCarried ended asked place text) (sym (run_zero place text)) (refl, refl)
-run_carries ended asked (suc room) place text = by_sought (sought place text) refl (run_carries ended asked room)
+pub run_carries : (ended : Bool) (asked : Option (List ℕ)) (connection : List (List ℕ)) (room : ℕ) (place : Place) (text : List ℕ)
+    → Carries ended asked (body (coded connection place)) text (run_of room place text).bytes (run_of room place text).used (body (coded connection (run_of room place text).place))
+run_carries ended asked connection zero place text = subst (IsCarried ended asked connection place text) (sym (run_zero place text)) (refl, refl)
+run_carries ended asked connection (suc room) place text = by_sought (sought place text) refl (run_carries ended asked connection room)
   where
-    moved : (s : Sought) → sought place text ≡ s → IsCarried ended asked place text (run_behind room place text s)
-        → IsCarried ended asked place text (run_of (suc room) place text)
-    moved s is x = subst (IsCarried ended asked place text) (sym (run_step room place text s is)) x
+    moved : (s : Sought) → sought place text ≡ s → IsCarried ended asked connection place text (run_behind room place text s)
+        → IsCarried ended asked connection place text (run_of (suc room) place text)
+    moved s is x = subst (IsCarried ended asked connection place text) (sym (run_step room place text s is)) x
 
-    by_sought : (s : Sought) → sought place text ≡ s → ((p : Place) (t : List ℕ) → IsCarried ended asked p t (run_of room p t))
-        → IsCarried ended asked place text (run_of (suc room) place text)
+    by_sought : (s : Sought) → sought place text ≡ s → ((p : Place) (t : List ℕ) → IsCarried ended asked connection p t (run_of room p t))
+        → IsCarried ended asked connection place text (run_of (suc room) place text)
     by_sought (data_at at left) is later =
         let p = inside (left - 1) in
         let run = run_of room p (drop (at + 1) text) in
-        let here : IsCodedStep ended asked text (data_at at left) (item (octet (get_or text at 0)) (at + 1) (body (coded p))) = refl in
-        let there : StepsTo ended asked (body (coded place)) text (item (octet (get_or text at 0)) (at + 1) (body (coded p))) =
-        subst (λ (s : Sought). IsCodedStep ended asked text s (item (octet (get_or text at 0)) (at + 1) (body (coded p)))) (sym is) here in
-        moved (data_at at left) is (at + 1, run.used, body (coded p), there, later p (drop (at + 1) text), refl)
+        let here : IsCodedStep ended asked connection text (data_at at left) (item (octet (get_or text at 0)) (at + 1) (body (coded connection p))) = refl in
+        let there : StepsTo ended asked (body (coded connection place)) text (item (octet (get_or text at 0)) (at + 1) (body (coded connection p))) =
+        subst (λ (s : Sought). IsCodedStep ended asked connection text s (item (octet (get_or text at 0)) (at + 1) (body (coded connection p)))) (sym is) here in
+        moved (data_at at left) is (at + 1, run.used, body (coded connection p), there, later p (drop (at + 1) text), refl)
     by_sought (section_at at) is later = moved (section_at at) is (refl, refl)
     by_sought waiting is later = moved waiting is (refl, refl)
     by_sought malformed is later = moved malformed is (refl, refl)

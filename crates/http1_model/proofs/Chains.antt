@@ -102,24 +102,24 @@ unbounded_in_body false asked [] i n d e = absurd (item_is_no_stop i n d rest e)
 unbounded_in_body true asked [] i n d e = in_body i end n 0 d (due_next asked) e refl
 unbounded_in_body ended asked (b ∷ text) i n d e = in_body i (octet b) n 1 d (body unbounded) e refl
 
-coded_in_body : (ended : Bool) (asked : Option (List ℕ)) (text : List ℕ) (s : chunks.Sought) (i : Item) (n : ℕ) (d : Due)
-    → IsCodedStep ended asked text s (item i n d) → is_in_body i ≡ true
-coded_in_body ended asked text (chunks.data_at at left) i n d e =
-    in_body i (octet (get_or text at 0)) n (at + 1) d (body (coded (chunks.inside (left - 1)))) e refl
-coded_in_body ended asked text (chunks.section_at at) i n d x = by_step x.0 x.2
+coded_in_body : (ended : Bool) (asked : Option (List ℕ)) (connection : List (List ℕ)) (text : List ℕ) (s : chunks.Sought) (i : Item) (n : ℕ) (d : Due)
+    → IsCodedStep ended asked connection text s (item i n d) → is_in_body i ≡ true
+coded_in_body ended asked connection text (chunks.data_at at left) i n d e =
+    in_body i (octet (get_or text at 0)) n (at + 1) d (body (coded connection (chunks.inside (left - 1)))) e refl
+coded_in_body ended asked connection text (chunks.section_at at) i n d x = by_step x.0 x.2
   where
-    by_step : (c : trailing.ChunkStep) → item i n d ≡ section_step ended asked c → is_in_body i ≡ true
+    by_step : (c : trailing.ChunkStep) → item i n d ≡ section_step ended asked connection c → is_in_body i ≡ true
     by_step (trailing.carried run) e = absurd (item_is_no_stop i n d rest e)
     by_step trailing.not_yet e = absurd (item_is_no_stop i n d (stop_short ended asked) e)
     by_step (trailing.refused k) e = absurd (item_is_no_stop i n d (malformed asked) e)
-    by_step (trailing.ended fields m) e = end_in_body asked m (trailers_left asked fields) i n d e
-coded_in_body ended asked text chunks.waiting i n d e = absurd (item_is_no_stop i n d (stop_short ended asked) e)
-coded_in_body ended asked text chunks.malformed i n d e = absurd (item_is_no_stop i n d (malformed asked) e)
+    by_step (trailing.ended fields m) e = end_in_body asked m (trailers_left asked connection fields) i n d e
+coded_in_body ended asked connection text chunks.waiting i n d e = absurd (item_is_no_stop i n d (stop_short ended asked) e)
+coded_in_body ended asked connection text chunks.malformed i n d e = absurd (item_is_no_stop i n d (malformed asked) e)
 
 body_item : (ended : Bool) (asked : Option (List ℕ)) (b : Body) (text : List ℕ) (i : Item) (n : ℕ) (d : Due) → BodyStepsTo ended asked b text (item i n d)
     → is_in_body i ≡ true
 body_item ended asked (counted k) text i n d x = counted_in_body ended asked k text i n d x
-body_item ended asked (coded place) text i n d x = coded_in_body ended asked text (chunks.sought place text) i n d x
+body_item ended asked (coded connection place) text i n d x = coded_in_body ended asked connection text (chunks.sought place text) i n d x
 body_item ended asked unbounded text i n d x = unbounded_in_body ended asked text i n d x
 
 -- the head that comes where one is due
@@ -133,12 +133,12 @@ head_step_item ended asked text i n d x = by_step asked x.0 x.2
   where
     by_step : (asked : Option (List ℕ)) (a : HeadStep) → item i n d ≡ step_from ended asked text a → IsHeadItem asked i
     by_step None (found h m) e =
-        record { of = h; kind = inr (same_item i (request h) n m d (due_behind head h.length) e).0 }
+        record { of = h; kind = inr (same_item i (request h) n m d (due_behind head h.connection h.length) e).0 }
     by_step (Some asked) (found h m) e = by_kind (is_interim h.fields.kind) e
       where
-        by_kind : (b : Bool) → item i n d ≡ cond b (item (interim h) m head) (item (response h) m (due_behind done h.length)) → IsHeadItem (Some asked) i
+        by_kind : (b : Bool) → item i n d ≡ cond b (item (interim h) m head) (item (response h) m (due_behind done h.connection h.length)) → IsHeadItem (Some asked) i
         by_kind true e = record { of = h; kind = inl (same_item i (interim h) n m d head e).0 }
-        by_kind false e = record { of = h; kind = inr (same_item i (response h) n m d (due_behind done h.length) e).0 }
+        by_kind false e = record { of = h; kind = inr (same_item i (response h) n m d (due_behind done h.connection h.length) e).0 }
     by_step asked not_yet e = absurd (item_is_no_stop i n d (stop_at ended asked text) e)
     by_step asked (refused k) e = absurd (item_is_no_stop i n d (refusal k) e)
 

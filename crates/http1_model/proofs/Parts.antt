@@ -171,12 +171,12 @@ pub head_stop : (ended : Bool) (asked : Option (List ℕ)) (s t : List ℕ) (why
 head_stop ended asked s t why same x = by_step x.0 x.1 x.2
   where
     no_item : (asked : Option (List ℕ)) (h : Head) (n : ℕ) → stop why ≡ item_of asked h n → ⊥
-    no_item None h n e = item_is_no_stop (request h) n (due_behind head h.length) why (sym e)
+    no_item None h n e = item_is_no_stop (request h) n (due_behind head h.connection h.length) why (sym e)
     no_item (Some asked) h n e = by_kind (is_interim h.fields.kind) e
       where
-        by_kind : (b : Bool) → stop why ≡ cond b (item (interim h) n head) (item (response h) n (due_behind done h.length)) → ⊥
+        by_kind : (b : Bool) → stop why ≡ cond b (item (interim h) n head) (item (response h) n (due_behind done h.connection h.length)) → ⊥
         by_kind true e = item_is_no_stop (interim h) n head why (sym e)
-        by_kind false e = item_is_no_stop (response h) n (due_behind done h.length) why (sym e)
+        by_kind false e = item_is_no_stop (response h) n (due_behind done h.connection h.length) why (sym e)
 
     by_step : (a : HeadStep) → SpellsHead asked s a → stop why ≡ step_from ended asked s a → StepsTo ended asked head t (stop why)
     by_step (found h n) spells e = absurd (no_item asked h n e)
@@ -225,8 +225,8 @@ further_item None k h used = refl
 further_item (Some asked) k h used = by_kind (is_interim h.fields.kind)
   where
     by_kind : (b : Bool)
-        → further k (cond b (item (interim h) used head) (item (response h) used (due_behind done h.length)))
-        ≡ cond b (item (interim h) (k + used) head) (item (response h) (k + used) (due_behind done h.length))
+        → further k (cond b (item (interim h) used head) (item (response h) used (due_behind done h.connection h.length)))
+        ≡ cond b (item (interim h) (k + used) head) (item (response h) (k + used) (due_behind done h.connection h.length))
     by_kind true = refl
     by_kind false = refl
 

@@ -110,13 +110,13 @@ step_stays (Some asked) text more a x some = SpellsBy-stays (IsResponseAnswer (b
 
 -- ---- whole readings
 
-coded_unique : (ended : Bool) (asked : Option (List ℕ)) (text : List ℕ) (s : chunks.Sought) (a b : Step)
-    → IsCodedStep ended asked text s a → IsCodedStep ended asked text s b → a ≡ b
-coded_unique ended asked text (chunks.data_at at left) a b x y = x ∙ sym y
-coded_unique ended asked text (chunks.section_at at) a b x y =
-    x.2 ∙ ap (section_step ended asked) (one_end at (drop at text) (section_cut (drop at text)) x.0 y.0 x.1 y.1) ∙ sym y.2
-coded_unique ended asked text chunks.waiting a b x y = x ∙ sym y
-coded_unique ended asked text chunks.malformed a b x y = x ∙ sym y
+coded_unique : (ended : Bool) (asked : Option (List ℕ)) (connection : List (List ℕ)) (text : List ℕ) (s : chunks.Sought) (a b : Step)
+    → IsCodedStep ended asked connection text s a → IsCodedStep ended asked connection text s b → a ≡ b
+coded_unique ended asked connection text (chunks.data_at at left) a b x y = x ∙ sym y
+coded_unique ended asked connection text (chunks.section_at at) a b x y =
+    x.2 ∙ ap (section_step ended asked connection) (one_end at (drop at text) (section_cut (drop at text)) x.0 y.0 x.1 y.1) ∙ sym y.2
+coded_unique ended asked connection text chunks.waiting a b x y = x ∙ sym y
+coded_unique ended asked connection text chunks.malformed a b x y = x ∙ sym y
 
 -- from a place on, one step comes
 pub StepsTo-unique : (ended : Bool) (asked : Option (List ℕ)) (due : Due) (text : List ℕ) (a b : Step)
@@ -124,7 +124,7 @@ pub StepsTo-unique : (ended : Bool) (asked : Option (List ℕ)) (due : Due) (tex
 StepsTo-unique ended asked head text a b x y =
     x.2 ∙ ap (step_from ended asked text) (one_step asked text x.0 y.0 x.1 y.1) ∙ sym y.2
 StepsTo-unique ended asked (body (counted n)) text a b x y = x ∙ sym y
-StepsTo-unique ended asked (body (coded place)) text a b x y = coded_unique ended asked text (chunks.sought place text) a b x y
+StepsTo-unique ended asked (body (coded connection place)) text a b x y = coded_unique ended asked connection text (chunks.sought place text) a b x y
 StepsTo-unique ended asked (body unbounded) text a b x y = x ∙ sym y
 StepsTo-unique ended asked done text a b x y = x ∙ sym y
 
@@ -164,12 +164,12 @@ one_reading text ended asked xs ys v w = SpellsFrom-unique text ended asked head
 
 -- a head that is found is an item that uses up as much
 item_uses : (asked : Option (List ℕ)) (of : Head) (i : Item) (n used : ℕ) (next : Due) → item i used next ≡ item_of asked of n → used ≡ n
-item_uses None of i n used next e = (same_item i (request of) used n next (due_after of.length) e).1
+item_uses None of i n used next e = (same_item i (request of) used n next (due_after of) e).1
 item_uses (Some asked) of i n used next e = by_kind (is_interim of.fields.kind) e
   where
-    by_kind : (b : Bool) → item i used next ≡ cond b (item (interim of) n head) (item (response of) n (due_behind done of.length)) → used ≡ n
+    by_kind : (b : Bool) → item i used next ≡ cond b (item (interim of) n head) (item (response of) n (due_behind done of.connection of.length)) → used ≡ n
     by_kind true e = (same_item i (interim of) used n next head e).1
-    by_kind false e = (same_item i (response of) used n next (due_behind done of.length) e).1
+    by_kind false e = (same_item i (response of) used n next (due_behind done of.connection of.length) e).1
 
 -- what a head uses up is there
 used_by_fits : (answers : Answers) (large : ℕ) (text : List ℕ) (of : Head) (used : ℕ) → SpellsBy answers large text (found of used) → used ≤ length text
@@ -258,30 +258,30 @@ end_within at text (whole len) fields used is x = by_trailers x.trailers x.is
 end_within at text too_large fields used is x = absurd (cc)
 end_within at text unfinished fields used is x = absurd (cc)
 
-coded_stays : (ended : Bool) (asked : Option (List ℕ)) (place : chunks.Place) (text more : List ℕ) (i : Item) (used : ℕ) (next : Due)
-    → (s : chunks.Sought) → chunks.sought place text ≡ s → IsCodedStep false asked text s (item i used next)
-    → Stays ended asked (body (coded place)) text more i used next
-coded_stays ended asked place text more i used next (chunks.data_at at left) is x =
+coded_stays : (ended : Bool) (asked : Option (List ℕ)) (connection : List (List ℕ)) (place : chunks.Place) (text more : List ℕ) (i : Item) (used : ℕ) (next : Due)
+    → (s : chunks.Sought) → chunks.sought place text ≡ s → IsCodedStep false asked connection text s (item i used next)
+    → Stays ended asked (body (coded connection place)) text more i used next
+coded_stays ended asked connection place text more i used next (chunks.data_at at left) is x =
     let fits : at < length text = sought_fits place text at left is in
     let stays : chunks.sought place (text ++ more) ≡ chunks.data_at at left = sought_stays place text more (chunks.data_at at left) is no_waiting in
     let same : get_or text at 0 ≡ get_or (text ++ more) at 0 = sym (get_or_append_left text more 0 at fits) in
-    let later : IsCodedStep ended asked (text ++ more) (chunks.data_at at left) (item i used next) =
-    x ∙ ap (λ b. item (octet b) (at + 1) (body (coded (chunks.inside (left - 1))))) same in
+    let later : IsCodedStep ended asked connection (text ++ more) (chunks.data_at at left) (item i used next) =
+    x ∙ ap (λ b. item (octet b) (at + 1) (body (coded connection (chunks.inside (left - 1))))) same in
     record {
-      there = subst (λ (s : chunks.Sought). IsCodedStep ended asked (text ++ more) s (item i used next)) (sym stays) later;
+      there = subst (λ (s : chunks.Sought). IsCodedStep ended asked connection (text ++ more) s (item i used next)) (sym stays) later;
       lead = ap coding_before stays ∙ sym (ap coding_before is);
-      fits = omega (arith, fits, (same_item i (octet (get_or text at 0)) used (at + 1) next (body (coded (chunks.inside (left - 1)))) x).1);
+      fits = omega (arith, fits, (same_item i (octet (get_or text at 0)) used (at + 1) next (body (coded connection (chunks.inside (left - 1)))) x).1);
     }
   where
     no_waiting : chunks.data_at at left ≡ chunks.waiting → ⊥
     no_waiting e = cc
-coded_stays ended asked place text more i used next (chunks.section_at at) is x = by_step x.0 x.1 x.2
+coded_stays ended asked connection place text more i used next (chunks.section_at at) is x = by_step x.0 x.1 x.2
   where
     no_waiting : chunks.section_at at ≡ chunks.waiting → ⊥
     no_waiting e = cc
 
-    by_step : (c : trailing.ChunkStep) → IsEnd at (drop at text) (section_cut (drop at text)) c → item i used next ≡ section_step false asked c
-        → Stays ended asked (body (coded place)) text more i used next
+    by_step : (c : trailing.ChunkStep) → IsEnd at (drop at text) (section_cut (drop at text)) c → item i used next ≡ section_step false asked connection c
+        → Stays ended asked (body (coded connection place)) text more i used next
     by_step (trailing.carried run) it e = absurd (item_is_no_stop i used next rest e)
     by_step trailing.not_yet it e = absurd (item_is_no_stop i used next rest e)
     by_step (trailing.refused n) it e = absurd (item_is_no_stop i used next (malformed asked) e)
@@ -292,27 +292,27 @@ coded_stays ended asked place text more i used next (chunks.section_at at) is x 
         let longer = end_stays at (drop at text) more (section_cut (drop at text)) (trailing.ended fields n) refl it refl in
         let there : IsEnd at (drop at (text ++ more)) (section_cut (drop at (text ++ more))) (trailing.ended fields n) =
         subst (λ (t : List ℕ). IsEnd at t (section_cut t) (trailing.ended fields n)) (sym split) longer in
-        let later : IsCodedStep ended asked (text ++ more) (chunks.section_at at) (item i used next) = (trailing.ended fields n, there, e) in
+        let later : IsCodedStep ended asked connection (text ++ more) (chunks.section_at at) (item i used next) = (trailing.ended fields n, there, e) in
         record {
-          there = subst (λ (s : chunks.Sought). IsCodedStep ended asked (text ++ more) s (item i used next)) (sym stays) later;
+          there = subst (λ (s : chunks.Sought). IsCodedStep ended asked connection (text ++ more) s (item i used next)) (sym stays) later;
           lead = ap coding_before stays ∙ sym (ap coding_before is);
           fits = omega (
             arith,
             within,
-            end_uses asked n (trailers_left asked fields) i used next e,
+            end_uses asked n (trailers_left asked connection fields) i used next e,
             end_within at (drop at text) (section_cut (drop at text)) fields n refl it,
             length-drop at text,
           );
         }
-coded_stays ended asked place text more i used next chunks.waiting is x = absurd (item_is_no_stop i used next rest x)
-coded_stays ended asked place text more i used next chunks.malformed is x = absurd (item_is_no_stop i used next (malformed asked) x)
+coded_stays ended asked connection place text more i used next chunks.waiting is x = absurd (item_is_no_stop i used next rest x)
+coded_stays ended asked connection place text more i used next chunks.malformed is x = absurd (item_is_no_stop i used next (malformed asked) x)
 
 pub item_stays : (ended : Bool) (asked : Option (List ℕ)) (due : Due) (text more : List ℕ) (i : Item) (used : ℕ) (next : Due)
     → StepsTo false asked due text (item i used next) → Stays ended asked due text more i used next
 item_stays ended asked head text more i used next x = head_stays ended asked text more i used next x
 item_stays ended asked (body (counted n)) text more i used next x = counted_stays ended asked n text more i used next x
-item_stays ended asked (body (coded place)) text more i used next x =
-    coded_stays ended asked place text more i used next (chunks.sought place text) refl x
+item_stays ended asked (body (coded connection place)) text more i used next x =
+    coded_stays ended asked connection place text more i used next (chunks.sought place text) refl x
 item_stays ended asked (body unbounded) text more i used next x = unbounded_stays ended asked text more i used next x
 item_stays ended asked done text more i used next x = absurd (item_is_no_stop i used next over x)
 
@@ -384,12 +384,12 @@ head_refused : (ended : Bool) (asked : Option (List ℕ)) (text more : List ℕ)
 head_refused ended asked text more number x = by_step x.0 x.1 x.2
   where
     no_item : (asked : Option (List ℕ)) (of : Head) (n : ℕ) → stop (refusal number) ≡ item_of asked of n → ⊥
-    no_item None of n e = item_is_no_stop (request of) n (due_after of.length) (refusal number) (sym e)
+    no_item None of n e = item_is_no_stop (request of) n (due_after of) (refusal number) (sym e)
     no_item (Some asked) of n e = by_kind (is_interim of.fields.kind) e
       where
-        by_kind : (b : Bool) → stop (refusal number) ≡ cond b (item (interim of) n head) (item (response of) n (due_behind done of.length)) → ⊥
+        by_kind : (b : Bool) → stop (refusal number) ≡ cond b (item (interim of) n head) (item (response of) n (due_behind done of.connection of.length)) → ⊥
         by_kind true e = item_is_no_stop (interim of) n head (refusal number) (sym e)
-        by_kind false e = item_is_no_stop (response of) n (due_behind done of.length) (refusal number) (sym e)
+        by_kind false e = item_is_no_stop (response of) n (due_behind done of.connection of.length) (refusal number) (sym e)
 
     by_step : (h : HeadStep) → SpellsHead asked text h → stop (refusal number) ≡ step_from false asked text h
         → StepsTo ended asked head (text ++ more) (stop (refusal number))
@@ -421,32 +421,32 @@ unbounded_refused : (asked : Option (List ℕ)) (text : List ℕ) (number : ℕ)
 unbounded_refused asked [] number e = no_rest number e
 unbounded_refused asked (b ∷ text) number e = no_item_refused number (octet b) 1 (body unbounded) e
 
-coded_refused : (ended : Bool) (asked : Option (List ℕ)) (place : chunks.Place) (text more : List ℕ) (number : ℕ)
-    → (s : chunks.Sought) → chunks.sought place text ≡ s → IsCodedStep false asked text s (stop (refusal number))
-    → StepsTo ended asked (body (coded place)) (text ++ more) (stop (refusal number))
-coded_refused ended asked place text more number (chunks.data_at at left) is x =
-    absurd (no_item_refused number (octet (get_or text at 0)) (at + 1) (body (coded (chunks.inside (left - 1)))) x)
-coded_refused ended asked place text more number (chunks.section_at at) is x = by_step x.0 x.1 x.2
+coded_refused : (ended : Bool) (asked : Option (List ℕ)) (connection : List (List ℕ)) (place : chunks.Place) (text more : List ℕ) (number : ℕ)
+    → (s : chunks.Sought) → chunks.sought place text ≡ s → IsCodedStep false asked connection text s (stop (refusal number))
+    → StepsTo ended asked (body (coded connection place)) (text ++ more) (stop (refusal number))
+coded_refused ended asked connection place text more number (chunks.data_at at left) is x =
+    absurd (no_item_refused number (octet (get_or text at 0)) (at + 1) (body (coded connection (chunks.inside (left - 1)))) x)
+coded_refused ended asked connection place text more number (chunks.section_at at) is x = by_step x.0 x.1 x.2
   where
     no_waiting : chunks.section_at at ≡ chunks.waiting → ⊥
     no_waiting e = cc
 
-    by_step : (c : trailing.ChunkStep) → IsEnd at (drop at text) (section_cut (drop at text)) c → stop (refusal number) ≡ section_step false asked c
-        → StepsTo ended asked (body (coded place)) (text ++ more) (stop (refusal number))
+    by_step : (c : trailing.ChunkStep) → IsEnd at (drop at text) (section_cut (drop at text)) c → stop (refusal number) ≡ section_step false asked connection c
+        → StepsTo ended asked (body (coded connection place)) (text ++ more) (stop (refusal number))
     by_step (trailing.carried run) it e = absurd (no_rest number e)
     by_step trailing.not_yet it e = absurd (no_rest number e)
-    by_step (trailing.ended fields n) it e = absurd (no_end_refused number asked n (trailers_left asked fields) e)
+    by_step (trailing.ended fields n) it e = absurd (no_end_refused number asked n (trailers_left asked connection fields) e)
     by_step (trailing.refused n) it e =
         let split : drop at (text ++ more) ≡ drop at text ++ more = drop-append-le at text more (section_within place text at is) in
         let stays : chunks.sought place (text ++ more) ≡ chunks.section_at at = sought_stays place text more (chunks.section_at at) is no_waiting in
         let longer = end_stays at (drop at text) more (section_cut (drop at text)) (trailing.refused n) refl it refl in
         let there : IsEnd at (drop at (text ++ more)) (section_cut (drop at (text ++ more))) (trailing.refused n) =
         subst (λ (t : List ℕ). IsEnd at t (section_cut t) (trailing.refused n)) (sym split) longer in
-        let later : IsCodedStep ended asked (text ++ more) (chunks.section_at at) (stop (refusal number)) = (trailing.refused n, there, e) in
-        subst (λ (s : chunks.Sought). IsCodedStep ended asked (text ++ more) s (stop (refusal number))) (sym stays) later
-coded_refused ended asked place text more number chunks.waiting is x = absurd (no_rest number x)
-coded_refused ended asked place text more number chunks.malformed is x =
-    subst (λ (s : chunks.Sought). IsCodedStep ended asked (text ++ more) s (stop (refusal number)))
+        let later : IsCodedStep ended asked connection (text ++ more) (chunks.section_at at) (stop (refusal number)) = (trailing.refused n, there, e) in
+        subst (λ (s : chunks.Sought). IsCodedStep ended asked connection (text ++ more) s (stop (refusal number))) (sym stays) later
+coded_refused ended asked connection place text more number chunks.waiting is x = absurd (no_rest number x)
+coded_refused ended asked connection place text more number chunks.malformed is x =
+    subst (λ (s : chunks.Sought). IsCodedStep ended asked connection (text ++ more) s (stop (refusal number)))
     (sym (sought_stays place text more chunks.malformed is no_waiting)) x
   where
     no_waiting : chunks.malformed ≡ chunks.waiting → ⊥
@@ -456,8 +456,8 @@ pub refused_at : (asked : Option (List ℕ)) (due : Due) (text more : List ℕ) 
     → StepsTo false asked due text (stop (refusal number)) → StepsTo ended asked due (text ++ more) (stop (refusal number))
 refused_at asked head text more ended number x = head_refused ended asked text more number x
 refused_at asked (body (counted n)) text more ended number x = absurd (counted_refused asked n text number x)
-refused_at asked (body (coded place)) text more ended number x =
-    coded_refused ended asked place text more number (chunks.sought place text) refl x
+refused_at asked (body (coded connection place)) text more ended number x =
+    coded_refused ended asked connection place text more number (chunks.sought place text) refl x
 refused_at asked (body unbounded) text more ended number x = absurd (unbounded_refused asked text number x)
 refused_at asked done text more ended number x = absurd (no_over (same_stop (refusal number) over x))
   where

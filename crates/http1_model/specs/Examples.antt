@@ -26,6 +26,7 @@ worked_head = record {
   length = nothing;
   told = None;
   close = false;
+  connection = [];
 }
 
 -- what goes up for it
@@ -58,6 +59,7 @@ closing_head = record {
   length = nothing;
   told = None;
   close = true;
+  connection = codes "close" ∷ [];
 }
 
 -- its wire: the field that passes stands between `host` and `via`, which tells the version received (the program sends no
@@ -84,6 +86,7 @@ worked_response = record {
   length = exactly 3;
   told = Some 3;
   close = false;
+  connection = [];
 }
 
 -- the same in answer to a HEAD request
@@ -103,6 +106,7 @@ worked_interim = record {
   length = nothing;
   told = None;
   close = false;
+  connection = [];
 }
 
 -- a response behind an interim head with its body, byte by byte; one that breaks off; and what a text spells that ends before a
@@ -190,7 +194,7 @@ pub record ResponseLengthExamples : Type 0 where
 pub record BareExamples : Type 0 where
   pub to_head : response_judged true 1 200 ((codes "Content-Length", codes "3") ∷ []) ≡ Ok worked_bare_response
   pub no_content : response_judged false 1 204 ((codes "Transfer-Encoding", codes "chunked") ∷ [])
-      ≡ Ok (record { fields = response_headers 204; tail = no_headers; form = None; minor = 1; length = nothing; told = None; close = false })
+      ≡ Ok (record { fields = response_headers 204; tail = no_headers; form = None; minor = 1; length = nothing; told = None; close = false; connection = [] })
   pub not_modified : response_judged false 1 304 ((codes "Content-Length", codes "x") ∷ []) ≡ Err 502
   pub switching : response_judged false 1 101 [] ≡ Err 502
   pub low : response_judged false 1 99 [] ≡ Err 502
@@ -199,11 +203,11 @@ pub record BareExamples : Type 0 where
 -- what the fields of a response tell of its head, though they do not pass
 pub record ResponseExamples : Type 0 where
   pub chunks : response_judged false 1 200 ((codes "Transfer-Encoding", codes "chunked") ∷ [])
-      ≡ Ok (record { fields = response_headers 200; tail = no_headers; form = None; minor = 1; length = chunked; told = None; close = false })
+      ≡ Ok (record { fields = response_headers 200; tail = no_headers; form = None; minor = 1; length = chunked; told = None; close = false; connection = [] })
   pub closing : response_judged false 0 200 ((codes "Connection", codes "x, Close") ∷ [])
-      ≡ Ok (record { fields = response_headers 200; tail = no_headers; form = None; minor = 0; length = until_end; told = None; close = true })
+      ≡ Ok (record { fields = response_headers 200; tail = no_headers; form = None; minor = 0; length = until_end; told = None; close = true; connection = codes "x, Close" ∷ [] })
   pub closing_interim : response_judged false 1 103 ((codes "Connection", codes "close") ∷ [])
-      ≡ Ok (record { fields = response_headers 103; tail = no_headers; form = None; minor = 1; length = nothing; told = None; close = true })
+      ≡ Ok (record { fields = response_headers 103; tail = no_headers; form = None; minor = 1; length = nothing; told = None; close = true; connection = codes "close" ∷ [] })
   pub both : response_judged false 1 200 ((codes "Transfer-Encoding", codes "chunked") ∷ (codes "Content-Length", codes "3") ∷ []) ≡ Err 502
   pub interim_length : response_judged false 1 103 ((codes "Content-Length", codes "x") ∷ []) ≡ Err 502
 

@@ -65,6 +65,10 @@ passing_fields fields = passing_among (is_dropped fields) fields
 abbrev pub passing_response_fields : List Pair → List Pair
 passing_response_fields fields = passing_among (is_dropped_from_response fields) fields
 
+-- those of some fields, with names in lower case, that none of these Connection values lists (RFC 9110, section 7.6.1)
+abbrev pub unlisted : List (List ℕ) → List Pair → List Pair
+unlisted connection fields = filter (λ (f : Pair). not (list_any (lists f.0) connection)) fields
+
 -- the name in lower case
 abbrev pub lowered : Pair → Pair
 lowered field = (lowercase field.0, field.1)

@@ -14,7 +14,8 @@ use Rattle.http1_model.specs.Target.{TargetForm, origin, absolute, asterisk, Tar
 -- a head as a gateway takes it in: `fields` are its pseudo-headers and the fields that pass, with names in lower case; `tail`
 -- are those that stand behind the framing field on the way out, of which there are none as yet; `form` is the form of a
 -- request's target, kept only because the program answers no other than the origin form as yet; `told` is the number of
--- Content-Length; `close` says that Connection lists `close`
+-- Content-Length; `close` says that Connection lists `close`; `connection` are the values of its Connection fields as they were
+-- received, in order, which name fields that do not pass, be it in the head or among the trailers
 pub record Head : Type 0 where
   pub fields : Headers
   pub tail : Headers
@@ -23,6 +24,7 @@ pub record Head : Type 0 where
   pub length : BodyLength
   pub told : Option ℕ
   pub close : Bool
+  pub connection : List (List ℕ)
 
 -- the Host lines of a message of HTTP/1.minor are right: one, or in 1.0 none, and of visible bytes (RFC 9112, section 3.2)
 abbrev pub is_host_right : ℕ → List (List ℕ) → Bool
@@ -45,6 +47,7 @@ head_of headers form minor fields measure = record {
   length = measure.length;
   told = measure.told;
   close = is_listed (codes "close") fields;
+  connection = values_of (codes "connection") fields;
 }
 
 -- the rule of length comes last

@@ -3,7 +3,7 @@ use Rattle.std.specs.Prelude.{◌≡◌, ℕ, zero, suc, ◌+◌, ◌-◌, Bool,
 use Rattle.header_maps.specs.declared.kind.ListKind.{ListKind}
 use Rattle.header_maps.specs.declared.kind.ListKind.TheVariants as kinds
 use Rattle.header_maps.specs.Operations.{without}
-use Rattle.http1_model.specs.Fields.{Pair}
+use Rattle.http1_model.specs.Fields.{Pair, unlisted}
 use Rattle.http1_model.specs.Length.{BodyLength, nothing, exactly, chunked, until_end}
 use Rattle.http1_model.specs.Lines.{skipped, after_empty_lines}
 use Rattle.http1_model.specs.Head.{Head, HeadStep, found, not_yet, refused, SpellsStep, SpellsResponse}
@@ -27,10 +27,11 @@ pub record Placed : Type 0 where
   pub from : ℕ
   pub to : ℕ
 
--- where a body goes on: so many bytes are to come; a place in the chunked coding; or all that comes until the line ends
+-- where a body goes on: so many bytes are to come; a place in the chunked coding, with the values of the head's Connection fields,
+-- which name trailers that are dropped; or all that comes until the line ends
 pub data Body : Type 0 where
   counted : ℕ → Body
-  coded : chunks.Place → Body
+  coded : (connection : List (List ℕ)) → (place : chunks.Place) → Body
   unbounded : Body
 
 -- what is due at a place: a head; what is left of a body; or nothing, since a response is whole
@@ -51,12 +52,12 @@ pub data Step : Type 0 where
   item : Item → ℕ → Due → Step
   stop : Stop → Step
 
--- what is due behind a head with a body of this length, where `bare` is due behind one without
-abbrev pub due_behind : Due → BodyLength → Due
-due_behind bare nothing = bare
-due_behind bare (exactly n) = body (counted n)
-due_behind bare chunked = body (coded chunks.start)
-due_behind bare until_end = body unbounded
+-- what is due behind a head with these Connection values and a body of this length, where `bare` is due behind one without
+abbrev pub due_behind : Due → List (List ℕ) → BodyLength → Due
+due_behind bare connection nothing = bare
+due_behind bare connection (exactly n) = body (counted n)
+due_behind bare connection chunked = body (coded connection chunks.start)
+due_behind bare connection until_end = body unbounded
 
 -- what is due behind a whole message: behind a request the next one, and nothing behind a response
 abbrev pub due_next : Option (List ℕ) → Due
@@ -64,8 +65,8 @@ due_next None = head
 due_next (Some asked) = done
 
 -- behind the head of a request
-abbrev pub due_after : BodyLength → Due
-due_after len = due_behind head len
+abbrev pub due_after : Head → Due
+due_after h = due_behind head h.connection h.length
 
 -- a list of the kind that an interim head has
 abbrev pub is_interim : ListKind → Bool
@@ -77,11 +78,11 @@ is_interim kinds.Plain = false
 -- a response head; behind an interim one the response is still due (RFC 9110, section 15.2)
 abbrev pub response_item : Head → ℕ → Step
 response_item h used =
-    if is_interim h.fields.kind then item (interim h) used head else item (response h) used (due_behind done h.length)
+    if is_interim h.fields.kind then item (interim h) used head else item (response h) used (due_behind done h.connection h.length)
 
 -- the item that a head is, in a text of requests and in one that answers a request
 abbrev pub item_of : Option (List ℕ) → Head → ℕ → Step
-item_of None h used = item (request h) used (due_after h.length)
+item_of None h used = item (request h) used (due_after h)
 item_of (Some asked) h used = response_item h used
 
 -- an unfinished head in a text of requests that has ended: only empty lines are nothing unread, anything else is malformed
@@ -134,10 +135,11 @@ unbounded_step false asked [] = stop rest
 unbounded_step true asked [] = item end 0 (due_next asked)
 unbounded_step ended asked (b ∷ text) = item (octet b) 1 (body unbounded)
 
--- The trailers that a message keeps, of those that its section keeps: a request's have no `host`, which is the gateway's to write.
-abbrev pub trailers_left : Option (List ℕ) → List Pair → List Pair
-trailers_left None fields = without (codes "host") fields
-trailers_left (Some asked) fields = fields
+-- The trailers that a message keeps, of those that its section keeps: none that its head's Connection lists (RFC 9110,
+-- section 7.6.1); and a request's have no `host`, which is the gateway's to write.
+abbrev pub trailers_left : Option (List ℕ) → List (List ℕ) → List Pair → List Pair
+trailers_left None connection fields = without (codes "host") (unlisted connection fields)
+trailers_left (Some asked) connection fields = unlisted connection fields
 
 -- the end of a chunked body, of which these trailers are left
 abbrev pub end_step : Option (List ℕ) → ℕ → List Pair → Step
@@ -145,25 +147,26 @@ end_step asked used [] = item end used (due_next asked)
 end_step asked used (f ∷ fields) = item (trailers (f ∷ fields)) used (due_next asked)
 
 -- behind the last chunk's line (where no data is carried)
-abbrev pub section_step : Bool → Option (List ℕ) → trailing.ChunkStep → Step
-section_step ended asked (trailing.carried run) = stop rest
-section_step ended asked (trailing.ended fields used) = end_step asked used (trailers_left asked fields)
-section_step ended asked trailing.not_yet = stop (stop_short ended asked)
-section_step ended asked (trailing.refused number) = stop (malformed asked)
+abbrev pub section_step : Bool → Option (List ℕ) → List (List ℕ) → trailing.ChunkStep → Step
+section_step ended asked connection (trailing.carried run) = stop rest
+section_step ended asked connection (trailing.ended fields used) = end_step asked used (trailers_left asked connection fields)
+section_step ended asked connection trailing.not_yet = stop (stop_short ended asked)
+section_step ended asked connection (trailing.refused number) = stop (malformed asked)
 
 -- the chunked coding, where this comes next in it (RFC 9112, section 7.1)
-abbrev pub IsCodedStep : Bool → Option (List ℕ) → List ℕ → chunks.Sought → Step → Type 0
-IsCodedStep ended asked text (chunks.data_at at left) step =
-    step ≡ item (octet (slice_index text at)) (at + 1) (body (coded (chunks.inside (left - 1))))
-IsCodedStep ended asked text (chunks.section_at at) step =
-    (c : trailing.ChunkStep) × trailing.IsEnd at (drop at text) (trailing.section_cut (drop at text)) c × (step ≡ section_step ended asked c)
-IsCodedStep ended asked text chunks.waiting step = step ≡ stop (stop_short ended asked)
-IsCodedStep ended asked text chunks.malformed step = step ≡ stop (malformed asked)
+abbrev pub IsCodedStep : Bool → Option (List ℕ) → List (List ℕ) → List ℕ → chunks.Sought → Step → Type 0
+IsCodedStep ended asked connection text (chunks.data_at at left) step =
+    step ≡ item (octet (slice_index text at)) (at + 1) (body (coded connection (chunks.inside (left - 1))))
+IsCodedStep ended asked connection text (chunks.section_at at) step =
+    (c : trailing.ChunkStep) × trailing.IsEnd at (drop at text) (trailing.section_cut (drop at text)) c
+    × (step ≡ section_step ended asked connection c)
+IsCodedStep ended asked connection text chunks.waiting step = step ≡ stop (stop_short ended asked)
+IsCodedStep ended asked connection text chunks.malformed step = step ≡ stop (malformed asked)
 
 -- what stands at a place in a body
 abbrev pub BodyStepsTo : Bool → Option (List ℕ) → Body → List ℕ → Step → Type 0
 BodyStepsTo ended asked (counted n) text step = step ≡ counted_step ended asked n text
-BodyStepsTo ended asked (coded place) text step = IsCodedStep ended asked text (chunks.sought place text) step
+BodyStepsTo ended asked (coded connection place) text step = IsCodedStep ended asked connection text (chunks.sought place text) step
 BodyStepsTo ended asked unbounded text step = step ≡ unbounded_step ended asked text
 
 -- how many bytes of the coding stand in front of what comes next in it
@@ -175,7 +178,7 @@ coding_before chunks.malformed = 0
 
 abbrev pub body_lead : Body → List ℕ → ℕ
 body_lead (counted n) text = 0
-body_lead (coded place) text = coding_before (chunks.sought place text)
+body_lead (coded connection place) text = coding_before (chunks.sought place text)
 body_lead unbounded text = 0
 
 -- ---- the whole

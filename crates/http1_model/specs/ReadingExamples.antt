@@ -27,24 +27,24 @@ pub record UnboundedExamples : Type 0 where
 -- one in chunks: the end flag is on the last piece unless trailers follow; `host` is no trailer of a request, but may be one of a
 -- response
 pub record CodedExamples : Type 0 where
-  pub first : IsNext false None (body (coded size_line)) chunked_text (part (piece (codes "abcde") false) 8 (body (coded (inside 0))))
-  pub trailers : IsNext false None (body (coded (inside 0))) (crlf_bytes ++ codes "0" ++ crlf_bytes ++ codes "X-Sum: 1" ++ crlf_bytes ++ crlf_bytes)
+  pub first : IsNext false None (body (coded [] size_line)) chunked_text (part (piece (codes "abcde") false) 8 (body (coded [] (inside 0))))
+  pub trailers : IsNext false None (body (coded [] (inside 0))) (crlf_bytes ++ codes "0" ++ crlf_bytes ++ codes "X-Sum: 1" ++ crlf_bytes ++ crlf_bytes)
       (part (trailer_part ((codes "x-sum", codes "1") ∷ [])) 17 head)
-  pub whole : IsNext false None (body (coded size_line)) (codes "5" ++ crlf_bytes ++ codes "abcde" ++ crlf_bytes ++ last_chunk ++ crlf_bytes)
+  pub whole : IsNext false None (body (coded [] size_line)) (codes "5" ++ crlf_bytes ++ codes "abcde" ++ crlf_bytes ++ last_chunk ++ crlf_bytes)
       (part (piece (codes "abcde") true) 15 head)
-  pub in_part : IsNext false None (body (coded size_line)) (codes "5" ++ crlf_bytes ++ codes "ab") (part (piece (codes "ab") false) 5 (body (coded (inside 3))))
-  pub end_alone : IsNext false None (body (coded (inside 0))) (crlf_bytes ++ last_chunk ++ crlf_bytes) (part (piece [] true) 7 head)
-  pub waits : IsNext false None (body (coded (inside 0))) (crlf_bytes ++ last_chunk) (none rest)
-  pub broken_off : IsNext true None (body (coded (inside 0))) (crlf_bytes ++ last_chunk) (none (refusal 400))
-  pub malformed : IsNext false (Some (codes "GET")) (body (coded (inside 0))) (codes "X") (none (refusal 502))
-  pub host_dropped : IsNext false None (body (coded size_line)) (last_chunk ++ codes "Host: a" ++ crlf_bytes ++ crlf_bytes) (part (piece [] true) 14 head)
-  pub host_kept : IsNext false (Some (codes "GET")) (body (coded size_line)) (last_chunk ++ codes "Host: a" ++ crlf_bytes ++ crlf_bytes)
+  pub in_part : IsNext false None (body (coded [] size_line)) (codes "5" ++ crlf_bytes ++ codes "ab") (part (piece (codes "ab") false) 5 (body (coded [] (inside 3))))
+  pub end_alone : IsNext false None (body (coded [] (inside 0))) (crlf_bytes ++ last_chunk ++ crlf_bytes) (part (piece [] true) 7 head)
+  pub waits : IsNext false None (body (coded [] (inside 0))) (crlf_bytes ++ last_chunk) (none rest)
+  pub broken_off : IsNext true None (body (coded [] (inside 0))) (crlf_bytes ++ last_chunk) (none (refusal 400))
+  pub malformed : IsNext false (Some (codes "GET")) (body (coded [] (inside 0))) (codes "X") (none (refusal 502))
+  pub host_dropped : IsNext false None (body (coded [] size_line)) (last_chunk ++ codes "Host: a" ++ crlf_bytes ++ crlf_bytes) (part (piece [] true) 14 head)
+  pub host_kept : IsNext false (Some (codes "GET")) (body (coded [] size_line)) (last_chunk ++ codes "Host: a" ++ crlf_bytes ++ crlf_bytes)
       (part (trailer_part ((codes "host", codes "a") ∷ [])) 14 done)
 
 -- the places of bytes, and how a run is cut
 pub record PlacedExamples : Type 0 where
-  pub byte : StepsTo false None (body (coded size_line)) chunked_text (item (octet 97) 4 (body (coded (inside 4))))
-  pub in_front : lead_of (body (coded size_line)) chunked_text ≡ 3
+  pub byte : StepsTo false None (body (coded [] size_line)) chunked_text (item (octet 97) 4 (body (coded [] (inside 4))))
+  pub in_front : lead_of (body (coded [] size_line)) chunked_text ≡ 3
   pub ended_piece : cut_behind [] (octet 1 ∷ octet 2 ∷ end ∷ []) ≡ piece (1 ∷ 2 ∷ []) true ∷ []
   pub before_trailers : cut_behind [] (octet 1 ∷ trailers ((codes "a", codes "b") ∷ []) ∷ octet 2 ∷ [])
       ≡ piece (1 ∷ []) false ∷ trailer_part ((codes "a", codes "b") ∷ []) ∷ piece (2 ∷ []) false ∷ []
