@@ -18,5 +18,6 @@ pub mod TargetLemmas
 pub mod Framed
 pub mod Listing
 pub mod Taken
+pub mod TrailerLaws
 pub mod Numbers
 pub mod ResponseReceived

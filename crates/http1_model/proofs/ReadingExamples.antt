@@ -9,7 +9,7 @@ use Rattle.http1_model.specs.ChunkWire.{last_chunk}
 use Rattle.http1_model.specs.ChunkExamples.{chunked_text}
 use Rattle.http1_model.specs.Trailers.{ended, not_yet}
 use Rattle.http1_model.specs.Messages.{end, trailers, counted, coded, unbounded, head, body, done, rest, over, refusal, item, stop}
-use Rattle.http1_model.specs.ReadingExamples.{CountedExamples, UnboundedExamples, CodedExamples, PlacedExamples}
+use Rattle.http1_model.specs.ReadingExamples.{CountedExamples, UnboundedExamples, CodedExamples, ListedExamples, LeftExamples, PlacedExamples}
 use Rattle.http1_model.proofs.Carried.{run_carries, take_carries, take_carries_unbounded}
 use Rattle.http1_model.proofs.ChunkExamples.{sum_field, sum_is_field}
 use Rattle.http1_model.proofs.Examples.{host_field, host_is_field}
@@ -210,6 +210,139 @@ coded_examples = record {
     );
     is = refl;
   });
+}
+
+pub listed_examples : ListedExamples
+unfolding httparse_on_literals run_of
+listed_examples = record {
+  listed = inr (record {
+    bytes = codes "abcde";
+    used = 8;
+    mid = body (coded (codes "x-sum" ∷ []) (inside 0));
+    behind = item end 17 head;
+    carried = run_carries false None (codes "x-sum" ∷ []) 5 size_line chunked_text;
+    some = lit< tt;
+    few = lit≤ tt;
+    there = (
+      ended ((codes "x-sum", codes "1") ∷ []) 17,
+      record {
+        trailers = Some ((codes "x-sum", codes "1") ∷ []);
+        section = record {
+          fields = sum_field ∷ [];
+          last = crlf;
+          reads = (All-cons IsField sum_field [] sum_is_field (All-nil IsField), refl);
+          are = refl;
+        };
+        is = refl;
+      },
+      refl,
+    );
+    all = inl tt;
+    is = refl;
+  });
+  in_capitals = inr (record {
+    bytes = codes "abcde";
+    used = 8;
+    mid = body (coded (codes "X-SUM" ∷ []) (inside 0));
+    behind = item end 17 done;
+    carried = run_carries false (Some (codes "GET")) (codes "X-SUM" ∷ []) 5 size_line chunked_text;
+    some = lit< tt;
+    few = lit≤ tt;
+    there = (
+      ended ((codes "x-sum", codes "1") ∷ []) 17,
+      record {
+        trailers = Some ((codes "x-sum", codes "1") ∷ []);
+        section = record {
+          fields = sum_field ∷ [];
+          last = crlf;
+          reads = (All-cons IsField sum_field [] sum_is_field (All-nil IsField), refl);
+          are = refl;
+        };
+        is = refl;
+      },
+      refl,
+    );
+    all = inl tt;
+    is = refl;
+  });
+  of_two = inr (record {
+    bytes = codes "abcde";
+    used = 8;
+    mid = body (coded (codes "close, X-Sum" ∷ []) (inside 0));
+    behind = item end 17 head;
+    carried = run_carries false None (codes "close, X-Sum" ∷ []) 5 size_line chunked_text;
+    some = lit< tt;
+    few = lit≤ tt;
+    there = (
+      ended ((codes "x-sum", codes "1") ∷ []) 17,
+      record {
+        trailers = Some ((codes "x-sum", codes "1") ∷ []);
+        section = record {
+          fields = sum_field ∷ [];
+          last = crlf;
+          reads = (All-cons IsField sum_field [] sum_is_field (All-nil IsField), refl);
+          are = refl;
+        };
+        is = refl;
+      },
+      refl,
+    );
+    all = inl tt;
+    is = refl;
+  });
+  empty_member = inr (record {
+    bytes = codes "abcde";
+    used = 8;
+    mid = body (coded (codes ",x-sum" ∷ []) (inside 0));
+    behind = item end 17 head;
+    carried = run_carries false None (codes ",x-sum" ∷ []) 5 size_line chunked_text;
+    some = lit< tt;
+    few = lit≤ tt;
+    there = (
+      ended ((codes "x-sum", codes "1") ∷ []) 17,
+      record {
+        trailers = Some ((codes "x-sum", codes "1") ∷ []);
+        section = record {
+          fields = sum_field ∷ [];
+          last = crlf;
+          reads = (All-cons IsField sum_field [] sum_is_field (All-nil IsField), refl);
+          are = refl;
+        };
+        is = refl;
+      },
+      refl,
+    );
+    all = inl tt;
+    is = refl;
+  });
+  other = inl (record {
+    step = item (trailers ((codes "x-sum", codes "1") ∷ [])) 17 head;
+    there = (
+      ended ((codes "x-sum", codes "1") ∷ []) 17,
+      record {
+        trailers = Some ((codes "x-sum", codes "1") ∷ []);
+        section = record {
+          fields = sum_field ∷ [];
+          last = crlf;
+          reads = (All-cons IsField sum_field [] sum_is_field (All-nil IsField), refl);
+          are = refl;
+        };
+        is = refl;
+      },
+      refl,
+    );
+    is = refl;
+  });
+}
+
+pub left_examples : LeftExamples
+unfolding httparse_on_literals
+left_examples = record {
+  of_request = refl;
+  of_response = refl;
+  host_listed = refl;
+  none_listed = refl;
+  behind_head = refl;
 }
 
 pub placed_examples : PlacedExamples

@@ -121,10 +121,12 @@ told_as_received method target minor fields head = by_early (early_refusal metho
         → GivesTarget method target t → Ok head ≡ measured hs (Some t.form) minor fields r
         → (has_length_field head ≡ (has_line (codes "transfer-encoding") fields || has_line (codes "content-length") fields))
         × (is_origin head.form ≡ begins target)
+        × (head.connection ≡ values_of (codes "connection") fields)
     by_measure t hs (Ok m) is gives e =
         let same : head ≡ head_of hs (Some t.form) minor fields m = same_head (head_of hs (Some t.form) minor fields m) head (sym e) in (
           ap has_length_field same ∙ measure_tells minor (values_of (codes "transfer-encoding") fields) (values_of (codes "content-length") fields) m is,
           ap (λ (h : Head). is_origin h.form) same ∙ form_tells method target gives.scheme gives.authority gives.kept t gives.reads gives.gives,
+          ap (λ (h : Head). h.connection) same,
         )
     by_measure t hs (Err n) is gives e = absurd (no_head n head e)
 
@@ -132,6 +134,7 @@ told_as_received method target minor fields head = by_early (early_refusal metho
         → Ok head ≡ listed 400 o (Some t.form) minor fields (request_measure minor (values_of (codes "transfer-encoding") fields) (values_of (codes "content-length") fields))
         → (has_length_field head ≡ (has_line (codes "transfer-encoding") fields || has_line (codes "content-length") fields))
         × (is_origin head.form ≡ begins target)
+        × (head.connection ≡ values_of (codes "connection") fields)
     by_list t None gives e = absurd (no_head 400 head e)
     by_list t (Some hs) gives e =
         by_measure t hs (request_measure minor (values_of (codes "transfer-encoding") fields) (values_of (codes "content-length") fields)) refl gives e
@@ -139,12 +142,14 @@ told_as_received method target minor fields head = by_early (early_refusal metho
     by_parts : (p : Option Target) → IsTargetOf method target p → Ok head ≡ targeted method minor fields p
         → (has_length_field head ≡ (has_line (codes "transfer-encoding") fields || has_line (codes "content-length") fields))
         × (is_origin head.form ≡ begins target)
+        × (head.connection ≡ values_of (codes "connection") fields)
     by_parts None gives e = absurd (no_head 400 head e)
     by_parts (Some t) gives e = by_list t (request_list method t (host_of (values_of (codes "host") fields)) fields) gives e
 
     by_early : (o : Option ℕ) → MatchOption o (IsTargeted method target minor fields (Ok head)) (λ n. Ok head ≡ Err n)
         → (has_length_field head ≡ (has_line (codes "transfer-encoding") fields || has_line (codes "content-length") fields))
         × (is_origin head.form ≡ begins target)
+        × (head.connection ≡ values_of (codes "connection") fields)
     by_early None x = by_parts x.parts x.gives x.is
     by_early (Some n) x = absurd (no_head n head x)
 

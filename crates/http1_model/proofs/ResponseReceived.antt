@@ -102,6 +102,7 @@ response_as_received to_head minor status fields head = by_list (response_list s
           coded = bare_coded bare m ∙ ap (λ b. not bare && b) tells.coded;
           version = refl;
           close = refl;
+          connection = refl;
         })
 
     by_list : (o : Option Headers) → listed 502 o None minor fields (bodied bare (response_measure minor codings lengths)) ≡ Ok head

@@ -34,16 +34,16 @@ token_taken : (bytes : List ℕ) → IsToken bytes → judged.is_token_text byte
 unfolding is_token_byte header.is_token_byte
 token_taken bytes is = and_from _ _ (lt-ltb 0 (length bytes) is.0) (list_all-from_AllPass is_token_byte bytes is.1)
 
-name_taken : (bytes : List ℕ) → IsToken bytes → length bytes ≤ 65535 → judged.is_field_name bytes ≡ true
+pub name_taken : (bytes : List ℕ) → IsToken bytes → length bytes ≤ 65535 → judged.is_field_name bytes ≡ true
 name_taken bytes is short = and_from _ _ (token_taken bytes is) (le-leb (length bytes) 65535 short)
 
-value_taken : (f : Field) → IsField f → judged.is_field_value (field_value f) ≡ true
+pub value_taken : (f : Field) → IsField f → judged.is_field_value (field_value f) ≡ true
 value_taken f is = list_all-from_AllPass is_value_byte (field_value f) (AllPass-trim_ows is_value_byte f.raw is.raw)
 
 -- ---- fields
 
 -- how long the names may be, and how many there may be
-section_more : (f : Field) (fs : List Field) (last : LineEnd) → length (print_section (f ∷ fs) last) ≡ length (print_field f) + length (print_section fs last)
+pub section_more : (f : Field) (fs : List Field) (last : LineEnd) → length (print_section (f ∷ fs) last) ≡ length (print_field f) + length (print_section fs last)
 section_more f fs last =
     omega (
       arith,
@@ -52,7 +52,7 @@ section_more f fs last =
       length-append (flat_map print_field fs) (print_end last),
     )
 
-name_within : (f : Field) → length f.name < length (print_field f)
+pub name_within : (f : Field) → length f.name < length (print_field f)
 name_within f = omega (arith, length-append (f.name ++ 58 ∷ f.raw) (print_end f.end), length-append f.name (58 ∷ f.raw))
 
 fields_taken : (dropped : List ℕ → Bool) (fs : List Field) (last : LineEnd) (headers : Headers) → All IsField fs

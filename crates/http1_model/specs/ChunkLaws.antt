@@ -1,7 +1,10 @@
 -- What holds of every text of a chunked body: it spells one thing from a place on, and what it spells stays spelled when more
 -- bytes come.
+use Rattle.std.specs.List.{list_all}
 use Rattle.std.specs.Prelude.{◌≡◌, ◌+◌, ◌-◌, ℕ, Bool, true, false, List, ◌++◌, length, drop}
+use Rattle.header_maps.specs.Kept.{is_kept_field}
 use Rattle.http1_model.specs.Chunks.{SizeStep, size_open, size_step, Place, Sought, waiting, sought, Run, run_of}
+use Rattle.http1_model.specs.Fields.{Pair}
 use Rattle.http1_model.specs.Trailers.{ChunkStep, carried, ended, not_yet, refused, SpellsChunks}
 
 -- from a place on, a text spells one thing
@@ -28,6 +31,12 @@ abbrev pub LastStepStays : Type 0
 LastStepStays =
     (place : Place) (text more : List ℕ) (step : ChunkStep) → SpellsChunks place text step → is_last step ≡ true
     → SpellsChunks place (text ++ more) step
+
+-- the trailers of a body's end are fields as a header list keeps them, with names in lower case
+abbrev pub TrailersAreFields : Type 0
+TrailersAreFields =
+    (place : Place) (text : List ℕ) (trailers : List Pair) (used : ℕ) → SpellsChunks place text (ended trailers used)
+    → list_all is_kept_field trailers ≡ true
 
 -- a run, and the run behind it
 abbrev pub joined : Run → Run → Run

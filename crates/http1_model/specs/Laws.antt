@@ -1,5 +1,5 @@
 -- What holds of every text: it spells one thing, and what it spells stays spelled when more bytes come.
-use Rattle.std.specs.List.{list_all, flat_map}
+use Rattle.std.specs.List.{list_all, list_any, flat_map}
 use Rattle.std.specs.Prelude.{◌≡◌, [], ◌∷◌, true, Some, unwrap_or, ◌==◌, ◌≤◌, ◌||◌, ℕ, Bool, ◌&&◌, not, false, List, ◌++◌, length, slice_index, All, Option, None, IsSome, is_some, Ok, codes, nat_lt}
 use Rattle.http_header.specs.FieldValue.{IsFieldValue}
 use Rattle.http_uri.specs.ByteClasses.{slash}
@@ -7,13 +7,13 @@ use Rattle.httparse.specs.Grammar.{Field, field_value, RequestHead, ReadsRequest
 use Rattle.header_maps.specs.declared.kind.ListKind.TheVariants.{Request}
 use Rattle.header_maps.specs.Judged.{status_text}
 use Rattle.header_maps.specs.Operations.{request_headers, status_kind}
-use Rattle.http1_model.specs.Fields.{Pair, values_of, is_listed, members, kept_fields, kept_response_fields}
+use Rattle.http1_model.specs.Fields.{Pair, values_of, lists, is_listed, members, kept_fields, kept_response_fields}
 use Rattle.http1_model.specs.Length.{nothing, exactly, chunked, until_end, Measure, number_of, is_number, is_chunked, request_measure, response_measure, is_without_body}
 use Rattle.http1_model.specs.Listed.{scheme_text, request_list, response_list}
 use Rattle.http1_model.specs.Target.{Target, GivesTarget}
 use Rattle.http1_model.specs.Head.{Head, pairs_at, pairs_of, early_refusal, host_of, response_judged, IsJudged, is_coded, has_length_field, is_origin, HeadStep, not_yet, refused, SpellsStep, SpellsResponse}
 use Rattle.http1_model.specs.Lines.{head_limit, line_limit, whole, head_cut}
-use Rattle.http1_model.specs.Messages.{Placed, Stop, refusal, SpellsHead, Messages}
+use Rattle.http1_model.specs.Messages.{Placed, Stop, refusal, SpellsHead, trailers_left, Messages}
 
 -- where a head is due, a text spells one thing
 abbrev pub OneStep : Type 0
@@ -49,26 +49,35 @@ RefusalStays =
 abbrev pub has_line : List ℕ → List Pair → Bool
 has_line name fields = nat_lt 0 (length (values_of name fields))
 
--- a request head that is taken in tells whether it was received with a length field, and whether its target begins with `/`
+-- a request head that is taken in tells whether it was received with a length field, and whether its target begins with `/`; and
+-- it keeps the values of its Connection fields
 abbrev pub ToldAsReceived : Type 0
 ToldAsReceived =
     (method target : List ℕ) (minor : ℕ) (fields : List Pair) (head : Head) → IsJudged method target minor fields (Ok head)
     → (has_length_field head ≡ (has_line (codes "transfer-encoding") fields || has_line (codes "content-length") fields))
     × (is_origin head.form ≡ (slice_index target 0 == slash))
+    × (head.connection ≡ values_of (codes "connection") fields)
 
 -- A response head that is taken in tells a number exactly where it was received with Content-Length. It is under the chunked
--- coding exactly where it was received with Transfer-Encoding and may have a body. Its version is the one received, and `close`
--- is what Connection lists, though that field does not pass.
+-- coding exactly where it was received with Transfer-Encoding and may have a body. Its version is the one received, `close`
+-- is what Connection lists, though that field does not pass, and `connection` are that field's values.
 pub record IsResponseAsReceived (to_head : Bool) (minor status : ℕ) (fields : List Pair) (head : Head) : Type 0 where
   pub told : is_some head.told ≡ has_line (codes "content-length") fields
   pub coded : is_coded head.length ≡ (not (is_without_body to_head status) && has_line (codes "transfer-encoding") fields)
   pub version : head.minor ≡ minor
   pub close : head.close ≡ is_listed (codes "close") fields
+  pub connection : head.connection ≡ values_of (codes "connection") fields
 
 abbrev pub ResponseAsReceived : Type 0
 ResponseAsReceived =
     (to_head : Bool) (minor status : ℕ) (fields : List Pair) (head : Head) → response_judged to_head minor status fields ≡ Ok head
     → IsResponseAsReceived to_head minor status fields head
+
+-- no trailer that is left of a section has a name that one of the head's Connection values lists
+abbrev pub TrailersUnlisted : Type 0
+TrailersUnlisted =
+    (asked : Option (List ℕ)) (connection : List (List ℕ)) (fields : List Pair)
+    → list_all (λ (f : Pair). not (list_any (lists f.0) connection)) (trailers_left asked connection fields) ≡ true
 
 -- a request is refused with 400, 431 or 501 alone, a response with 502 alone
 abbrev pub is_request_refusal : ℕ → Bool

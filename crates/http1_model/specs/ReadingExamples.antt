@@ -1,10 +1,11 @@
 -- Worked examples of what is unread: pieces of bodies with their end flags, trailers, and texts that break off.
 use Rattle.std.specs.Prelude.{◌≡◌, true, false, [], ◌∷◌, ◌++◌, None, Some, codes}
 use Rattle.httparse.specs.Ascii.{crlf_bytes}
-use Rattle.http1_model.specs.Chunks.{size_line, inside}
+use Rattle.http1_model.specs.Length.{chunked}
+use Rattle.http1_model.specs.Chunks.{size_line, inside, start}
 use Rattle.http1_model.specs.ChunkWire.{last_chunk}
 use Rattle.http1_model.specs.ChunkExamples.{chunked_text}
-use Rattle.http1_model.specs.Messages.{octet, end, trailers, counted, coded, unbounded, head, body, done, rest, over, refusal, item, StepsTo, lead_of}
+use Rattle.http1_model.specs.Messages.{octet, end, trailers, counted, coded, unbounded, head, body, done, rest, over, refusal, item, due_behind, trailers_left, StepsTo, lead_of}
 use Rattle.http1_model.specs.Unread.{piece, trailer_part, part, none, IsNext, cut_behind}
 
 -- a body of so many bytes: whole, in part, at its end alone, and broken off
@@ -40,6 +41,29 @@ pub record CodedExamples : Type 0 where
   pub host_dropped : IsNext false None (body (coded [] size_line)) (last_chunk ++ codes "Host: a" ++ crlf_bytes ++ crlf_bytes) (part (piece [] true) 14 head)
   pub host_kept : IsNext false (Some (codes "GET")) (body (coded [] size_line)) (last_chunk ++ codes "Host: a" ++ crlf_bytes ++ crlf_bytes)
       (part (trailer_part ((codes "host", codes "a") ∷ [])) 14 done)
+
+-- What the head's Connection lists is no trailer: with `X-Sum: 1` alone behind the last chunk the last piece has the end flag. It may
+-- be listed in any case of letters, beside another name, and behind an empty member.
+pub record ListedExamples : Type 0 where
+  pub listed : IsNext false None (body (coded (codes "x-sum" ∷ []) size_line)) chunked_text (part (piece (codes "abcde") true) 25 head)
+  pub in_capitals : IsNext false (Some (codes "GET")) (body (coded (codes "X-SUM" ∷ []) size_line)) chunked_text
+      (part (piece (codes "abcde") true) 25 done)
+  pub of_two : IsNext false None (body (coded (codes "close, X-Sum" ∷ []) size_line)) chunked_text (part (piece (codes "abcde") true) 25 head)
+  pub empty_member : IsNext false None (body (coded (codes ",x-sum" ∷ []) size_line)) chunked_text (part (piece (codes "abcde") true) 25 head)
+  pub other : IsNext false None (body (coded (codes "x-sum-2" ∷ []) (inside 0)))
+      (crlf_bytes ++ codes "0" ++ crlf_bytes ++ codes "X-Sum: 1" ++ crlf_bytes ++ crlf_bytes)
+      (part (trailer_part ((codes "x-sum", codes "1") ∷ [])) 17 head)
+
+-- what is left of trailers, and where the values stand while a body is read
+pub record LeftExamples : Type 0 where
+  pub of_request : trailers_left None (codes "close" ∷ codes "X-B , x-a" ∷ [])
+      ((codes "x-a", codes "1") ∷ (codes "x-b", codes "2") ∷ (codes "x-c", codes "3") ∷ (codes "host", codes "a") ∷ (codes "x-a", []) ∷ [])
+      ≡ (codes "x-c", codes "3") ∷ []
+  pub of_response : trailers_left (Some (codes "GET")) (codes "x-a,, " ∷ []) ((codes "x-a", codes "1") ∷ (codes "host", codes "a") ∷ [])
+      ≡ (codes "host", codes "a") ∷ []
+  pub host_listed : trailers_left (Some (codes "GET")) (codes "Host" ∷ []) ((codes "host", codes "a") ∷ []) ≡ []
+  pub none_listed : trailers_left None [] ((codes "x-a", codes "1") ∷ []) ≡ (codes "x-a", codes "1") ∷ []
+  pub behind_head : due_behind done (codes "x-sum" ∷ []) chunked ≡ body (coded (codes "x-sum" ∷ []) start)
 
 -- the places of bytes, and how a run is cut
 pub record PlacedExamples : Type 0 where

@@ -2,11 +2,11 @@
 #![tactic(auto)]
 
 ghost use Rattle.http1_model.specs.ChunkExamples.{WorkedBody, SizeExamples, PlaceExamples, TrailerExamples, ChunkWireExamples};
-ghost use Rattle.http1_model.specs.ChunkLaws.{OneChunkStep, SizeStays, SoughtStays, RunsJoin, LastStepStays};
+ghost use Rattle.http1_model.specs.ChunkLaws.{OneChunkStep, SizeStays, SoughtStays, RunsJoin, LastStepStays, TrailersAreFields};
 ghost use Rattle.http1_model.specs.Examples.{WorkedHead, ClosingHead, WorkedResponse, ResponseExamples, OrderExamples, LineExamples, FieldExamples, WireExamples, LengthExamples, ResponseLengthExamples, BareExamples, ListExamples, TargetExamples, RefusalExamples};
-ghost use Rattle.http1_model.specs.ReadingExamples.{CountedExamples, UnboundedExamples, CodedExamples, PlacedExamples};
+ghost use Rattle.http1_model.specs.ReadingExamples.{CountedExamples, UnboundedExamples, CodedExamples, ListedExamples, LeftExamples, PlacedExamples};
 ghost use Rattle.http1_model.specs.ReadingLaws.{OnePart, PiecesAreWhole, CutsAlike, RefusedStays, UnreadIsCut};
-ghost use Rattle.http1_model.specs.Laws.{OneStep, StepStays, OneReading, ReadingGrows, RefusalStays, ToldAsReceived, ResponseAsReceived, RefusalNumbers, ValuesAccepted, WholeFits, RequestListed, ResponseListed, FramedOnce, RequestTaken, ResponseTaken};
+ghost use Rattle.http1_model.specs.Laws.{OneStep, StepStays, OneReading, ReadingGrows, RefusalStays, ToldAsReceived, ResponseAsReceived, RefusalNumbers, ValuesAccepted, WholeFits, RequestListed, ResponseListed, FramedOnce, RequestTaken, ResponseTaken, TrailersUnlisted};
 
 /// Where a head is due, a text spells one thing.
 pub fn one_step()
@@ -33,13 +33,14 @@ pub fn refusal_stays()
     ensures { RefusalStays }
 {}
 
-/// A request head that is taken in tells whether a length field was received, and whether its target begins with `/`.
+/// A request head that is taken in tells whether a length field was received, and whether its target begins with `/`, and keeps
+/// the values of its Connection fields.
 pub fn told_as_received()
     ensures { ToldAsReceived }
 {}
 
 /// A response head that is taken in tells a number exactly where Content-Length was received, is chunked exactly where
-/// Transfer-Encoding was and it may have a body, and keeps its version and whether Connection lists `close`.
+/// Transfer-Encoding was and it may have a body, and keeps its version, whether Connection lists `close`, and that field's values.
 pub fn response_as_received()
     ensures { ResponseAsReceived }
 {}
@@ -137,6 +138,16 @@ pub fn last_step_stays()
     ensures { LastStepStays }
 {}
 
+/// The trailers of a body's end are fields as a header list keeps them.
+pub fn trailers_are_fields()
+    ensures { TrailersAreFields }
+{}
+
+/// No trailer is left that the head's Connection lists (RFC 9110 section 7.6.1).
+pub fn trailers_unlisted()
+    ensures { TrailersUnlisted }
+{}
+
 /// From a place in a line's text on, one part is unread next.
 pub fn one_part()
     ensures { OnePart }
@@ -168,5 +179,7 @@ pub fn reading_examples()
     ensures counted { CountedExamples }
     ensures unbounded { UnboundedExamples }
     ensures coded { CodedExamples }
+    ensures listed { ListedExamples }
+    ensures left { LeftExamples }
     ensures placed { PlacedExamples }
 {}
