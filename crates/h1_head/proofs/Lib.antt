@@ -3,3 +3,4 @@ pub mod Measured
 pub mod Origin
 pub mod Reading
 pub mod Short
+pub mod Unlisted

@@ -4,3 +4,4 @@ pub mod Measures
 pub mod Seen
 pub mod Spans
 pub mod Targets
+pub mod Unnamed

@@ -24,6 +24,7 @@ seen_head h = record {
   length = seen_length h.length;
   told = h.told;
   close = h.close;
+  connection = h.connection;
 }
 
 -- a head that is taken in, or the number of a refusal

@@ -1,5 +1,5 @@
 // The fields of a head, as spans of its text.
-ghost use Rattle.std.specs.Prelude.{◌≡◌, ◌≤◌, length, All};
+ghost use Rattle.std.specs.Prelude.{◌≡◌, ◌≤◌, length, All, IfOk};
 ghost use Rattle.http1_model.specs.Fields.{is_listed, is_hop_name, is_response_hop_name, values_of};
 ghost use Rattle.http1_model.specs.Lines.{head_limit};
 ghost use Rattle.http_header.specs.Token.{lowercase};
@@ -7,6 +7,7 @@ ghost use Rattle.httparse.specs.Spans.{IsHeaderWithin, header_bytes};
 ghost use Rattle.h1_head.specs.Spans.{AreLines};
 
 use crate::members::{is_same_word, lists};
+use gate_base::{Members, Octets, OutOfMemory};
 use header_maps::{HeaderEnd, HeaderList};
 use httparse::spans::HeaderSpan;
 use std::alloc::Global;
@@ -79,6 +80,20 @@ impl<'t> Fields<'t> {
             Some(value) => Lines::One(value),
             None => Lines::Absent,
         }
+    }
+
+    /// The values of the field lines of a name, in any case of letters, in order.
+    pub fn values_of(&self, alloc: Global, name: &[u8]) -> Result<Members<Octets>, OutOfMemory>
+        ensures { IfOk result (λ values. values ≡ values_of (lowercase name.now) (fields_of self.now)) }
+    {
+        let mut values = Members::new(alloc);
+        for span in self.spans {
+            let (field, value) = self.pair_at(span);
+            if is_same_word(field, name) {
+                values.push(Octets::from_slice(alloc, value)?)?;
+            }
+        }
+        Ok(values)
     }
 
     /// Whether a Connection field lists a name, in any case of letters (RFC 9110 section 7.6.1).

@@ -1,6 +1,7 @@
 // The head of a message.
 ghost use Rattle.std.specs.Prelude.{◌≡◌};
 
+use gate_base::{Members, Octets};
 use header_maps::HeaderList;
 
 /// What a text is: one side's messages.
@@ -66,6 +67,8 @@ pub struct Head {
     pub told: Option<u64>,
     /// Whether Connection lists `close`.
     pub close: bool,
+    /// The values of its Connection fields, as they were received, in order. They name fields that do not pass, trailers too.
+    pub connection: Members<Octets>,
 }
 
 impl Head {

@@ -7,8 +7,7 @@ ghost use Rattle.h1_head.specs.Measures.{rest_members, agreed, AreTold, seen_mea
 
 use crate::fields::{Fields, Lines};
 use crate::head::Length;
-use crate::members::{is_same_word, trim};
-use memchr::memchr;
+use crate::members::{first_member, is_same_word, trim};
 
 /// The largest length that a message may tell, 2^63 - 1.
 const LENGTH_LIMIT: u64 = 0x7fff_ffff_ffff_ffff;
@@ -50,17 +49,6 @@ fn number(member: &[u8]) -> Option<u64>
         n = n * 10 + digit;
     }
     Some(n)
-}
-
-/// The first member of a list in a value, and what stands behind its comma.
-fn first_member(list: &[u8]) -> (&[u8], Option<&[u8]>)
-    ensures members { members list.now ≡ result.0.now ∷ rest_members (option_copied result.1) }
-    ensures shorter { IfSome (option_copied result.1) (λ rest. length rest < length list.now) }
-{
-    match memchr(b',', list) {
-        Some(at) => (trim(&list[..at]), Some(&list[at + 1..])),
-        None => (trim(list), None),
-    }
 }
 
 /// The one number that all members of a value write, and that is `known` where the members before wrote that.

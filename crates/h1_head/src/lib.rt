@@ -6,6 +6,7 @@ mod head;
 mod item;
 mod length;
 mod lines;
+mod listed;
 mod members;
 mod parts;
 mod read;
@@ -17,6 +18,7 @@ mod write;
 pub use head::{Head, HeadStep, Kind, Length, TargetForm};
 pub use item::Item;
 pub use lines::skip_empty_lines;
+pub use listed::without_listed;
 pub use read::read_head;
 pub use write::{
     pseudo_of, push_field, push_fields, push_request_line, request_bytes, write_request,

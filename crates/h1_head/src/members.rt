@@ -1,8 +1,11 @@
 // Values, and the members of a list in a value.
-ghost use Rattle.std.specs.Prelude.{◌≡◌, bytes_eq};
-ghost use Rattle.http1_model.specs.Fields.{lists};
+ghost use Rattle.std.specs.Prelude.{◌≡◌, ◌<◌, ◌∷◌, length, bytes_eq, IfSome, option_copied};
+ghost use Rattle.http1_model.specs.Fields.{lists, members};
 ghost use Rattle.http_header.specs.Token.{lowercase};
 ghost use Rattle.httparse.specs.Grammar.{is_ows, trim_ows};
+ghost use Rattle.h1_head.specs.Measures.{rest_members};
+
+use memchr::memchr;
 
 /// Whether a byte is a space or a tab.
 fn is_blank(byte: u8) -> bool
@@ -24,6 +27,17 @@ pub fn trim(bytes: &[u8]) -> &[u8]
         end -= 1;
     }
     &bytes[start..end]
+}
+
+/// The first member of a list in a value, and what stands behind its comma.
+pub fn first_member(list: &[u8]) -> (&[u8], Option<&[u8]>)
+    ensures members { members list.now ≡ result.0.now ∷ rest_members (option_copied result.1) }
+    ensures shorter { IfSome (option_copied result.1) (λ rest. length rest < length list.now) }
+{
+    match memchr(b',', list) {
+        Some(at) => (trim(&list[..at]), Some(&list[at + 1..])),
+        None => (trim(list), None),
+    }
 }
 
 /// Whether two texts are equal but for the case of letters.

@@ -39,12 +39,16 @@ pub fn measured(
     minor: u8,
     fields: &Fields,
     measure: Result<Measure, u16>,
-) -> Answer
-    ensures { seen_answer result ≡
-        measured list (option_map seen_form form) minor (fields_of fields.now) (seen_measure_result measure) }
+) -> Result<Answer, OutOfMemory>
+    ensures { IfOk result (λ answer. seen_answer answer ≡
+        measured list (option_map seen_form form) minor (fields_of fields.now) (seen_measure_result measure)) }
 {
-    let Measure { length, told } = measure?;
-    Ok(Head {
+    let Measure { length, told } = match measure {
+        Ok(measure) => measure,
+        Err(number) => return Ok(Err(number)),
+    };
+    let connection = fields.values_of(alloc, b"connection")?;
+    Ok(Ok(Head {
         fields: list,
         tail: HeaderList::new(alloc),
         form,
@@ -52,5 +56,6 @@ pub fn measured(
         length,
         told,
         close: fields.is_listed(b"close"),
-    })
+        connection,
+    }))
 }

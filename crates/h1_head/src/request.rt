@@ -89,7 +89,7 @@ fn targeted(
         Err(end) => return Ok(Err(refusal_of(end, 400)?)),
     };
     let measure = request_measure(fields, minor);
-    Ok(measured(alloc, list, Some(target.form), minor, fields, measure))
+    measured(alloc, list, Some(target.form), minor, fields, measure)
 }
 
 /// What a gateway makes of a head of these parts.

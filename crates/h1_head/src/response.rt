@@ -55,7 +55,7 @@ fn response_judged(
         is_without_body(to_head, status),
         response_measure(fields, minor),
     );
-    Ok(measured(alloc, list, None, minor, fields, measure))
+    measured(alloc, list, None, minor, fields, measure)
 }
 
 /// The head that a text begins with, if it has one of at most so many fields as there are spans for.

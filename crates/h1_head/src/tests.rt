@@ -334,6 +334,27 @@ fn heads_have_lengths(rt: HostRuntime) -> Result<(), Fail> {
 }
 
 #[test]
+fn heads_keep_connection_values(rt: HostRuntime) -> Result<(), Fail> {
+    let alloc = rt.alloc();
+    for (text, count, last) in [
+        ("GET / HTTP/1.1\nHost: a\nX: b\n\n", 0, ""),
+        (
+            "GET / HTTP/1.1\nConnection:\nHost: a\nCONNECTION: ,X-Sum , b \n\n",
+            2,
+            ",X-Sum , b",
+        ),
+    ] {
+        let (head, _) = head_of(alloc, text)?.ok_or("no head")?;
+        let values = head.connection.as_slice();
+        assert_eq!(rt; values.len(), count, "{text}");
+        if let Some(value) = values.last() {
+            assert_eq!(rt; value.as_slice(), last.as_bytes(), "{text}");
+        }
+    }
+    Ok(())
+}
+
+#[test]
 fn heads_have_bounds(rt: HostRuntime) -> Result<(), Fail> {
     let alloc = rt.alloc();
     for (times, behind, word) in [

@@ -1,7 +1,7 @@
 use Rattle.std.proofs.Common.{ℕ, add-one, arith}
 use Rattle.std.proofs.lemmas.List.{take_rest}
 use Rattle.h1_head.proofs.Lists.{members-no_comma, members-comma}
-use Rattle.h1_head.proofs.length.first_member.Goals as goal
+use Rattle.h1_head.proofs.members.first_member.Goals as goal
 
 pub returns-in-Some-clause-members : goal.returns-in-Some-clause-members
 returns-in-Some-clause-members c =

@@ -1,0 +1,161 @@
+-- Fields that are taken out of a list, one name after another.
+use Rattle.std.proofs.Common.{◌≡◌, ℕ, Bool, true, false, cond, not, ◌&&◌, ◌||◌, List, [], ◌∷◌, filter, length, nat_le, nat_lt, bytes_eq, Option, None, Some, Result, Ok, Err, OnOk, OnErr, IsOk, IfNone, refl, sym, ap, ◌∙◌, subst, arith}
+use Rattle.std.proofs.lemmas.Bool.{and_parts, and_from, false≢true}
+use Rattle.std.proofs.lemmas.Bool.Decides.{nat_tests}
+use Rattle.std.proofs.lemmas.List.{length-map}
+use Rattle.std.proofs.lemmas.Slice.Eq.{bytes_eq-Decides}
+use Rattle.std.specs.Char.{to_ascii_lowercase}
+use Rattle.std.specs.List.{list_all, list_any}
+use Rattle.http_header.specs.Token.{lowercase, is_token_byte}
+use Rattle.header_maps.specs.declared.end.HeaderEnd.{HeaderEnd}
+use Rattle.header_maps.specs.Faults.{Fault, bad_name, fault_of, first_fault, remove_fault}
+use Rattle.header_maps.specs.Headers.{Headers}
+use Rattle.header_maps.specs.Judged.{is_field_name, is_field_value, is_token_text}
+use Rattle.header_maps.specs.Kept.{is_kept_field}
+use Rattle.header_maps.specs.Operations.{removed, without}
+use Rattle.header_maps.specs.Pairs.{is_not_named}
+use Rattle.header_maps.proofs.Shapes.{bytes_are, filter_all, same_bytes}
+use Rattle.http1_model.specs.Fields.{Pair, lists, members, unlisted}
+use Rattle.h1_head.specs.Unnamed.{unnamed}
+
+-- ---- two tests
+
+-- what neither test takes out
+filter_twice : (p q : Pair → Bool) (fields : List Pair)
+    → filter (λ f. not (q f)) (filter (λ f. not (p f)) fields) ≡ filter (λ f. not (p f || q f)) fields
+filter_twice p q [] = refl
+filter_twice p q (f ∷ fields) = by_test (p f) (filter_twice p q fields)
+  where
+    by_test : (b : Bool) → filter (λ g. not (q g)) (filter (λ g. not (p g)) fields) ≡ filter (λ g. not (p g || q g)) fields
+        → filter (λ g. not (q g)) (cond (not b) (f ∷ filter (λ g. not (p g)) fields) (filter (λ g. not (p g)) fields))
+        ≡ cond (not (b || q f)) (f ∷ filter (λ g. not (p g || q g)) fields) (filter (λ g. not (p g || q g)) fields)
+    by_test true later = later
+    by_test false later = ap (λ (fs : List Pair). cond (not (q f)) (f ∷ fs) fs) later
+
+-- the fields that one member does not name
+abbrev pub unnamed_by : List ℕ → List Pair → List Pair
+unnamed_by member fields = filter (λ (f : Pair). not (bytes_eq (lowercase member) f.0)) fields
+
+pub unnamed-cons : (m : List ℕ) (ms : List (List ℕ)) (fields : List Pair) → unnamed ms (unnamed_by m fields) ≡ unnamed (m ∷ ms) fields
+unnamed-cons m ms fields =
+    filter_twice (λ (f : Pair). bytes_eq (lowercase m) f.0) (λ (f : Pair). list_any (λ n. bytes_eq (lowercase n) f.0) ms) fields
+
+filter_none : (fields : List Pair) → filter (λ (f : Pair). true) fields ≡ fields
+filter_none [] = refl
+filter_none (f ∷ fields) = ap (λ (fs : List Pair). f ∷ fs) (filter_none fields)
+
+pub unnamed-nil : (fields : List Pair) → unnamed [] fields ≡ fields
+unnamed-nil fields = filter_none fields
+
+pub unlisted-cons : (value : List ℕ) (values : List (List ℕ)) (fields : List Pair)
+    → unlisted values (unnamed (members value) fields) ≡ unlisted (value ∷ values) fields
+unlisted-cons value values fields =
+    filter_twice (λ (f : Pair). lists f.0 value) (λ (f : Pair). list_any (lists f.0) values) fields
+
+pub unlisted-nil : (fields : List Pair) → unlisted [] fields ≡ fields
+unlisted-nil fields = filter_none fields
+
+-- ---- one name
+
+-- a name in lower case is a name only if it is one
+token_back : (b : ℕ) → is_token_byte (to_ascii_lowercase b) ≡ true → is_token_byte b ≡ true
+unfolding is_token_byte
+token_back b h = grind (arith, nat_tests)
+
+tokens_back : (bytes : List ℕ) → list_all is_token_byte (lowercase bytes) ≡ true → list_all is_token_byte bytes ≡ true
+tokens_back [] h = refl
+tokens_back (b ∷ bytes) h =
+    let parts = and_parts _ _ h in
+    and_from _ _ (token_back b parts.0) (tokens_back bytes parts.1)
+
+name_back : (name : List ℕ) → is_field_name (lowercase name) ≡ true → is_field_name name ≡ true
+name_back name h =
+    let parts = and_parts (is_token_text (lowercase name)) (nat_le (length (lowercase name)) 65535) h in
+    let token = and_parts (nat_lt 0 (length (lowercase name))) (list_all is_token_byte (lowercase name)) parts.0 in
+    let same : length (lowercase name) ≡ length name = length-map name to_ascii_lowercase in
+    let some : nat_lt 0 (length name) ≡ true = ap (λ n. nat_lt 0 n) (sym same) ∙ token.0 in
+    let short : nat_le (length name) 65535 ≡ true = ap (λ n. nat_le n 65535) (sym same) ∙ parts.1 in
+    and_from _ _ (and_from _ _ some (tokens_back name token.1)) short
+
+-- a field that is kept has a name, in lower case
+record IsNamed (f : Pair) : Type 0 where
+  name : is_field_name f.0 ≡ true
+  lower : lowercase f.0 ≡ f.0
+
+kept_named : (f : Pair) → is_kept_field f ≡ true → IsNamed f
+kept_named f h =
+    let parts = and_parts (is_field_name f.0 && bytes_eq (lowercase f.0) f.0) (is_field_value f.1) h in
+    let names = and_parts (is_field_name f.0) (bytes_eq (lowercase f.0) f.0) parts.0 in
+    record { name = names.0; lower = bytes_are (lowercase f.0) f.0 names.1 }
+
+eq_turned : (a b : List ℕ) → bytes_eq a b ≡ bytes_eq b a
+eq_turned a b = by_tests (bytes_eq a b) (bytes_eq b a) refl refl
+  where
+    by_tests : (x y : Bool) → bytes_eq a b ≡ x → bytes_eq b a ≡ y → x ≡ y
+    by_tests true true p q = refl
+    by_tests false false p q = refl
+    by_tests true false p q = sym (sym q ∙ (bytes_eq-Decides b a).1 (sym (bytes_are a b p)))
+    by_tests false true p q = sym p ∙ (bytes_eq-Decides a b).1 (sym (bytes_are b a q))
+
+-- what is taken out under a name is what the member names
+without_named : (m : List ℕ) (fields : List Pair) → list_all is_kept_field fields ≡ true → without (lowercase m) fields ≡ unnamed_by m fields
+without_named m [] h = refl
+without_named m (f ∷ fields) h =
+    let parts = and_parts (is_kept_field f) (list_all is_kept_field fields) h in
+    let lower = (kept_named f parts.0).lower in
+    let test : is_not_named (lowercase m) f ≡ not (bytes_eq (lowercase m) f.0) =
+    ap (λ (n : List ℕ). not (bytes_eq n (lowercase m))) lower ∙ ap not (eq_turned f.0 (lowercase m)) in
+    ap (λ b. cond b (f ∷ without (lowercase m) fields) (without (lowercase m) fields)) test
+    ∙ ap (λ (fs : List Pair). cond (not (bytes_eq (lowercase m) f.0)) (f ∷ fs) fs) (without_named m fields parts.1)
+
+-- what can be no field's name names none
+no_name : (m : List ℕ) (fields : List Pair) → list_all is_kept_field fields ≡ true → is_field_name m ≡ false → fields ≡ unnamed_by m fields
+no_name m [] h is_none = refl
+no_name m (f ∷ fields) h is_none =
+    by_test (bytes_eq (lowercase m) f.0) refl
+    (no_name m fields (and_parts (is_kept_field f) (list_all is_kept_field fields) h).1 is_none)
+  where
+    named : IsNamed f
+    named = kept_named f (and_parts (is_kept_field f) (list_all is_kept_field fields) h).0
+
+    by_test : (b : Bool) → bytes_eq (lowercase m) f.0 ≡ b → fields ≡ unnamed_by m fields
+        → f ∷ fields ≡ cond (not b) (f ∷ unnamed_by m fields) (unnamed_by m fields)
+    by_test true is later =
+        absurd (false≢true (sym is_none ∙ name_back m (ap is_field_name (bytes_are (lowercase m) f.0 is) ∙ named.name)))
+    by_test false is later = ap (λ (fs : List Pair). f ∷ fs) later
+
+-- what a list leaves under a member
+pub record Leaves (m : List ℕ) (old new : List Pair) : Type 0 where
+  pub left : new ≡ unnamed_by m old
+  pub kept : list_all is_kept_field new ≡ true
+
+leaves : (m : List ℕ) (old new : List Pair) → list_all is_kept_field old ≡ true → new ≡ unnamed_by m old → Leaves m old new
+leaves m old new h is = record {
+  left = is;
+  kept = subst (λ (fs : List Pair). list_all is_kept_field fs ≡ true) (sym is)
+      (filter_all is_kept_field (λ (f : Pair). not (bytes_eq (lowercase m) f.0)) old h);
+}
+
+-- a list from which a name was removed, whether or not it is a field's name
+pub removed_leaves : {A : Type 0} (r : Result A HeaderEnd) (m : List ℕ) (old new : Headers) → fault_of r ≡ remove_fault m
+    → OnOk r (new ≡ removed old m) → OnErr r (new ≡ old) → (is_field_name m ≡ true → IsOk r)
+    → list_all is_kept_field old.pairs ≡ true → Leaves m old.pairs new.pairs
+removed_leaves r m old new cause ok err sure h = by_name (is_field_name m) refl
+  where
+    taken : {A : Type 0} (s : Result A HeaderEnd) → OnOk s (new ≡ removed old m) → IsOk s → new ≡ removed old m
+    taken (Ok a) x is = x
+    taken (Err e) x is = absurd (cc)
+
+    no_fault : ◌≡◌ {A = Option Fault} None (Some bad_name) → ⊥
+    no_fault e = cc
+
+    stays : {A : Type 0} (s : Result A HeaderEnd) → OnErr s (new ≡ old) → fault_of s ≡ Some bad_name → new ≡ old
+    stays (Ok a) x e = absurd (no_fault e)
+    stays (Err e) x f = x
+
+    by_name : (b : Bool) → is_field_name m ≡ b → Leaves m old.pairs new.pairs
+    by_name true is =
+        leaves m old.pairs new.pairs h (ap (λ (l : Headers). l.pairs) (taken r ok (sure is)) ∙ without_named m old.pairs h)
+    by_name false is_none =
+        leaves m old.pairs new.pairs h
+        (ap (λ (l : Headers). l.pairs) (stays r err (cause ∙ ap (λ b. first_fault b true true) is_none)) ∙ no_name m old.pairs h is_none)
