@@ -103,28 +103,28 @@ IsNoRun not_yet = Unit {0}
 IsNoRun (refused number) = Unit {0}
 
 -- an end, a rest or a refusal of the coding is that step of the message
-pub coded_there : (is_over : Bool) (asked : Option (List ℕ)) (place : Place) (text : List ℕ) (c : ChunkStep) → SpellsChunks place text c → IsNoRun c
-    → StepsTo is_over asked (body (coded place)) text (section_step is_over asked c)
-coded_there is_over asked place text c x no_run = by_sought (sought place text) x
+pub coded_there : (is_over : Bool) (asked : Option (List ℕ)) (connection : List (List ℕ)) (place : Place) (text : List ℕ) (c : ChunkStep) → SpellsChunks place text c → IsNoRun c
+    → StepsTo is_over asked (body (coded connection place)) text (section_step is_over asked connection c)
+coded_there is_over asked connection place text c x no_run = by_sought (sought place text) x
   where
-    by_sought : (s : Sought) → IsBehind place text s c → IsCodedStep is_over asked text s (section_step is_over asked c)
+    by_sought : (s : Sought) → IsBehind place text s c → IsCodedStep is_over asked connection text s (section_step is_over asked connection c)
     by_sought (data_at at left) y = absurd (subst IsNoRun y no_run)
     by_sought (section_at at) y = (c, y, refl)
-    by_sought waiting y = ap (section_step is_over asked) y
-    by_sought malformed y = ap (section_step is_over asked) y
+    by_sought waiting y = ap (section_step is_over asked connection) y
+    by_sought malformed y = ap (section_step is_over asked connection) y
 
 -- data is sought: a byte stands there
-pub byte_there : (is_over : Bool) (asked : Option (List ℕ)) (place : Place) (text : List ℕ) → is_data (sought place text) ≡ true
-    → StandsBehind is_over asked place text None
-byte_there is_over asked place text some = by_sought (sought place text) refl some
+pub byte_there : (is_over : Bool) (asked : Option (List ℕ)) (connection : List (List ℕ)) (place : Place) (text : List ℕ) → is_data (sought place text) ≡ true
+    → StandsBehind is_over asked connection place text None
+byte_there is_over asked connection place text some = by_sought (sought place text) refl some
   where
-    by_sought : (s : Sought) → sought place text ≡ s → is_data s ≡ true → StandsBehind is_over asked place text None
+    by_sought : (s : Sought) → sought place text ≡ s → is_data s ≡ true → StandsBehind is_over asked connection place text None
     by_sought (data_at at left) is e =
-        let step = item (octet (get_or text at 0)) (at + 1) (body (coded (inside (left - 1)))) in
-        let here : IsCodedStep is_over asked text (data_at at left) step = refl in
+        let step = item (octet (get_or text at 0)) (at + 1) (body (coded connection (inside (left - 1)))) in
+        let here : IsCodedStep is_over asked connection text (data_at at left) step = refl in
         record {
           step = step;
-          there = subst (λ (s : Sought). IsCodedStep is_over asked text s step) (sym is) here;
+          there = subst (λ (s : Sought). IsCodedStep is_over asked connection text s step) (sym is) here;
           ends = refl;
           bytes = inr (ap is_data is);
         }
@@ -133,12 +133,12 @@ byte_there is_over asked place text some = by_sought (sought place text) refl so
     by_sought malformed is e = absurd (cc)
 
 -- what stands there is the end, without trailers or with them; a rest; or a refusal
-pub end_there : (is_over : Bool) (asked : Option (List ℕ)) (place : Place) (text : List ℕ) (fields : List Pair) (used : ℕ)
-    → SpellsChunks place text (ended fields used) → trailers_left asked fields ≡ [] → StandsBehind is_over asked place text (Some used)
-end_there is_over asked place text fields used x none =
+pub end_there : (is_over : Bool) (asked : Option (List ℕ)) (connection : List (List ℕ)) (place : Place) (text : List ℕ) (fields : List Pair) (used : ℕ)
+    → SpellsChunks place text (ended fields used) → trailers_left asked connection fields ≡ [] → StandsBehind is_over asked connection place text (Some used)
+end_there is_over asked connection place text fields used x none =
     record {
-      step = section_step is_over asked (ended fields used);
-      there = coded_there is_over asked place text (ended fields used) x tt;
+      step = section_step is_over asked connection (ended fields used);
+      there = coded_there is_over asked connection place text (ended fields used) x tt;
       ends = ap (end_step asked used) none;
       bytes = inl (subst (λ (fs : List Pair). IsNoOctet (end_step asked used fs)) (sym none) tt);
     }
@@ -147,42 +147,42 @@ trailers_no_end : (asked : Option (List ℕ)) (used : ℕ) (fields : List Pair) 
 trailers_no_end asked used [] some = absurd (some refl)
 trailers_no_end asked used (f ∷ fields) some = (refl, tt)
 
-pub trailers_there : (is_over : Bool) (asked : Option (List ℕ)) (place : Place) (text : List ℕ) (fields : List Pair) (used : ℕ)
-    → SpellsChunks place text (ended fields used) → (trailers_left asked fields ≡ [] → ⊥) → StandsBehind is_over asked place text None
-trailers_there is_over asked place text fields used x some =
-    let no = trailers_no_end asked used (trailers_left asked fields) some in
+pub trailers_there : (is_over : Bool) (asked : Option (List ℕ)) (connection : List (List ℕ)) (place : Place) (text : List ℕ) (fields : List Pair) (used : ℕ)
+    → SpellsChunks place text (ended fields used) → (trailers_left asked connection fields ≡ [] → ⊥) → StandsBehind is_over asked connection place text None
+trailers_there is_over asked connection place text fields used x some =
+    let no = trailers_no_end asked used (trailers_left asked connection fields) some in
     record {
-      step = section_step is_over asked (ended fields used);
-      there = coded_there is_over asked place text (ended fields used) x tt;
+      step = section_step is_over asked connection (ended fields used);
+      there = coded_there is_over asked connection place text (ended fields used) x tt;
       ends = no.0;
       bytes = inl no.1;
     }
 
-pub rest_there : (is_over : Bool) (asked : Option (List ℕ)) (place : Place) (text : List ℕ) → SpellsChunks place text not_yet
-    → StandsBehind is_over asked place text None
-rest_there is_over asked place text x =
-    record { step = section_step is_over asked not_yet; there = coded_there is_over asked place text not_yet x tt; ends = refl; bytes = inl tt }
+pub rest_there : (is_over : Bool) (asked : Option (List ℕ)) (connection : List (List ℕ)) (place : Place) (text : List ℕ) → SpellsChunks place text not_yet
+    → StandsBehind is_over asked connection place text None
+rest_there is_over asked connection place text x =
+    record { step = section_step is_over asked connection not_yet; there = coded_there is_over asked connection place text not_yet x tt; ends = refl; bytes = inl tt }
 
-pub refusal_there : (is_over : Bool) (asked : Option (List ℕ)) (place : Place) (text : List ℕ) (number : ℕ) → SpellsChunks place text (refused number)
-    → StandsBehind is_over asked place text None
-refusal_there is_over asked place text number x =
-    record { step = section_step is_over asked (refused number); there = coded_there is_over asked place text (refused number) x tt; ends = refl; bytes = inl tt }
+pub refusal_there : (is_over : Bool) (asked : Option (List ℕ)) (connection : List (List ℕ)) (place : Place) (text : List ℕ) (number : ℕ) → SpellsChunks place text (refused number)
+    → StandsBehind is_over asked connection place text None
+refusal_there is_over asked connection place text number x =
+    record { step = section_step is_over asked connection (refused number); there = coded_there is_over asked connection place text (refused number) x tt; ends = refl; bytes = inl tt }
 
 -- ---- pieces
 
 -- a piece of data with the end right behind it
-pub piece_ends : (is_over : Bool) (asked : Option (List ℕ)) (place : Place) (text : List ℕ) (run : Run) (n : ℕ) → SpellsChunks place text (carried run)
-    → StandsBehind is_over asked run.place (drop run.used text) (Some n)
-    → IsNext is_over asked (body (coded place)) text (part (piece run.bytes true) (run.used + n) (due_next asked))
-piece_ends is_over asked place text run n x b =
+pub piece_ends : (is_over : Bool) (asked : Option (List ℕ)) (connection : List (List ℕ)) (place : Place) (text : List ℕ) (run : Run) (n : ℕ) → SpellsChunks place text (carried run)
+    → StandsBehind is_over asked connection run.place (drop run.used text) (Some n)
+    → IsNext is_over asked (body (coded connection place)) text (part (piece run.bytes true) (run.used + n) (due_next asked))
+piece_ends is_over asked connection place text run n x b =
     let r = carried_is place text run x in
-    let there : StepsTo is_over asked (body (coded run.place)) (drop run.used text) (item end n (due_next asked)) =
-    subst (λ (s : Step). StepsTo is_over asked (body (coded run.place)) (drop run.used text) s) b.ends b.there in
-    let moved : StepsTo is_over asked (body (coded (run_of 16384 place text).place)) (drop (run_of 16384 place text).used text) (item end n (due_next asked)) =
-    subst (λ (q : Run). StepsTo is_over asked (body (coded q.place)) (drop q.used text) (item end n (due_next asked))) r.is there in
-    let whole = with_end is_over asked (body (coded place)) (body (coded (run_of 16384 place text).place)) (due_next asked) text (run_of 16384 place text).bytes (run_of 16384 place text).used n
-    (run_carries is_over asked 16384 place text) (run_some place text r.sought_data) (run_few 16384 place text) moved in
-    subst (λ (q : Run). IsNext is_over asked (body (coded place)) text (part (piece q.bytes true) (q.used + n) (due_next asked))) (sym r.is) whole
+    let there : StepsTo is_over asked (body (coded connection run.place)) (drop run.used text) (item end n (due_next asked)) =
+    subst (λ (s : Step). StepsTo is_over asked (body (coded connection run.place)) (drop run.used text) s) b.ends b.there in
+    let moved : StepsTo is_over asked (body (coded connection (run_of 16384 place text).place)) (drop (run_of 16384 place text).used text) (item end n (due_next asked)) =
+    subst (λ (q : Run). StepsTo is_over asked (body (coded connection q.place)) (drop q.used text) (item end n (due_next asked))) r.is there in
+    let whole = with_end is_over asked (body (coded connection place)) (body (coded connection (run_of 16384 place text).place)) (due_next asked) text (run_of 16384 place text).bytes (run_of 16384 place text).used n
+    (run_carries is_over asked connection 16384 place text) (run_some place text r.sought_data) (run_few 16384 place text) moved in
+    subst (λ (q : Run). IsNext is_over asked (body (coded connection place)) text (part (piece q.bytes true) (q.used + n) (due_next asked))) (sym r.is) whole
 
 -- data stands behind a run that is full
 full_behind : (s : Step) (place : Place) (text : List ℕ) → IsNoOctet s ⊎ (is_data (sought (run_of 16384 place text).place (drop (run_of 16384 place text).used text)) ≡ true)
@@ -191,19 +191,19 @@ full_behind s place text (inl other) = inl other
 full_behind s place text (inr some) = inr (run_full 16384 place text some)
 
 -- and one with something else behind it
-pub piece_goes_on : (is_over : Bool) (asked : Option (List ℕ)) (place : Place) (text : List ℕ) (run : Run) → SpellsChunks place text (carried run)
-    → StandsBehind is_over asked run.place (drop run.used text) None
-    → IsNext is_over asked (body (coded place)) text (part (piece run.bytes false) run.used (body (coded run.place)))
-piece_goes_on is_over asked place text run x b =
+pub piece_goes_on : (is_over : Bool) (asked : Option (List ℕ)) (connection : List (List ℕ)) (place : Place) (text : List ℕ) (run : Run) → SpellsChunks place text (carried run)
+    → StandsBehind is_over asked connection run.place (drop run.used text) None
+    → IsNext is_over asked (body (coded connection place)) text (part (piece run.bytes false) run.used (body (coded connection run.place)))
+piece_goes_on is_over asked connection place text run x b =
     let r = carried_is place text run x in
     let q = run_of 16384 place text in
-    let there : StepsTo is_over asked (body (coded q.place)) (drop q.used text) b.step =
-    subst (λ (q : Run). StepsTo is_over asked (body (coded q.place)) (drop q.used text) b.step) r.is b.there in
+    let there : StepsTo is_over asked (body (coded connection q.place)) (drop q.used text) b.step =
+    subst (λ (q : Run). StepsTo is_over asked (body (coded connection q.place)) (drop q.used text) b.step) r.is b.there in
     let bytes : IsNoOctet b.step ⊎ (is_data (sought q.place (drop q.used text)) ≡ true) =
     subst (λ (q : Run). IsNoOctet b.step ⊎ (is_data (sought q.place (drop q.used text)) ≡ true)) r.is b.bytes in
-    let whole = without_end is_over asked (body (coded place)) (body (coded q.place)) text q.bytes q.used b.step
-    (run_carries is_over asked 16384 place text) (run_some place text r.sought_data) (run_few 16384 place text) there b.ends (full_behind b.step place text bytes) in
-    subst (λ (q : Run). IsNext is_over asked (body (coded place)) text (part (piece q.bytes false) q.used (body (coded q.place)))) (sym r.is) whole
+    let whole = without_end is_over asked (body (coded connection place)) (body (coded connection q.place)) text q.bytes q.used b.step
+    (run_carries is_over asked connection 16384 place text) (run_some place text r.sought_data) (run_few 16384 place text) there b.ends (full_behind b.step place text bytes) in
+    subst (λ (q : Run). IsNext is_over asked (body (coded connection place)) text (part (piece q.bytes false) q.used (body (coded connection q.place)))) (sym r.is) whole
 
 -- nothing is carried where no data is sought
 pub no_data_carried : (place : Place) (text : List ℕ) (run : Run) → SpellsChunks place text (carried run) → is_data (sought place text) ≡ false → ⊥

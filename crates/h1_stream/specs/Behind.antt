@@ -20,10 +20,10 @@ abbrev pub EndsBy : Option (List ℕ) → Option ℕ → Step → Type 0
 EndsBy asked (Some n) step = step ≡ item end n (due_next asked)
 EndsBy asked None step = is_no_end step ≡ true
 
--- from a place in the coding on the body's end comes, which takes so many bytes, or something else does; a byte only where data is
--- sought
-pub record StandsBehind (ended : Bool) (asked : Option (List ℕ)) (place : Place) (text : List ℕ) (found : Option ℕ) : Type 0 where
+-- from a place in the coding on, behind a head with these Connection values, the body's end comes, which takes so many bytes, or
+-- something else does; a byte only where data is sought
+pub record StandsBehind (ended : Bool) (asked : Option (List ℕ)) (connection : List (List ℕ)) (place : Place) (text : List ℕ) (found : Option ℕ) : Type 0 where
   pub step : Step
-  pub there : StepsTo ended asked (body (coded place)) text step
+  pub there : StepsTo ended asked (body (coded connection place)) text step
   pub ends : EndsBy asked found step
   pub bytes : IsNoOctet step ⊎ (is_data (sought place text) ≡ true)

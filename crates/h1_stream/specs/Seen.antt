@@ -25,7 +25,7 @@ asked_of (kinds.Response to_head) = Some (if to_head then codes "HEAD" else code
 
 abbrev pub seen_body : body.Body → model.Body
 seen_body (bodies.Counted left) = model.counted left
-seen_body (bodies.Coded place) = model.coded place
+seen_body (bodies.Coded connection place) = model.coded connection place
 seen_body bodies.Unbounded = model.unbounded
 
 abbrev pub seen_due : due.Due → model.Due

@@ -1,5 +1,7 @@
 // What is unread next in a body.
-ghost use Rattle.std.specs.Prelude.{◌≡◌, ◌≤◌, Bool, Some, [], length, min, IfOk, IfSome};
+ghost use Rattle.std.specs.List.{list_all};
+ghost use Rattle.std.specs.Prelude.{◌≡◌, ◌≤◌, Bool, true, Some, [], length, min, IfOk, IfSome};
+ghost use Rattle.header_maps.specs.Kept.{is_kept_field};
 ghost use Rattle.http1_model.specs.Messages as model;
 ghost use Rattle.http1_model.specs.Messages.{body, unbounded_step, trailers_left, end_step};
 ghost use Rattle.http1_model.specs.Trailers.{piece_limit};
@@ -7,10 +9,10 @@ ghost use Rattle.http1_model.specs.Unread.{IsNext, by_itself};
 ghost use Rattle.h1_stream.specs.Seen.{asked_of, seen_body, seen_next, IsWithin, IsFlagged};
 ghost use Rattle.h1_stream.specs.Behind.{StandsBehind};
 
-use crate::next::{Body, Due, Next, Stop, due_next, malformed, stop_short};
-use gate_base::{Octets, OutOfMemory};
+use crate::next::{Body, Due, Next, Stop, copied, due_next, malformed, stop_short};
+use gate_base::{Members, Octets, OutOfMemory};
 use h1_chunks::{ChunkReader, ChunkStep};
-use h1_head::{Item, Kind};
+use h1_head::{Item, Kind, without_listed};
 use header_maps::HeaderList;
 use std::alloc::Global;
 
@@ -102,10 +104,12 @@ fn unbounded_next(alloc: Global, kind: Kind, ended: bool, text: &[u8]) -> Result
     }
 }
 
-/// The trailers that a message keeps: a request's have no `host`.
-fn left_trailers(kind: Kind, mut trailers: HeaderList) -> HeaderList
-    ensures { result.pairs ≡ trailers_left (asked_of kind) trailers.pairs }
+/// The trailers that a message keeps: none that its head's Connection lists, and a request's have no `host`.
+fn left_trailers(kind: Kind, connection: &Members<Octets>, trailers: HeaderList) -> HeaderList
+    requires { list_all is_kept_field trailers.pairs ≡ true }
+    ensures { result.pairs ≡ trailers_left (asked_of kind) connection.now trailers.pairs }
 {
+    let mut trailers = without_listed(connection, trailers);
     match kind {
         Kind::Request => {
             // The name of a field is never refused.
@@ -117,12 +121,19 @@ fn left_trailers(kind: Kind, mut trailers: HeaderList) -> HeaderList
 }
 
 /// The end of a chunked body that uses up so many bytes, with these trailers.
-fn end_next(alloc: Global, kind: Kind, trailers: HeaderList, used: usize) -> Next
-    ensures next { by_itself (end_step (asked_of kind) used (trailers_left (asked_of kind) trailers.pairs)) ≡ Some (seen_next result) }
+fn end_next(
+    alloc: Global,
+    kind: Kind,
+    connection: &Members<Octets>,
+    trailers: HeaderList,
+    used: usize,
+) -> Next
+    requires { list_all is_kept_field trailers.pairs ≡ true }
+    ensures next { by_itself (end_step (asked_of kind) used (trailers_left (asked_of kind) connection.now trailers.pairs)) ≡ Some (seen_next result) }
     ensures within { IsWithin used result }
     ensures flagged { IsFlagged result }
 {
-    let fields = left_trailers(kind, trailers);
+    let fields = left_trailers(kind, connection, trailers);
     if fields.is_empty() {
         return piece(Octets::new(alloc), true, used, due_next(kind));
     }
@@ -137,10 +148,11 @@ fn end_next(alloc: Global, kind: Kind, trailers: HeaderList, used: usize) -> Nex
 fn end_behind(
     alloc: Global,
     kind: Kind,
+    connection: &Members<Octets>,
     reader: &ChunkReader,
     text: &[u8],
 ) -> Result<Option<usize>, OutOfMemory>
-    ensures behind { IfOk result (λ end. (ended : Bool) → StandsBehind ended (asked_of kind) reader.now text.now end) }
+    ensures behind { IfOk result (λ end. (ended : Bool) → StandsBehind ended (asked_of kind) connection.now reader.now text.now end) }
     ensures within { IfOk result (λ end. IfSome end (λ used. used ≤ length text.now)) }
 {
     if reader.has_data(text) {
@@ -148,7 +160,7 @@ fn end_behind(
     }
     match reader.copy().next(alloc, text)? {
         ChunkStep::End { trailers, used } => {
-            if left_trailers(kind, trailers).is_empty() {
+            if left_trailers(kind, connection, trailers).is_empty() {
                 Ok(Some(used))
             } else {
                 Ok(None)
@@ -165,20 +177,27 @@ fn coded_next(
     alloc: Global,
     kind: Kind,
     ended: bool,
+    connection: &Members<Octets>,
     at: &ChunkReader,
     text: &[u8],
 ) -> Result<Next, OutOfMemory>
-    ensures next { IfOk result (λ n. IsNext ended (asked_of kind) (body (model.coded at.now)) text.now (seen_next n)) }
+    ensures next { IfOk result (λ n. IsNext ended (asked_of kind) (body (model.coded connection.now at.now)) text.now (seen_next n)) }
     ensures within { IfOk result (IsWithin (length text.now)) }
     ensures flagged { IfOk result IsFlagged }
 {
     let mut reader = at.copy();
     match reader.next(alloc, text)? {
-        ChunkStep::Data { bytes, used } => match end_behind(alloc, kind, &reader, &text[used..])? {
-            Some(more) => Ok(piece(bytes, true, used + more, due_next(kind))),
-            None => Ok(piece(bytes, false, used, Due::Body(Body::Coded(reader)))),
-        },
-        ChunkStep::End { trailers, used } => Ok(end_next(alloc, kind, trailers, used)),
+        ChunkStep::Data { bytes, used } => {
+            match end_behind(alloc, kind, connection, &reader, &text[used..])? {
+                Some(more) => Ok(piece(bytes, true, used + more, due_next(kind))),
+                None => {
+                    let connection = copied(alloc, connection)?;
+                    let due = Due::Body(Body::Coded { connection, reader });
+                    Ok(piece(bytes, false, used, due))
+                }
+            }
+        }
+        ChunkStep::End { trailers, used } => Ok(end_next(alloc, kind, connection, trailers, used)),
         ChunkStep::NotYet => Ok(Next::Halt(stop_short(kind, ended))),
         ChunkStep::Refused { .. } => Ok(Next::Halt(malformed(kind))),
     }
@@ -198,7 +217,9 @@ pub(crate) fn body_next(
 {
     match at {
         Body::Counted(left) => counted_next(alloc, kind, ended, *left, text),
-        Body::Coded(reader) => coded_next(alloc, kind, ended, reader, text),
+        Body::Coded { connection, reader } => {
+            coded_next(alloc, kind, ended, connection, reader, text)
+        }
         Body::Unbounded => unbounded_next(alloc, kind, ended, text),
     }
 }

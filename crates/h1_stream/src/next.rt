@@ -7,7 +7,7 @@ ghost use Rattle.h1_head.specs.Seen.{seen_head};
 ghost use Rattle.h1_head.specs.Measures.{seen_length};
 ghost use Rattle.h1_stream.specs.Seen.{asked_of, is_nothing, seen_due, seen_stop, seen_next, IsWithin, IsFlagged};
 
-use gate_base::OutOfMemory;
+use gate_base::{Members, Octets, OutOfMemory};
 use h1_chunks::ChunkReader;
 use h1_head::{Head, HeadStep, Item, Kind, Length, read_head, skip_empty_lines};
 use header_maps::ListKind;
@@ -18,8 +18,11 @@ use std::alloc::Global;
 pub(crate) enum Body {
     /// So many bytes are to come.
     Counted(u64),
-    /// A place in the chunked coding.
-    Coded(ChunkReader),
+    /// A place in the chunked coding, with the values of the head's Connection, which name trailers that are dropped.
+    Coded {
+        connection: Members<Octets>,
+        reader: ChunkReader,
+    },
     /// All that comes until the line ends.
     Unbounded,
 }
@@ -82,39 +85,57 @@ pub(crate) fn stop_short(kind: Kind, ended: bool) -> Stop
     if ended { malformed(kind) } else { Stop::Rest }
 }
 
-/// What is due behind a head with a body of that length.
-fn due_behind(kind: Kind, length: Length) -> Due
-    ensures { seen_due result ≡ model.due_behind (due_next (asked_of kind)) (seen_length length) }
+/// A copy of values.
+pub(crate) fn copied(
+    alloc: Global,
+    values: &Members<Octets>,
+) -> Result<Members<Octets>, OutOfMemory>
+    ensures { IfOk result (λ copy. copy ≡ values.now) }
 {
-    match length {
-        Length::Nothing => due_next(kind),
-        Length::Exactly(left) => Due::Body(Body::Counted(left)),
-        Length::Chunked => Due::Body(Body::Coded(ChunkReader::new())),
-        Length::UntilEnd => Due::Body(Body::Unbounded),
+    let mut copy = Members::new(alloc);
+    for value in values.as_slice() {
+        copy.push(value.copy(alloc)?)?;
+    }
+    Ok(copy)
+}
+
+/// What is due behind a head, by the length of its body.
+fn due_behind(alloc: Global, kind: Kind, head: &Head) -> Result<Due, OutOfMemory>
+    ensures { IfOk result (λ due. seen_due due ≡
+        model.due_behind (due_next (asked_of kind)) head.now.connection (seen_length head.now.length)) }
+{
+    match head.length {
+        Length::Nothing => Ok(due_next(kind)),
+        Length::Exactly(left) => Ok(Due::Body(Body::Counted(left))),
+        Length::Chunked => Ok(Due::Body(Body::Coded {
+            connection: copied(alloc, &head.connection)?,
+            reader: ChunkReader::new(),
+        })),
+        Length::UntilEnd => Ok(Due::Body(Body::Unbounded)),
     }
 }
 
 /// The item that a head is, which uses up so many bytes.
-fn head_item(kind: Kind, head: Head, used: usize) -> Next
-    ensures next { by_itself (item_of (asked_of kind) (seen_head head) used) ≡ Some (seen_next result) }
-    ensures used { IsWithin used result }
-    ensures flagged { IsFlagged result }
+fn head_item(alloc: Global, kind: Kind, head: Head, used: usize) -> Result<Next, OutOfMemory>
+    ensures next { IfOk result (λ n. by_itself (item_of (asked_of kind) (seen_head head) used) ≡ Some (seen_next n)) }
+    ensures used { IfOk result (IsWithin used) }
+    ensures flagged { IfOk result IsFlagged }
 {
     let is_interim = matches!(head.fields.kind(), ListKind::Interim);
     if is_interim && !matches!(kind, Kind::Request) {
-        return Next::Part {
+        return Ok(Next::Part {
             item: Item::Interim { head },
             used,
             due: Due::Head,
-        };
+        });
     }
-    let due = due_behind(kind, head.length);
+    let due = due_behind(alloc, kind, &head)?;
     let end = matches!(head.length, Length::Nothing);
-    Next::Part {
+    Ok(Next::Part {
         item: Item::Head { head, end },
         used,
         due,
-    }
+    })
 }
 
 /// Why an unfinished head does not come.
@@ -142,7 +163,7 @@ pub(crate) fn head_next(
     ensures flagged { IfOk result IsFlagged }
 {
     match read_head(alloc, text, kind)? {
-        HeadStep::Head { head, used } => Ok(head_item(kind, head, used)),
+        HeadStep::Head { head, used } => head_item(alloc, kind, head, used),
         HeadStep::NotYet => Ok(Next::Halt(stop_at(kind, ended, text))),
         HeadStep::Refused { number } => Ok(Next::Halt(Stop::Refusal(number))),
     }

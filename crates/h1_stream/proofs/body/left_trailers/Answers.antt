@@ -1,4 +1,5 @@
-use Rattle.std.proofs.Common.{◌≡◌, Result, Ok, Err, OnOk, IsOk, ap, sym, subst, refl}
+use Rattle.std.proofs.Common.{◌≡◌, Result, Ok, Err, OnOk, IsOk, codes, ap, sym, ◌∙◌, subst, refl}
+use Rattle.header_maps.specs.Operations.{without}
 use Rattle.http_header.specs.Token.{is_token_byte}
 use Rattle.h1_head.specs.declared.head.Kind.{Kind}
 use Rattle.http1_model.specs.Messages.{trailers_left}
@@ -13,4 +14,4 @@ pub returns-in-Request : goal.returns-in-Request
 unfolding is_token_byte
 returns-in-Request c =
     let removed = on_ok c.remove.result (c.remove.ensures.sure refl) c.remove.ensures.ok in
-    subst (λ (k : Kind). c.remove.new.self.pairs ≡ trailers_left (asked_of k) c.args.trailers.pairs) (sym c.in-Request.is) (ap (λ h. h.pairs) removed)
+    subst (λ (k : Kind). c.remove.new.self.pairs ≡ trailers_left (asked_of k) c.args.connection.now c.args.trailers.pairs) (sym c.in-Request.is) (ap (λ h. h.pairs) removed ∙ ap (without (codes "host")) c.without_listed-trailers.ensures)

@@ -5,13 +5,16 @@ use Rattle.http1_model.specs.Unread.{none}
 use Rattle.h1_head.specs.declared.head.HeadStep.{HeadStep}
 use Rattle.h1_head.specs.Seen.{Spells, seen_head, seen_step}
 use Rattle.h1_stream.specs.Seen.{asked_of, seen_next, seen_stop}
+use Rattle.h1_head.proofs.Lists.{IfOk-map}
 use Rattle.h1_stream.proofs.Heads.{head_alone}
 use Rattle.h1_stream.proofs.next.head_next.Goals as goal
 
 pub returns-in-Head-clause-next : goal.returns-in-Head-clause-next
 returns-in-Head-clause-next c =
     let spelled = subst (λ (s : HeadStep). Spells c.args.kind c.args.text.now (seen_step s)) c.in-Head.is c.in_ok-head.ensures.spelled in
-    head_alone c.args.kind c.args.ended c.args.text.now (found (seen_head c.in-Head.head) c.in-Head.used) (seen_next c.head_item.result) spelled c.head_item.ensures.next
+    IfOk-map c.head_item.result
+    (λ n e. head_alone c.args.kind c.args.ended c.args.text.now (found (seen_head c.in-Head.head) c.in-Head.used) (seen_next n) spelled e)
+    c.head_item.ensures.next
 
 pub returns-in-NotYet-clause-next : goal.returns-in-NotYet-clause-next
 returns-in-NotYet-clause-next c =
