@@ -1,6 +1,6 @@
 // Tables of items, byte by byte, worked out by hand from RFC 9110, RFC 9112 and the rules.
 use super::*;
-use gate_base::{Octets, OutOfMemory};
+use gate_base::{Members, Octets, OutOfMemory};
 use h1_head::{Head, Item, Length};
 use header_maps::{HeaderEnd, HeaderList};
 use std::alloc::Global;
@@ -43,7 +43,7 @@ fn tail_of(
 }
 
 /// The item of a head, which is an interim one by its status.
-fn head_item(status: u16, fields: HeaderList, tail: HeaderList) -> Item {
+fn head_item(alloc: Global, status: u16, fields: HeaderList, tail: HeaderList) -> Item {
     let head = Head {
         fields,
         tail,
@@ -52,6 +52,7 @@ fn head_item(status: u16, fields: HeaderList, tail: HeaderList) -> Item {
         length: Length::Nothing,
         told: None,
         close: false,
+        connection: Members::new(alloc),
     };
     if status == 100 || status == 103 {
         Item::Interim { head }
@@ -174,7 +175,7 @@ fn heads(rt: HostRuntime) -> Result<(), Fail> {
     ] {
         let fields = fields_of(alloc, status, field).map_err(|_| "no fields")?;
         let tail = tail_of(alloc, first, second).map_err(|_| "no tail")?;
-        let item = head_item(status, fields, tail);
+        let item = head_item(alloc, status, fields, tail);
         let wire = joined(alloc, &[start, behind])?;
         let mut out = Octets::new(alloc);
         write_item(alloc, &mut out, &item, framing)?;

@@ -45,6 +45,7 @@ request_head = record {
   length = exactly 5;
   told = Some 5;
   close = false;
+  connection = [];
 }
 
 abbrev request_start : List ℕ
@@ -63,6 +64,7 @@ response_head status = record {
   length = chunked;
   told = None;
   close = false;
+  connection = [];
 }
 
 abbrev interim_head : Head
@@ -74,6 +76,7 @@ interim_head = record {
   length = nothing;
   told = None;
   close = false;
+  connection = [];
 }
 
 -- trailers of which one goes out

@@ -43,6 +43,7 @@ reply_head status fields body closes now = record {
   length = exactly (length body);
   told = reply_told status body;
   close = closes;
+  connection = [];
 }
 
 -- its framing, where no filter changes the body

@@ -13,7 +13,7 @@ pub returns-in-Head : goal.returns-in-Head
 returns-in-Head c =
     let spelled : SpellsStep c.args.line.text (found (seen_head c.in-Head.head) c.in-Head.used) = spelled_as c.as_slice.result.now c.args.line.text c.in_ok-head.field-0 _ c.as_slice.ensures c.in-Head.is c.in_ok-head.ensures.spelled in
     if_ok c.ask.result _ _ (λ t is. reads_step c.args.lines.now.items c.args.line (found (seen_head c.in-Head.head) c.in-Head.used) _ c.if-line.false spelled is)
-    (c.ask.ensures c.in-Head.used (due_after (seen_head c.in-Head.head).length))
+    (c.ask.ensures c.in-Head.used (due_after (seen_head c.in-Head.head)))
 
 pub returns-in-NotYet : goal.returns-in-NotYet
 returns-in-NotYet c =
