@@ -1,6 +1,13 @@
 // Tables of heads, with answers from RFC 9112, RFC 9110 and the rules.
-use crate::{Head, HeadStep, Kind, Length, read_head, request_bytes, write_request};
-use gate_base::{Octets, OutOfMemory};
+ghost use Rattle.std.specs.List.{list_all};
+ghost use Rattle.std.specs.Prelude.{◌≡◌, true, IfOk};
+ghost use Rattle.header_maps.specs.Kept.{is_kept_field};
+
+use crate::{
+    Head, HeadStep, Kind, Length, read_head, request_bytes, without_listed, write_request,
+};
+use gate_base::{Members, Octets, OutOfMemory};
+use header_maps::{HeaderEnd, HeaderList};
 use std::alloc::Global;
 use std::test::Fail;
 
@@ -350,6 +357,39 @@ fn heads_keep_connection_values(rt: HostRuntime) -> Result<(), Fail> {
         if let Some(value) = values.last() {
             assert_eq!(rt; value.as_slice(), last.as_bytes(), "{text}");
         }
+    }
+    Ok(())
+}
+
+/// Fields that stand in no pseudo-header's place.
+fn two_fields(alloc: Global) -> Result<HeaderList, HeaderEnd>
+    ensures { IfOk result (λ list. list_all is_kept_field list.pairs ≡ true) }
+{
+    let mut list = HeaderList::new(alloc);
+    list.add(alloc, b"X-A", b"1")?;
+    list.add(alloc, b"X-B", b"2")?;
+    Ok(list)
+}
+
+#[test]
+fn listed_fields_are_taken_out(rt: HostRuntime) -> Result<(), Fail> {
+    let alloc = rt.alloc();
+    for (first, second, wanted) in [
+        ("close", "x-a", "x-b "),
+        (",X-B , x-c", "", "x-a "),
+        ("x-a, X-B", "x-b", ""),
+        ("x-ab, ,x", "x a", "x-a x-b "),
+    ] {
+        let mut values = Members::new(alloc);
+        values.push(Octets::from_slice(alloc, first.as_bytes())?)?;
+        values.push(Octets::from_slice(alloc, second.as_bytes())?)?;
+        let left = without_listed(&values, two_fields(alloc)?);
+        let mut names = Octets::new(alloc);
+        for (name, _) in left.as_slice() {
+            names.extend_from_slice(name.as_slice())?;
+            names.push(b' ')?;
+        }
+        assert_eq!(rt; names.as_slice(), wanted.as_bytes(), "{first}");
     }
     Ok(())
 }
