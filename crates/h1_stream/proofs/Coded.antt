@@ -9,7 +9,7 @@ use Rattle.http1_model.specs.Messages as model
 use Rattle.http1_model.specs.Messages.{octet, end, Due, body, coded, due_next, Step, item, stop, section_step, end_step, trailers_left, IsCodedStep, StepsTo}
 use Rattle.http1_model.specs.Unread.{Next, piece, part, by_itself, IsNoOctet, IsNext}
 use Rattle.http1_model.proofs.ChunkLaws.{run_step, run_zero, run_behind}
-use Rattle.http1_model.proofs.Carried.{run_carries}
+use Rattle.http1_model.proofs.Carried.{run_carries, coded_there}
 use Rattle.h1_chunks.specs.Answers.{is_data}
 use Rattle.h1_stream.specs.Behind.{is_no_end, EndsBy, StandsBehind}
 use Rattle.h1_stream.proofs.Bodies.{alone, with_end, without_end}
@@ -95,23 +95,6 @@ run_full (suc n) place text = by_sought (sought place text) refl (run_full n)
     by_sought malformed is later = moved malformed is (none malformed is refl)
 
 -- ---- what is no data
-
-abbrev pub IsNoRun : ChunkStep → Type 0
-IsNoRun (carried run) = ⊥
-IsNoRun (ended trailers used) = Unit {0}
-IsNoRun not_yet = Unit {0}
-IsNoRun (refused number) = Unit {0}
-
--- an end, a rest or a refusal of the coding is that step of the message
-pub coded_there : (is_over : Bool) (asked : Option (List ℕ)) (connection : List (List ℕ)) (place : Place) (text : List ℕ) (c : ChunkStep) → SpellsChunks place text c → IsNoRun c
-    → StepsTo is_over asked (body (coded connection place)) text (section_step is_over asked connection c)
-coded_there is_over asked connection place text c x no_run = by_sought (sought place text) x
-  where
-    by_sought : (s : Sought) → IsBehind place text s c → IsCodedStep is_over asked connection text s (section_step is_over asked connection c)
-    by_sought (data_at at left) y = absurd (subst IsNoRun y no_run)
-    by_sought (section_at at) y = (c, y, refl)
-    by_sought waiting y = ap (section_step is_over asked connection) y
-    by_sought malformed y = ap (section_step is_over asked connection) y
 
 -- data is sought: a byte stands there
 pub byte_there : (is_over : Bool) (asked : Option (List ℕ)) (connection : List (List ℕ)) (place : Place) (text : List ℕ) → is_data (sought place text) ≡ true

@@ -1,5 +1,6 @@
 // What is written is read back, as functions without a body.
 ghost use Rattle.h1_write.specs.Laws.{PiecesReadBack, EndReadBack, TrailersReadBack, TrailedEndReadBack};
+ghost use Rattle.h1_write.specs.Round.{BodyReadBack, BodyIsAll, ReadingsJoin, HeadReadBack, MessageReadBack, MessageIsAll, RequestsReadBack, AnswerReadBack};
 
 /// Pieces that are written in chunks are read back as the same bytes, joined, whatever pieces they came in; then the body ends,
 /// where all that was written is used up.
@@ -12,4 +13,26 @@ pub fn pieces_read_back()
 pub fn trailers_read_back()
     ensures bytes { TrailersReadBack }
     ensures end { TrailedEndReadBack }
+{}
+
+/// What is written of a body in any framing is read, from where it is due, as its bytes, joined and in order, and its end, with
+/// the trailers that a reader keeps; all that was written is used up, and what follows is read as it is by itself.
+pub fn body_read_back()
+    ensures between { BodyReadBack }
+    ensures alone { BodyIsAll }
+    ensures joined { ReadingsJoin }
+{}
+
+/// A head that is read where a head is due, and what is written of the body that it says, are read as the head and that body's
+/// items.
+pub fn message_read_back()
+    ensures head { HeadReadBack }
+    ensures between { MessageReadBack }
+    ensures alone { MessageIsAll }
+{}
+
+/// Requests one behind another, and a response behind interim heads, are read as the items of each, in order.
+pub fn lines_read_back()
+    ensures requests { RequestsReadBack }
+    ensures answer { AnswerReadBack }
 {}

@@ -8,7 +8,9 @@ mod laws;
 mod write;
 
 pub use framing::{Framing, framing_of};
-pub use laws::{pieces_read_back, trailers_read_back};
+pub use laws::{
+    body_read_back, lines_read_back, message_read_back, pieces_read_back, trailers_read_back,
+};
 pub use write::write_item;
 
 #[cfg(test)]

@@ -1,7 +1,8 @@
 -- The bytes of a body that a text carries, one behind the other, for each way in which a body ends.
 use Rattle.std.proofs.Common.{◌≡◌, ℕ, zero, suc, ◌+◌, ◌-◌, ◌≤◌, Bool, List, [], ◌∷◌, length, take, drop, get_or, Option, refl, sym, ap, subst, arith}
 use Rattle.http1_model.specs.Chunks.{Place, inside, Sought, data_at, section_at, waiting, malformed, sought, Run, run_of}
-use Rattle.http1_model.specs.Messages.{octet, counted, coded, unbounded, body, item, IsCodedStep, StepsTo}
+use Rattle.http1_model.specs.Messages.{octet, counted, coded, unbounded, body, item, section_step, IsCodedStep, StepsTo}
+use Rattle.http1_model.specs.Trailers as trailing
 use Rattle.http1_model.specs.Unread.{Carries}
 use Rattle.http1_model.proofs.ChunkLaws.{run_behind, run_step, run_zero}
 
@@ -52,3 +53,22 @@ take_carries_unbounded ended asked zero text fits = (refl, refl)
 take_carries_unbounded ended asked (suc k) [] fits = absurd (omega arith)
 take_carries_unbounded ended asked (suc k) (b ∷ text) fits =
     (1, k, body unbounded, refl, take_carries_unbounded ended asked k text (omega arith), omega arith)
+
+-- ---- what is no data of a chunked body
+
+abbrev pub IsNoRun : trailing.ChunkStep → Type 0
+IsNoRun (trailing.carried run) = ⊥
+IsNoRun (trailing.ended fields used) = Unit {0}
+IsNoRun trailing.not_yet = Unit {0}
+IsNoRun (trailing.refused number) = Unit {0}
+
+-- an end, a rest or a refusal of the coding is that step of the message
+pub coded_there : (ended : Bool) (asked : Option (List ℕ)) (connection : List (List ℕ)) (place : Place) (text : List ℕ) (c : trailing.ChunkStep)
+    → trailing.SpellsChunks place text c → IsNoRun c → StepsTo ended asked (body (coded connection place)) text (section_step ended asked connection c)
+coded_there ended asked connection place text c x no_run = by_sought (sought place text) x
+  where
+    by_sought : (s : Sought) → trailing.IsBehind place text s c → IsCodedStep ended asked connection text s (section_step ended asked connection c)
+    by_sought (data_at at left) y = absurd (subst IsNoRun y no_run)
+    by_sought (section_at at) y = (c, y, refl)
+    by_sought waiting y = ap (section_step ended asked connection) y
+    by_sought malformed y = ap (section_step ended asked connection) y

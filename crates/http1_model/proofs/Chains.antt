@@ -65,10 +65,10 @@ chain_fits text asked due at (p ∷ items) next to fits x =
     chain_fits text asked x.1 (at + x.0) items next to (place_fits text asked due at p.item x.0 x.1 fits x.2) x.5
 
 -- an item in its place
-abbrev placed_at : (text : List ℕ) (due : Due) (at used : ℕ) (i : Item) → Placed
+abbrev pub placed_at : (text : List ℕ) (due : Due) (at used : ℕ) (i : Item) → Placed
 placed_at text due at used i = record { item = i; from = at + lead_of due (drop at text); to = at + used }
 
-one_item : (text : List ℕ) (ended : Bool) (asked : Option (List ℕ)) (due : Due) (at : ℕ) (i : Item) (used : ℕ) (next : Due)
+pub one_item : (text : List ℕ) (ended : Bool) (asked : Option (List ℕ)) (due : Due) (at : ℕ) (i : Item) (used : ℕ) (next : Due)
     → StepsTo ended asked due (drop at text) (item i used next) → Chain text ended asked due at (placed_at text due at used i ∷ []) next (at + used)
 one_item text ended asked due at i used next there = (used, next, there, refl, refl, (refl, refl))
 
@@ -232,12 +232,12 @@ chain_alone text ended asked due at p used next s = by_step s
         no_part e = cc
 
 -- the bytes of a run
-record RunChain (text : List ℕ) (ended : Bool) (asked : Option (List ℕ)) (due : Due) (at : ℕ) (bytes : List ℕ) (next : Due) (to : ℕ) : Type 0 where
-  items : List Placed
-  chain : Chain text ended asked due at items next to
-  same : map item_at items ≡ map octet bytes
+pub record RunChain (text : List ℕ) (ended : Bool) (asked : Option (List ℕ)) (due : Due) (at : ℕ) (bytes : List ℕ) (next : Due) (to : ℕ) : Type 0 where
+  pub items : List Placed
+  pub chain : Chain text ended asked due at items next to
+  pub same : map item_at items ≡ map octet bytes
 
-chain_run : (text : List ℕ) (ended : Bool) (asked : Option (List ℕ)) (due : Due) (at : ℕ) (bytes : List ℕ) (used : ℕ) (next : Due)
+pub chain_run : (text : List ℕ) (ended : Bool) (asked : Option (List ℕ)) (due : Due) (at : ℕ) (bytes : List ℕ) (used : ℕ) (next : Due)
     → Carries ended asked due (drop at text) bytes used next → RunChain text ended asked due at bytes next (at + used)
 chain_run text ended asked due at [] used next x = record { items = []; chain = (x.1, omega (arith, x.0)); same = refl }
 chain_run text ended asked due at (b ∷ bytes) used next x =

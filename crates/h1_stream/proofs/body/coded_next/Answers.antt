@@ -10,7 +10,8 @@ use Rattle.h1_chunks.specs.Answers.{seen_step}
 use Rattle.h1_stream.specs.Behind.{StandsBehind}
 use Rattle.h1_stream.specs.Seen.{asked_of, seen_next, seen_stop}
 use Rattle.h1_stream.proofs.Bodies.{alone}
-use Rattle.h1_stream.proofs.Coded.{coded_there, piece_ends, piece_goes_on}
+use Rattle.http1_model.proofs.Carried.{coded_there}
+use Rattle.h1_stream.proofs.Coded.{piece_ends, piece_goes_on}
 use Rattle.h1_stream.proofs.body.coded_next.Goals as goal
 
 -- what a slice from a place on has
