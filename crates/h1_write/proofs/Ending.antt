@@ -49,7 +49,7 @@ pub record IsSent (f : Pair) : Type 0 where
   pub other : is_named (codes "connection") f ≡ false
   pub passes : list_any (bytes_eq f.0) trailer_names ≡ false
 
-token_read : (bytes : List ℕ) → is_token_text bytes ≡ true → (0 < length bytes) × ((list_all is_token_byte bytes) ≡ true)
+pub token_read : (bytes : List ℕ) → is_token_text bytes ≡ true → (0 < length bytes) × ((list_all is_token_byte bytes) ≡ true)
 unfolding is_token_byte token.is_token_byte
 token_read bytes is = let both = and_parts _ _ is in (ltb-true 0 (length bytes) both.0, both.1)
 

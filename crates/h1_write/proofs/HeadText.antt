@@ -120,7 +120,7 @@ answer_sent headers list =
     ap (sent_among all) list.are ∙ first_out all list.fields (pseudo_of headers (codes ":status")) in
     subst (λ (fs : List Pair). AllByRecursion IsSent fs) (sym same) (sent_all all list.fields list.kept.kept)
 
-kept_out : (all fields : List Pair) → list_all is_kept_field fields ≡ true → list_all is_kept_field (sent_among all fields) ≡ true
+pub kept_out : (all fields : List Pair) → list_all is_kept_field fields ≡ true → list_all is_kept_field (sent_among all fields) ≡ true
 kept_out all [] kept = refl
 kept_out all (f ∷ fs) kept =
     let both = and_parts (is_kept_field f) (list_all is_kept_field fs) kept in
@@ -139,7 +139,7 @@ digits_pass [] are = refl
 digits_pass (d ∷ ds) are =
     let both = and_parts (is_ascii_digit d) (list_all is_ascii_digit ds) are in and_from _ _ (digit_passes d both.0) (digits_pass ds both.1)
 
-framing_all : (framing : Framing) → IsInLimit framing → list_all is_kept_field (framing_fields framing) ≡ true
+pub framing_all : (framing : Framing) → IsInLimit framing → list_all is_kept_field (framing_fields framing) ≡ true
 unfolding httparse_on_literals token.is_token_byte
 framing_all no_body small = refl
 framing_all (by_length n) small =
@@ -159,7 +159,7 @@ written_all framing h list tail small =
 
 -- ---- the text
 
-framing_is : (framing : Framing) → framing_line framing ≡ field_lines (framing_fields framing)
+pub framing_is : (framing : Framing) → framing_line framing ≡ field_lines (framing_fields framing)
 framing_is no_body = refl
 framing_is (by_length n) = sym (append-nil (framing_line (by_length n)))
 framing_is by_chunks = refl

@@ -2,7 +2,11 @@ pub mod Back
 pub mod Ending
 pub mod Heads
 pub mod HeadText
+pub mod RequestText
+pub mod RequestTree
+pub mod Requests
 pub mod Round
+pub mod RoundExamples
 pub mod Sizes
 pub mod Told
 pub mod Whole

@@ -16,9 +16,9 @@ use Rattle.httparse.specs.Grammar.{AllPass, is_ows, skip_ows, trim_ows, is_value
 use Rattle.httparse.proofs.OnLiterals.{httparse_on_literals}
 use Rattle.httparse.proofs.TrimLemmas.{AllPass-reverse}
 use Rattle.std.proofs.lemmas.List.{reverse-reverse}
-use Rattle.header_maps.specs.Judged.{status_text, status_of, is_within, is_status}
+use Rattle.header_maps.specs.Judged.{is_visible, status_text, status_of, is_within, is_status}
 use Rattle.http1_model.specs.Fields.{members}
-use Rattle.http1_model.specs.Length.{nothing, exactly, chunked, Measure, length_limit, number_of, is_number, all_as, one_number, told_measure, or_malformed, response_measure}
+use Rattle.http1_model.specs.Length.{nothing, exactly, chunked, Measure, length_limit, number_of, is_number, all_as, one_number, told_measure, or_malformed, request_measure, response_measure}
 
 -- ---- digits
 
@@ -38,18 +38,31 @@ no_blank b is = grind (arith, nat_tests)
 no_comma : (b : ℕ) → is_ascii_digit b ≡ true → eqb b 44 ≡ false
 no_comma b is = grind (arith, nat_tests)
 
-skip_digits : (ds : List ℕ) → AllPass is_ascii_digit ds → skip_ows ds ≡ ds
-skip_digits [] all = refl
-skip_digits (d ∷ ds) all = cond-false _ _ _ (no_blank d (All-head (λ x. IsTrue (is_ascii_digit x)) d ds all))
+-- bytes that are no blanks
+abbrev NoBlanks : (ℕ → Bool) → Type 0
+NoBlanks test = (b : ℕ) → test b ≡ true → is_ows b ≡ false
 
--- digits have no blanks around them
-pub trim_digits : (ds : List ℕ) → list_all is_ascii_digit ds ≡ true → trim_ows ds ≡ ds
+skip_none : (test : ℕ → Bool) → NoBlanks test → (bs : List ℕ) → AllPass test bs → skip_ows bs ≡ bs
+skip_none test apart [] all = refl
+skip_none test apart (b ∷ bs) all = cond-false _ _ _ (apart b (All-head (λ x. IsTrue (test x)) b bs all))
+
+-- have no blanks around them
+trim_none : (test : ℕ → Bool) → NoBlanks test → (bs : List ℕ) → list_all test bs ≡ true → trim_ows bs ≡ bs
 unfolding trim_ows
-trim_digits ds are =
-    let all = AllPass-from_list_all is_ascii_digit ds are in
-    ap (λ (t : List ℕ). reverse (skip_ows (reverse t))) (skip_digits ds all)
-    ∙ ap reverse (skip_digits (reverse ds) (AllPass-reverse is_ascii_digit ds all))
-    ∙ reverse-reverse ds
+trim_none test apart bs are =
+    let all = AllPass-from_list_all test bs are in
+    ap (λ (t : List ℕ). reverse (skip_ows (reverse t))) (skip_none test apart bs all)
+    ∙ ap reverse (skip_none test apart (reverse bs) (AllPass-reverse test bs all))
+    ∙ reverse-reverse bs
+
+trim_digits : (ds : List ℕ) → list_all is_ascii_digit ds ≡ true → trim_ows ds ≡ ds
+trim_digits ds are = trim_none is_ascii_digit no_blank ds are
+
+visible_no_blank : (b : ℕ) → is_visible b ≡ true → is_ows b ≡ false
+visible_no_blank b is = grind (arith, nat_tests)
+
+pub trim_visible : (bs : List ℕ) → list_all is_visible bs ≡ true → trim_ows bs ≡ bs
+trim_visible bs are = trim_none is_visible visible_no_blank bs are
 
 -- ---- the number that is told
 
@@ -71,16 +84,27 @@ number_told n small =
 abbrev pub told_as : ℕ → Measure
 told_as n = record { length = cond (eqb n 0) nothing (exactly n); told = Some n }
 
-pub length_told : (n : ℕ) → n ≤ length_limit → response_measure 1 [] (trim_ows (decimal n) ∷ []) ≡ Ok (told_as n)
-length_told n small =
+one_told : (n : ℕ) → n ≤ length_limit → one_number (members (trim_ows (decimal n)) ++ []) ≡ Some n
+one_told n small =
     let are = decimal_digits n (omega (arith, small)) in
-    let one : one_number (members (trim_ows (decimal n)) ++ []) ≡ Some n =
     ap (λ (t : List ℕ). one_number (members t ++ [])) (trim_digits (decimal n) are)
     ∙ ap (λ (ms : List (List ℕ)). one_number (ms ++ [])) (members_of_digits (decimal n) are)
-    ∙ ap (all_as []) (number_told n small) in
-    ap (λ o. or_malformed (told_measure o)) one
+    ∙ ap (all_as []) (number_told n small)
 
-pub chunks_told : response_measure 1 (trim_ows (codes "chunked") ∷ []) [] ≡ Ok (record { length = chunked; told = None })
+pub request_length_told : (n : ℕ) → n ≤ length_limit → request_measure 1 [] (trim_ows (decimal n) ∷ []) ≡ Ok (told_as n)
+request_length_told n small = ap told_measure (one_told n small)
+
+pub length_told : (n : ℕ) → n ≤ length_limit → response_measure 1 [] (trim_ows (decimal n) ∷ []) ≡ Ok (told_as n)
+length_told n small = ap (λ o. or_malformed (told_measure o)) (one_told n small)
+
+abbrev pub told_in_chunks : Measure
+told_in_chunks = record { length = chunked; told = None }
+
+pub request_chunks_told : request_measure 1 (trim_ows (codes "chunked") ∷ []) [] ≡ Ok told_in_chunks
+unfolding httparse_on_literals
+request_chunks_told = refl
+
+pub chunks_told : response_measure 1 (trim_ows (codes "chunked") ∷ []) [] ≡ Ok told_in_chunks
 unfolding httparse_on_literals
 chunks_told = refl
 

@@ -1,4 +1,6 @@
 pub mod Heads
 pub mod Laws
+pub mod Requests
 pub mod Round
+pub mod RoundExamples
 pub mod Seen

@@ -2,6 +2,8 @@
 ghost use Rattle.h1_write.specs.Laws.{PiecesReadBack, EndReadBack, TrailersReadBack, TrailedEndReadBack};
 ghost use Rattle.h1_write.specs.Round.{BodyReadBack, BodyIsAll, ReadingsJoin, HeadReadBack, MessageReadBack, MessageIsAll, RequestsReadBack, AnswerReadBack};
 ghost use Rattle.h1_write.specs.Heads.{ResponseHeadReadBack, InterimReadBack, ResponseReadBack, BareResponseReadBack};
+ghost use Rattle.h1_write.specs.Requests.{RequestHeadReadBack, RequestReadBack};
+ghost use Rattle.h1_write.specs.RoundExamples.{ResponseExamples, RequestExamples};
 
 /// Pieces that are written in chunks are read back as the same bytes, joined, whatever pieces they came in; then the body ends,
 /// where all that was written is used up.
@@ -45,4 +47,17 @@ pub fn responses_read_back()
     ensures interim { InterimReadBack }
     ensures whole { ResponseReadBack }
     ensures bare { BareResponseReadBack }
+{}
+
+/// A request head that is written is read as a head with the same method, authority and path, the fields that went out and the
+/// length that its framing says; so a whole request that is written is read as its head and its body's items.
+pub fn requests_read_back()
+    ensures head { RequestHeadReadBack }
+    ensures whole { RequestReadBack }
+{}
+
+/// A response and a request that are written and read back, worked on texts that are written out.
+pub fn round_examples()
+    ensures response { ResponseExamples }
+    ensures request { RequestExamples }
 {}

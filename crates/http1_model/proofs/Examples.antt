@@ -45,14 +45,18 @@ worked_is_head = record {
   fields = All-cons IsField host_field [] host_is_field (All-nil IsField);
 }
 
-worked_target : GivesTarget (codes "GET") (codes "/") (record { form = origin; scheme = http; authority = None; path = codes "/" })
-worked_target = record {
+-- `/` is a target of every method
+pub slash_target : (method : List ℕ) → GivesTarget method (codes "/") (record { form = origin; scheme = http; authority = None; path = codes "/" })
+slash_target method = record {
   scheme = None;
   authority = None;
   kept = codes "/";
   reads = (lit≤ tt, ((inr refl, record { start = inr refl; short = lit≤ tt; kept = IsPathAndQuery_slash }), refl));
   gives = refl;
 }
+
+worked_target : GivesTarget (codes "GET") (codes "/") (record { form = origin; scheme = http; authority = None; path = codes "/" })
+worked_target = slash_target (codes "GET")
 
 worked_answer : IsAnswer worked_text (Ok worked_head)
 unfolding httparse_on_literals header.is_token_byte

@@ -84,7 +84,7 @@ whole_lines-field f more is =
 pub filled_line : (b : ℕ) (line : List ℕ) → eqb b 10 ≡ false → eqb b 13 ≡ false → is_empty_line (b ∷ line) ≡ false
 filled_line b line no_lf no_cr = rw (no_lf, no_cr)
 
-token_first : (name rest : List ℕ) → 0 < length name → AllPass is_token_byte name → is_empty_line (name ++ rest) ≡ false
+pub token_first : (name rest : List ℕ) → 0 < length name → AllPass is_token_byte name → is_empty_line (name ++ rest) ≡ false
 unfolding is_token_byte
 token_first [] rest some all = absurd (omega arith)
 token_first (b ∷ name) rest some all =
@@ -253,7 +253,7 @@ request_words h = h.method ++ 32 ∷ (h.target ++ 32 ∷ print_version h.minor)
 abbrev pub request_parts : RequestHead → Parts
 request_parts h = record { blank = h.blank; words = request_words h; line_end = h.line_end; fields = h.fields; last = h.last }
 
-request_words-line : (h : RequestHead) → IsRequestHead h → IsOneLine (request_words h)
+pub request_words-line : (h : RequestHead) → IsRequestHead h → IsOneLine (request_words h)
 request_words-line h is =
     IsOneLine-append h.method (32 ∷ (h.target ++ 32 ∷ print_version h.minor)) (token_line h.method is.method.1)
     (IsOneLine-append (32 ∷ h.target) (32 ∷ print_version h.minor)

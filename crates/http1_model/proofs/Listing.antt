@@ -46,7 +46,7 @@ longer headers (f ∷ fs) l e = by_fault (is_none (add_fault headers f.0 f.1)) e
 
 -- ---- the fields that pass
 
-passing-kept : (all fs : List Pair) → map lowered (passing_among (is_dropped all) fs) ≡ kept_among all fs
+pub passing-kept : (all fs : List Pair) → map lowered (passing_among (is_dropped all) fs) ≡ kept_among all fs
 passing-kept all [] = refl
 passing-kept all (f ∷ fs) = by_test (is_dropped all (lowercase f.0)) refl (passing-kept all fs)
   where
