@@ -1,36 +1,36 @@
 -- The list of a response head, and the text that it is written as.
-use Rattle.std.proofs.Common.{◌≡◌, ℕ, ◌+◌, ◌<◌, ◌≤◌, ◌^◌, Bool, true, false, cond, eqb, not, ◌||◌, ◌&&◌, List, [], ◌∷◌, ◌++◌, map, filter, length, take, drop, codes, decimal, bytes_eq, Option, None, Some, Result, Ok, Err, refl, sym, ap, subst, ◌∙◌, append_assoc, zero-add, lit≤, arith}
+use Rattle.std.proofs.Common.{◌≡◌, ℕ, ◌+◌, ◌≤◌, Bool, true, false, cond, not, ◌&&◌, List, [], ◌∷◌, ◌++◌, map, length, take, drop, codes, decimal, Some, Result, refl, sym, ap, subst, ◌∙◌, append_assoc, zero-add, arith}
 use Rattle.std.proofs.lemmas.Bool.{and_from, and_parts, cond-true, cond-false, le-ltb, lt-ltb, false≢true}
 use Rattle.std.proofs.lemmas.Bool.Decides.{nat_tests}
 use Rattle.std.proofs.lemmas.Grind.{flat_map-append}
-use Rattle.std.proofs.lemmas.List.{append-nil, length-append, length-map, take_all}
+use Rattle.std.proofs.lemmas.List.{append-nil, take_all}
 use Rattle.std.proofs.lemmas.List.Elements.{All-nil}
 use Rattle.std.proofs.lemmas.List.Folds.{list_all-append}
 use Rattle.std.proofs.lemmas.List.Sums.{AllPass-from_list_all}
 use Rattle.std.specs.Char.{is_ascii_digit}
-use Rattle.std.specs.List.{AllByRecursion, flat_map, list_all, find}
+use Rattle.std.specs.List.{AllByRecursion, list_all, find}
 use Rattle.std.specs.Option.{option_map}
-use Rattle.std.specs.Prelude.{All, IsTrue, nat_lt, unwrap_or}
+use Rattle.std.specs.Prelude.{IsTrue, nat_lt, unwrap_or}
 use Rattle.std.specs.Str.Parse.{digits_value}
 use Rattle.http_header.specs.Token as token
 use Rattle.http_header.specs.Token.{lowercase}
 use Rattle.httparse.specs.Ascii.{crlf_bytes}
-use Rattle.httparse.specs.Grammar.{AllPass, is_value_byte, crlf, IsField, print_field, print_end, print_section, print_version, ResponseHead, IsResponseHead, print_response, ReadsResponse}
+use Rattle.httparse.specs.Grammar.{is_value_byte, crlf, print_field, print_end, print_section, ResponseHead, IsResponseHead, print_response}
 use Rattle.httparse.proofs.OnLiterals.{httparse_on_literals}
 use Rattle.header_maps.specs.declared.kind.ListKind.{ListKind}
 use Rattle.header_maps.specs.declared.kind.ListKind.TheVariants as kinds
 use Rattle.header_maps.specs.Headers.{Headers}
 use Rattle.header_maps.specs.Judged.{is_status}
-use Rattle.header_maps.specs.Kept.{is_kept_field, AreFields, IsPseudoHeader, BeginsWith, IsHeaders}
+use Rattle.header_maps.specs.Kept.{is_kept_field, AreFields, BeginsWith, IsHeaders}
 use Rattle.header_maps.specs.Kinds.{pseudo_names}
-use Rattle.header_maps.specs.Operations.{first_of, status_kind}
+use Rattle.header_maps.specs.Operations.{status_kind}
 use Rattle.header_maps.specs.Pairs.{is_named}
 use Rattle.http1_model.specs.Fields.{Pair}
 use Rattle.http1_model.specs.Framing.{Framing, no_body, by_length, by_chunks, by_close, framing_line, response_line, start_lines, head_wire}
-use Rattle.http1_model.specs.Head.{Head, HeadStep, step_of, SpellsBy, IsStepAt}
-use Rattle.http1_model.specs.Lines.{Cut, whole, too_large, is_empty_line, skipped, head_cut, window_cut, empty_len, whole_lines, cut_at}
+use Rattle.http1_model.specs.Head.{Head, step_of, SpellsBy, IsStepAt}
+use Rattle.http1_model.specs.Lines.{Cut, whole, too_large, is_empty_line, skipped, head_cut, window_cut, empty_len, whole_lines}
 use Rattle.http1_model.specs.Wire.{field_line, field_lines, is_left_out, sent_among, sent_fields, pseudo_of}
-use Rattle.http1_model.proofs.GrammarLines.{Parts, AreParts, Prints, first_line, whole_lines-head, length-head, window_cut-head, filled_line, response_words, response_words-line, response_parts, response_prints}
+use Rattle.http1_model.proofs.GrammarLines.{AreParts, first_line, whole_lines-head, length-head, window_cut-head, filled_line, response_words-line, response_parts, response_prints}
 use Rattle.h1_write.specs.Heads.{framing_fields, written_fields, is_answer_kind, IsTail, IsInLimit, status_said}
 use Rattle.h1_write.proofs.Ending.{fields_at, section_is, IsSent, sent_all}
 use Rattle.h1_write.proofs.Told.{decimal_digits, IsCode, code_of}

@@ -1,31 +1,30 @@
 -- The head of a response that is written is read as a head, and so is the whole response.
-use Rattle.std.proofs.Common.{◌≡◌, ℕ, ◌+◌, ◌≤◌, Bool, true, false, cond, eqb, not, ◌||◌, ◌&&◌, List, [], ◌∷◌, ◌++◌, map, length, codes, bytes_eq, Option, None, Some, IsSome, Result, Ok, Err, refl, sym, ap, subst, ◌∙◌, inl, arith}
+use Rattle.std.proofs.Common.{◌≡◌, ℕ, ◌≤◌, Bool, true, false, cond, List, [], ◌∷◌, map, length, codes, bytes_eq, Option, None, Some, IsSome, Result, Ok, refl, sym, ap, subst, ◌∙◌, inl, arith}
 use Rattle.std.proofs.lemmas.Bool.{false≢true}
 use Rattle.std.proofs.lemmas.List.{append-nil, length-map}
-use Rattle.std.specs.List.{AllByRecursion, list_any}
-use Rattle.httparse.specs.Grammar.{ResponseHead, IsResponseHead, print_response, ReadsResponse, status_code}
+use Rattle.std.specs.List.{list_any}
+use Rattle.httparse.specs.Grammar.{IsResponseHead, print_response, ReadsResponse}
 use Rattle.header_maps.specs.declared.kind.ListKind.{ListKind}
 use Rattle.header_maps.specs.declared.kind.ListKind.TheVariants as kinds
 use Rattle.header_maps.specs.Headers.{Headers}
 use Rattle.header_maps.specs.Judged.{status_text}
 use Rattle.header_maps.specs.Operations.{no_headers}
-use Rattle.http1_model.specs.Fields.{Pair, values_of, lists, is_listed, kept_response_fields}
-use Rattle.http1_model.specs.Framing.{Framing, no_body, by_length, by_chunks, by_close, items_wire, head_wire}
-use Rattle.http1_model.specs.Framing as out
-use Rattle.http1_model.specs.Head.{Head, head_of, measured, listed, pairs_at, response_judged, IsResponseText, IsResponseAnswer, found, step_of, SpellsResponse}
-use Rattle.http1_model.specs.Length.{BodyLength, nothing, exactly, chunked, until_end, Measure, response_measure, is_without_body, without_body, bodied}
+use Rattle.http1_model.specs.Fields.{Pair, values_of, lists, kept_response_fields}
+use Rattle.http1_model.specs.Framing.{Framing, no_body, by_length, by_chunks, by_close, head_wire}
+use Rattle.http1_model.specs.Head.{Head, head_of, measured, listed, pairs_at, response_judged, IsResponseAnswer, found, step_of, SpellsResponse}
+use Rattle.http1_model.specs.Length.{BodyLength, nothing, Measure, response_measure, is_without_body, without_body, bodied}
 use Rattle.http1_model.specs.Listed.{response_list}
-use Rattle.http1_model.specs.Messages.{Item, response, interim, head, done, over, Due, Step, item, due_behind, is_interim, response_item, StepsTo}
+use Rattle.http1_model.specs.Messages.{response, interim, head, done, Step, item, due_behind, is_interim, response_item, StepsTo}
 use Rattle.http1_model.specs.Wire.{sent_fields, pseudo_of}
 use Rattle.http1_model.proofs.Listing.{response_listed}
 use Rattle.http1_model.proofs.Taken.{response_taken}
-use Rattle.h1_write.specs.Heads.{framing_fields, written_fields, is_answer_kind, status_said, IsReadable, measure_said, tail_read, connection_read, fields_read, head_read, frames_body, ResponseHeadReadBack, InterimReadBack, ResponseReadBack, BareResponseReadBack}
+use Rattle.h1_write.specs.Heads.{written_fields, status_said, IsReadable, measure_said, connection_read, fields_read, head_read, frames_body, ResponseHeadReadBack, InterimReadBack, ResponseReadBack, BareResponseReadBack}
 use Rattle.h1_write.specs.Laws.{read_field}
-use Rattle.h1_write.specs.Round.{Ending, body_items, Suits, length_said, items_read, ReadsAs, IsReadAs, IsHeadWith}
+use Rattle.h1_write.specs.Round.{last_bytes, length_said, ReadsAs, IsHeadWith}
 use Rattle.h1_write.proofs.Ending.{field_at, values_read}
 use Rattle.h1_write.proofs.HeadText.{AnswerList, answer_list, answer_sent, tree_of, printed, tree_is, spells_whole, tree_whole}
 use Rattle.h1_write.proofs.Told.{code_text}
-use Rattle.h1_write.proofs.Whole.{head_read_back, whole_back, message_is_all}
+use Rattle.h1_write.proofs.Whole.{head_read_back, message_is_all}
 use Rattle.h1_write.proofs.Written.{written_told, written_connection, written_kept}
 
 -- ---- what is judged
@@ -126,14 +125,18 @@ response_step : (h : Head) (used : ℕ) → h.fields.kind ≡ kinds.Response →
 response_step h used is =
     ap (λ (k : ListKind). cond (is_interim k) (item (interim h) used head) (item (response h) used (due_behind done h.connection h.length))) is
 
+pub interim_there : (asked : List ℕ) (h : Head) → IsReadable no_body h → h.fields.kind ≡ kinds.Interim
+    → StepsTo false (Some asked) head (head_wire no_body h) (item (interim (head_read (bytes_eq asked (codes "HEAD")) no_body h)) (length (head_wire no_body h)) head)
+interim_there asked h r kind =
+    subst (λ (s : Step). StepsTo false (Some asked) head (head_wire no_body h) s)
+    (interim_step (head_read (bytes_eq asked (codes "HEAD")) no_body h) (length (head_wire no_body h)) kind) (head_step asked no_body h r)
+
 pub interim_read_back : InterimReadBack
 interim_read_back asked framing h ended front behind r kind =
     let read = head_read (bytes_eq asked (codes "HEAD")) no_body h in
     let wire = head_wire no_body h in
-    let step : StepsTo false (Some asked) head wire (item (interim read) (length wire) head) =
-    subst (λ (s : Step). StepsTo false (Some asked) head wire s) (interim_step read (length wire) kind) (head_step asked no_body h r) in
     subst (λ (t : List ℕ). ReadsAs ended (Some asked) head front t behind (interim read ∷ []) head) (sym (append-nil wire))
-    (head_read_back wire (interim read) head ended (Some asked) front behind step)
+    (head_read_back wire (interim read) head ended (Some asked) front behind (interim_there asked h r kind))
 
 -- ---- whole responses
 
@@ -155,21 +158,26 @@ body_said (by_length n) frames = refl
 body_said by_chunks frames = refl
 body_said by_close frames = refl
 
+-- with a body, and without one
+pub with_body : (asked : List ℕ) (framing : Framing) (h : Head) → IsReadable framing h → h.fields.kind ≡ kinds.Response
+    → is_without_body (bytes_eq asked (codes "HEAD")) (status_said h.fields) ≡ false → frames_body framing ≡ true
+    → IsHeadWith (Some asked) (head_wire framing h) (response (head_read (bytes_eq asked (codes "HEAD")) framing h)) (connection_read h) framing
+with_body asked framing h r kind some frames =
+    with_length asked framing h (length_said framing) r kind
+    (ap (λ b. (without_body b (measure_said framing)).length) some ∙ body_said framing frames)
+
+pub without_any : (asked : List ℕ) (framing : Framing) (h : Head) → IsReadable framing h → h.fields.kind ≡ kinds.Response
+    → is_without_body (bytes_eq asked (codes "HEAD")) (status_said h.fields) ≡ true
+    → IsHeadWith (Some asked) (head_wire framing h) (response (head_read (bytes_eq asked (codes "HEAD")) framing h)) (connection_read h) no_body
+without_any asked framing h r kind bare =
+    with_length asked framing h nothing r kind (ap (λ b. (without_body b (measure_said framing)).length) bare)
+
 pub response_read_back : ResponseReadBack
 response_read_back asked framing h pieces ending ended r kind some frames suits =
-    let read = head_read (bytes_eq asked (codes "HEAD")) framing h in
-    let said : (without_body (is_without_body (bytes_eq asked (codes "HEAD")) (status_said h.fields)) (measure_said framing)).length ≡ length_said framing =
-    ap (λ b. (without_body b (measure_said framing)).length) some ∙ body_said framing frames in
-    message_is_all (head_wire framing h) (response read) framing pieces ending ended (Some asked) (connection_read h)
-    (with_length asked framing h (length_said framing) r kind said) suits
+    message_is_all (head_wire framing h) (response (head_read (bytes_eq asked (codes "HEAD")) framing h)) framing pieces ending ended (Some asked) (connection_read h)
+    (with_body asked framing h r kind some frames) suits
 
 pub bare_response_read_back : BareResponseReadBack
 bare_response_read_back asked framing h ended r kind bare =
-    let read = head_read (bytes_eq asked (codes "HEAD")) framing h in
-    let wire = head_wire framing h in
-    let said : (without_body (is_without_body (bytes_eq asked (codes "HEAD")) (status_said h.fields)) (measure_said framing)).length ≡ nothing =
-    ap (λ b. (without_body b (measure_said framing)).length) bare in
-    let reads : ReadsAs ended (Some asked) head [] wire [] (response read ∷ []) done =
-    head_read_back wire (response read) done ended (Some asked) [] [] (with_length asked framing h nothing r kind said) in
-    subst (λ (t : List ℕ). IsReadAs t ended (Some asked) head (response read ∷ []) over) (sym (append-nil wire))
-    (whole_back ended (Some asked) head wire (response read ∷ []) reads)
+    message_is_all (head_wire framing h) (response (head_read (bytes_eq asked (codes "HEAD")) framing h)) no_body [] (last_bytes []) ended (Some asked) (connection_read h)
+    (without_any asked framing h r kind bare) tt

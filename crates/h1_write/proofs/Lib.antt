@@ -2,6 +2,7 @@ pub mod Back
 pub mod Ending
 pub mod Heads
 pub mod HeadText
+pub mod Lines
 pub mod RequestText
 pub mod RequestTree
 pub mod Requests

@@ -1,41 +1,29 @@
 -- The list of a request head, and the fields of it that are written.
-use Rattle.std.proofs.Common.{◌≡◌, ℕ, ◌+◌, ◌<◌, ◌≤◌, ◌⊎◌, Bool, true, false, cond, eqb, not, ◌||◌, ◌&&◌, List, [], ◌∷◌, ◌++◌, map, filter, length, take, drop, get_or, codes, decimal, bytes_eq, Option, None, Some, Result, Ok, Err, refl, sym, ap, subst, ◌∙◌, append_assoc, zero-add, inl, inr, lit≤, lit<, arith}
-use Rattle.std.proofs.lemmas.Bool.{and_from, and_parts, cond-true, cond-false, le-ltb, lt-ltb, not-true, eqb-true, false≢true}
+use Rattle.std.proofs.Common.{◌≡◌, ℕ, Bool, true, false, cond, not, ◌||◌, List, [], ◌∷◌, ◌++◌, codes, refl, sym, ap, subst, ◌∙◌, arith}
+use Rattle.std.proofs.lemmas.Bool.{and_from, and_parts, false≢true}
 use Rattle.std.proofs.lemmas.Bool.Decides.{nat_tests}
-use Rattle.std.proofs.lemmas.Grind.{flat_map-append}
-use Rattle.std.proofs.lemmas.List.{append-nil, length-append, length-map, take_all}
-use Rattle.std.proofs.lemmas.List.Elements.{All-cons, All-nil, All-head, All-tail}
 use Rattle.std.proofs.lemmas.List.Folds.{list_all-append}
-use Rattle.std.proofs.lemmas.List.Sums.{AllPass-from_list_all}
-use Rattle.std.proofs.lemmas.Str.{IsUtf8-from_ascii}
-use Rattle.std.proofs.lemmas.Str.Ascii.{IsAscii-from_all}
-use Rattle.std.specs.List.{AllByRecursion, flat_map, list_all, list_any, find}
+use Rattle.std.specs.List.{AllByRecursion, list_all, find}
 use Rattle.std.specs.Option.{option_map}
-use Rattle.std.specs.Prelude.{All, IsTrue, nat_lt, unwrap_or}
+use Rattle.std.specs.Prelude.{unwrap_or}
 use Rattle.http_header.specs.Token as token
 use Rattle.http_header.specs.Token.{lowercase}
-use Rattle.httparse.specs.Ascii.{crlf_bytes}
-use Rattle.httparse.specs.Grammar.{AllPass, is_token_byte, is_uri_byte, crlf, IsField, print_section, RequestHead, IsRequestHead, print_request}
 use Rattle.httparse.proofs.OnLiterals.{httparse_on_literals}
 use Rattle.header_maps.specs.declared.kind.ListKind.{ListKind}
 use Rattle.header_maps.specs.declared.kind.ListKind.TheVariants as kinds
-use Rattle.header_maps.specs.Headers.{Headers}
-use Rattle.header_maps.specs.Judged.{is_token_text, is_method, is_authority, is_path, is_path_byte, is_visible}
-use Rattle.header_maps.specs.Kept.{is_kept_field, AreFields, IsPseudoHeader, BeginsWith, IsHeaders}
+use Rattle.header_maps.specs.Judged.{is_method, is_authority, is_path, is_visible}
+use Rattle.header_maps.specs.Kept.{is_kept_field, AreFields, BeginsWith, IsHeaders}
 use Rattle.header_maps.specs.Kinds.{pseudo_names}
 use Rattle.header_maps.specs.Pairs.{is_named}
-use Rattle.header_maps.proofs.Shapes.{bytes_are}
 use Rattle.http1_model.specs.Fields.{Pair, is_hop_name, is_listed}
-use Rattle.http1_model.specs.Framing.{Framing, framing_line, start_lines, head_wire}
+use Rattle.http1_model.specs.Framing.{Framing}
 use Rattle.http1_model.specs.Head.{Head}
-use Rattle.http1_model.specs.Lines.{Cut, whole, too_large, is_empty_line, skipped, head_cut, window_cut, empty_len, whole_lines, cut_at}
-use Rattle.http1_model.specs.Wire.{field_line, field_lines, is_left_out, sent_among, sent_fields, pseudo_of, request_line}
-use Rattle.http1_model.proofs.GrammarLines.{Parts, AreParts, first_line, whole_lines-head, length-head, window_cut-head, token_first, request_words-line, request_parts, request_prints}
-use Rattle.h1_write.specs.Heads.{framing_fields, written_fields, IsTail, IsInLimit}
+use Rattle.http1_model.specs.Wire.{is_left_out, sent_among, sent_fields}
+use Rattle.h1_write.specs.Heads.{framing_fields, IsTail, IsInLimit}
 use Rattle.h1_write.specs.Requests.{method_of, path_of, authority_of, request_fields}
-use Rattle.h1_write.proofs.Ending.{fields_at, section_is, token_read, IsSent, sent_all, kept_low}
-use Rattle.h1_write.proofs.HeadText.{IsWhole, kept_out, framing_all, framing_is}
-use Rattle.h1_write.proofs.Written.{IsOut, fields_all}
+use Rattle.h1_write.proofs.Ending.{IsSent, sent_all, kept_low}
+use Rattle.h1_write.proofs.HeadText.{kept_out, framing_all}
+use Rattle.h1_write.proofs.Written.{IsOut}
 
 -- ---- the list
 

@@ -1,6 +1,6 @@
 -- The text that a request head is written as, and where it ends.
-use Rattle.std.proofs.Common.{◌≡◌, ℕ, ◌+◌, ◌<◌, ◌≤◌, ◌⊎◌, Bool, true, false, cond, eqb, not, ◌||◌, ◌&&◌, List, [], ◌∷◌, ◌++◌, map, length, get_or, codes, bytes_eq, refl, sym, ap, subst, ◌∙◌, append_assoc, inl, inr, arith}
-use Rattle.std.proofs.lemmas.Bool.{and_from, and_parts, cond-true, cond-false, le-ltb, not-true, ltb-true, false≢true}
+use Rattle.std.proofs.Common.{◌≡◌, ℕ, ◌+◌, ◌<◌, ◌≤◌, Bool, true, false, eqb, not, ◌||◌, ◌&&◌, List, [], ◌∷◌, ◌++◌, map, length, get_or, codes, bytes_eq, refl, sym, ap, subst, ◌∙◌, append_assoc, arith}
+use Rattle.std.proofs.lemmas.Bool.{and_parts, cond-false, le-ltb, false≢true}
 use Rattle.std.proofs.lemmas.Bool.Decides.{nat_tests}
 use Rattle.std.proofs.lemmas.Grind.{flat_map-append}
 use Rattle.std.proofs.lemmas.List.{append-nil, take_all}
@@ -8,18 +8,17 @@ use Rattle.std.proofs.lemmas.List.Elements.{All-cons, All-nil}
 use Rattle.std.proofs.lemmas.List.Sums.{AllPass-from_list_all}
 use Rattle.std.proofs.lemmas.Str.{IsUtf8-from_ascii}
 use Rattle.std.proofs.lemmas.Str.Ascii.{IsAscii-from_all}
-use Rattle.std.specs.List.{flat_map, list_all}
+use Rattle.std.specs.List.{list_all}
 use Rattle.std.specs.Prelude.{All, IsTrue, nat_lt}
 use Rattle.httparse.specs.Ascii.{crlf_bytes}
 use Rattle.httparse.specs.Grammar.{AllPass, is_token_byte, is_uri_byte, crlf, print_field, print_end, print_section, print_version, RequestHead, IsRequestHead, print_request}
 use Rattle.header_maps.specs.declared.kind.ListKind.{ListKind}
 use Rattle.header_maps.specs.declared.kind.ListKind.TheVariants as kinds
-use Rattle.header_maps.specs.Judged.{is_token_text, is_method, is_path, is_path_byte}
+use Rattle.header_maps.specs.Judged.{is_token_text, is_path, is_path_byte}
 use Rattle.header_maps.proofs.Shapes.{bytes_are}
-use Rattle.http1_model.specs.Fields.{Pair}
 use Rattle.http1_model.specs.Framing.{Framing, framing_line, start_lines, head_wire}
 use Rattle.http1_model.specs.Head.{Head}
-use Rattle.http1_model.specs.Lines.{whole, too_large, is_empty_line, skipped, head_cut, window_cut, empty_len, whole_lines}
+use Rattle.http1_model.specs.Lines.{whole, too_large, is_empty_line, skipped, window_cut, empty_len, whole_lines}
 use Rattle.http1_model.specs.Wire.{field_line, field_lines, sent_fields, request_line}
 use Rattle.http1_model.proofs.GrammarLines.{AreParts, first_line, whole_lines-head, length-head, window_cut-head, token_first, request_words-line, request_parts, request_prints}
 use Rattle.h1_write.specs.Heads.{framing_fields, written_fields, IsTail, IsInLimit}

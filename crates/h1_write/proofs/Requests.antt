@@ -1,35 +1,32 @@
 -- The head of a request that is written is read as a head, and so is the whole request.
-use Rattle.std.proofs.Common.{◌≡◌, ℕ, ◌+◌, ◌≤◌, Bool, true, false, cond, eqb, not, ◌||◌, ◌&&◌, List, [], ◌∷◌, ◌++◌, map, length, codes, bytes_eq, Option, None, Some, IsSome, Result, Ok, Err, refl, sym, ap, subst, ◌∙◌, inl, arith}
-use Rattle.std.proofs.lemmas.Bool.{and_from, and_parts, cond-true, cond-false, not-true, false≢true}
+use Rattle.std.proofs.Common.{◌≡◌, ℕ, ◌≤◌, Bool, true, false, not, ◌||◌, List, [], ◌∷◌, ◌++◌, map, length, codes, bytes_eq, Option, None, Some, IsSome, Result, Ok, Err, refl, sym, ap, subst, ◌∙◌, inl, arith}
+use Rattle.std.proofs.lemmas.Bool.{and_parts, cond-true, cond-false, not-true, false≢true}
 use Rattle.std.proofs.lemmas.List.{append-nil, length-map}
 use Rattle.std.specs.List.{AllByRecursion, list_all, list_any}
 use Rattle.std.specs.Prelude.{MatchOption, unwrap_or}
 use Rattle.http_header.specs.Token.{lowercase}
-use Rattle.httparse.specs.Grammar.{trim_ows, RequestHead, IsRequestHead, print_request, ReadsRequest}
+use Rattle.httparse.specs.Grammar.{IsRequestHead, print_request, ReadsRequest}
 use Rattle.httparse.proofs.OnLiterals.{httparse_on_literals}
-use Rattle.header_maps.specs.declared.kind.ListKind.{ListKind}
-use Rattle.header_maps.specs.declared.kind.ListKind.TheVariants as kinds
 use Rattle.header_maps.specs.Headers.{Headers}
 use Rattle.header_maps.specs.Judged.{is_token_text}
 use Rattle.header_maps.specs.Kept.{is_kept_field}
 use Rattle.header_maps.specs.Operations.{no_headers, request_headers}
-use Rattle.http1_model.specs.Fields.{Pair, is_named, values_of, lists, is_listed, is_hop_name, unlisted, kept_fields}
-use Rattle.http1_model.specs.Framing.{Framing, no_body, by_length, by_chunks, by_close, items_wire, head_wire}
-use Rattle.http1_model.specs.Framing as out
+use Rattle.http1_model.specs.Fields.{Pair, is_named, values_of, lists, is_hop_name, unlisted, kept_fields}
+use Rattle.http1_model.specs.Framing.{Framing, no_body, by_length, by_chunks, by_close, head_wire}
 use Rattle.http1_model.specs.Head.{Head, host_of, is_host_right, head_of, measured, listed, targeted, early_refusal, IsTargeted, IsJudged, pairs_at, IsAnswer, found, step_of, SpellsStep}
 use Rattle.http1_model.specs.Length.{BodyLength, Measure, request_measure}
 use Rattle.http1_model.specs.Listed.{scheme_text, request_list}
-use Rattle.http1_model.specs.Messages.{Item, request, head, Due, Step, item, due_behind, StepsTo}
-use Rattle.http1_model.specs.Target.{Target, GivesTarget}
-use Rattle.http1_model.specs.Wire.{sent_fields, pseudo_of}
+use Rattle.http1_model.specs.Messages.{request, head, item, due_behind, StepsTo}
+use Rattle.http1_model.specs.Target.{Target}
+use Rattle.http1_model.specs.Wire.{sent_fields}
 use Rattle.http1_model.proofs.FieldLemmas.{values_of-other, values_of-named}
 use Rattle.http1_model.proofs.Listing.{passing-kept, request_listed}
 use Rattle.http1_model.proofs.Taken.{request_taken}
 use Rattle.http1_model.proofs.TargetLemmas.{IsTargetOf-unique}
-use Rattle.h1_write.specs.Heads.{framing_fields, written_fields, IsTail, IsInLimit, told_fields, tail_read, connection_read}
+use Rattle.h1_write.specs.Heads.{framing_fields, written_fields, IsInLimit, told_fields, tail_read, connection_read}
 use Rattle.h1_write.specs.Laws.{read_field}
-use Rattle.h1_write.specs.Requests.{method_of, path_of, authority_of, request_fields, own_target, form_of, is_for_request, IsReadableRequest, request_said, request_fields_read, request_read, RequestHeadReadBack, RequestReadBack}
-use Rattle.h1_write.specs.Round.{Ending, body_items, Suits, length_said, items_read, stop_behind, IsReadAs, IsHeadWith}
+use Rattle.h1_write.specs.Requests.{method_of, path_of, authority_of, request_fields, own_target, is_for_request, IsReadableRequest, request_said, request_fields_read, request_read, RequestHeadReadBack, RequestReadBack}
+use Rattle.h1_write.specs.Round.{length_said, IsHeadWith}
 use Rattle.h1_write.proofs.Ending.{field_at, values_read, kept_low}
 use Rattle.h1_write.proofs.HeadText.{spells_whole}
 use Rattle.h1_write.proofs.RequestText as text
@@ -37,7 +34,7 @@ use Rattle.h1_write.proofs.RequestText.{RequestList, request_sent, request_out}
 use Rattle.h1_write.proofs.RequestTree.{tree_of, printed, tree_is, tree_whole}
 use Rattle.h1_write.proofs.Told.{trim_visible, request_length_told, request_chunks_told}
 use Rattle.h1_write.proofs.Whole.{message_is_all}
-use Rattle.h1_write.proofs.Written.{IsOut, AreHops, sent_other, tail_other, unnamed, no_codings, no_lengths, only_middle, three_parts, written_connection, dropped_by, passing_by, dropped_first, written_passing}
+use Rattle.h1_write.proofs.Written.{IsOut, AreHops, sent_other, tail_other, unnamed, no_codings, no_lengths, only_middle, written_connection, passing_by, dropped_first, written_passing}
 
 -- the fields of a head as they are read
 abbrev all_read : Framing → Head → List Pair
@@ -185,18 +182,20 @@ judged_is framing h r list some = by_list (request_list method target (host_of (
     by_list None is some = absurd (cc)
     by_list (Some l) is some =
         let measure = request_said framing in
+        let told = request_measure 1 (values_of (codes "transfer-encoding") all) (values_of (codes "content-length") all) in
+        let first : targeted method 1 all (Some target) ≡ measured l (Some target.form) 1 all told =
+        ap (λ (o : Option Headers). listed 400 o (Some target.form) 1 all told) is in
         let taken : targeted method 1 all (Some target) ≡ Ok (head_of l (Some target.form) 1 all measure) =
-        ap (λ (o : Option Headers). listed 400 o (Some target.form) 1 all
-        (request_measure 1 (values_of (codes "transfer-encoding") all) (values_of (codes "content-length") all))) is
-        ∙ ap (λ (m : Result Measure ℕ). measured l (Some target.form) 1 all m) (told_is framing h r list) in
+        first ∙ ap (λ (m : Result Measure ℕ). measured l (Some target.form) 1 all m) (told_is framing h r list) in
         let shape = request_listed method (path_of h) 1 all (head_of l (Some target.form) 1 all measure)
         (judged (Ok (head_of l (Some target.form) 1 all measure)) (sym taken)) in
         let one : shape.0 ≡ target = same_parts shape.0 (IsTargetOf-unique method (path_of h) (Some shape.0) (Some target) shape.1 r.target) in
         let host : host_of (values_of (codes "host") all) ≡ authority_of h = ap host_of (one_host framing h r list) in
-        let pairs : l.pairs ≡ (codes ":method", method) ∷ (codes ":scheme", codes "http") ∷ (codes ":authority", authority_of h) ∷ (codes ":path", path_of h) ∷ request_fields_read framing h =
+        let own : l.pairs ≡ (request_headers method (codes "http") (host_of (values_of (codes "host") all)) (path_of h)).pairs ++ kept_fields all =
         shape.3
-        ∙ ap (λ (p : Target). (request_headers method (scheme_text p.scheme) (unwrap_or p.authority (host_of (values_of (codes "host") all))) p.path).pairs ++ kept_fields all) one
-        ∙ (λ t. (codes ":method", method) ∷ (codes ":scheme", codes "http") ∷ (codes ":authority", host t) ∷ (codes ":path", path_of h) ∷ kept_is framing h list t) in
+        ∙ ap (λ (p : Target). (request_headers method (scheme_text p.scheme) (unwrap_or p.authority (host_of (values_of (codes "host") all))) p.path).pairs ++ kept_fields all) one in
+        let pairs : l.pairs ≡ (codes ":method", method) ∷ (codes ":scheme", codes "http") ∷ (codes ":authority", authority_of h) ∷ (codes ":path", path_of h) ∷ request_fields_read framing h =
+        own ∙ (λ t. (codes ":method", method) ∷ (codes ":scheme", codes "http") ∷ (codes ":authority", host t) ∷ (codes ":path", path_of h) ∷ kept_is framing h list t) in
         let same : head_of l (Some target.form) 1 all measure ≡ request_read framing h =
         λ t. record {
           fields = record { kind = shape.2 t; pairs = pairs t };
@@ -241,12 +240,15 @@ length_is (by_length n) is = refl
 length_is by_chunks is = refl
 length_is by_close is = absurd (false≢true is)
 
-pub request_read_back : RequestReadBack
-request_read_back framing h pieces ending ended r suits =
+pub request_there : (framing : Framing) (h : Head) → IsReadableRequest framing h
+    → IsHeadWith None (head_wire framing h) (request (request_read framing h)) (connection_read h) framing
+request_there framing h r =
     let read = request_read framing h in
     let wire = head_wire framing h in
     let step : StepsTo false None head wire (item (request read) (length wire) (due_behind head (connection_read h) (request_said framing).length)) =
     (found read (length wire), request_head_read_back framing h r, refl) in
-    let said : IsHeadWith None wire (request read) (connection_read h) framing =
-    subst (λ (l : BodyLength). StepsTo false None head wire (item (request read) (length wire) (due_behind head (connection_read h) l))) (length_is framing r.framed) step in
-    message_is_all wire (request read) framing pieces ending ended None (connection_read h) said suits
+    subst (λ (l : BodyLength). StepsTo false None head wire (item (request read) (length wire) (due_behind head (connection_read h) l))) (length_is framing r.framed) step
+
+pub request_read_back : RequestReadBack
+request_read_back framing h pieces ending ended r suits =
+    message_is_all (head_wire framing h) (request (request_read framing h)) framing pieces ending ended None (connection_read h) (request_there framing h r) suits

@@ -1,5 +1,5 @@
 -- The worked examples of messages that are read back, by computation.
-use Rattle.std.proofs.Common.{◌≡◌, ℕ, true, false, [], ◌∷◌, None, Some, codes, refl, inl, inr, lit<, lit≤, arith}
+use Rattle.std.proofs.Common.{codes, refl, lit≤, arith}
 use Rattle.std.specs.Fmt.{digits}
 use Rattle.http_header.specs.Token as token
 use Rattle.httparse.proofs.OnLiterals.{httparse_on_literals}
@@ -7,7 +7,7 @@ use Rattle.header_maps.specs.Kept.{IsHeaders}
 use Rattle.http1_model.specs.Framing.{by_length, by_chunks}
 use Rattle.http1_model.proofs.Examples.{slash_target}
 use Rattle.h1_write.specs.Heads.{IsTail, IsReadable}
-use Rattle.h1_write.specs.Requests.{own_target, IsReadableRequest}
+use Rattle.h1_write.specs.Requests.{IsReadableRequest}
 use Rattle.h1_write.specs.RoundExamples.{tail_fields, written_response, ResponseExamples, written_request, RequestExamples}
 
 tail_is : IsTail tail_fields.pairs

@@ -1,24 +1,24 @@
 -- What the framing field of a response tells a reader.
-use Rattle.std.proofs.Common.{◌≡◌, ℕ, zero, suc, ◌+◌, ◌-◌, ◌*◌, ◌/◌, ◌%◌, ◌^◌, ◌<◌, ◌≤◌, Bool, true, false, cond, eqb, ◌&&◌, not, List, [], ◌∷◌, ◌++◌, length, reverse, map, get_or, codes, decimal, Option, None, Some, Result, Ok, Err, refl, sym, ap, subst, ◌∙◌, arith}
-use Rattle.std.proofs.lemmas.Bool.{and_from, and_parts, cond-true, cond-false, lt-ltb, le-leb, leb-true, eqb-true, ne_eqb, false≢true}
+use Rattle.std.proofs.Common.{◌≡◌, ℕ, ◌+◌, ◌*◌, ◌/◌, ◌%◌, ◌^◌, ◌<◌, ◌≤◌, Bool, true, false, cond, eqb, ◌&&◌, List, [], ◌∷◌, ◌++◌, length, reverse, map, get_or, codes, decimal, None, Some, Ok, refl, ap, ◌∙◌, arith}
+use Rattle.std.proofs.lemmas.Bool.{and_from, and_parts, cond-true, cond-false, lt-ltb, le-leb, leb-true, eqb-true, false≢true}
 use Rattle.std.proofs.lemmas.Bool.Decides.{nat_tests}
 use Rattle.std.proofs.lemmas.Fmt.{decimal_is_IsNumeral}
 use Rattle.std.proofs.lemmas.List.Splits.{slice_split_none}
-use Rattle.std.proofs.lemmas.List.Sums.{AllPass-from_list_all, list_all-from_AllPass}
+use Rattle.std.proofs.lemmas.List.Sums.{AllPass-from_list_all}
 use Rattle.std.proofs.lemmas.List.Elements.{All-head}
 use Rattle.std.proofs.lemmas.Str.Parse.{digit_from_value}
 use Rattle.std.proofs.lemmas.Str.{digit_value_digit}
 use Rattle.std.specs.Char.{is_ascii_digit, digit_value}
-use Rattle.std.specs.List.{list_all, slice_split, flat_map}
-use Rattle.std.specs.Prelude.{nat_lt, nat_le, IsTrue}
+use Rattle.std.specs.List.{list_all}
+use Rattle.std.specs.Prelude.{nat_le, IsTrue}
 use Rattle.std.specs.Str.Parse.{AllDigits, digits_value}
-use Rattle.httparse.specs.Grammar.{AllPass, is_ows, skip_ows, trim_ows, is_value_byte}
+use Rattle.httparse.specs.Grammar.{AllPass, is_ows, skip_ows, trim_ows}
 use Rattle.httparse.proofs.OnLiterals.{httparse_on_literals}
 use Rattle.httparse.proofs.TrimLemmas.{AllPass-reverse}
 use Rattle.std.proofs.lemmas.List.{reverse-reverse}
-use Rattle.header_maps.specs.Judged.{is_visible, status_text, status_of, is_within, is_status}
+use Rattle.header_maps.specs.Judged.{is_visible, status_text, is_within, is_status}
 use Rattle.http1_model.specs.Fields.{members}
-use Rattle.http1_model.specs.Length.{nothing, exactly, chunked, Measure, length_limit, number_of, is_number, all_as, one_number, told_measure, or_malformed, request_measure, response_measure}
+use Rattle.http1_model.specs.Length.{nothing, exactly, chunked, Measure, length_limit, number_of, all_as, one_number, told_measure, or_malformed, request_measure, response_measure}
 
 -- ---- digits
 

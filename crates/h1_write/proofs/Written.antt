@@ -1,29 +1,22 @@
 -- The fields of a response head that is written, and those of them that a list keeps.
-use Rattle.std.proofs.Common.{◌≡◌, ℕ, ◌+◌, ◌<◌, ◌≤◌, Bool, true, false, cond, eqb, not, ◌||◌, ◌&&◌, Ok, List, [], ◌∷◌, ◌++◌, map, filter, length, codes, decimal, bytes_eq, Some, refl, sym, ap, subst, ◌∙◌, append_assoc, arith}
-use Rattle.std.proofs.lemmas.Bool.{and_from, and_parts, cond-true, cond-false, not-true, false≢true}
-use Rattle.std.proofs.lemmas.List.{append-nil, length-append, map-append}
+use Rattle.std.proofs.Common.{◌≡◌, ℕ, Bool, true, false, cond, not, ◌||◌, Ok, List, [], ◌∷◌, ◌++◌, map, filter, codes, decimal, bytes_eq, refl, sym, ap, ◌∙◌, append_assoc}
+use Rattle.std.proofs.lemmas.Bool.{and_parts, false≢true}
+use Rattle.std.proofs.lemmas.List.{append-nil, map-append}
 use Rattle.std.proofs.lemmas.List.Elements.{All-cons, All-nil, filter-append}
-use Rattle.std.proofs.lemmas.List.Folds.{list_all-append}
-use Rattle.std.specs.Char.{is_ascii_digit}
-use Rattle.std.specs.List.{AllByRecursion, flat_map, list_all, list_any}
+use Rattle.std.specs.List.{AllByRecursion, list_all, list_any}
 use Rattle.std.specs.Prelude.{All}
-use Rattle.http_header.specs.Token as token
 use Rattle.http_header.specs.Token.{lowercase}
-use Rattle.httparse.specs.Ascii.{crlf_bytes}
 use Rattle.httparse.specs.Grammar.{trim_ows, IsField}
 use Rattle.httparse.proofs.OnLiterals.{httparse_on_literals}
 use Rattle.header_maps.specs.Kept.{is_kept_field}
-use Rattle.http1_model.specs.Fields.{Pair, is_named, values_of, is_listed, lists, lowered, is_response_hop_name, is_dropped_from_response, passing_among, passing_response_fields, kept_response_fields, unlisted}
-use Rattle.http1_model.specs.Framing.{Framing, no_body, by_length, by_chunks, by_close, framing_line}
-use Rattle.http1_model.specs.Length.{Measure, open_measure, response_measure}
-use Rattle.http1_model.specs.Head.{Head}
-use Rattle.http1_model.specs.Trailers.{trailer_names}
-use Rattle.http1_model.specs.Wire.{field_lines, is_left_out, sent_among, sent_fields}
+use Rattle.http1_model.specs.Fields.{Pair, is_named, values_of, lists, lowered, is_response_hop_name, passing_among, kept_response_fields, unlisted}
+use Rattle.http1_model.specs.Framing.{Framing, no_body, by_length, by_chunks, by_close}
+use Rattle.http1_model.specs.Length.{response_measure}
 use Rattle.http1_model.proofs.FieldLemmas.{passing_among-dropped, passing_among-passing}
 use Rattle.h1_write.specs.Heads.{framing_fields, is_framing_name, IsTail, IsInLimit, measure_said, told_fields}
 use Rattle.h1_write.specs.Laws.{read_field}
-use Rattle.h1_write.proofs.Ending.{field_at, fields_at, kept_is_field, kept_low, IsSent, sent_all}
-use Rattle.h1_write.proofs.Told.{decimal_digits, length_told, chunks_told}
+use Rattle.h1_write.proofs.Ending.{field_at, fields_at, kept_is_field, kept_low, IsSent}
+use Rattle.h1_write.proofs.Told.{length_told, chunks_told}
 
 -- ---- names
 

@@ -1,8 +1,7 @@
 -- The head of a request that is written is read back as a head.
-use Rattle.std.specs.Prelude.{◌≡◌, ◌≤◌, ℕ, Bool, true, false, not, List, [], ◌∷◌, ◌++◌, ◌==◌, map, length, Option, None, Some, codes, bytes_eq, if◌then◌else◌}
+use Rattle.std.specs.Prelude.{◌≡◌, ◌≤◌, ℕ, Bool, true, false, not, List, [], ◌∷◌, ◌++◌, ◌==◌, map, length, None, Some, codes, bytes_eq, if◌then◌else◌}
 use Rattle.std.specs.List.{list_all}
 use Rattle.header_maps.specs.declared.kind.ListKind.TheVariants as kinds
-use Rattle.header_maps.specs.Headers.{Headers}
 use Rattle.header_maps.specs.Kept.{IsHeaders}
 use Rattle.header_maps.specs.Operations.{no_headers}
 use Rattle.http1_model.specs.Fields.{Pair, is_listed, unlisted, kept_fields}

@@ -1,5 +1,5 @@
 -- Messages that are written and read back, worked on texts that are written out.
-use Rattle.std.specs.Prelude.{◌≡◌, ℕ, true, false, List, [], ◌∷◌, ◌++◌, Option, None, Some, codes}
+use Rattle.std.specs.Prelude.{◌≡◌, ℕ, true, false, List, [], ◌∷◌, ◌++◌, None, Some, codes}
 use Rattle.httparse.specs.Ascii.{crlf_bytes}
 use Rattle.header_maps.specs.declared.kind.ListKind.TheVariants as kinds
 use Rattle.header_maps.specs.Headers.{Headers}
@@ -7,11 +7,11 @@ use Rattle.http1_model.specs.Framing.{by_length, by_chunks, items_wire}
 use Rattle.http1_model.specs.Framing as out
 use Rattle.http1_model.specs.Head.{Head}
 use Rattle.http1_model.specs.Length.{nothing, exactly, chunked}
-use Rattle.http1_model.specs.Messages.{Item, octet, end, trailers}
+use Rattle.http1_model.specs.Messages.{octet, end, trailers}
 use Rattle.http1_model.specs.Target.{origin}
 use Rattle.h1_write.specs.Heads.{IsReadable, head_read, connection_read}
 use Rattle.h1_write.specs.Requests.{IsReadableRequest, request_read}
-use Rattle.h1_write.specs.Round.{Ending, last_bytes, last_trailers, body_items, Suits, items_read}
+use Rattle.h1_write.specs.Round.{last_bytes, last_trailers, body_items, Suits, items_read}
 
 -- fields that stand behind the framing field
 abbrev pub tail_fields : Headers

@@ -3,6 +3,7 @@ ghost use Rattle.h1_write.specs.Laws.{PiecesReadBack, EndReadBack, TrailersReadB
 ghost use Rattle.h1_write.specs.Round.{BodyReadBack, BodyIsAll, ReadingsJoin, HeadReadBack, MessageReadBack, MessageIsAll, RequestsReadBack, AnswerReadBack};
 ghost use Rattle.h1_write.specs.Heads.{ResponseHeadReadBack, InterimReadBack, ResponseReadBack, BareResponseReadBack};
 ghost use Rattle.h1_write.specs.Requests.{RequestHeadReadBack, RequestReadBack};
+ghost use Rattle.h1_write.specs.Lines.{RequestLineReadBack, AnswerLineReadBack, BareAnswerLineReadBack};
 ghost use Rattle.h1_write.specs.RoundExamples.{ResponseExamples, RequestExamples};
 
 /// Pieces that are written in chunks are read back as the same bytes, joined, whatever pieces they came in; then the body ends,
@@ -54,6 +55,13 @@ pub fn responses_read_back()
 pub fn requests_read_back()
     ensures head { RequestHeadReadBack }
     ensures whole { RequestReadBack }
+{}
+
+/// All that is written of a line is read back: requests one behind another, and a response behind its interim heads.
+pub fn written_lines_read_back()
+    ensures requests { RequestLineReadBack }
+    ensures answer { AnswerLineReadBack }
+    ensures bare { BareAnswerLineReadBack }
 {}
 
 /// A response and a request that are written and read back, worked on texts that are written out.

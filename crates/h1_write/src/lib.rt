@@ -10,7 +10,7 @@ mod write;
 pub use framing::{Framing, framing_of};
 pub use laws::{
     body_read_back, lines_read_back, message_read_back, pieces_read_back, requests_read_back,
-    responses_read_back, round_examples, trailers_read_back,
+    responses_read_back, round_examples, trailers_read_back, written_lines_read_back,
 };
 pub use write::write_item;
 
