@@ -1,18 +1,17 @@
 -- What a step of the chunk reader says of what stands in a message, and of what is unread next.
-use Rattle.std.proofs.Common.{◌≡◌, ◌⊎◌, ℕ, zero, suc, ◌+◌, ◌-◌, ◌≤◌, ◌<◌, Bool, true, false, List, [], ◌∷◌, length, drop, get_or, Option, None, Some, refl, sym, ap, ◌∙◌, subst, inl, inr, arith}
+use Rattle.std.proofs.Common.{◌≡◌, ◌⊎◌, ℕ, zero, suc, ◌+◌, ◌-◌, ◌≤◌, ◌<◌, Bool, true, false, List, [], ◌∷◌, length, drop, get_or, Option, None, Some, refl, sym, ap, subst, inl, inr, arith}
 use Rattle.std.proofs.lemmas.List.{drop-drop}
 use Rattle.http1_model.specs.Fields.{Pair}
 use Rattle.http1_model.specs.Lines.{Cut, whole, too_large, unfinished}
 use Rattle.http1_model.specs.Chunks.{Place, inside, Sought, data_at, section_at, waiting, malformed, sought, Run, run_of}
 use Rattle.http1_model.specs.Trailers.{ChunkStep, carried, ended, not_yet, refused, end_of, section_cut, IsEnd, IsBehind, SpellsChunks}
-use Rattle.http1_model.specs.Messages as model
-use Rattle.http1_model.specs.Messages.{octet, end, Due, body, coded, due_next, Step, item, stop, section_step, end_step, trailers_left, IsCodedStep, StepsTo}
-use Rattle.http1_model.specs.Unread.{Next, piece, part, by_itself, IsNoOctet, IsNext}
+use Rattle.http1_model.specs.Messages.{octet, end, body, coded, due_next, Step, item, section_step, end_step, trailers_left, IsCodedStep, StepsTo}
+use Rattle.http1_model.specs.Unread.{piece, part, IsNoOctet, IsNext}
 use Rattle.http1_model.proofs.ChunkLaws.{run_step, run_zero, run_behind}
 use Rattle.http1_model.proofs.Carried.{run_carries, coded_there}
 use Rattle.h1_chunks.specs.Answers.{is_data}
-use Rattle.h1_stream.specs.Behind.{is_no_end, EndsBy, StandsBehind}
-use Rattle.h1_stream.proofs.Bodies.{alone, with_end, without_end}
+use Rattle.h1_stream.specs.Behind.{is_no_end, StandsBehind}
+use Rattle.h1_stream.proofs.Bodies.{with_end, without_end}
 
 -- ---- data
 

@@ -1,9 +1,9 @@
-use Rattle.std.proofs.Common.{◌≡◌, Bool, true, false, List, ℕ, ◌+◌, ◌-◌, None, Some, length, take, drop, ap, sym, ◌∙◌, subst, arith}
+use Rattle.std.proofs.Common.{◌≡◌, true, false, List, ℕ, ◌+◌, ◌-◌, Some, length, take, drop, ap, sym, subst, arith}
 use Rattle.std.proofs.lemmas.List.{take_all, length-drop}
 use Rattle.http1_model.specs.Chunks.{Place}
 use Rattle.http1_model.specs.Trailers.{SpellsChunks, ended, not_yet, refused}
-use Rattle.http1_model.specs.Messages.{Due, body, coded, due_next, section_step}
-use Rattle.http1_model.specs.Unread.{piece, part, none, by_itself, IsNext}
+use Rattle.http1_model.specs.Messages.{Due, body, coded, section_step}
+use Rattle.http1_model.specs.Unread.{piece, part, none, IsNext}
 use Rattle.http1_model.proofs.TrailerLaws.{trailers_are_fields}
 use Rattle.h1_chunks.specs.declared.reader.ChunkStep.{ChunkStep}
 use Rattle.h1_chunks.specs.Answers.{seen_step}
