@@ -25,20 +25,20 @@ use Rattle.h1_write.proofs.Back.{ends_there, trailers_read_back}
 
 -- ---- lines are fields of the grammar
 
-abbrev field_at : Pair → Field
+abbrev pub field_at : Pair → Field
 field_at f = record { name = f.0; raw = 32 ∷ f.1; end = crlf }
 
-abbrev fields_at : List Pair → List Field
+abbrev pub fields_at : List Pair → List Field
 fields_at fs = map field_at fs
 
 line_is : (f : Pair) → field_line f ≡ print_field (field_at f)
 line_is f = simp append_assoc
 
-lines_are : (fs : List Pair) → field_lines fs ≡ flat_map print_field (fields_at fs)
+pub lines_are : (fs : List Pair) → field_lines fs ≡ flat_map print_field (fields_at fs)
 lines_are [] = refl
 lines_are (f ∷ fs) = λ t. line_is f t ++ lines_are fs t
 
-section_is : (fs : List Pair) → field_lines fs ++ crlf_bytes ≡ print_section (fields_at fs) crlf
+pub section_is : (fs : List Pair) → field_lines fs ++ crlf_bytes ≡ print_section (fields_at fs) crlf
 section_is fs = ap (λ (t : List ℕ). t ++ crlf_bytes) (lines_are fs)
 
 -- ---- what a field that goes out is
@@ -53,7 +53,7 @@ token_read : (bytes : List ℕ) → is_token_text bytes ≡ true → (0 < length
 unfolding is_token_byte token.is_token_byte
 token_read bytes is = let both = and_parts _ _ is in (ltb-true 0 (length bytes) both.0, both.1)
 
-kept_is_field : (f : Pair) → is_kept_field f ≡ true → IsField (field_at f)
+pub kept_is_field : (f : Pair) → is_kept_field f ≡ true → IsField (field_at f)
 kept_is_field f kept =
     let parts = and_parts _ _ kept in
     let name = and_parts _ _ (and_parts _ _ parts.0).0 in
@@ -63,7 +63,7 @@ kept_is_field f kept =
       raw = AllPass-from_list_all is_value_byte (32 ∷ f.1) parts.1;
     }
 
-kept_low : (f : Pair) → is_kept_field f ≡ true → lowercase f.0 ≡ f.0
+pub kept_low : (f : Pair) → is_kept_field f ≡ true → lowercase f.0 ≡ f.0
 kept_low f kept = bytes_are (lowercase f.0) f.0 (and_parts _ _ (and_parts _ _ kept).0).1
 
 -- what is not left out is none of the names of trailers that are dropped
@@ -95,7 +95,7 @@ is_sent all f kept sent =
       passes = subst (λ (n : List ℕ). list_any (bytes_eq n) trailer_names ≡ false) low both.1;
     }
 
-sent_all : (all fs : List Pair) → list_all is_kept_field fs ≡ true → AllByRecursion IsSent (sent_among all fs)
+pub sent_all : (all fs : List Pair) → list_all is_kept_field fs ≡ true → AllByRecursion IsSent (sent_among all fs)
 sent_all all [] kept = tt
 sent_all all (f ∷ fs) kept =
     by_test (not (is_left_out all (lowercase f.0))) refl (sent_all all fs (and_parts _ _ kept).1)
@@ -138,7 +138,7 @@ named_none (f ∷ fs) all =
 listed_none : (name : List ℕ) (all : List Pair) → values_of (codes "connection") all ≡ [] → is_listed name all ≡ false
 listed_none name all none = ap (list_any (lists name)) none
 
-values_read : (fs : List Pair) → map name_and_value (fields_at fs) ≡ map read_field fs
+pub values_read : (fs : List Pair) → map name_and_value (fields_at fs) ≡ map read_field fs
 unfolding trim_ows
 values_read [] = refl
 values_read (f ∷ fs) = ap (λ (ps : List Pair). read_field f ∷ ps) (values_read fs)

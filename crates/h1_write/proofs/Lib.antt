@@ -1,5 +1,9 @@
 pub mod Back
 pub mod Ending
+pub mod Heads
+pub mod HeadText
 pub mod Round
 pub mod Sizes
+pub mod Told
 pub mod Whole
+pub mod Written

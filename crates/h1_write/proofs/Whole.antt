@@ -80,7 +80,7 @@ nothing_behind ended None text =
     at_end false = refl
 nothing_behind ended (Some asked) text = refl
 
-whole_back : (ended : Bool) (asked : Option (List ℕ)) (due : Due) (wire : List ℕ) (items : List Item) → ReadsAs ended asked due [] wire [] items (due_next asked)
+pub whole_back : (ended : Bool) (asked : Option (List ℕ)) (due : Due) (wire : List ℕ) (items : List Item) → ReadsAs ended asked due [] wire [] items (due_next asked)
     → IsReadAs wire ended asked due items (stop_behind ended asked)
 whole_back ended asked due wire items r =
     let same : wire ++ [] ≡ wire = append-nil wire in

@@ -1,6 +1,7 @@
 // What is written is read back, as functions without a body.
 ghost use Rattle.h1_write.specs.Laws.{PiecesReadBack, EndReadBack, TrailersReadBack, TrailedEndReadBack};
 ghost use Rattle.h1_write.specs.Round.{BodyReadBack, BodyIsAll, ReadingsJoin, HeadReadBack, MessageReadBack, MessageIsAll, RequestsReadBack, AnswerReadBack};
+ghost use Rattle.h1_write.specs.Heads.{ResponseHeadReadBack, InterimReadBack, ResponseReadBack, BareResponseReadBack};
 
 /// Pieces that are written in chunks are read back as the same bytes, joined, whatever pieces they came in; then the body ends,
 /// where all that was written is used up.
@@ -35,4 +36,13 @@ pub fn message_read_back()
 pub fn lines_read_back()
     ensures requests { RequestsReadBack }
     ensures answer { AnswerReadBack }
+{}
+
+/// A response head that is written is read as a head with the same status, the fields that went out and the length that its
+/// framing says; so a whole response that is written is read as its head and its body's items.
+pub fn responses_read_back()
+    ensures head { ResponseHeadReadBack }
+    ensures interim { InterimReadBack }
+    ensures whole { ResponseReadBack }
+    ensures bare { BareResponseReadBack }
 {}

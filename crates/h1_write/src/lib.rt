@@ -9,7 +9,8 @@ mod write;
 
 pub use framing::{Framing, framing_of};
 pub use laws::{
-    body_read_back, lines_read_back, message_read_back, pieces_read_back, trailers_read_back,
+    body_read_back, lines_read_back, message_read_back, pieces_read_back, responses_read_back,
+    trailers_read_back,
 };
 pub use write::write_item;
 

@@ -289,7 +289,7 @@ reason_line : (o : Option (List ℕ)) → AllPass is_value_byte (reason_phrase o
 reason_line None all = refl
 reason_line (Some phrase) all = IsOneLine-append (32 ∷ []) phrase refl (value_line phrase all)
 
-response_words-line : (h : ResponseHead) → IsResponseHead h → IsOneLine (response_words h)
+pub response_words-line : (h : ResponseHead) → IsResponseHead h → IsOneLine (response_words h)
 response_words-line h is =
     IsOneLine-append (print_version h.minor) (32 ∷ (h.digits ++ print_reason h.reason)) (version_line h.minor is.minor)
     (IsOneLine-append (32 ∷ h.digits) (print_reason h.reason)
