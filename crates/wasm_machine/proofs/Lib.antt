@@ -25,3 +25,4 @@ pub mod Crossed
 pub mod Reversed
 pub mod Taken
 pub mod Operands
+pub mod Sees

@@ -14,3 +14,4 @@ pub mod Held
 pub mod Acted
 pub mod Outside
 pub mod Modules
+pub mod Seen
