@@ -26,3 +26,4 @@ pub mod Reversed
 pub mod Taken
 pub mod Operands
 pub mod Sees
+pub mod Listing

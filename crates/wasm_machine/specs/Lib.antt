@@ -15,3 +15,7 @@ pub mod Acted
 pub mod Outside
 pub mod Modules
 pub mod Seen
+pub mod Live
+pub mod Room
+pub mod Rowed
+pub mod Programs

@@ -6,6 +6,8 @@ mod control;
 mod jumps;
 pub mod laws;
 mod locals;
+mod program;
+mod state;
 pub mod safety;
 mod simple;
 mod stack;
