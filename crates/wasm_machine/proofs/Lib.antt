@@ -27,3 +27,5 @@ pub mod Taken
 pub mod Operands
 pub mod Sees
 pub mod Listing
+pub mod SameTypes
+pub mod Rowed
