@@ -29,3 +29,5 @@ pub mod Sees
 pub mod Listing
 pub mod SameTypes
 pub mod Rowed
+pub mod Narrow
+pub mod Few
