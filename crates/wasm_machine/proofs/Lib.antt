@@ -31,3 +31,4 @@ pub mod SameTypes
 pub mod Rowed
 pub mod Narrow
 pub mod Few
+pub mod Going

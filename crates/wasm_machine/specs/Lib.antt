@@ -19,3 +19,5 @@ pub mod Live
 pub mod Room
 pub mod Rowed
 pub mod Programs
+pub mod Machines
+pub mod Kept

@@ -6,7 +6,9 @@ mod control;
 mod jumps;
 pub mod laws;
 mod locals;
+mod machine;
 mod program;
+mod run;
 mod state;
 pub mod safety;
 mod simple;
@@ -15,6 +17,8 @@ mod values;
 
 pub use control::{Control, Target};
 pub use jumps::Targets;
+pub use machine::{MOST_PENDING, Machine, Mode, Pending};
+pub use run::Stop;
 pub use values::Values;
 
 #[cfg(test)]
