@@ -32,3 +32,4 @@ pub mod Rowed
 pub mod Narrow
 pub mod Few
 pub mod Going
+pub mod Machined
