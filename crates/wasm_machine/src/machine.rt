@@ -1,6 +1,6 @@
 //! The machine.
 
-ghost use Rattle.std.specs.Prelude.{◌≡◌, ◌≤◌, length, None};
+ghost use Rattle.std.specs.Prelude.{◌≡◌, ◌≤◌, length, drop, None};
 ghost use Rattle.wasm_machine.specs.Held.{held};
 ghost use Rattle.wasm_machine.specs.Machines.{asking};
 
@@ -72,6 +72,13 @@ fn set_asked(pending: &mut Stack<Pending>, asked: Option<u32>)
     }
 }
 
+/// The topmost call is finished.
+fn end_call(pending: &mut Stack<Pending>)
+    ensures { pending.new ≡ held (drop 1 pending.old.members) pending.old.room }
+{
+    pending.pop();
+}
+
 impl Machine {
     ghost use Rattle.std.specs.Prelude.{◌≡◌, ◌≤◌, ◌<◌, ◌+◌, [], length, IfOk, IfSome, IfNone, slice_get};
     ghost use Rattle.wasm_syntax.specs.Memory.{written};
@@ -133,7 +140,7 @@ impl Machine {
         let stop = run(&self.program, &mut self.state, fuel);
         match &stop {
             Stop::Finished { .. } => {
-                self.pending.pop();
+                end_call(&mut self.pending);
                 self.mode = Mode::Resting;
             }
             Stop::HostCall { import, .. } => {
