@@ -17,7 +17,7 @@ mod values;
 
 pub use control::{Control, Target};
 pub use jumps::Targets;
-pub use machine::{MOST_PENDING, Machine, Mode, Pending};
+pub use machine::{MOST_PENDING, Machine, Mode, Pending, call_once};
 pub use run::Stop;
 pub use values::Values;
 

@@ -2,7 +2,12 @@
 
 ghost use Rattle.std.specs.Prelude.{◌≡◌, ◌≤◌, length, drop, None};
 ghost use Rattle.wasm_machine.specs.Held.{held};
-ghost use Rattle.wasm_machine.specs.Machines.{asking};
+ghost use Rattle.std.specs.Prelude.{ℕ, IfOk};
+ghost use Rattle.wasm_syntax.specs.declared.module.Module.{Module as Modules};
+ghost use Rattle.wasm_syntax.specs.ReductionRuns.{run as running};
+ghost use Rattle.wasm_syntax.specs.ReductionPrograms.{program_of, called_config};
+ghost use Rattle.wasm_store.specs.Linking.{IsLinked};
+ghost use Rattle.wasm_machine.specs.Machines.{asking, program_with, Takes, StopsAs};
 
 use crate::program::Program;
 use crate::run::{Stop, run};
@@ -80,12 +85,13 @@ fn end_call(pending: &mut Stack<Pending>)
 }
 
 impl Machine {
-    ghost use Rattle.std.specs.Prelude.{◌≡◌, ◌≤◌, ◌<◌, ◌+◌, [], length, IfOk, IfSome, IfNone, slice_get};
+    ghost use Rattle.std.specs.Prelude.{◌<◌, ◌+◌, [], IfSome, IfNone, slice_get};
     ghost use Rattle.wasm_syntax.specs.Memory.{written};
+    ghost use Rattle.wasm_syntax.specs.ReductionPrograms.{first_config};
     ghost use Rattle.wasm_syntax.specs.ReductionSteps.{answered_config, invoked_config, idle_config};
-    ghost use Rattle.wasm_syntax.specs.ReductionRuns.{run as running, enough};
+    ghost use Rattle.wasm_syntax.specs.ReductionRuns.{enough};
     ghost use Rattle.wasm_machine.specs.Acted.{stores};
-    ghost use Rattle.wasm_machine.specs.Machines.{program_at, config_at, program_with, Takes, CanAnswer, begun, asked_of, pending_after, mode_after, with_memory, stopped_as, Tells, Lowers};
+    ghost use Rattle.wasm_machine.specs.Machines.{program_at, config_at, CanAnswer, begun, asked_of, pending_after, mode_after, with_memory, stopped_as, Tells, Lowers};
     ghost use Rattle.wasm_machine.specs.declared.machine.Mode.TheVariants as mode;
 
     /// The machine of an instance, with no call. A type of more than 65,536 parameters, and a body of 2^32
@@ -95,6 +101,7 @@ impl Machine {
         ensures config { IfOk result (λ m. config_at m ≡ idle_config (stores i.memory.bytes i.table i.globals)) }
         ensures pending { IfOk result (λ m. m.pending ≡ []) }
         ensures mode { IfOk result (λ m. m.mode ≡ mode.Resting) }
+        ensures linked { (m : Modules) (pages : ℕ) → IsLinked m pages i → IfOk result (λ k. (program_at k ≡ program_of m pages) × (config_at k ≡ first_config m)) }
     {
         let parts = i.into_parts();
         let program = Program::new(alloc, parts.module)?;
@@ -150,6 +157,22 @@ impl Machine {
             Stop::Trap { .. } | Stop::FuelSpent => self.mode = Mode::Dead,
         }
         stop
+    }
+
+    /// Calls a function from outside and runs it until it stops.
+    pub fn call(&mut self, func: u32, args: &[Value], fuel: &mut u64) -> Stop
+        requires resting { self.old.mode ≡ mode.Resting }
+        requires few { length self.old.pending ≤ 256 }
+        requires takes { Takes (program_at self.old) func args.now }
+        ensures run { running (program_at self.old) fuel.old (invoked_config func (slice_get (program_at self.old).functions func) args.now (config_at self.old)) ≡ stopped_as result (config_at self.new) fuel.new }
+        ensures program { program_at self.new ≡ program_at self.old }
+        ensures pending { self.new.pending ≡ pending_after result (begun func self.old.pending) }
+        ensures mode { self.new.mode ≡ mode_after result }
+        ensures fuel { fuel.new ≤ fuel.old }
+        ensures tells { Tells (program_at self.old) (begun func self.old.pending) result }
+    {
+        self.invoke(func, args);
+        self.run(fuel)
     }
 
     /// Answers the call that waits with the host's result.
@@ -210,4 +233,19 @@ impl Machine {
     {
         self.state.write(at, bytes)
     }
+}
+
+/// Makes the machine of an instance, calls one function, and runs it until it stops.
+pub fn call_once(
+    alloc: Global,
+    i: Instance,
+    func: u32,
+    args: &[Value],
+    fuel: &mut u64,
+) -> Result<Stop, OutOfMemory>
+    requires { Takes (program_with i.of i.memory.most) func args.now }
+    ensures { (m : Modules) (pages : ℕ) → IsLinked m pages i → IfOk result (λ stop. StopsAs (running (program_of m pages) fuel.old (called_config m pages func args.now)) stop fuel.new) }
+{
+    let mut machine = Machine::new(alloc, i)?;
+    Ok(machine.call(func, args, fuel))
 }

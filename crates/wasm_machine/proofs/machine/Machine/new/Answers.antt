@@ -8,7 +8,7 @@ use Rattle.wasm_machine.specs.Live.{Fixed, Live, fixed_of, idle_live, flat}
 use Rattle.wasm_machine.specs.Room.{IsSmall}
 use Rattle.wasm_machine.specs.Seen.{seen}
 use Rattle.wasm_machine.specs.Kept.{nested}
-use Rattle.wasm_machine.proofs.Machined.{KeptWith, first, first_fits, first_room, first_seen, nested_with}
+use Rattle.wasm_machine.proofs.Machined.{KeptWith, first, first_fits, first_room, first_seen, nested_with, linked_program, linked_config}
 use Rattle.wasm_machine.proofs.machine.Machine.new.Goals as goal
 use Rattle.wasm_machine.proofs.machine.Machine.new.Goals.{In_ok-new}
 
@@ -43,3 +43,10 @@ pub returns-clause-config : goal.returns-clause-config
 returns-clause-config c =
     let is = c.program.view_is ∙ fixed c in
     (λ k. seen (flat (is k) (live c k))) ∙ first_seen c.args.i (instance c)
+
+pub returns-clause-linked : goal.returns-clause-linked
+returns-clause-linked c m pages h =
+    let is = c.program.view_is ∙ fixed c in (
+      (λ k. nested (is k) (live c k)) ∙ nested_with c.args.i.of c.args.i.memory.most ∙ linked_program m pages c.args.i h,
+      (λ k. seen (flat (is k) (live c k))) ∙ first_seen c.args.i (instance c) ∙ linked_config m pages c.args.i h,
+    )
