@@ -9,10 +9,10 @@ mod locals;
 mod machine;
 mod program;
 mod run;
-mod state;
 pub mod safety;
 mod simple;
 mod stack;
+mod state;
 mod values;
 
 pub use control::{Control, Target};

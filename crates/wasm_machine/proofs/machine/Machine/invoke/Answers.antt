@@ -1,4 +1,4 @@
-use Rattle.std.proofs.Common.{◌≡◌, ◌≤◌, ◌∙◌, length, refl, sym, ap, subst, arith}
+use Rattle.std.proofs.Common.{◌≡◌, ◌≤◌, ◌∙◌, length, refl, sym, ap, subst}
 use Rattle.std.specs.Prelude.{slice_get}
 use Rattle.wasm_syntax.specs.ReductionSteps.{invoked_config}
 use Rattle.wasm_machine.proofs.Machined.{with_calls, in_mode, few_arguments, called_fits, called_seen, called_program}

@@ -1,4 +1,4 @@
-use Rattle.std.proofs.Common.{◌≡◌, ◌∙◌, ℕ, [], length, refl, sym, ap, subst}
+use Rattle.std.proofs.Common.{◌≡◌, ◌∙◌, ℕ, length, refl, sym, ap, subst}
 use Rattle.wasm_store.specs.Instances.{Instantiated, IsInstance}
 use Rattle.wasm_machine.specs.declared.machine.Mode.TheVariants as mode
 use Rattle.wasm_machine.specs.declared.machine.Pending.{Pending}

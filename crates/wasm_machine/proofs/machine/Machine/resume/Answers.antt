@@ -1,4 +1,4 @@
-use Rattle.std.proofs.Common.{◌≡◌, ◌≤◌, ◌∙◌, None, length, refl, sym, ap, subst, arith}
+use Rattle.std.proofs.Common.{◌≡◌, ◌∙◌, None, sym, ap, subst, arith}
 use Rattle.wasm_syntax.specs.ReductionSteps.{answered_config}
 use Rattle.wasm_machine.proofs.Machined.{fits_few, with_calls, in_mode, answered_fits, answered_seen, answered_program, answered_running}
 use Rattle.wasm_machine.specs.declared.machine.Mode.TheVariants as mode

@@ -1,4 +1,4 @@
-use Rattle.std.proofs.Common.{◌≡◌, ◌≤◌, ◌∙◌, Some, length, drop, sym, ap, subst, arith}
+use Rattle.std.proofs.Common.{◌≡◌, ◌∙◌, Some, drop, ap, subst, arith}
 use Rattle.wasm_machine.specs.declared.run.Stop.{Stop}
 use Rattle.wasm_machine.specs.Kept.{IsKept}
 use Rattle.wasm_machine.proofs.Machined.{fits_few, with_calls, in_mode, can_run, runs}

@@ -1,11 +1,9 @@
-use Rattle.std.proofs.Common.{◌≡◌, ◌+◌, ◌<◌, ◌≤◌, ◌∙◌, ℕ, IfSome, IfNone, length, sym, ap, subst}
+use Rattle.std.proofs.Common.{◌≡◌, ◌+◌, ◌<◌, ◌≤◌, ◌∙◌, IfSome, IfNone, length, sym, ap, subst}
 use Rattle.wasm_syntax.specs.Memory.{written}
-use Rattle.wasm_machine.specs.declared.machine.Mode.{Mode}
 use Rattle.wasm_machine.specs.declared.machine.Mode.TheVariants as mode
 use Rattle.wasm_machine.specs.Live.{flat}
 use Rattle.wasm_machine.specs.Seen.{seen}
 use Rattle.wasm_machine.specs.Machines.{View, config_at, with_memory}
-use Rattle.wasm_machine.specs.Kept.{IsKept}
 use Rattle.wasm_machine.proofs.Machined.{in_mode, rests_written, some_written, none_written}
 use Rattle.wasm_machine.proofs.machine.Machine.write.Goals as goal
 
@@ -13,10 +11,11 @@ pub invariant_of-self : goal.invariant_of-self
 invariant_of-self c =
     let inside = c.self.inside in
     let which : inside.mode ≡ mode.Resting = ap (λ (v : View). v.mode) c.self.view_is ∙ c.requires in
-    let kept = in_mode inside.mode mode.Resting inside.program inside.state inside.pending.members which c.self.invariant.0 in
-    (in_mode mode.Resting inside.mode inside.program c.write.new.self inside.pending.members (sym which)
-    (rests_written inside.program inside.state c.write.new.self inside.pending.members (written inside.state.stores.memory c.args.at c.args.bytes.now) _ _ c.write.result c.write.ensures.some c.write.ensures.none kept),
-    c.self.invariant.1)
+    let kept = in_mode inside.mode mode.Resting inside.program inside.state inside.pending.members which c.self.invariant.0 in (
+      in_mode mode.Resting inside.mode inside.program c.write.new.self inside.pending.members (sym which)
+          (rests_written inside.program inside.state c.write.new.self inside.pending.members (written inside.state.stores.memory c.args.at c.args.bytes.now) _ _ c.write.result c.write.ensures.some c.write.ensures.none kept),
+      c.self.invariant.1,
+    )
 
 pub returns-clause-some : goal.returns-clause-some
 returns-clause-some c =
