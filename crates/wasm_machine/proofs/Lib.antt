@@ -33,3 +33,4 @@ pub mod Narrow
 pub mod Few
 pub mod Going
 pub mod Machined
+pub mod Asks

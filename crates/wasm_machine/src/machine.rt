@@ -85,7 +85,7 @@ fn end_call(pending: &mut Stack<Pending>)
 }
 
 impl Machine {
-    ghost use Rattle.std.specs.Prelude.{◌<◌, ◌+◌, [], IfSome, IfNone, slice_get};
+    ghost use Rattle.std.specs.Prelude.{◌<◌, ◌+◌, ◌↔◌, [], IsTrue, IfSome, IfNone, slice_get};
     ghost use Rattle.wasm_syntax.specs.Memory.{written};
     ghost use Rattle.wasm_syntax.specs.ReductionPrograms.{first_config};
     ghost use Rattle.wasm_syntax.specs.ReductionSteps.{answered_config, invoked_config, idle_config};
@@ -210,6 +210,23 @@ impl Machine {
         match self.pending.get(0) {
             Some(p) => p.asked,
             None => None,
+        }
+    }
+
+    /// Whether the function of an index is there and takes these arguments.
+    pub fn takes(&self, func: u32, args: &[Value]) -> bool
+        ensures { IsTrue result ↔ Takes (program_at self.now) func args.now }
+    {
+        self.program.takes(func, args)
+    }
+
+    /// Whether the topmost call waits for such a result.
+    pub fn can_answer(&self, answer: Option<Value>) -> bool
+        ensures { IsTrue result ↔ CanAnswer (program_at self.now) self.now.pending answer }
+    {
+        match self.waits_in() {
+            Some(x) => self.program.gives(x, answer),
+            None => false,
         }
     }
 
