@@ -25,3 +25,12 @@ pub mod Crossed
 pub mod Reversed
 pub mod Taken
 pub mod Operands
+pub mod Sees
+pub mod Listing
+pub mod SameTypes
+pub mod Rowed
+pub mod Narrow
+pub mod Few
+pub mod Going
+pub mod Machined
+pub mod Asks
