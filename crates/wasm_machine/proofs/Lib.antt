@@ -6,6 +6,7 @@ pub mod Acts
 pub mod Flows
 pub mod Keeps
 pub mod Typed
+pub mod TypesAt
 pub mod Hosted
 pub mod Valid
 pub mod Unstuck

@@ -17,7 +17,7 @@ use gate_base::OutOfMemory;
 use std::alloc::Global;
 use std::marker::Model;
 use wasm_store::{Instance, Memory};
-use wasm_syntax::Value;
+use wasm_syntax::{FunctionType, Value};
 
 /// What may be done with a machine.
 #[derive(Clone, Copy, Debug, PartialEq, Eq)]
@@ -91,6 +91,7 @@ impl Machine {
     ghost use Rattle.wasm_syntax.specs.ReductionSteps.{answered_config, invoked_config, idle_config};
     ghost use Rattle.wasm_syntax.specs.ReductionRuns.{enough};
     ghost use Rattle.wasm_machine.specs.Acted.{stores};
+    ghost use Rattle.wasm_machine.specs.Holds.{HasType};
     ghost use Rattle.wasm_machine.specs.Machines.{program_at, config_at, CanAnswer, begun, asked_of, pending_after, mode_after, with_memory, stopped_as, Tells, Lowers};
     ghost use Rattle.wasm_machine.specs.declared.machine.Mode.TheVariants as mode;
 
@@ -187,6 +188,14 @@ impl Machine {
         self.state.answer(answer);
         set_asked(&mut self.pending, None);
         self.mode = Mode::Running;
+    }
+
+    /// The type of the function of an index, where it is there.
+    pub fn type_of(&self, func: u32) -> Option<&FunctionType>
+        ensures some { IfSome result (λ t. HasType (program_at self.now) func t.now) }
+        ensures none { IfNone result (slice_get (program_at self.now).functions func ≡ None) }
+    {
+        self.program.type_of(func)
     }
 
     /// What may be done with it.
