@@ -1,0 +1,5 @@
+use Rattle.gate_io.proofs.Worlds.{nature_answered}
+use Rattle.gate_io.proofs.mem_world.MemWorldWorld.next.Goals as goal
+
+pub returns-clause-nature : goal.returns-clause-nature
+returns-clause-nature c = nature_answered c.answer.result c.args.self.now c.answer.new.self c.args.wants.now c.answer.ensures.answer
