@@ -1,6 +1,6 @@
 -- The nature of a world in memory never changes.
-use Rattle.std.proofs.Common.{◌≡◌, ℕ, zero, suc, Bool, true, false, List, [], ◌∷◌, ◌++◌, drop, refl, sym, ◌∙◌, ap, append_assoc, Some, Result, Ok, Err, IfOk, OnOk, OnErr, length, Contains, arith}
-use Rattle.std.specs.Prelude.{◌==◌, ◌&&◌, is_none, take, if◌then◌else◌, nat_lt}
+use Rattle.std.proofs.Common.{◌≡◌, ℕ, zero, suc, Bool, false, List, [], ◌∷◌, ◌++◌, drop, refl, sym, ◌∙◌, ap, append_assoc, Some, Result, Ok, Err, IfOk, OnOk, OnErr, Contains, arith}
+use Rattle.std.specs.Prelude.{◌==◌, ◌&&◌, is_none}
 use Rattle.std.proofs.lemmas.List.{append-nil}
 use Rattle.gate_io.specs.declared.ends.WorldEnd.{WorldEnd}
 use Rattle.gate_io.specs.declared.ends.WorldEnd.TheVariants.{Failed, OutOfMemory}
@@ -8,13 +8,13 @@ use Rattle.gate_io.specs.declared.event.Event.{Event}
 use Rattle.gate_io.specs.declared.event.Sent.{Sent}
 use Rattle.gate_io.specs.declared.event.Side.{Side}
 use Rattle.gate_io.specs.declared.passed.Passed.{Passed}
-use Rattle.gate_io.specs.declared.passed.Passed.TheVariants.{Asked, Gave, Took, Short}
+use Rattle.gate_io.specs.declared.passed.Passed.TheVariants.{Asked, Gave, Took}
 use Rattle.gate_io.specs.declared.passed.Wants.{Wants}
 use Rattle.gate_io.specs.Events.{given, last_of}
 use Rattle.gate_io.specs.MemoryWorld.{MemoryWorld, Answers, stop_at, next_of, event_at, is_empty, nature_of, took_more, failed_once, went_on, risen}
 use Rattle.gate_io.specs.Nature.{Nature}
-use Rattle.gate_io.specs.Passing.{happened, piece, front}
-use Rattle.gate_io.specs.Reads.{happened-append}
+use Rattle.gate_io.specs.Passing.{happened, front}
+use Rattle.gate_io.specs.Reads.{happened-append, happened-front}
 
 -- the nature of a world with these events and this last moment
 abbrev of_events : MemoryWorld → List Event → ℕ → Nature
@@ -38,24 +38,10 @@ pub nature_taken : {T E : Type 0} (r : Result T E) (w v : MemoryWorld) (sent : S
 nature_taken (Ok x) w v sent ok err = ap nature_of ok ∙ still w (Took sent ∷ []) refl
 nature_taken (Err e) w v sent ok err = ap nature_of err
 
-note_happened : (line : ℕ) (side : Side) (b : Bool) → happened (if b then Short line side ∷ [] else []) ≡ []
-note_happened line side true = refl
-note_happened line side false = refl
-
-piece_happened : (line : ℕ) (side : Side) (bytes : List ℕ) → happened (piece line side bytes) ≡ []
-piece_happened line side [] = refl
-piece_happened line side (b ∷ bytes) = refl
-
-front_happened : (line : ℕ) (side : Side) (bytes : List ℕ) (n : ℕ) → happened (front line side bytes n) ≡ []
-front_happened line side bytes n =
-    happened-append (piece line side (take n bytes)) (if nat_lt n (length bytes) then Short line side ∷ [] else [])
-    ∙ ap (λ (es : List Event). es ++ happened (if nat_lt n (length bytes) then Short line side ∷ [] else [])) (piece_happened line side (take n bytes))
-    ∙ note_happened line side (nat_lt n (length bytes))
-
 -- a call that takes the front of a piece, or is refused
 pub nature_offered : {E : Type 0} (r : Result ℕ E) (w v : MemoryWorld) (line : ℕ) (side : Side) (bytes : List ℕ) → IfOk r (λ n. v ≡ took_more w (front line side bytes n)) → OnErr r (v ≡ w)
     → nature_of v ≡ nature_of w
-nature_offered (Ok n) w v line side bytes ok err = ap nature_of ok ∙ still w (front line side bytes n) (front_happened line side bytes n)
+nature_offered (Ok n) w v line side bytes ok err = ap nature_of ok ∙ still w (front line side bytes n) (happened-front line side bytes n)
 nature_offered (Err e) w v line side bytes ok err = ap nature_of err
 
 stop_ends : (events : List Event) (now k : ℕ) → event_at (events ++ stop_at now ∷ []) now k ≡ event_at events now k

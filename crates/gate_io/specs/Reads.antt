@@ -1,12 +1,14 @@
 -- The lists that are read off what passed go on as it goes on.
-use Rattle.std.specs.Prelude.{◌≡◌, ℕ, ◌+◌, List, [], ◌∷◌, ◌++◌, length, Option, Some, option_map, refl}
+use Rattle.std.specs.Prelude.{◌≡◌, ℕ, ◌+◌, Bool, true, false, List, [], ◌∷◌, ◌++◌, length, take, Option, Some, option_map, Result, Ok, Err, if◌then◌else◌, nat_lt, refl}
 use Rattle.std.proofs.Common.{ap, sym, ◌∙◌, add-zero, arith}
+use Rattle.std.proofs.lemmas.List.{append-nil}
 use Rattle.gate_io.specs.declared.event.Event.{Event}
 use Rattle.gate_io.specs.declared.event.Sent.{Sent}
+use Rattle.gate_io.specs.declared.event.Side.{Side}
 use Rattle.gate_io.specs.declared.passed.Passed.{Passed}
 use Rattle.gate_io.specs.declared.passed.Passed.TheVariants.{Asked, Gave, Took, Short}
 use Rattle.gate_io.specs.declared.passed.Wants.{Wants}
-use Rattle.gate_io.specs.Passing.{happened, received, asked, Shortfall, short_from, short}
+use Rattle.gate_io.specs.Passing.{piece, front, sending, taking, happened, received, asked, Shortfall, short_from, short}
 use Rattle.gate_io.specs.Told.{Gains, gains_read}
 
 pub happened-append : (a b : List Passed) → happened (a ++ b) ≡ happened a ++ happened b
@@ -52,3 +54,37 @@ asked_gains old more new a = gains_read asked asked-append old more new a
 
 pub short_gains : (old more new : List Passed) → Gains (Some old) more (Some new) → short new ≡ short old ++ short_from (length (happened old)) more
 short_gains old more new a = ap short (let e : new ≡ old ++ more = cc in e) ∙ short_from-append 0 old more ∙ ap (λ (n : ℕ). short old ++ short_from n more) (omega arith)
+
+happened-note : (line : ℕ) (side : Side) (b : Bool) → happened (if b then Short line side ∷ [] else []) ≡ []
+happened-note line side true = refl
+happened-note line side false = refl
+
+happened-piece : (line : ℕ) (side : Side) (bytes : List ℕ) → happened (piece line side bytes) ≡ []
+happened-piece line side [] = refl
+happened-piece line side (b ∷ bytes) = refl
+
+received-note : (line : ℕ) (side : Side) (b : Bool) → received (if b then Short line side ∷ [] else []) ≡ []
+received-note line side true = refl
+received-note line side false = refl
+
+-- what is taken of a piece is no event
+pub happened-front : (line : ℕ) (side : Side) (bytes : List ℕ) (n : ℕ) → happened (front line side bytes n) ≡ []
+happened-front line side bytes n =
+    happened-append (piece line side (take n bytes)) (if nat_lt n (length bytes) then Short line side ∷ [] else [])
+    ∙ ap (λ (l : List Event). l ++ happened (if nat_lt n (length bytes) then Short line side ∷ [] else [])) (happened-piece line side (take n bytes))
+    ∙ happened-note line side (nat_lt n (length bytes))
+
+pub happened-sending : {E : Type 0} (line : ℕ) (side : Side) (bytes : List ℕ) (r : Result ℕ E) → happened (sending line side bytes r) ≡ []
+happened-sending line side bytes (Ok n) = happened-front line side bytes n
+happened-sending line side bytes (Err e) = refl
+
+pub happened-taking : {T E : Type 0} (sent : Sent) (r : Result T E) → happened (taking sent r) ≡ []
+happened-taking sent (Ok x) = refl
+happened-taking sent (Err e) = refl
+
+-- what is received of a piece are the bytes that were taken
+pub received-front : (line : ℕ) (side : Side) (bytes : List ℕ) (n : ℕ) → received (front line side bytes n) ≡ received (piece line side (take n bytes))
+received-front line side bytes n =
+    received-append (piece line side (take n bytes)) (if nat_lt n (length bytes) then Short line side ∷ [] else [])
+    ∙ ap (λ (l : List Sent). received (piece line side (take n bytes)) ++ l) (received-note line side (nat_lt n (length bytes)))
+    ∙ append-nil (received (piece line side (take n bytes)))
