@@ -3,9 +3,10 @@ use Rattle.std.proofs.Common.{◌≡◌, ◌≢◌, ℕ, zero, suc, ◌+◌, ◌
 use Rattle.std.specs.List.{AllPairs}
 use Rattle.std.proofs.lemmas.List.Elements.{All-push}
 use Rattle.std.proofs.lemmas.List.Quantifiers.{all_pairs_push}
+use Rattle.matchit.proofs.OnLiterals.{matchit_on_literals}
 use Rattle.gate_config.specs.Kept.{IsVm, IsPlugin, IsRoute, IsKept}
 use Rattle.gate_config.specs.Plain.{name_of, plain_vm, plain_plugin, first_n, places, plain_route, plain_routes}
-use Rattle.gate_config.specs.Routes.{table_of}
+use Rattle.gate_config.specs.Routes.{all_fit}
 
 length-first_n : {A : Type 0} (of : ℕ → A) (n : ℕ) → length (first_n of n) ≡ n
 length-first_n of zero = refl
@@ -54,7 +55,12 @@ is_route n path few = record {
   differ = subst (AllPairs (λ a b. a ≢ b)) (sym (places_first n)) (pairs_first (λ a b. a ≢ b) (λ k. k) n (λ i j less low same. absurd (omega arith)));
 }
 
-pub plain_kept : (n : ℕ) → n ≤ 16 → IsKept 1 (first_n plain_vm n) (first_n plain_plugin n) (plain_routes n) (table_of (plain_routes 0))
+-- the router takes both routes
+both_fit : (n : ℕ) → all_fit 0 (plain_routes n) [] ≡ true
+unfolding matchit_on_literals
+both_fit n = refl
+
+pub plain_kept : (n : ℕ) → n ≤ 16 → IsKept 1 (first_n plain_vm n) (first_n plain_plugin n) (plain_routes n)
 plain_kept n few =
     let vms = length-first_n plain_vm n in
     let plugins = length-first_n plain_plugin n in
@@ -70,5 +76,5 @@ plain_kept n few =
       all_routes = All-push P (plain_route (codes "/") n ∷ []) (plain_route (codes "/{*rest}") n) (All-push P [] (plain_route (codes "/") n) (λ k d low. absurd (omega (arith, low))) (route (codes "/"))) (route (codes "/{*rest}"));
       vm_names = pairs_first (λ a b. a.name ≢ b.name) plain_vm n (λ i j less low. names_differ i j less);
       plugin_names = pairs_first (λ a b. a.name ≢ b.name) plain_plugin n (λ i j less low. names_differ i j less);
-      same_routes = refl;
+      routes_fit = both_fit n;
     }

@@ -1,2 +1,3 @@
 mod Slashes
 mod Kept
+mod Within

@@ -1,8 +1,8 @@
 -- Worked examples: names, and the routes of paths.
-use Rattle.std.specs.Prelude.{◌≡◌, List, [], ◌∷◌, None, Some, codes}
+use Rattle.std.specs.Prelude.{◌≡◌, List, [], ◌∷◌, true, false, None, Some, codes}
 use Rattle.gate_config.specs.declared.entries.RouteEntry.{RouteEntry}
 use Rattle.gate_config.specs.Plain.{name_of, plain_routes, plain_route}
-use Rattle.gate_config.specs.Routes.{route_of}
+use Rattle.gate_config.specs.Routes.{all_fit, route_of}
 
 -- `/a`, `/b/{x}` and `/b/c`
 abbrev three : List RouteEntry
@@ -19,3 +19,6 @@ pub record RouteExamples : Type 0 where
   pub longer : route_of three (codes "/a/") ≡ None
   pub no_routes : route_of [] (codes "/") ≡ None
   pub star : route_of (plain_routes 0) (codes "*") ≡ None
+  pub taken : all_fit 0 three [] ≡ true
+  pub conflict : all_fit 0 (plain_route (codes "/b/{x}") 0 ∷ plain_route (codes "/b/{y}") 0 ∷ []) [] ≡ false
+  pub no_route : all_fit 0 (plain_route (codes "/{") 0 ∷ []) [] ≡ false

@@ -1,10 +1,10 @@
 -- What a configuration keeps.
-use Rattle.std.specs.Prelude.{◌≡◌, ◌≢◌, ℕ, ◌<◌, ◌≤◌, ◌^◌, List, length, All}
+use Rattle.std.specs.Prelude.{◌≢◌, ℕ, ◌<◌, ◌≤◌, ◌^◌, IsTrue, List, [], length, All}
 use Rattle.std.specs.List.{AllPairs}
 use Rattle.gate_config.specs.declared.entries.VmEntry.{VmEntry}
 use Rattle.gate_config.specs.declared.entries.PluginEntry.{PluginEntry}
 use Rattle.gate_config.specs.declared.entries.RouteEntry.{RouteEntry}
-use Rattle.gate_config.specs.Routes.{Table, table_of}
+use Rattle.gate_config.specs.Routes.{all_fit}
 
 pub record IsVm (vm : VmEntry) : Type 0 where
   pub name : length vm.name ≤ 32
@@ -24,7 +24,7 @@ pub record IsRoute (plugins : ℕ) (route : RouteEntry) : Type 0 where
   pub there : All (λ filter. filter < plugins) route.filters
   pub differ : AllPairs (λ a b. a ≢ b) route.filters
 
-pub record IsKept (workers : ℕ) (vms : List VmEntry) (plugins : List PluginEntry) (routes : List RouteEntry) (router : Table) : Type 0 where
+pub record IsKept (workers : ℕ) (vms : List VmEntry) (plugins : List PluginEntry) (routes : List RouteEntry) : Type 0 where
   pub worker_count : (1 ≤ workers) × (workers ≤ 8)
   pub vm_count : length vms ≤ 16
   pub plugin_count : length plugins ≤ 64
@@ -34,4 +34,5 @@ pub record IsKept (workers : ℕ) (vms : List VmEntry) (plugins : List PluginEnt
   pub all_routes : All (IsRoute (length plugins)) routes
   pub vm_names : AllPairs (λ a b. a.name ≢ b.name) vms
   pub plugin_names : AllPairs (λ a b. a.name ≢ b.name) plugins
-  pub same_routes : router ≡ table_of routes
+  -- so that the router has every one of them
+  pub routes_fit : IsTrue (all_fit 0 routes [])

@@ -1,5 +1,5 @@
 -- The route of a path: what `matchit` finds in a router that was given the routes in order, each with its place.
-use Rattle.std.specs.Prelude.{◌≡◌, ℕ, ◌+◌, List, [], ◌∷◌, Option, None, option_map, Result, Ok, Err}
+use Rattle.std.specs.Prelude.{ℕ, ◌+◌, ◌&&◌, Bool, true, false, List, [], ◌∷◌, Option, is_none, option_map, Result, Ok, Err}
 use Rattle.matchit.specs.Order.{placed}
 use Rattle.matchit.specs.Route.{Scan, parse_route}
 use Rattle.matchit.specs.Router.{RouteOf, route_from, nearest}
@@ -17,9 +17,9 @@ with_read (Ok s) place table = placed (s.pattern, route_from s place) table
 with_read (Err e) place table = table
 
 -- the router takes the route: it reads well, and no route is there that conflicts with it
-abbrev pub Fits : Result Scan InsertError → Table → Type 0
-Fits (Ok s) table = nearest s.pattern table ≡ None
-Fits (Err e) table = ⊥
+abbrev pub fits : Result Scan InsertError → Table → Bool
+fits (Ok s) table = is_none (nearest s.pattern table)
+fits (Err e) table = false
 
 abbrev pub with_route : List ℕ → ℕ → Table → Table
 with_route path place table = with_read (parse_route path) place table
@@ -28,6 +28,11 @@ with_route path place table = with_read (parse_route path) place table
 abbrev pub with_routes : ℕ → List RouteEntry → Table → Table
 with_routes place [] table = table
 with_routes place (route ∷ routes) table = with_routes (place + 1) routes (with_route route.path place table)
+
+-- each of these routes, whose places go on from one, is taken by the router of those before it
+abbrev pub all_fit : ℕ → List RouteEntry → Table → Bool
+all_fit place [] table = true
+all_fit place (route ∷ routes) table = fits (parse_route route.path) table && all_fit (place + 1) routes (with_route route.path place table)
 
 abbrev pub table_of : List RouteEntry → Table
 table_of routes = with_routes 0 routes []

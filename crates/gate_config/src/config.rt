@@ -1,8 +1,8 @@
 // The configuration.
-ghost use Rattle.std.specs.Prelude.{◌≡◌};
+ghost use Rattle.std.specs.Prelude.{◌≡◌, ◌<◌, length, IfSome};
 ghost use Rattle.std.specs.Str.{IsAscii};
 ghost use Rattle.gate_config.specs.Kept.{IsKept};
-ghost use Rattle.gate_config.specs.Routes.{route_of};
+ghost use Rattle.gate_config.specs.Routes.{route_of, table_of};
 
 use crate::{PluginList, RouteList, VmList};
 use gate_base::{Level, Text};
@@ -29,12 +29,22 @@ pub struct Config {
     /// The routes, at most 256.
     pub routes: RouteList,
     pub(crate) router: Router<u16>,
-    pub ghost kept: { IsKept workers vms plugins routes router },
+    pub ghost kept: { IsKept workers vms plugins routes },
+    ghost routed: { router ≡ table_of routes },
 }
 
 impl Config {
-    /// The place of the route that a path matches by `matchit`, and None where it matches none.
+    /// The place in `routes` of the route that a path matches by `matchit`, and None where it matches none.
     pub fn route(&self, path: &[u8]) -> Option<u16>
+        requires { IsAscii path.now }
+        ensures found { result ≡ route_of self.now.routes path.now }
+        ensures within { IfSome result (λ place. place < length self.now.routes) }
+    {
+        self.look_up(path)
+    }
+
+    /// What the router finds.
+    fn look_up(&self, path: &[u8]) -> Option<u16>
         requires { IsAscii path.now }
         ensures { result ≡ route_of self.now.routes path.now }
     {

@@ -1,7 +1,7 @@
 // The plain configuration.
-ghost use Rattle.std.specs.Prelude.{◌≡◌, ◌≤◌, ◌<◌, IfOk, OnOk};
+ghost use Rattle.std.specs.Prelude.{◌≡◌, ◌≤◌, ◌<◌, IsTrue, IfOk, OnOk};
 ghost use Rattle.matchit.specs.Route.{parse_route};
-ghost use Rattle.gate_config.specs.Routes.{Fits, table_of, with_route};
+ghost use Rattle.gate_config.specs.Routes.{fits, table_of, with_route};
 ghost use Rattle.gate_config.specs.Plain.{IsPlain, first_n, name_of, places, plain_plugin, plain_route, plain_routes, plain_vm};
 
 use crate::{Config, PluginEntry, PluginList, PluginNos, RouteEntry, RouteList, VmEntry, VmList};
@@ -101,7 +101,7 @@ fn plain_router(alloc: Global) -> Result<Router<u16>, OutOfMemory>
 
 /// Gives a router one more route, which it takes.
 fn insert(router: &mut Router<u16>, path: &str, place: u16) -> Result<(), OutOfMemory>
-    requires { Fits (parse_route path.now) router.old }
+    requires { IsTrue (fits (parse_route path.now) router.old) }
     ensures { OnOk result (router.new ≡ with_route path.now place router.old) }
 {
     match router.insert(path, place) {

@@ -5,6 +5,7 @@ pub mod Memory
 pub mod Found
 pub mod Passing
 pub mod Events
+pub mod Given
 pub mod Nature
 pub mod MemoryWorld
 pub mod Reads

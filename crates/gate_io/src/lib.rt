@@ -26,7 +26,9 @@ pub use gate::{Gate, NoGate, Point};
 pub use host_files::HostFiles;
 pub use host_sink::HostSink;
 pub use host_source::HostSource;
-pub use laws::{memory_worlds_give_their_events, reads_go_on, worked_worlds};
+pub use laws::{
+    memory_worlds_give_their_events, reads_go_on, worked_worlds, worlds_keep_to_their_scripts,
+};
 pub use mem_files::{MemFiles, TextList};
 pub use mem_sink::MemSink;
 pub use mem_source::MemSource;

@@ -1,20 +1,25 @@
 // A world in memory.
-ghost use Rattle.std.specs.Prelude.{◌≡◌, ◌∷◌, ◌++◌, ◌↔◌, [], Option, IfOk, OnErr, OnOk, Contains, drop, option_map};
-ghost use Rattle.gate_io.specs.Events.{AreInOrder, Follows, nothing_given};
-ghost use Rattle.gate_io.specs.Passing.{received, sending, sent_in};
+ghost use Rattle.std.specs.Prelude.{◌≡◌, ◌≤◌, ◌∷◌, ◌++◌, ◌↔◌, [], Some, IfOk, OnErr, OnOk, IsTrue, length, drop};
+ghost use Rattle.gate_io.specs.declared.event.Sent.TheVariants.{Connect, Close, Log};
+ghost use Rattle.gate_io.specs.declared.passed.Passed.TheVariants.{Took};
+ghost use Rattle.gate_io.specs.Events.{AreInOrder, Follows, after_next, nothing_given};
+ghost use Rattle.gate_io.specs.Given.{ComesNext};
+ghost use Rattle.gate_io.specs.MemoryWorld.{Answers, IsListed, Offers, Takes, counted, failed_once, last_in, nature_of, next_of, took_more, went_on};
+ghost use Rattle.gate_io.specs.Passing.{front, received, sent_in};
 
 use crate::order::is_stop_event;
 use crate::{Event, Passed, Sent, Side, Wants, What, World, WorldEnd};
 use gate_base::{CallNos, Level, LineNo, Members, Octets, OutOfMemory};
-use std::alloc::Global;
+use std::alloc::{AllocError, Global};
 use std::collections::VecDeque;
 use std::marker::Model;
 
 /// A list of what was sent.
 pub type SentList = Members<Sent>;
 
-/// A world with stated events, behind which it gives Stop for ever, and of which the calls of `next` with the listed
-/// numbers, from 1, fail. A call that memory ran out in counts as none. The other calls fail only where memory runs out.
+/// A world with stated events, behind which it gives Stop for ever, and of which the calls with the listed numbers, from
+/// 1, fail. All calls of `next`, `send`, `connect`, `close` and `log` count, in one row, but for those that memory ran out
+/// in. A listed call of `next` answers Failed, and a listed one of the others that memory ran out, and takes nothing.
 #[derive(Debug, Drop)]
 pub struct MemWorld {
     seed: [u8; 32],
@@ -29,14 +34,13 @@ pub struct MemWorld {
 }
 
 impl Model for MemWorld {
-    ghost use Rattle.gate_io.specs.Events.{AreInOrder};
-    ghost use Rattle.gate_io.specs.MemoryWorld.{MemoryWorld};
+    ghost use Rattle.gate_io.specs.MemoryWorld.{MemoryWorld, IsInStep};
 
     ghost Value = { MemoryWorld };
 
-    ghost view = { λ w. record { seed = w.seed; trace = w.trace.items; left = w.left.items; last = record { now = w.moment; stopped = w.stopped }; most = w.most; fails = w.fails; calls = w.calls; faults = w.faults } };
+    ghost view = { λ w. record { seed = w.seed; trace = w.trace.items; left = w.left.items; most = w.most; fails = w.fails; calls = w.calls; faults = w.faults } };
 
-    ghost invariant = { λ w. AreInOrder (record { now = w.moment; stopped = w.stopped }) w.left.items };
+    ghost invariant = { λ w. IsInStep (record { now = w.moment; stopped = w.stopped }) w.trace.items w.left.items };
 }
 
 impl MemWorld {
@@ -49,7 +53,7 @@ impl MemWorld {
         fails: CallNos,
     ) -> Self
         requires { AreInOrder nothing_given events.items }
-        ensures { result ≡ record { seed = seed; trace = []; left = events.items; last = nothing_given; most = most; fails = fails; calls = 0; faults = 0 } }
+        ensures { result ≡ record { seed = seed; trace = []; left = events.items; most = most; fails = fails; calls = 0; faults = 0 } }
     {
         MemWorld {
             seed,
@@ -87,12 +91,13 @@ impl MemWorld {
 }
 
 impl World for MemWorld {
-    ghost use Rattle.std.specs.Prelude.{Some};
-    ghost use Rattle.gate_io.specs.MemoryWorld.{nature_of, no_fault_counted};
+    ghost use Rattle.std.specs.Prelude.{Some, refl};
+    ghost use Rattle.gate_io.specs.MemoryWorld.{nature_of, last_in, no_fault_counted};
+    ghost use Rattle.gate_io.specs.Scripts.{keeps_to};
 
     ghost trace = { λ w. Some w.trace };
 
-    ghost last = { λ w. w.last };
+    ghost last = { last_in };
 
     ghost nature = { nature_of };
 
@@ -100,7 +105,18 @@ impl World for MemWorld {
 
     ghost faultless = { no_fault_counted };
 
-    fn next(&mut self, alloc: Global, wants: &Wants) -> Result<Event, WorldEnd> {
+    ghost ends_at_last = { λ w. refl };
+
+    ghost keeps_to_script = { keeps_to };
+
+    // The first clause of each method says all. The others repeat those of the trait's that it does not show by itself.
+    fn next(&mut self, alloc: Global, wants: &Wants) -> Result<Event, WorldEnd>
+        ensures answer { Answers self.old wants.now result self.new }
+        ensures script { IfOk result (ComesNext (nature_of self.old).script (Some self.old.trace)) }
+        ensures last { last_in self.new ≡ after_next (last_in self.old) result }
+        ensures nature { nature_of self.new ≡ nature_of self.old }
+        ensures faults { self.old.faults ≤ self.new.faults }
+    {
         self.answer(alloc, wants)
     }
 
@@ -110,23 +126,38 @@ impl World for MemWorld {
         line: LineNo,
         side: Side,
         bytes: &[u8],
-    ) -> Result<usize, OutOfMemory> {
+    ) -> Result<usize, OutOfMemory>
+        ensures offer { Offers self.old line side bytes.now result self.new }
+        ensures last { last_in self.new ≡ last_in self.old }
+        ensures nature { nature_of self.new ≡ nature_of self.old }
+    {
         self.offer(alloc, line, side, bytes)
     }
 
-    fn connect(&mut self, alloc: Global, line: LineNo) -> Result<(), OutOfMemory> {
+    fn connect(&mut self, alloc: Global, line: LineNo) -> Result<(), OutOfMemory>
+        ensures taken { Takes self.old (Connect line) result self.new }
+        ensures last { last_in self.new ≡ last_in self.old }
+        ensures nature { nature_of self.new ≡ nature_of self.old }
+    {
         let _ = alloc;
         self.take(Sent::Connect { line })
     }
 
-    fn close(&mut self, alloc: Global, line: LineNo, side: Side) -> Result<(), OutOfMemory> {
+    fn close(&mut self, alloc: Global, line: LineNo, side: Side) -> Result<(), OutOfMemory>
+        ensures taken { Takes self.old (Close line side) result self.new }
+        ensures last { last_in self.new ≡ last_in self.old }
+        ensures nature { nature_of self.new ≡ nature_of self.old }
+    {
         let _ = alloc;
         self.take(Sent::Close { line, side })
     }
 
-    fn log(&mut self, alloc: Global, level: Level, text: &[u8]) -> Result<(), OutOfMemory> {
-        let text = Octets::from_slice(alloc, text)?;
-        self.take(Sent::Log { level, text })
+    fn log(&mut self, alloc: Global, level: Level, text: &[u8]) -> Result<(), OutOfMemory>
+        ensures taken { Takes self.old (Log level text.now) result self.new }
+        ensures last { last_in self.new ≡ last_in self.old }
+        ensures nature { nature_of self.new ≡ nature_of self.old }
+    {
+        self.take_line(alloc, level, text)
     }
 
     fn seed(&self) -> [u8; 32] {
@@ -134,23 +165,37 @@ impl World for MemWorld {
     }
 }
 
-ghost use Rattle.std.specs.Prelude.{◌≤◌, length};
-ghost use Rattle.gate_io.specs.MemoryWorld.{Answers, next_of, most_of, took_more, failed_once, went_on, risen};
-ghost use Rattle.gate_io.specs.Passing.{front};
-ghost use Rattle.gate_io.specs.declared.passed.Passed.TheVariants.{Took};
-
 impl MemWorld {
+    /// Whether the next call is to fail.
+    fn is_listed(&self) -> bool
+        ensures { IsTrue result ↔ IsListed self.now }
+    {
+        self.fails
+            .as_slice()
+            .contains(&self.calls.saturating_add(1))
+    }
+
+    /// Goes on where this call is not listed, and else counts it.
+    fn admit(&mut self) -> Result<(), OutOfMemory>
+        ensures ok { OnOk result (self.new ≡ self.old) }
+        ensures free { OnOk result (IsListed self.old → ⊥) }
+        ensures err { OnErr result (self.new ≡ counted self.old) }
+        ensures listed { OnErr result (IsListed self.old) }
+    {
+        if self.is_listed() {
+            self.calls = self.calls.saturating_add(1);
+            return Err(AllocError);
+        }
+        Ok(())
+    }
+
     /// Gives the next event, or fails where this call is listed.
     fn answer(&mut self, alloc: Global, wants: &Wants) -> Result<Event, WorldEnd>
         ensures answer { Answers self.old wants.now result self.new }
         ensures faults { self.old.faults ≤ self.new.faults }
     {
         let asked = wants.copy(alloc)?;
-        if self
-            .fails
-            .as_slice()
-            .contains(&self.calls.saturating_add(1))
-        {
+        if self.is_listed() {
             self.fail(asked)?;
             return Err(WorldEnd::Failed);
         }
@@ -171,8 +216,8 @@ impl MemWorld {
 
     /// Gives the next event.
     fn give(&mut self, alloc: Global, asked: Wants) -> Result<Event, OutOfMemory>
-        ensures event { IfOk result (λ event. event ≡ next_of self.old.last.now self.old.left) }
-        ensures follows { IfOk result (Follows self.old.last) }
+        ensures event { IfOk result (λ event. event ≡ next_of (last_in self.old).now self.old.left) }
+        ensures follows { IfOk result (Follows (last_in self.old)) }
         ensures ok { IfOk result (λ event. self.new ≡ went_on self.old asked event) }
         ensures err { OnErr result (self.new ≡ self.old) }
     {
@@ -188,7 +233,7 @@ impl MemWorld {
         Ok(event)
     }
 
-    /// Takes as many bytes of a piece as it may.
+    /// Takes as many bytes of a piece as it may, where this call is not listed.
     fn offer(
         &mut self,
         alloc: Global,
@@ -196,21 +241,39 @@ impl MemWorld {
         side: Side,
         bytes: &[u8],
     ) -> Result<usize, OutOfMemory>
-        ensures count { IfOk result (λ n. n ≡ most_of self.old.most (length bytes.now)) }
-        ensures ok { IfOk result (λ n. self.new ≡ took_more self.old (front line side bytes.now n)) }
-        ensures err { OnErr result (self.new ≡ self.old) }
+        ensures { Offers self.old line side bytes.now result self.new }
     {
+        self.admit()?;
         let n = self.most.unwrap_or(bytes.len()).min(bytes.len());
         note_front(alloc, &mut self.trace, line, side, bytes, n)?;
+        self.calls = self.calls.saturating_add(1);
         Ok(n)
     }
 
-    /// Notes what it takes.
+    /// Takes a line of the log, where this call is not listed.
+    fn take_line(&mut self, alloc: Global, level: Level, text: &[u8]) -> Result<(), OutOfMemory>
+        ensures { Takes self.old (Log level text.now) result self.new }
+    {
+        self.admit()?;
+        let text = Octets::from_slice(alloc, text)?;
+        self.note(Sent::Log { level, text })
+    }
+
+    /// Takes something, where this call is not listed.
     fn take(&mut self, sent: Sent) -> Result<(), OutOfMemory>
+        ensures { Takes self.old sent result self.new }
+    {
+        self.admit()?;
+        self.note(sent)
+    }
+
+    /// Notes what it takes.
+    fn note(&mut self, sent: Sent) -> Result<(), OutOfMemory>
         ensures ok { OnOk result (self.new ≡ took_more self.old (Took sent ∷ [])) }
         ensures err { OnErr result (self.new ≡ self.old) }
     {
         self.trace.push(Passed::Took { sent })?;
+        self.calls = self.calls.saturating_add(1);
         Ok(())
     }
 }

@@ -198,6 +198,26 @@ fn memory_worlds_take_so_many_bytes(rt: HostRuntime) -> Result<(), Fail> {
 }
 
 #[test]
+fn listed_calls_of_memory_worlds_are_refused(rt: HostRuntime) -> Result<(), Fail> {
+    let alloc = rt.alloc();
+    let line = LineNo::new(1).ok_or("a line")?;
+    // (the call that is to fail, of connect, log, send and close; whether all are answered; how many steps that makes)
+    for (fails, done, steps) in [
+        (1u64, false, 0usize),
+        (2, false, 1),
+        (3, false, 2),
+        (4, false, 3),
+        (5, true, 4),
+    ] {
+        let fails = calls(alloc, &[fails])?;
+        let mut world = MemWorld::new(alloc, Vec::new(alloc), [0; 32], None, fails);
+        assert_eq!(rt; offer(alloc, &mut world, line, b"ab").is_ok(), done);
+        assert_eq!(rt; world.trace().len(), steps);
+    }
+    Ok(())
+}
+
+#[test]
 fn a_host_file_is_read(rt: HostRuntime) -> Result<(), Fail> {
     let alloc = rt.alloc();
     let folder = env::temp_dir(&rt)?;

@@ -5,6 +5,7 @@ ghost use Rattle.gate_io.specs.declared.event.Sent.TheVariants.{Connect, Close, 
 ghost use Rattle.gate_io.specs.declared.passed.Passed.{Passed};
 ghost use Rattle.gate_io.specs.Passing.{asking, sending, taking};
 ghost use Rattle.gate_io.specs.Events.{Last, Follows, after_next, Obeys};
+ghost use Rattle.gate_io.specs.Given.{ComesNext, KeepTo, EndsAt};
 ghost use Rattle.gate_io.specs.Nature.{Nature};
 
 use crate::{Event, Side, Wants, WorldEnd};
@@ -19,16 +20,17 @@ pub trait World {
     /// The last event that was given.
     ghost last: { Self → Last };
 
-    /// What never changes: the seed, the events that will come, where told, and three promises.
+    /// What never changes: the seed, all events that it ever gives, where told, and three promises.
     ghost nature: { Self → Nature };
 
-    /// How many calls of `next` failed, up to 2^64 - 1.
+    /// A count of failures, up to 2^64 - 1: it never falls, and rises in a call of `next` that answers Failed.
     ghost faults: { Self → ℕ };
 
-    /// The next event. A refusal gives none.
+    /// The next event: the script's next, where that is told. A refusal gives none.
     fn next(&mut self, alloc: Global, wants: &Wants) -> Result<Event, WorldEnd>
         ensures trace { Gains (trace self.old) (asking wants.now result) (trace self.new) }
         ensures event { IfOk result (Follows (last self.old)) }
+        ensures script { IfOk result (ComesNext (nature self.old).script (trace self.old)) }
         ensures last { last self.new ≡ after_next (last self.old) result }
         ensures obeys { IsTrue (nature self.old).obeys → IfOk result (λ event. Obeys wants.now event.what) }
         ensures nature { nature self.new ≡ nature self.old }
@@ -77,4 +79,10 @@ pub trait World {
 
     /// A world that fails no call has counted no fault.
     ghost faultless: { (w : Self) → IsTrue (nature w).fails_no_call → faults w ≡ 0 };
+
+    /// Where what passed is told, the last event is the last of it.
+    ghost ends_at_last: { (w : Self) → EndsAt (trace w) (last w) };
+
+    /// The events that were given so far are the first of the script, where both are told.
+    ghost keeps_to_script: { (w : Self) → KeepTo (nature w).script (trace w) };
 }

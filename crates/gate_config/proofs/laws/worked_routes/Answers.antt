@@ -15,4 +15,7 @@ returns c = record {
   longer = refl;
   no_routes = refl;
   star = refl;
+  taken = refl;
+  conflict = refl;
+  no_route = refl;
 }

@@ -1,5 +1,5 @@
-use Rattle.std.proofs.lemmas.Str.{IsUtf8-from_ascii}
+use Rattle.gate_config.proofs.Within.{within}
 use Rattle.gate_config.proofs.config.Config.route.Goals as goal
 
-pub unreachable-requires : goal.unreachable-requires
-unreachable-requires c = c.in_default.ensures.cases.0 (IsUtf8-from_ascii c.args.path.now c.requires)
+pub returns-clause-within : goal.returns-clause-within
+returns-clause-within c = rw c.look_up.ensures (within c.args.self.now.routes c.args.path.now)
