@@ -3,3 +3,12 @@ pub mod Paths
 pub mod Took
 pub mod Memory
 pub mod Found
+pub mod Passing
+pub mod Events
+pub mod Given
+pub mod Nature
+pub mod MemoryWorld
+pub mod Reads
+pub mod Scripts
+pub mod Examples
+pub mod Laws

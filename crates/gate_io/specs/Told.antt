@@ -1,5 +1,5 @@
 -- What an object of the outside tells of its content: `Some` of it, or `None` where it does not tell.
-use Rattle.std.specs.Prelude.{◌≡◌, ℕ, ◌-◌, ◌^◌, ◌<◌, List, [], ◌++◌, Option, None, Some, Result, Ok, Err, refl}
+use Rattle.std.specs.Prelude.{◌≡◌, ℕ, ◌-◌, ◌^◌, ◌<◌, List, [], ◌++◌, Option, None, Some, option_map, Result, Ok, Err, refl}
 use Rattle.std.proofs.Common.{append_assoc, ap, sym, ◌∙◌}
 use Rattle.std.proofs.lemmas.List.{append-nil}
 
@@ -52,6 +52,17 @@ gains_more None first (Some m) second new a b = cc
 gains_more (Some old) first None second new a b = cc
 gains_more (Some old) first (Some m) second new a b =
     b ∙ ap (λ (xs : List _). Some (xs ++ second)) (let e : m ≡ old ++ first = cc in e) ∙ ap Some (append_assoc old first second)
+
+-- what gained nothing is as before
+pub gained_nothing : {A : Type 0} (old new : Option (List A)) → Gains old [] new → new ≡ old
+gained_nothing None new same = same
+gained_nothing (Some old) new same = same ∙ ap Some (append-nil old)
+
+-- a list that is read off what is told gains what is read off the gain
+pub gains_read : {A B : Type 0} (read : List A → List B) → ((xs ys : List A) → read (xs ++ ys) ≡ read xs ++ read ys) → (old : Option (List A)) (more : List A) (new : Option (List A))
+    → Gains old more new → Gains (option_map read old) (read more) (option_map read new)
+gains_read read joins None more new a = ap (option_map read) a
+gains_read read joins (Some old) more new a = ap (option_map read) a ∙ ap Some (joins old more)
 
 -- nothing lost
 pub loses_nothing : {A : Type 0} (told : Option (List A)) → Loses told [] told

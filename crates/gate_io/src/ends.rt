@@ -1,6 +1,7 @@
 // How a call of the outside ends where it gives nothing.
 ghost use Rattle.std.specs.Prelude.{◌≡◌};
 ghost use Rattle.gate_io.specs.declared.ends.FileEnd.TheVariants.{Failed as FailedRead, OutOfMemory};
+ghost use Rattle.gate_io.specs.declared.ends.WorldEnd.TheVariants.{OutOfMemory as WorldOutOfMemory};
 
 use std::alloc::{AllocError, AllocFailed};
 
@@ -15,6 +16,15 @@ pub enum FileEnd {
     Failed,
     /// There are more bytes than the caller takes.
     TooLong,
+    /// Memory ran out.
+    OutOfMemory,
+}
+
+/// Why a world gave no event.
+#[derive(Clone, Copy, Debug, PartialEq, Eq)]
+pub enum WorldEnd {
+    /// The world failed: the count of faults rose.
+    Failed,
     /// Memory ran out.
     OutOfMemory,
 }
@@ -40,5 +50,21 @@ impl<T: Drop> From<AllocFailed<T>> for FileEnd {
 
     fn from(_: AllocFailed<T>) -> Self {
         FileEnd::OutOfMemory
+    }
+}
+
+impl From<AllocError> for WorldEnd {
+    ghost from_gives = { λ _ e. e ≡ WorldOutOfMemory };
+
+    fn from(_: AllocError) -> Self {
+        WorldEnd::OutOfMemory
+    }
+}
+
+impl<T: Drop> From<AllocFailed<T>> for WorldEnd {
+    ghost from_gives = { λ _ e. e ≡ WorldOutOfMemory };
+
+    fn from(_: AllocFailed<T>) -> Self {
+        WorldEnd::OutOfMemory
     }
 }

@@ -1,5 +1,8 @@
 // What happens to a worker, and what it sends.
-use gate_base::{Level, LineNo, Octets, Text};
+ghost use Rattle.std.specs.Prelude.{◌≡◌, IfOk};
+
+use gate_base::{Level, LineNo, Octets, OutOfMemory};
+use std::alloc::Global;
 
 /// A side of a line: Down towards the client, Up towards the upstream server.
 #[derive(Clone, Copy, Debug, PartialEq, Eq)]
@@ -55,6 +58,50 @@ pub enum What {
     Clock,
     /// Nothing more comes.
     Stop,
+}
+
+impl Event {
+    /// A copy.
+    pub fn copy(&self, alloc: Global) -> Result<Self, OutOfMemory>
+        ensures { IfOk result (λ event. event ≡ self.entry.now) }
+    {
+        Ok(Event {
+            now: self.now,
+            what: self.what.copy(alloc)?,
+        })
+    }
+}
+
+impl What {
+    /// A copy.
+    pub fn copy(&self, alloc: Global) -> Result<Self, OutOfMemory>
+        ensures { IfOk result (λ what. what ≡ self.now) }
+    {
+        Ok(match self {
+            What::Opened { line } => What::Opened { line: *line },
+            What::Bytes { line, side, bytes } => What::Bytes {
+                line: *line,
+                side: *side,
+                bytes: bytes.copy(alloc)?,
+            },
+            What::End { line, side } => What::End {
+                line: *line,
+                side: *side,
+            },
+            What::Gone { line, side } => What::Gone {
+                line: *line,
+                side: *side,
+            },
+            What::Joined { line } => What::Joined { line: *line },
+            What::Refused { line } => What::Refused { line: *line },
+            What::Room { line, side } => What::Room {
+                line: *line,
+                side: *side,
+            },
+            What::Clock => What::Clock,
+            What::Stop => What::Stop,
+        })
+    }
 }
 
 /// What a worker sends.

@@ -15,7 +15,7 @@ pub trait Files {
     /// The paths that `read` was given, where told.
     ghost paths: { Self → Option (List (List ℕ)) };
 
-    /// How many calls failed, up to 2^64 - 1.
+    /// A count of failures, up to 2^64 - 1: it never falls, and rises in a call that answers Failed.
     ghost faults: { Self → ℕ };
 
     /// The bytes of a file of at most `most` bytes, 67,108,864 at the most.

@@ -9,7 +9,7 @@ pub trait Sink {
     /// The bytes that it took, where told.
     ghost taken: { Self → Option (List ℕ) };
 
-    /// How many calls failed, up to 2^64 - 1.
+    /// A count of failures, up to 2^64 - 1: it never falls, and rises in a call that fails.
     ghost faults: { Self → ℕ };
 
     /// Takes bytes from the front of the piece, and answers how many: at least one of a piece that is not empty.

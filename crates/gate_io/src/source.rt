@@ -15,7 +15,7 @@ pub trait Source {
     /// The bytes that are left, where told.
     ghost left: { Self → Option (List ℕ) };
 
-    /// How many calls failed, up to 2^64 - 1.
+    /// A count of failures, up to 2^64 - 1: it never falls, and rises in a call that fails.
     ghost faults: { Self → ℕ };
 
     /// Puts bytes into the room, from its front, and answers how many: 0 for a room that is not empty only at the end.

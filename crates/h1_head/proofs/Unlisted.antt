@@ -1,5 +1,5 @@
 -- Fields that are taken out of a list, one name after another.
-use Rattle.std.proofs.Common.{◌≡◌, ℕ, Bool, true, false, cond, not, ◌&&◌, ◌||◌, List, [], ◌∷◌, filter, length, nat_le, nat_lt, bytes_eq, Option, None, Some, Result, Ok, Err, OnOk, OnErr, IsOk, IfNone, refl, sym, ap, ◌∙◌, subst, arith}
+use Rattle.std.proofs.Common.{◌≡◌, ℕ, Bool, true, false, cond, not, ◌&&◌, ◌||◌, List, [], ◌∷◌, filter, length, nat_le, nat_lt, bytes_eq, Option, None, Some, Result, Ok, Err, OnOk, OnErr, IsOk, refl, sym, ap, ◌∙◌, subst, arith}
 use Rattle.std.proofs.lemmas.Bool.{and_parts, and_from, false≢true}
 use Rattle.std.proofs.lemmas.Bool.Decides.{nat_tests}
 use Rattle.std.proofs.lemmas.List.{length-map}
@@ -14,7 +14,7 @@ use Rattle.header_maps.specs.Judged.{is_field_name, is_field_value, is_token_tex
 use Rattle.header_maps.specs.Kept.{is_kept_field}
 use Rattle.header_maps.specs.Operations.{removed, without}
 use Rattle.header_maps.specs.Pairs.{is_not_named}
-use Rattle.header_maps.proofs.Shapes.{bytes_are, filter_all, same_bytes}
+use Rattle.header_maps.proofs.Shapes.{bytes_are, filter_all}
 use Rattle.http1_model.specs.Fields.{Pair, lists, members, unlisted}
 use Rattle.h1_head.specs.Unnamed.{unnamed}
 

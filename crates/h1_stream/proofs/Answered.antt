@@ -1,13 +1,11 @@
 -- What is taken is an answer.
-use Rattle.std.proofs.Common.{◌≡◌, ℕ, sym, subst}
-use Rattle.http1_model.specs.Messages as model
+use Rattle.std.proofs.Common.{sym, subst}
 use Rattle.http1_model.specs.Unread.{Reading, IsNext}
 use Rattle.h1_stream.specs.declared.next.Next.{Next}
 use Rattle.h1_stream.specs.declared.next.Next.TheVariants as nexts
 use Rattle.h1_stream.specs.declared.next.Stop.{Stop}
 use Rattle.h1_stream.specs.declared.next.Stop.TheVariants as stops
 use Rattle.h1_stream.specs.declared.reader.Step.{Step}
-use Rattle.h1_stream.specs.declared.reader.Step.TheVariants as steps
 use Rattle.h1_stream.specs.Seen.{seen_next, seen_due, IsFlagged}
 use Rattle.h1_stream.specs.Steps.{Answers, halted, Takes}
 

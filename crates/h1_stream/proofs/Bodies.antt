@@ -1,8 +1,8 @@
 -- What stands at a place in a body, and what is unread next there.
-use Rattle.std.proofs.Common.{◌≡◌, ◌⊎◌, ℕ, zero, suc, ◌+◌, ◌-◌, ◌≤◌, ◌<◌, Bool, true, false, List, [], ◌∷◌, length, take, drop, Option, None, Some, min, refl, sym, ap, ◌∙◌, subst, inl, inr, arith}
+use Rattle.std.proofs.Common.{◌≡◌, ◌⊎◌, ℕ, suc, ◌+◌, ◌-◌, ◌≤◌, ◌<◌, Bool, true, false, List, [], ◌∷◌, length, take, drop, Option, Some, min, refl, sym, ap, ◌∙◌, subst, inl, inr, arith}
 use Rattle.std.proofs.lemmas.List.{length-take-le, length-drop}
-use Rattle.http1_model.specs.Messages.{request, interim, response, octet, end, trailers, counted, unbounded, Due, head, body, done, due_next, stop_short, counted_step, unbounded_step, Step, item, stop, StepsTo}
-use Rattle.http1_model.specs.Unread.{Next, piece, part, none, Carries, by_itself, piece_before, IsNoOctet, IsPiece, IsNext}
+use Rattle.http1_model.specs.Messages.{request, interim, response, octet, end, trailers, counted, unbounded, Due, body, due_next, stop_short, counted_step, unbounded_step, Step, item, stop, StepsTo}
+use Rattle.http1_model.specs.Unread.{Next, piece, part, Carries, by_itself, piece_before, IsNoOctet, IsNext}
 use Rattle.http1_model.proofs.Carried.{take_carries, take_carries_unbounded}
 use Rattle.h1_stream.specs.Behind.{is_no_end}
 

@@ -1,5 +1,5 @@
 -- What a head says of what is unread next.
-use Rattle.std.proofs.Common.{◌≡◌, ℕ, Bool, true, false, List, Option, Some, refl, inl}
+use Rattle.std.proofs.Common.{◌≡◌, ℕ, Bool, true, false, List, Some, refl, inl}
 use Rattle.h1_head.specs.declared.head.Kind.{Kind}
 use Rattle.h1_head.specs.declared.head.Kind.TheVariants as kinds
 use Rattle.h1_head.specs.Seen.{Spells}

@@ -1,7 +1,7 @@
 -- What stands behind the data of a chunked body.
 use Rattle.std.specs.Prelude.{◌≡◌, ◌⊎◌, ℕ, Bool, true, false, List, Option, None, Some}
 use Rattle.http1_model.specs.Chunks.{Place, sought}
-use Rattle.http1_model.specs.Messages.{request, interim, response, octet, end, trailers, Due, body, coded, due_next, Step, item, stop, StepsTo}
+use Rattle.http1_model.specs.Messages.{request, interim, response, octet, end, trailers, body, coded, due_next, Step, item, stop, StepsTo}
 use Rattle.http1_model.specs.Unread.{IsNoOctet}
 use Rattle.h1_chunks.specs.Answers.{is_data}
 

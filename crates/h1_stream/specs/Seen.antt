@@ -6,7 +6,6 @@ use Rattle.h1_head.specs.declared.item.Item.TheVariants as items
 use Rattle.h1_head.specs.declared.head.Kind as kind
 use Rattle.h1_head.specs.declared.head.Kind.TheVariants as kinds
 use Rattle.http1_model.specs.Length.{BodyLength, nothing, exactly, chunked, until_end}
-use Rattle.http1_model.specs.Head as heads
 use Rattle.http1_model.specs.Messages as model
 use Rattle.http1_model.specs.Unread as unread
 use Rattle.h1_stream.specs.declared.next.Body as body

@@ -1,5 +1,5 @@
 -- What an answer of the reader says.
-use Rattle.std.specs.Prelude.{◌≡◌, ℕ}
+use Rattle.std.specs.Prelude.{◌≡◌}
 use Rattle.http1_model.specs.Messages as model
 use Rattle.http1_model.specs.Unread.{Reading, moved_on, waiting, Hands, Halts}
 use Rattle.h1_stream.specs.declared.next.Next as next

@@ -1,22 +1,20 @@
 -- What the trailers of a message are.
-use Rattle.std.proofs.Common.{◌≡◌, ℕ, ◌+◌, ◌≤◌, Bool, true, false, cond, not, List, [], ◌∷◌, ◌++◌, length, map, filter, take, drop, codes, All, Option, None, Some, refl, sym, ap, ◌∙◌, subst, arith}
-use Rattle.std.proofs.lemmas.Bool.{and_from, lt-ltb, le-leb}
-use Rattle.std.proofs.lemmas.List.{append-nil, length-append, length-take, take-take}
+use Rattle.std.proofs.Common.{◌≡◌, ℕ, ◌+◌, ◌≤◌, Bool, true, false, cond, not, List, [], ◌∷◌, length, map, filter, take, drop, codes, All, Option, None, Some, refl, sym, ap, ◌∙◌, subst, arith}
+use Rattle.std.proofs.lemmas.Bool.{and_from}
+use Rattle.std.proofs.lemmas.List.{append-nil, length-take, take-take}
 use Rattle.std.proofs.lemmas.List.Elements.{All-head, All-tail}
-use Rattle.std.specs.List.{list_all, list_any, flat_map}
+use Rattle.std.specs.List.{list_all, list_any}
 use Rattle.header_maps.specs.Kept.{is_kept_field}
-use Rattle.header_maps.specs.Operations.{without}
 use Rattle.header_maps.specs.Pairs.{is_not_named}
 use Rattle.header_maps.proofs.Shapes.{filter_all, kept_lowered}
-use Rattle.httparse.specs.Grammar.{LineEnd, print_end, Field, IsField, field_value, print_field, print_section, ReadsSection}
+use Rattle.httparse.specs.Grammar.{LineEnd, Field, IsField, field_value, print_section}
 use Rattle.httparse.specs.Spans.{name_and_value}
-use Rattle.http1_model.specs.Chunks.{Place, Sought, data_at, section_at, waiting, malformed, sought}
+use Rattle.http1_model.specs.Chunks.{Sought, data_at, section_at, waiting, malformed, sought}
 use Rattle.http1_model.specs.ChunkLaws.{TrailersAreFields}
 use Rattle.http1_model.specs.Fields.{Pair, lists, unlisted, lowered}
 use Rattle.http1_model.specs.Laws.{TrailersUnlisted}
 use Rattle.http1_model.specs.Lines.{Cut, whole, too_large, unfinished}
-use Rattle.http1_model.specs.Messages.{trailers_left}
-use Rattle.http1_model.specs.Trailers.{is_trailer_dropped, section_cut, window_section, IsSection, ended, end_of, IsEnd, IsBehind, SpellsChunks}
+use Rattle.http1_model.specs.Trailers.{is_trailer_dropped, section_cut, window_section, IsSection, ended, end_of, IsEnd, IsBehind}
 use Rattle.http1_model.proofs.ChunkLaws.{cut_fits}
 use Rattle.http1_model.proofs.Taken.{name_taken, value_taken, section_more, name_within}
 

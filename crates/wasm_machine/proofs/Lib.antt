@@ -6,6 +6,7 @@ pub mod Acts
 pub mod Flows
 pub mod Keeps
 pub mod Typed
+pub mod TypesAt
 pub mod Hosted
 pub mod Valid
 pub mod Unstuck
@@ -25,3 +26,12 @@ pub mod Crossed
 pub mod Reversed
 pub mod Taken
 pub mod Operands
+pub mod Sees
+pub mod Listing
+pub mod SameTypes
+pub mod Rowed
+pub mod Narrow
+pub mod Few
+pub mod Going
+pub mod Machined
+pub mod Asks

@@ -14,3 +14,10 @@ pub mod Held
 pub mod Acted
 pub mod Outside
 pub mod Modules
+pub mod Seen
+pub mod Live
+pub mod Room
+pub mod Rowed
+pub mod Programs
+pub mod Machines
+pub mod Kept

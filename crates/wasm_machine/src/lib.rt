@@ -6,13 +6,19 @@ mod control;
 mod jumps;
 pub mod laws;
 mod locals;
+mod machine;
+mod program;
+mod run;
 pub mod safety;
 mod simple;
 mod stack;
+mod state;
 mod values;
 
 pub use control::{Control, Target};
 pub use jumps::Targets;
+pub use machine::{MOST_PENDING, Machine, Mode, Pending, call_once};
+pub use run::Stop;
 pub use values::Values;
 
 #[cfg(test)]

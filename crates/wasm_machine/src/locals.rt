@@ -98,6 +98,16 @@ impl Locals {
         }
     }
 
+    /// These values.
+    pub(crate) fn extend(&mut self, values: &[Value])
+        requires { length self.old.members + length values.now ≤ self.old.room }
+        ensures { self.new ≡ held (self.old.members ++ values.now) self.old.room }
+    {
+        for v in values {
+            self.push(*v);
+        }
+    }
+
     /// A zero for each of these types.
     pub(crate) fn clear(&mut self, types: &[ValueType])
         requires { length self.old.members + length types.now ≤ self.old.room }

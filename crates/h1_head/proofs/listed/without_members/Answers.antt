@@ -1,4 +1,4 @@
-use Rattle.std.proofs.Common.{◌≡◌, ◌∷◌, List, ℕ, Option, Bor, option_copied, sym, ap, ◌∙◌}
+use Rattle.std.proofs.Common.{List, ℕ, Option, Bor, option_copied, sym, ap, ◌∙◌}
 use Rattle.h1_head.specs.Measures.{rest_members}
 use Rattle.h1_head.specs.Unnamed.{unnamed}
 use Rattle.h1_head.proofs.Unlisted.{unnamed-cons, unnamed-nil, removed_leaves}

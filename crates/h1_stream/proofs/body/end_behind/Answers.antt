@@ -1,9 +1,9 @@
-use Rattle.std.proofs.Common.{◌≡◌, Bool, true, false, List, ℕ, None, Some, sym, ◌∙◌, subst}
+use Rattle.std.proofs.Common.{◌≡◌, Bool, true, sym, ◌∙◌, subst}
 use Rattle.http1_model.specs.Chunks.{Place}
 use Rattle.http1_model.specs.Trailers.{SpellsChunks}
 use Rattle.http1_model.proofs.TrailerLaws.{trailers_are_fields}
 use Rattle.h1_chunks.specs.declared.reader.ChunkStep.{ChunkStep}
-use Rattle.h1_chunks.specs.Answers.{is_data, seen_step}
+use Rattle.h1_chunks.specs.Answers.{seen_step}
 use Rattle.h1_stream.specs.Seen.{asked_of}
 use Rattle.h1_stream.proofs.Coded.{byte_there, end_there, trailers_there, rest_there, refusal_there, no_data_carried}
 use Rattle.h1_stream.proofs.body.end_behind.Goals as goal

@@ -1,10 +1,10 @@
 use Rattle.std.proofs.Common.{ap, refl, subst, sym, Some}
 use Rattle.http1_model.specs.Head.{found, not_yet, refused}
-use Rattle.http1_model.specs.Messages.{stop_at, refusal}
+use Rattle.http1_model.specs.Messages.{refusal}
 use Rattle.http1_model.specs.Unread.{none}
 use Rattle.h1_head.specs.declared.head.HeadStep.{HeadStep}
 use Rattle.h1_head.specs.Seen.{Spells, seen_head, seen_step}
-use Rattle.h1_stream.specs.Seen.{asked_of, seen_next, seen_stop}
+use Rattle.h1_stream.specs.Seen.{seen_next, seen_stop}
 use Rattle.h1_head.proofs.Lists.{IfOk-map}
 use Rattle.h1_stream.proofs.Heads.{head_alone}
 use Rattle.h1_stream.proofs.next.head_next.Goals as goal

@@ -1,4 +1,4 @@
-use Rattle.std.proofs.Common.{◌≡◌, ◌<◌, ◌≤◌, ◌+◌, ◌++◌, [], ◌∷◌, ◌∙◌, length, take, sym, ap, arith, append_assoc, length-append}
+use Rattle.std.proofs.Common.{◌++◌, [], ◌∷◌, ◌∙◌, length, take, sym, ap, arith, append_assoc, length-append}
 use Rattle.wasm_syntax.specs.Reduction.{zeros}
 use Rattle.wasm_machine.proofs.Taken.{zeros_more}
 use Rattle.wasm_machine.proofs.locals.Locals.clear.Goals as goal

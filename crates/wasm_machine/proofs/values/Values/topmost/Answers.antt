@@ -1,4 +1,4 @@
-use Rattle.std.proofs.Common.{◌≡◌, ◌<◌, ◌≤◌, ◌+◌, ◌-◌, ◌++◌, [], ◌∷◌, ◌∙◌, length, take, drop, sym, ap, arith, length-append}
+use Rattle.std.proofs.Common.{◌<◌, ◌-◌, ◌++◌, [], ◌∷◌, ◌∙◌, length, sym, ap, arith, length-append}
 use Rattle.std.proofs.lemmas.Option.{slice_get-get_or}
 use Rattle.wasm_syntax.specs.declared.types.Value.TheVariants as value
 use Rattle.wasm_machine.proofs.Taken.{one_lower}

@@ -1,0 +1,3 @@
+mod Slashes
+mod Kept
+mod Within

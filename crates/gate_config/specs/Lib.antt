@@ -1,0 +1,5 @@
+pub mod Routes
+pub mod Kept
+pub mod Plain
+pub mod Laws
+pub mod Examples

@@ -1,0 +1,8 @@
+use Rattle.gate_io.proofs.Worlds.{nature_taken, last_taken}
+use Rattle.gate_io.proofs.mem_world.MemWorldWorld.log.Goals as goal
+
+pub returns-clause-last : goal.returns-clause-last
+returns-clause-last c = last_taken c.take_line.result _ _ _ c.take_line.ensures
+
+pub returns-clause-nature : goal.returns-clause-nature
+returns-clause-nature c = nature_taken c.take_line.result _ _ _ c.take_line.ensures
