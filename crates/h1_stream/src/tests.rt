@@ -100,6 +100,9 @@ const WHOLE: usize = 100_000;
 
 const CODED: &str = "POST / HTTP/1.1\r\nHost: a\r\nTransfer-Encoding: chunked\r\n\r\n";
 
+const LISTED: &str =
+    "POST / HTTP/1.1\r\nHost: a\r\nConnection: close, x-SUM\r\nTransfer-Encoding: chunked\r\n\r\n";
+
 const COUNTED: &str = "POST / HTTP/1.1\r\nHost: a\r\nContent-Length: 3\r\n\r\n";
 
 const ANSWER: &str = "HTTP/1.1 200 OK\r\n\r\n";
@@ -178,6 +181,22 @@ fn items_are_those_of_the_text(rt: HostRuntime) -> Result<(), Fail> {
             WHOLE,
             false,
             "H().",
+        ),
+        case_of(
+            REQUEST,
+            LISTED,
+            "5\r\nabcde\r\n0\r\nX-Sum: 1\r\n\r\n",
+            WHOLE,
+            false,
+            "H(abcde).",
+        ),
+        case_of(
+            REQUEST,
+            LISTED,
+            "5\r\nabcde\r\n0\r\nX-Sum: 1\r\nX-B: 2\r\n\r\n",
+            WHOLE,
+            false,
+            "H(abcde)x-b=2 ",
         ),
         case_of(REQUEST, CODED, "", WHOLE, true, "H400"),
         case_of(REQUEST, CODED, "5\r\n", WHOLE, true, "H400"),
