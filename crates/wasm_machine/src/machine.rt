@@ -7,7 +7,7 @@ ghost use Rattle.wasm_syntax.specs.declared.module.Module.{Module as Modules};
 ghost use Rattle.wasm_syntax.specs.ReductionRuns.{run as running};
 ghost use Rattle.wasm_syntax.specs.ReductionPrograms.{program_of, called_config};
 ghost use Rattle.wasm_store.specs.Linking.{IsLinked};
-ghost use Rattle.wasm_machine.specs.Machines.{asking, program_with, Takes, StopsAs};
+ghost use Rattle.wasm_machine.specs.Machines.{asking, pending_after, mode_after, program_with, Takes, StopsAs};
 
 use crate::program::Program;
 use crate::run::{Stop, run};
@@ -77,11 +77,23 @@ fn set_asked(pending: &mut Stack<Pending>, asked: Option<u32>)
     }
 }
 
-/// The topmost call is finished.
-fn end_call(pending: &mut Stack<Pending>)
-    ensures { pending.new ≡ held (drop 1 pending.old.members) pending.old.room }
+/// What a stop makes of the unfinished calls, and of the machine.
+fn settle(stop: &Stop, pending: &mut Stack<Pending>) -> Mode
+    requires { length pending.old.members ≤ pending.old.room }
+    ensures pending { pending.new ≡ held (pending_after stop.now pending.old.members) pending.old.room }
+    ensures mode { result ≡ mode_after stop.now }
 {
-    pending.pop();
+    match stop {
+        Stop::Finished { .. } => {
+            pending.pop();
+            Mode::Resting
+        }
+        Stop::HostCall { import, .. } => {
+            set_asked(pending, Some(*import));
+            Mode::Resting
+        }
+        Stop::Trap { .. } | Stop::FuelSpent => Mode::Dead,
+    }
 }
 
 impl Machine {
@@ -146,17 +158,8 @@ impl Machine {
         ensures lower { Lowers result (enough fuel.new (config_at self.new)) (enough fuel.old (config_at self.old)) }
     {
         let stop = run(&self.program, &mut self.state, fuel);
-        match &stop {
-            Stop::Finished { .. } => {
-                end_call(&mut self.pending);
-                self.mode = Mode::Resting;
-            }
-            Stop::HostCall { import, .. } => {
-                set_asked(&mut self.pending, Some(*import));
-                self.mode = Mode::Resting;
-            }
-            Stop::Trap { .. } | Stop::FuelSpent => self.mode = Mode::Dead,
-        }
+        let mode = settle(&stop, &mut self.pending);
+        self.mode = mode;
         stop
     }
 

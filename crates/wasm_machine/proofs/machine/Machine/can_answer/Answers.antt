@@ -1,4 +1,4 @@
-use Rattle.std.proofs.Common.{◌≡◌, ◌↔◌, ℕ, IsTrue, Bool, true, false, Option, Some, subst}
+use Rattle.std.proofs.Common.{◌≡◌, ◌↔◌, ℕ, IsTrue, true, false, Option, Some, subst}
 use Rattle.wasm_machine.specs.Machines.{View, program_at, AnswersTo}
 use Rattle.wasm_machine.proofs.Asks.{gives_iff}
 use Rattle.wasm_machine.proofs.machine.Machine.can_answer.Goals as goal
