@@ -1,0 +1,5 @@
+pub mod Arguments
+pub mod Ends
+pub mod Exports
+pub mod Invoking
+pub mod Readied
