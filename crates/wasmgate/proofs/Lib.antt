@@ -1,4 +1,5 @@
 mod Answered
+mod Fault
 mod Progresses
 mod Once
 mod OpenLines

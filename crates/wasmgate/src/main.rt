@@ -1,6 +1,7 @@
 //! An HTTP/1.1 gateway whose messages pass through WebAssembly filters.
 #![tactic(auto)]
 
+mod call;
 mod laws;
 mod line;
 mod replay;
