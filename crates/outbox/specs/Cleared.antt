@@ -1,0 +1,31 @@
+-- What an event drops of what waits.
+use Rattle.std.specs.Prelude.{List, Option, None, Some, filter, not}
+use Rattle.gate_io.specs.declared.event.Sent.{Sent}
+use Rattle.gate_io.specs.declared.event.Side.TheVariants.{Up}
+use Rattle.gate_io.specs.declared.event.What.{What}
+use Rattle.gate_io.specs.declared.event.What.TheVariants.{Opened, Bytes, End, Gone, Joined, Refused, Room, Clock, Stop}
+use Rattle.outbox.specs.Places.{Place, peer, is_same_place, place_of}
+
+-- the place that takes nothing more once this happened: the connection is gone, or was refused
+abbrev pub ended_by : What → Option Place
+ended_by (Opened line) = None
+ended_by (Bytes line side bytes) = None
+ended_by (End line side) = None
+ended_by (Gone line side) = Some (peer line side)
+ended_by (Joined line) = None
+ended_by (Refused line) = Some (peer line Up)
+ended_by (Room line side) = None
+ended_by Clock = None
+ended_by Stop = None
+
+-- the members for the other places, in order
+abbrev pub without : Place → List Sent → List Sent
+without place waiting = filter (λ member. not (is_same_place (place_of member) place)) waiting
+
+abbrev pub without_ended : Option Place → List Sent → List Sent
+without_ended None waiting = waiting
+without_ended (Some place) waiting = without place waiting
+
+-- what still waits once this happened
+abbrev pub cleared : What → List Sent → List Sent
+cleared what waiting = without_ended (ended_by what) waiting

@@ -1,0 +1,61 @@
+-- What a world takes of what is offered to it, and what waits.
+use Rattle.std.specs.Prelude.{◌≡◌, ◌⊎◌, ℕ, Bool, IsTrue, List, [], ◌∷◌, ◌++◌, Option, Result, OnOk}
+use Rattle.gate_io.specs.Passing.{happened, received, asked}
+use Rattle.gate_io.specs.Told.{Gains}
+use Rattle.gate_io.specs.declared.event.Sent.{Sent}
+use Rattle.gate_io.specs.declared.event.Sent.TheVariants.{Connect, Bytes, Close, Log}
+use Rattle.gate_io.specs.declared.passed.Passed.{Passed}
+use Rattle.gate_io.specs.declared.passed.Passed.TheVariants.{Asked, Gave, Took, Short}
+use Rattle.outbox.specs.Places.{Place, peer, Mark, marks_at}
+
+-- a `send` to the place took less than its piece
+abbrev pub WasShort : Place → List Passed → Type 0
+WasShort place [] = ⊥
+WasShort place (Asked wants ∷ steps) = WasShort place steps
+WasShort place (Gave event ∷ steps) = WasShort place steps
+WasShort place (Took member ∷ steps) = WasShort place steps
+WasShort place (Short line side ∷ steps) = (peer line side ≡ place) ⊎ WasShort place steps
+
+-- no `send` took less than its piece
+abbrev pub NeverShort : List Passed → Type 0
+NeverShort steps = (place : Place) → WasShort place steps → ⊥
+
+-- the members but for empty pieces, of which a world takes none
+abbrev pub solid : List Sent → List Sent
+solid [] = []
+solid (Connect line ∷ sent) = Connect line ∷ solid sent
+solid (Bytes line side [] ∷ sent) = solid sent
+solid (Bytes line side (byte ∷ bytes) ∷ sent) = Bytes line side (byte ∷ bytes) ∷ solid sent
+solid (Close line side ∷ sent) = Close line side ∷ solid sent
+solid (Log level text ∷ sent) = Log level text ∷ solid sent
+
+-- At each place a front of what was to go was received, and the rest of it waits. No event was asked for or given meanwhile.
+pub record Delivered (before : List Sent) (steps : List Passed) (after : List Sent) : Type 0 where
+  pub goes_on : (place : Place) → marks_at place (received steps) ++ marks_at place after ≡ marks_at place before
+  pub no_event : happened steps ≡ []
+  pub not_asked : asked steps ≡ []
+
+-- Where nothing waited at a place, something waits there only where a `send` took less than its piece.
+abbrev pub WaitsOnlyShort : List Sent → List Passed → List Sent → Type 0
+WaitsOnlyShort waited steps after = (place : Place) → marks_at place waited ≡ [] → (marks_at place after ≡ []) ⊎ WasShort place steps
+
+-- Where nothing waited and no `send` took less than its piece, what was received is what was to go, member by member and in
+-- order, and nothing waits.
+abbrev pub GoesWhole : List Sent → List Sent → List Passed → List Sent → Type 0
+GoesWhole waited before steps after = waited ≡ [] → NeverShort steps → (received steps ≡ solid before) × (after ≡ [])
+
+-- Nothing was held back.
+pub record Prompt (waited before : List Sent) (steps : List Passed) (after : List Sent) : Type 0 where
+  pub only_short : WaitsOnlyShort waited steps after
+  pub whole : GoesWhole waited before steps after
+
+-- All that was to go was offered, behind what waited. The world took some of it. After an Ok the rest waits. After an Err a
+-- rest is lost. A world that takes each piece whole took no less.
+pub record Offered {E : Type 0} (takes_whole : Bool) (old : Option (List Passed)) (waited before : List Sent) (result : Result (Unit {0}) E) (new : Option (List Passed))
+    (after : List Sent) : Type 0 where
+  pub steps : List Passed
+  pub rest : List Sent
+  pub told : Gains old steps new
+  pub delivered : Delivered before steps rest
+  pub taken_whole : IsTrue takes_whole → NeverShort steps
+  pub waits : OnOk result ((rest ≡ after) × Prompt waited before steps rest)

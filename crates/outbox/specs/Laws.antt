@@ -1,0 +1,56 @@
+-- Laws of what waits and of what is delivered.
+use Rattle.std.specs.Prelude.{◌≡◌, ◌↔◌, ℕ, List, [], ◌∷◌, ◌++◌, Option, Some, Contains}
+use Rattle.gate_io.specs.Passing.{happened, received, short_from}
+use Rattle.gate_io.specs.declared.event.Event.{Event}
+use Rattle.gate_io.specs.declared.event.Sent.{Sent}
+use Rattle.gate_io.specs.declared.event.Side.{Side}
+use Rattle.gate_io.specs.declared.event.What.{What}
+use Rattle.gate_io.specs.declared.passed.Passed.{Passed}
+use Rattle.outbox.specs.Cleared.{cleared, ended_by}
+use Rattle.outbox.specs.Delivery.{WasShort, NeverShort, Delivered, Prompt, solid}
+use Rattle.outbox.specs.Joined.{joined, behind, IsJoined}
+use Rattle.outbox.specs.Places.{Place, peer, journal, marks_at}
+use Rattle.outbox.specs.Turns.{OneTurn, HandsOver, Delivers, StaysOpen, all_sent, events_of}
+
+-- An event drops all that waits at the place that it ends, and nothing that waits at another.
+pub record ClearsOnePlace : Type 0 where
+  pub dropped : (what : What) (place : Place) (waiting : List Sent) → ended_by what ≡ Some place → marks_at place (cleared what waiting) ≡ []
+  pub kept : (what : What) (place : Place) (waiting : List Sent) → (ended_by what ≡ Some place → ⊥) → marks_at place (cleared what waiting) ≡ marks_at place waiting
+
+-- Joining changes nothing of what each place gets, leaves no two neighbours of one line and side, and does nothing to what is
+-- joined. It may be done member by member, or first with a front of the list.
+pub record JoinsNeighbours : Type 0 where
+  pub marks : (place : Place) (sent : List Sent) → marks_at place (joined sent) ≡ marks_at place sent
+  pub apart : (sent : List Sent) → IsJoined (joined sent)
+  pub same : (sent : List Sent) → IsJoined sent → joined sent ≡ sent
+  pub once : (sent : List Sent) → joined (joined sent) ≡ joined sent
+  pub more : (sent : List Sent) (member : Sent) → joined (sent ++ member ∷ []) ≡ behind (joined sent) member
+  pub in_parts : (first then_these : List Sent) → joined (joined first ++ then_these) ≡ joined (first ++ then_these)
+
+-- The log takes each line as it is offered: nothing of it waits where nothing was held back.
+abbrev pub LogNeverWaits : Type 0
+LogNeverWaits = (waited before : List Sent) (steps : List Passed) (after : List Sent) → Prompt waited before steps after → marks_at journal waited ≡ [] → marks_at journal after ≡ []
+
+-- Within a turn, a `send` to a side of a line fell short exactly where the shortfalls have this line and side, with the number
+-- of events that had been given by then.
+abbrev pub ShortIsNoted : Type 0
+ShortIsNoted = (n line : ℕ) (side : Side) (steps : List Passed) → happened steps ≡ [] → WasShort (peer line side) steps ↔ Contains (short_from n steps) (record { line = line; side = side; given = n })
+
+-- What turns deliver adds up.
+pub record AddsUp : Type 0 where
+  -- no turn
+  pub none : (waiting : List Sent) → Delivers waiting [] [] waiting
+  -- one turn more
+  pub more : (waiting : List Sent) (turns : List OneTurn) (steps : List Passed) (kept : List Sent) (turn : OneTurn) (now : List Passed) (rest : List Sent)
+      → Delivers waiting turns steps kept → HandsOver kept turn now rest → Delivers waiting (turns ++ turn ∷ []) (steps ++ now) rest
+  -- the events that were given are those of the turns
+  pub events : (waiting : List Sent) (turns : List OneTurn) (steps : List Passed) (rest : List Sent) → Delivers waiting turns steps rest → happened steps ≡ events_of turns
+  -- At a place that no event ends, what was received and what waits is what waited first and all that the turns sent.
+  pub all : (place : Place) (waiting : List Sent) (turns : List OneTurn) (steps : List Passed) (rest : List Sent) → Delivers waiting turns steps rest → StaysOpen place turns
+      → marks_at place (received steps) ++ marks_at place rest ≡ marks_at place waiting ++ marks_at place (all_sent turns)
+  -- Where nothing waited and no `send` fell short, nothing waits.
+  pub nothing_waits : (place : Place) (waiting : List Sent) (turns : List OneTurn) (steps : List Passed) (rest : List Sent) → Delivers waiting turns steps rest
+      → marks_at place waiting ≡ [] → (WasShort place steps → ⊥) → marks_at place rest ≡ []
+  -- Where no `send` at all fell short, what was received is what the turns sent, member by member and in order.
+  pub in_order : (turns : List OneTurn) (steps : List Passed) (rest : List Sent) → Delivers [] turns steps rest → NeverShort steps
+      → (received steps ≡ solid (all_sent turns)) × (rest ≡ [])

@@ -1,0 +1,7 @@
+pub mod Places
+pub mod Cleared
+pub mod Joined
+pub mod Delivery
+pub mod Turns
+pub mod Laws
+pub mod Examples

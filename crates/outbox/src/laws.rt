@@ -1,0 +1,29 @@
+// What the definitions say, as functions without a body.
+ghost use Rattle.outbox.specs.Examples.{PlaceExamples, ClearedExamples, JoinedExamples, DeliveryExamples, TurnExamples};
+ghost use Rattle.outbox.specs.Laws.{ClearsOnePlace, JoinsNeighbours, LogNeverWaits, ShortIsNoted, AddsUp};
+
+/// An event that a connection is gone or was refused drops what waits for it, and nothing else.
+pub fn clearing_drops_one_place()
+    ensures { ClearsOnePlace }
+{}
+
+/// Joining neighbours changes nothing of what each side of a line and the log get.
+pub fn joining_keeps_marks()
+    ensures { JoinsNeighbours }
+{}
+
+/// What turns deliver, one after another, adds up: all is received in order, or waits.
+pub fn deliveries_add_up()
+    ensures turns { AddsUp }
+    ensures log { LogNeverWaits }
+    ensures short { ShortIsNoted }
+{}
+
+/// Places, what an event drops, what is joined, and deliveries, worked on lists that are written out.
+pub fn worked_deliveries()
+    ensures places { PlaceExamples }
+    ensures cleared { ClearedExamples }
+    ensures joined { JoinedExamples }
+    ensures delivered { DeliveryExamples }
+    ensures turns { TurnExamples }
+{}
