@@ -4,16 +4,18 @@ use Rattle.gate_io.specs.declared.event.Sent.{Sent}
 use Rattle.gate_io.specs.declared.event.Side.TheVariants.{Up}
 use Rattle.gate_io.specs.declared.event.What.{What}
 use Rattle.gate_io.specs.declared.event.What.TheVariants.{Opened, Bytes, End, Gone, Joined, Refused, Room, Clock, Stop}
-use Rattle.outbox.specs.Places.{Place, peer, is_same_place, place_of}
+use Rattle.outbox.specs.Places.{is_same_place, place_of}
+use Rattle.outbox.specs.declared.place.Place.{Place}
+use Rattle.outbox.specs.declared.place.Place.TheVariants.{Peer}
 
 -- the place that takes nothing more once this happened: the connection is gone, or was refused
 abbrev pub ended_by : What → Option Place
 ended_by (Opened line) = None
 ended_by (Bytes line side bytes) = None
 ended_by (End line side) = None
-ended_by (Gone line side) = Some (peer line side)
+ended_by (Gone line side) = Some (Peer line side)
 ended_by (Joined line) = None
-ended_by (Refused line) = Some (peer line Up)
+ended_by (Refused line) = Some (Peer line Up)
 ended_by (Room line side) = None
 ended_by Clock = None
 ended_by Stop = None

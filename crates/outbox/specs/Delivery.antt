@@ -6,7 +6,9 @@ use Rattle.gate_io.specs.declared.event.Sent.{Sent}
 use Rattle.gate_io.specs.declared.event.Sent.TheVariants.{Connect, Bytes, Close, Log}
 use Rattle.gate_io.specs.declared.passed.Passed.{Passed}
 use Rattle.gate_io.specs.declared.passed.Passed.TheVariants.{Asked, Gave, Took, Short}
-use Rattle.outbox.specs.Places.{Place, peer, Mark, marks_at}
+use Rattle.outbox.specs.Places.{Mark, marks_at}
+use Rattle.outbox.specs.declared.place.Place.{Place}
+use Rattle.outbox.specs.declared.place.Place.TheVariants.{Peer}
 
 -- a `send` to the place took less than its piece
 abbrev pub WasShort : Place → List Passed → Type 0
@@ -14,7 +16,7 @@ WasShort place [] = ⊥
 WasShort place (Asked wants ∷ steps) = WasShort place steps
 WasShort place (Gave event ∷ steps) = WasShort place steps
 WasShort place (Took member ∷ steps) = WasShort place steps
-WasShort place (Short line side ∷ steps) = (peer line side ≡ place) ⊎ WasShort place steps
+WasShort place (Short line side ∷ steps) = (Peer line side ≡ place) ⊎ WasShort place steps
 
 -- no `send` took less than its piece
 abbrev pub NeverShort : List Passed → Type 0

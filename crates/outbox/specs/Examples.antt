@@ -13,7 +13,8 @@ use Rattle.gate_io.specs.declared.passed.Wants.{Wants}
 use Rattle.outbox.specs.Cleared.{cleared}
 use Rattle.outbox.specs.Delivery.{Delivered, Prompt}
 use Rattle.outbox.specs.Joined.{joined}
-use Rattle.outbox.specs.Places.{peer, journal, opening, octet, closing, logged, marks_at, IsFull}
+use Rattle.outbox.specs.Places.{opening, octet, closing, logged, marks_at, IsFull}
+use Rattle.outbox.specs.declared.place.Place.TheVariants.{Peer, Journal}
 use Rattle.outbox.specs.Turns.{OneTurn, Delivers}
 
 -- a request goes up on line 1, and a response down on lines 1 and 2
@@ -23,11 +24,11 @@ both_sides =
     ∷ Bytes 2 Down (codes "e") ∷ []
 
 pub record PlaceExamples : Type 0 where
-  pub up : marks_at (peer 1 Up) both_sides ≡ opening ∷ octet 97 ∷ octet 98 ∷ octet 100 ∷ closing ∷ []
-  pub down : marks_at (peer 1 Down) both_sides ≡ octet 99 ∷ closing ∷ []
-  pub other_line : marks_at (peer 2 Down) both_sides ≡ octet 101 ∷ []
-  pub no_line : marks_at (peer 3 Up) both_sides ≡ []
-  pub log : marks_at journal both_sides ≡ logged Info (codes "x") ∷ []
+  pub up : marks_at (Peer 1 Up) both_sides ≡ opening ∷ octet 97 ∷ octet 98 ∷ octet 100 ∷ closing ∷ []
+  pub down : marks_at (Peer 1 Down) both_sides ≡ octet 99 ∷ closing ∷ []
+  pub other_line : marks_at (Peer 2 Down) both_sides ≡ octet 101 ∷ []
+  pub no_line : marks_at (Peer 3 Up) both_sides ≡ []
+  pub log : marks_at Journal both_sides ≡ logged Info (codes "x") ∷ []
   pub full : (bytes : List ℕ) → length bytes ≡ 65535 → IsFull 1 Up (Bytes 1 Up bytes ∷ Bytes 1 Down (codes "a") ∷ Bytes 1 Up (codes "b") ∷ [])
   pub not_full : (bytes : List ℕ) → length bytes ≡ 65535 → IsFull 1 Up (Bytes 1 Up bytes ∷ Bytes 1 Down (codes "a") ∷ Close 1 Up ∷ []) → ⊥
 

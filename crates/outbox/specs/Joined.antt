@@ -18,7 +18,8 @@ as_one first next = first
 abbrev pub neighbours : Sent → Sent → List Sent
 neighbours last member = if are_one last member then as_one last member ∷ [] else last ∷ member ∷ []
 
-abbrev behind_all : Sent → List Sent → Sent → List Sent
+-- a member behind joined ones, of which this is the first
+abbrev pub behind_all : Sent → List Sent → Sent → List Sent
 behind_all first [] member = neighbours first member
 behind_all first (next ∷ rest) member = first ∷ behind_all next rest member
 
@@ -36,11 +37,12 @@ joined_behind done (member ∷ sent) = joined_behind (behind done member) sent
 abbrev pub joined : List Sent → List Sent
 joined sent = joined_behind [] sent
 
-abbrev are_apart : Sent → List Sent → Type 0
-are_apart first [] = Unit {0}
-are_apart first (next ∷ rest) = (are_one first next ≡ false) × are_apart next rest
+-- each is apart from the one before it, this one first
+abbrev pub FollowApart : Sent → List Sent → Type 0
+FollowApart first [] = Unit {0}
+FollowApart first (next ∷ rest) = (are_one first next ≡ false) × FollowApart next rest
 
 -- no two neighbours are bytes of one line and side
 abbrev pub IsJoined : List Sent → Type 0
 IsJoined [] = Unit {0}
-IsJoined (first ∷ rest) = are_apart first rest
+IsJoined (first ∷ rest) = FollowApart first rest

@@ -9,7 +9,9 @@ use Rattle.gate_io.specs.declared.passed.Passed.{Passed}
 use Rattle.outbox.specs.Cleared.{cleared, ended_by}
 use Rattle.outbox.specs.Delivery.{WasShort, NeverShort, Delivered, Prompt, solid}
 use Rattle.outbox.specs.Joined.{joined, behind, IsJoined}
-use Rattle.outbox.specs.Places.{Place, peer, journal, marks_at}
+use Rattle.outbox.specs.Places.{marks_at}
+use Rattle.outbox.specs.declared.place.Place.{Place}
+use Rattle.outbox.specs.declared.place.Place.TheVariants.{Peer, Journal}
 use Rattle.outbox.specs.Turns.{OneTurn, HandsOver, Delivers, StaysOpen, all_sent, events_of}
 
 -- An event drops all that waits at the place that it ends, and nothing that waits at another.
@@ -29,12 +31,12 @@ pub record JoinsNeighbours : Type 0 where
 
 -- The log takes each line as it is offered: nothing of it waits where nothing was held back.
 abbrev pub LogNeverWaits : Type 0
-LogNeverWaits = (waited before : List Sent) (steps : List Passed) (after : List Sent) → Prompt waited before steps after → marks_at journal waited ≡ [] → marks_at journal after ≡ []
+LogNeverWaits = (waited before : List Sent) (steps : List Passed) (after : List Sent) → Prompt waited before steps after → marks_at Journal waited ≡ [] → marks_at Journal after ≡ []
 
 -- Within a turn, a `send` to a side of a line fell short exactly where the shortfalls have this line and side, with the number
 -- of events that had been given by then.
 abbrev pub ShortIsNoted : Type 0
-ShortIsNoted = (n line : ℕ) (side : Side) (steps : List Passed) → happened steps ≡ [] → WasShort (peer line side) steps ↔ Contains (short_from n steps) (record { line = line; side = side; given = n })
+ShortIsNoted = (n line : ℕ) (side : Side) (steps : List Passed) → happened steps ≡ [] → WasShort (Peer line side) steps ↔ Contains (short_from n steps) (record { line = line; side = side; given = n })
 
 -- What turns deliver adds up.
 pub record AddsUp : Type 0 where

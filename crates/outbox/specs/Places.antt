@@ -5,11 +5,8 @@ use Rattle.gate_io.specs.declared.event.Sent.{Sent}
 use Rattle.gate_io.specs.declared.event.Sent.TheVariants.{Connect, Bytes, Close, Log}
 use Rattle.gate_io.specs.declared.event.Side.{Side}
 use Rattle.gate_io.specs.declared.event.Side.TheVariants.{Down, Up}
-
--- a side of a line, or the log
-pub data Place : Type 0 where
-  peer : ℕ → Side → Place
-  journal : Place
+use Rattle.outbox.specs.declared.place.Place.{Place}
+use Rattle.outbox.specs.declared.place.Place.TheVariants.{Peer, Journal}
 
 -- what a place gets, one after another: that its connection is opened, a byte, that it is closed, a line of the log
 pub data Mark : Type 0 where
@@ -25,17 +22,17 @@ is_same_side Up Down = false
 is_same_side Up Up = true
 
 abbrev pub is_same_place : Place → Place → Bool
-is_same_place (peer line side) (peer l s) = (line == l) && is_same_side side s
-is_same_place (peer line side) journal = false
-is_same_place journal (peer l s) = false
-is_same_place journal journal = true
+is_same_place (Peer line side) (Peer l s) = (line == l) && is_same_side side s
+is_same_place (Peer line side) Journal = false
+is_same_place Journal (Peer l s) = false
+is_same_place Journal Journal = true
 
 -- the place of a member: only an upstream connection is opened by a worker
 abbrev pub place_of : Sent → Place
-place_of (Connect line) = peer line Up
-place_of (Bytes line side bytes) = peer line side
-place_of (Close line side) = peer line side
-place_of (Log level text) = journal
+place_of (Connect line) = Peer line Up
+place_of (Bytes line side bytes) = Peer line side
+place_of (Close line side) = Peer line side
+place_of (Log level text) = Journal
 
 -- what a member puts at its place
 abbrev pub marks_in : Sent → List Mark
@@ -63,4 +60,4 @@ octets_in (logged level text ∷ marks) = octets_in marks
 
 -- at least so many bytes wait on a side of a line that nothing more is read for it
 abbrev pub IsFull : ℕ → Side → List Sent → Type 0
-IsFull line side waiting = 65536 ≤ octets_in (marks_at (peer line side) waiting)
+IsFull line side waiting = 65536 ≤ octets_in (marks_at (Peer line side) waiting)

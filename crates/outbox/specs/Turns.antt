@@ -9,7 +9,7 @@ use Rattle.gate_io.specs.declared.passed.Passed.TheVariants.{Asked, Gave}
 use Rattle.gate_io.specs.declared.passed.Wants.{Wants}
 use Rattle.outbox.specs.Cleared.{cleared, ended_by}
 use Rattle.outbox.specs.Delivery.{Delivered, Prompt}
-use Rattle.outbox.specs.Places.{Place}
+use Rattle.outbox.specs.declared.place.Place.{Place}
 
 -- a turn: its event, and what it sends
 pub record OneTurn : Type 0 where

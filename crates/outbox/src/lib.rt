@@ -1,6 +1,14 @@
 //! What a worker sends: how it is handed to its world, and what waits.
 #![tactic(auto)]
 
+mod joining;
 mod laws;
+mod member;
+mod offer;
+mod outbox;
+mod place;
 
+pub use joining::joined;
 pub use laws::{clearing_drops_one_place, deliveries_add_up, joining_keeps_marks, worked_deliveries};
+pub use outbox::Outbox;
+pub use place::{Place, ended_by, place_of};

@@ -1,0 +1,142 @@
+-- Joining neighbours.
+use Rattle.std.proofs.Common.{◌≡◌, Bool, true, false, List, [], ◌∷◌, ◌++◌, refl, sym, ◌∙◌, ap, subst, append_assoc, inl, inr}
+use Rattle.std.specs.Prelude.{if◌then◌else◌}
+use Rattle.std.proofs.lemmas.List.{append-nil}
+use Rattle.std.proofs.lemmas.Bool.{cases_Bool}
+use Rattle.gate_io.specs.declared.event.Sent.{Sent}
+use Rattle.gate_io.specs.declared.event.Sent.TheVariants.{Connect, Bytes, Close, Log}
+use Rattle.outbox.specs.Joined.{are_one, as_one, neighbours, behind_all, behind, joined_behind, joined, FollowApart, IsJoined}
+use Rattle.outbox.specs.Places.{Mark, marks_of, marks_at}
+use Rattle.outbox.specs.declared.place.Place.{Place}
+use Rattle.outbox.specs.declared.place.Place.TheVariants.{Peer}
+use Rattle.outbox.proofs.Marks.{same_place, marks_of-two}
+
+module _ (last member : Sent) where
+  pub neighbours_one : are_one last member ≡ true → neighbours last member ≡ as_one last member ∷ []
+  neighbours_one equal = ap (λ (b : Bool). if b then as_one last member ∷ [] else last ∷ member ∷ []) equal
+
+  pub neighbours_two : are_one last member ≡ false → neighbours last member ≡ last ∷ member ∷ []
+  neighbours_two unlike = ap (λ (b : Bool). if b then as_one last member ∷ [] else last ∷ member ∷ []) unlike
+
+marks_of-as_one : (place : Place) (first next : Sent) → are_one first next ≡ true → marks_of place (as_one first next) ≡ marks_of place first ++ marks_of place next
+marks_of-as_one place (Bytes line side bytes) (Bytes l s more) equal = elim (same_place (Peer line side) (Peer l s)) [
+  | inl same ↦
+      sym (marks_of-two place line side bytes more)
+      ∙ (let e : line ≡ l = cc same.0 in let f : side ≡ s = cc same.0 in λ i. marks_of place (Bytes line side bytes) ++ marks_of place (Bytes (e i) (f i) more))
+  | inr other ↦ absurd (let e : true ≡ false = sym equal ∙ other.1 in cc)
+]
+marks_of-as_one place first next equal = absurd (cc)
+
+marks_at-neighbours : (place : Place) (last member : Sent) → marks_at place (neighbours last member) ≡ marks_of place last ++ marks_of place member
+marks_at-neighbours place last member = elim (cases_Bool (are_one last member)) [
+  | inl equal ↦ ap (marks_at place) (neighbours_one last member equal) ∙ append-nil _ ∙ marks_of-as_one place last member equal
+  | inr unlike ↦ ap (marks_at place) (neighbours_two last member unlike) ∙ ap (λ (m : List Mark). marks_of place last ++ m) (append-nil (marks_of place member))
+]
+
+marks_at-behind_all : (place : Place) (first : Sent) (rest : List Sent) (member : Sent) → marks_at place (behind_all first rest member) ≡ marks_of place first ++ (marks_at place rest ++ marks_of place member)
+marks_at-behind_all place first [] member = marks_at-neighbours place first member
+marks_at-behind_all place first (next ∷ rest) member =
+    ap (λ (m : List Mark). marks_of place first ++ m) (marks_at-behind_all place next rest member ∙ sym (append_assoc (marks_of place next) (marks_at place rest) (marks_of place member)))
+
+pub marks_at-behind : (place : Place) (done : List Sent) (member : Sent) → marks_at place (behind done member) ≡ marks_at place done ++ marks_of place member
+marks_at-behind place [] member = append-nil (marks_of place member)
+marks_at-behind place (first ∷ rest) member = marks_at-behind_all place first rest member ∙ sym (append_assoc (marks_of place first) (marks_at place rest) (marks_of place member))
+
+marks_at-joined_behind : (place : Place) (sent done : List Sent) → marks_at place (joined_behind done sent) ≡ marks_at place done ++ marks_at place sent
+marks_at-joined_behind place [] done = sym (append-nil (marks_at place done))
+marks_at-joined_behind place (member ∷ sent) done =
+    marks_at-joined_behind place sent (behind done member)
+    ∙ ap (λ (m : List Mark). m ++ marks_at place sent) (marks_at-behind place done member)
+    ∙ append_assoc (marks_at place done) (marks_of place member) (marks_at place sent)
+
+pub marks_at-joined : (place : Place) (sent : List Sent) → marks_at place (joined sent) ≡ marks_at place sent
+marks_at-joined place sent = marks_at-joined_behind place sent []
+
+-- bytes that are put behind a member leave it apart from the one before it
+are_one-as_one : (x first next : Sent) → are_one x (as_one first next) ≡ are_one x first
+are_one-as_one x (Bytes line side bytes) (Bytes l s more) = same x
+  where
+    same : (x : Sent) → are_one x (Bytes line side (bytes ++ more)) ≡ are_one x (Bytes line side bytes)
+    same (Connect k) = refl
+    same (Bytes k t b) = refl
+    same (Close k t) = refl
+    same (Log level text) = refl
+are_one-as_one x (Bytes line side bytes) (Connect l) = refl
+are_one-as_one x (Bytes line side bytes) (Close l s) = refl
+are_one-as_one x (Bytes line side bytes) (Log level text) = refl
+are_one-as_one x (Connect l) next = refl
+are_one-as_one x (Close l s) next = refl
+are_one-as_one x (Log level text) next = refl
+
+apart_neighbours : (x last member : Sent) → are_one x last ≡ false → FollowApart x (neighbours last member)
+apart_neighbours x last member before = elim (cases_Bool (are_one last member)) [
+  | inl equal ↦ subst (FollowApart x) (sym (neighbours_one last member equal)) (are_one-as_one x last member ∙ before, tt)
+  | inr unlike ↦ subst (FollowApart x) (sym (neighbours_two last member unlike)) (before, (unlike, tt))
+]
+
+apart_behind : (x first : Sent) (rest : List Sent) (member : Sent) → are_one x first ≡ false → FollowApart first rest → FollowApart x (behind_all first rest member)
+apart_behind x first [] member before apart = apart_neighbours x first member before
+apart_behind x first (next ∷ rest) member before apart = (before, apart_behind first next rest member apart.0 apart.1)
+
+joined_neighbours : (last member : Sent) → IsJoined (neighbours last member)
+joined_neighbours last member = elim (cases_Bool (are_one last member)) [
+  | inl equal ↦ subst IsJoined (sym (neighbours_one last member equal)) tt
+  | inr unlike ↦ subst IsJoined (sym (neighbours_two last member unlike)) (unlike, tt)
+]
+
+pub IsJoined-behind : (done : List Sent) (member : Sent) → IsJoined done → IsJoined (behind done member)
+IsJoined-behind [] member apart = tt
+IsJoined-behind (first ∷ []) member apart = joined_neighbours first member
+IsJoined-behind (first ∷ next ∷ rest) member apart = apart_behind first next rest member apart.0 apart.1
+
+IsJoined-joined_behind : (sent done : List Sent) → IsJoined done → IsJoined (joined_behind done sent)
+IsJoined-joined_behind [] done apart = apart
+IsJoined-joined_behind (member ∷ sent) done apart = IsJoined-joined_behind sent (behind done member) (IsJoined-behind done member apart)
+
+pub IsJoined-joined : (sent : List Sent) → IsJoined (joined sent)
+IsJoined-joined sent = IsJoined-joined_behind sent [] tt
+
+behind_all_apart : (first : Sent) (rest : List Sent) (member : Sent) (more : List Sent) → FollowApart first (rest ++ member ∷ more) → behind_all first rest member ≡ first ∷ rest ++ member ∷ []
+behind_all_apart first [] member more apart = neighbours_two first member apart.0
+behind_all_apart first (next ∷ rest) member more apart = ap (λ (l : List Sent). first ∷ l) (behind_all_apart next rest member more apart.1)
+
+behind_apart : (done : List Sent) (member : Sent) (more : List Sent) → IsJoined (done ++ member ∷ more) → behind done member ≡ done ++ member ∷ []
+behind_apart [] member more apart = refl
+behind_apart (first ∷ rest) member more apart = behind_all_apart first rest member more apart
+
+joined_behind_apart : (sent done : List Sent) → IsJoined (done ++ sent) → joined_behind done sent ≡ done ++ sent
+joined_behind_apart [] done apart = sym (append-nil done)
+joined_behind_apart (member ∷ sent) done apart =
+    let here : behind done member ≡ done ++ member ∷ [] = behind_apart done member sent apart in
+    ap (λ (l : List Sent). joined_behind l sent) here
+    ∙ joined_behind_apart sent (done ++ member ∷ []) (subst IsJoined (sym (append_assoc done (member ∷ []) sent)) apart)
+    ∙ append_assoc done (member ∷ []) sent
+
+-- what is joined stays
+pub joined_same : (sent : List Sent) → IsJoined sent → joined sent ≡ sent
+joined_same sent apart = joined_behind_apart sent [] apart
+
+joined_behind-append : (a b done : List Sent) → joined_behind done (a ++ b) ≡ joined_behind (joined_behind done a) b
+joined_behind-append [] b done = refl
+joined_behind-append (member ∷ a) b done = joined_behind-append a b (behind done member)
+
+-- one member more
+pub joined-push : (sent : List Sent) (member : Sent) → joined (sent ++ member ∷ []) ≡ behind (joined sent) member
+joined-push sent member = joined_behind-append sent (member ∷ []) []
+
+pub joined_once : (sent : List Sent) → joined (joined sent) ≡ joined sent
+joined_once sent = joined_same (joined sent) (IsJoined-joined sent)
+
+-- first a front of the list
+pub joined_in_parts : (first more : List Sent) → joined (joined first ++ more) ≡ joined (first ++ more)
+joined_in_parts first more =
+    joined_behind-append (joined first) more [] ∙ ap (λ (l : List Sent). joined_behind l more) (joined_once first) ∙ sym (joined_behind-append first more [])
+
+behind_all-append : (first : Sent) (rest : List Sent) (last member : Sent) → behind_all first (rest ++ last ∷ []) member ≡ first ∷ rest ++ neighbours last member
+behind_all-append first [] last member = refl
+behind_all-append first (next ∷ rest) last member = ap (λ (l : List Sent). first ∷ l) (behind_all-append next rest last member)
+
+-- only the last member matters
+pub behind-append : (front : List Sent) (last member : Sent) → behind (front ++ last ∷ []) member ≡ front ++ neighbours last member
+behind-append [] last member = refl
+behind-append (first ∷ rest) last member = behind_all-append first rest last member

@@ -1,0 +1,320 @@
+-- What one member's offer comes to, and the offers of a list.
+use Rattle.std.proofs.Common.{◌≡◌, ◌≢◌, ◌⊎◌, inl, inr, ℕ, ◌<◌, ◌≤◌, Bool, true, false, IsTrue, List, [], ◌∷◌, ◌++◌, length, take, drop, Option, Result, Ok, Err, OnOk, IsErr, refl, sym, ◌∙◌, ap, subst, arith, append_assoc, take-append-drop}
+use Rattle.std.specs.Prelude.{if◌then◌else◌, nat_lt}
+use Rattle.std.specs.declared.alloc.AllocError.{AllocError}
+use Rattle.std.proofs.lemmas.List.{append-nil, take_all, drop_all}
+use Rattle.std.proofs.lemmas.Bool.{lt-ltb, le-ltb}
+use Rattle.gate_io.specs.Passing.{piece, front, sending, taking, happened, received, asked}
+use Rattle.gate_io.specs.Reads.{happened-append, received-append, asked-append, happened-front, received-front}
+use Rattle.gate_io.specs.Told.{Gains, gains_nothing, gains_more}
+use Rattle.gate_io.specs.declared.event.Event.{Event}
+use Rattle.gate_io.specs.declared.event.Sent.{Sent}
+use Rattle.gate_io.specs.declared.event.Sent.TheVariants.{Connect, Bytes, Close, Log}
+use Rattle.gate_io.specs.declared.event.Side.{Side}
+use Rattle.gate_io.specs.declared.passed.Passed.{Passed}
+use Rattle.gate_io.specs.declared.passed.Passed.TheVariants.{Asked, Gave, Took, Short}
+use Rattle.gate_io.specs.declared.passed.Wants.{Wants}
+use Rattle.outbox.specs.Delivery.{WasShort, NeverShort, solid, Delivered, WaitsOnlyShort, GoesWhole, Prompt, Offered}
+use Rattle.outbox.specs.Places.{Mark, place_of, marks_of, marks_at}
+use Rattle.outbox.specs.declared.place.Place.{Place}
+use Rattle.outbox.specs.declared.place.Place.TheVariants.{Peer, Journal}
+use Rattle.outbox.proofs.Marks.{cases_place, marks_elsewhere, marks_at-append, marks_at-push, marks_of-two, marks_of-none, append_empty}
+
+pub was_short-left : (place : Place) (a b : List Passed) → WasShort place a → WasShort place (a ++ b)
+was_short-left place [] b h = elim h [ ]
+was_short-left place (Asked wants ∷ a) b h = was_short-left place a b h
+was_short-left place (Gave event ∷ a) b h = was_short-left place a b h
+was_short-left place (Took member ∷ a) b h = was_short-left place a b h
+was_short-left place (Short line side ∷ a) b (inl h) = inl h
+was_short-left place (Short line side ∷ a) b (inr h) = inr (was_short-left place a b h)
+
+pub was_short-right : (place : Place) (a b : List Passed) → WasShort place b → WasShort place (a ++ b)
+was_short-right place [] b h = h
+was_short-right place (Asked wants ∷ a) b h = was_short-right place a b h
+was_short-right place (Gave event ∷ a) b h = was_short-right place a b h
+was_short-right place (Took member ∷ a) b h = was_short-right place a b h
+was_short-right place (Short line side ∷ a) b h = inr (was_short-right place a b h)
+
+pub was_short-either : (place : Place) (a b : List Passed) → WasShort place (a ++ b) → WasShort place a ⊎ WasShort place b
+was_short-either place [] b h = inr h
+was_short-either place (Asked wants ∷ a) b h = was_short-either place a b h
+was_short-either place (Gave event ∷ a) b h = was_short-either place a b h
+was_short-either place (Took member ∷ a) b h = was_short-either place a b h
+was_short-either place (Short line side ∷ a) b (inl h) = inl (inl h)
+was_short-either place (Short line side ∷ a) b (inr h) = elim (was_short-either place a b h) [ inl first ↦ inl (inr first) | inr next ↦ inr next ]
+
+pub never_short-append : (a b : List Passed) → NeverShort a → NeverShort b → NeverShort (a ++ b)
+never_short-append a b first next = λ place h. elim (was_short-either place a b h) [ inl short ↦ first place short | inr short ↦ next place short ]
+
+pub solid-append : (a b : List Sent) → solid (a ++ b) ≡ solid a ++ solid b
+solid-append [] b = refl
+solid-append (Connect line ∷ a) b = ap (λ (l : List Sent). Connect line ∷ l) (solid-append a b)
+solid-append (Bytes line side [] ∷ a) b = solid-append a b
+solid-append (Bytes line side (x ∷ bytes) ∷ a) b = ap (λ (l : List Sent). Bytes line side (x ∷ bytes) ∷ l) (solid-append a b)
+solid-append (Close line side ∷ a) b = ap (λ (l : List Sent). Close line side ∷ l) (solid-append a b)
+solid-append (Log level text ∷ a) b = ap (λ (l : List Sent). Log level text ∷ l) (solid-append a b)
+
+-- no event is asked for in a `send`
+asked-note : (line : ℕ) (side : Side) (b : Bool) → asked (if b then Short line side ∷ [] else []) ≡ []
+asked-note line side true = refl
+asked-note line side false = refl
+
+asked-piece : (line : ℕ) (side : Side) (bytes : List ℕ) → asked (piece line side bytes) ≡ []
+asked-piece line side [] = refl
+asked-piece line side (b ∷ bytes) = refl
+
+asked-front : (line : ℕ) (side : Side) (bytes : List ℕ) (n : ℕ) → asked (front line side bytes n) ≡ []
+asked-front line side bytes n =
+    asked-append (piece line side (take n bytes)) (if nat_lt n (length bytes) then Short line side ∷ [] else [])
+    ∙ (λ i. asked-piece line side (take n bytes) i ++ asked-note line side (nat_lt n (length bytes)) i)
+
+marks_at-piece : (place : Place) (line : ℕ) (side : Side) (bytes : List ℕ) → marks_at place (received (piece line side bytes)) ≡ marks_of place (Bytes line side bytes)
+marks_at-piece place line side [] = sym (marks_of-none place line side)
+marks_at-piece place line side (b ∷ bytes) = append-nil (marks_of place (Bytes line side (b ∷ bytes)))
+
+-- what a `send` took stands at its place
+marks_at-front : (place : Place) (line : ℕ) (side : Side) (bytes : List ℕ) (n : ℕ) → marks_at place (received (front line side bytes n)) ≡ marks_of place (Bytes line side (take n bytes))
+marks_at-front place line side bytes n = ap (marks_at place) (received-front line side bytes n) ∙ marks_at-piece place line side (take n bytes)
+
+-- a `send` that took less than its piece is noted
+pub short-front : (line : ℕ) (side : Side) (bytes : List ℕ) (n : ℕ) → n < length bytes → WasShort (Peer line side) (front line side bytes n)
+short-front line side bytes n less = was_short-right (Peer line side) (piece line side (take n bytes)) _ (noted (nat_lt n (length bytes)) (lt-ltb n (length bytes) less))
+  where
+    noted : (b : Bool) → b ≡ true → WasShort (Peer line side) (if b then Short line side ∷ [] else [])
+    noted true e = inl refl
+    noted false e = absurd (cc)
+
+never_short-piece : (line : ℕ) (side : Side) (bytes : List ℕ) → NeverShort (piece line side bytes)
+never_short-piece line side [] = λ place h. h
+never_short-piece line side (b ∷ bytes) = λ place h. h
+
+-- and one that took all is not
+pub never_short-front : (line : ℕ) (side : Side) (bytes : List ℕ) (n : ℕ) → length bytes ≤ n → NeverShort (front line side bytes n)
+never_short-front line side bytes n all = never_short-append (piece line side (take n bytes)) _ (never_short-piece line side (take n bytes)) (unnoted (nat_lt n (length bytes)) (le-ltb n (length bytes) all))
+  where
+    unnoted : (b : Bool) → b ≡ false → NeverShort (if b then Short line side ∷ [] else [])
+    unnoted true e = absurd (cc)
+    unnoted false e = λ place h. h
+
+-- Of a member for whose place nothing waited some was taken, and the rest of it waits behind what waited.
+front_taken : (left : List Sent) (member : Sent) (steps : List Passed) (rest : List Sent) (more : Place → List Mark) → marks_at (place_of member) left ≡ []
+    → ((place : Place) → marks_at place rest ≡ marks_at place left ++ more place) → ((place : Place) → marks_at place (received steps) ++ more place ≡ marks_of place member)
+    → happened steps ≡ [] → asked steps ≡ [] → Delivered (left ++ member ∷ []) steps rest
+front_taken left member steps rest more none waits taken no_event not_asked = record {
+  goes_on = λ place. ap (λ (m : List Mark). marks_at place (received steps) ++ m) (waits place) ∙ go place (cases_place (place_of member) place);
+  no_event = no_event;
+  not_asked = not_asked;
+}
+  where
+    go : (place : Place) → (place_of member ≡ place) ⊎ (place_of member ≡ place → ⊥) → marks_at place (received steps) ++ (marks_at place left ++ more place) ≡ marks_at place (left ++ member ∷ [])
+    go place (inl here) =
+        let empty : marks_at place left ≡ [] = ap (λ (p : Place). marks_at p left) (sym here) ∙ none in
+        ap (λ (m : List Mark). marks_at place (received steps) ++ (m ++ more place)) empty ∙ taken place
+        ∙ ap (λ (m : List Mark). m ++ marks_of place member) (sym empty) ∙ sym (marks_at-push place left member)
+    go place (inr other) =
+        let empty = append_empty (marks_at place (received steps)) (more place) (taken place ∙ marks_elsewhere place member other) in
+        (λ i. empty.0 i ++ (marks_at place left ++ empty.1 i)) ∙ ap (λ (m : List Mark). marks_at place left ++ m) (sym (marks_elsewhere place member other)) ∙ sym (marks_at-push place left member)
+
+-- nothing was offered
+pub none_taken : (before : List Sent) → Delivered before [] before
+none_taken before = record { goes_on = λ place. refl; no_event = refl; not_asked = refl }
+
+-- a member that is taken as a whole
+whole_taken : (left : List Sent) (member : Sent) → marks_at (place_of member) left ≡ [] → Delivered (left ++ member ∷ []) (Took member ∷ []) left
+whole_taken left member none =
+    front_taken left member (Took member ∷ []) left (λ place. []) none (λ place. sym (append-nil (marks_at place left))) (λ place. append-nil _ ∙ append-nil (marks_of place member)) refl refl
+
+-- a front of the bytes
+bytes_taken : (left rest : List Sent) (line : ℕ) (side : Side) (bytes : List ℕ) (n : ℕ) → marks_at (Peer line side) left ≡ []
+    → ((place : Place) → marks_at place rest ≡ marks_at place left ++ marks_of place (Bytes line side (drop n bytes))) → Delivered (left ++ Bytes line side bytes ∷ []) (front line side bytes n) rest
+bytes_taken left rest line side bytes n none waits =
+    front_taken left (Bytes line side bytes) (front line side bytes n) rest (λ place. marks_of place (Bytes line side (drop n bytes))) none waits
+    (λ place.
+    ap (λ (m : List Mark). m ++ marks_of place (Bytes line side (drop n bytes))) (marks_at-front place line side bytes n)
+    ∙ marks_of-two place line side (take n bytes) (drop n bytes)
+    ∙ ap (λ (b : List ℕ). marks_of place (Bytes line side b)) (take-append-drop n bytes))
+    (happened-front line side bytes n) (asked-front line side bytes n)
+
+pub all_taken : (left : List Sent) (line : ℕ) (side : Side) (bytes : List ℕ) (n : ℕ) → marks_at (Peer line side) left ≡ [] → length bytes ≤ n
+    → Delivered (left ++ Bytes line side bytes ∷ []) (front line side bytes n) left
+all_taken left line side bytes n none all =
+    bytes_taken left left line side bytes n none
+    (λ place. sym (append-nil (marks_at place left)) ∙ ap (λ (m : List Mark). marks_at place left ++ m) (sym (ap (λ (b : List ℕ). marks_of place (Bytes line side b)) (drop_all n bytes all) ∙ marks_of-none place line side)))
+
+pub part_taken : (left rest : List Sent) (line : ℕ) (side : Side) (bytes : List ℕ) (n : ℕ) → marks_at (Peer line side) left ≡ [] → rest ≡ left ++ Bytes line side (drop n bytes) ∷ []
+    → Delivered (left ++ Bytes line side bytes ∷ []) (front line side bytes n) rest
+part_taken left rest line side bytes n none is = bytes_taken left rest line side bytes n none (λ place. ap (marks_at place) is ∙ marks_at-push place left (Bytes line side (drop n bytes)))
+
+-- what waits is at the member's place
+waits_here : (left rest : List Sent) (steps : List Passed) (member more : Sent) → place_of more ≡ place_of member → rest ≡ left ++ more ∷ []
+    → (marks_at (place_of member) left ≢ []) ⊎ WasShort (place_of member) steps → WaitsOnlyShort left steps rest
+waits_here left rest steps member more same is why = λ place none. go place none (cases_place (place_of member) place) why
+  where
+    go : (place : Place) → marks_at place left ≡ [] → (place_of member ≡ place) ⊎ (place_of member ≡ place → ⊥) → (marks_at (place_of member) left ≢ []) ⊎ WasShort (place_of member) steps
+        → (marks_at place rest ≡ []) ⊎ WasShort place steps
+    go place none (inl here) (inl some) = absurd (some (ap (λ (p : Place). marks_at p left) here ∙ none))
+    go place none (inl here) (inr short) = inr (subst (λ (p : Place). WasShort p steps) here short)
+    go place none (inr other) why =
+        inl (ap (marks_at place) is ∙ marks_at-push place left more ∙ (λ i. none i ++ marks_elsewhere place more (λ e. other (sym same ∙ e)) i))
+
+-- nothing was left of the member
+prompt_all : (left : List Sent) (member : Sent) (steps : List Passed) → received steps ≡ solid (member ∷ []) → Prompt left (left ++ member ∷ []) steps left
+prompt_all left member steps taken = record { only_short = λ place none. inl none; whole = λ none never. (taken ∙ ap (λ (l : List Sent). solid (l ++ member ∷ [])) (sym none), none) }
+
+received-whole_piece : (line : ℕ) (side : Side) (bytes : List ℕ) → received (piece line side bytes) ≡ solid (Bytes line side bytes ∷ [])
+received-whole_piece line side [] = refl
+received-whole_piece line side (b ∷ bytes) = refl
+
+pub prompt_bytes : (left : List Sent) (line : ℕ) (side : Side) (bytes : List ℕ) (n : ℕ) → length bytes ≤ n → Prompt left (left ++ Bytes line side bytes ∷ []) (front line side bytes n) left
+prompt_bytes left line side bytes n all =
+    prompt_all left (Bytes line side bytes) (front line side bytes n)
+    (received-front line side bytes n ∙ ap (λ (b : List ℕ). received (piece line side b)) (take_all n bytes all) ∙ received-whole_piece line side bytes)
+
+pub prompt_short : (left rest : List Sent) (line : ℕ) (side : Side) (bytes more : List ℕ) (n : ℕ) → n < length bytes → rest ≡ left ++ Bytes line side more ∷ []
+    → Prompt left (left ++ Bytes line side bytes ∷ []) (front line side bytes n) rest
+prompt_short left rest line side bytes more n less is = record {
+  only_short = waits_here left rest (front line side bytes n) (Bytes line side bytes) (Bytes line side more) refl is (inr (short-front line side bytes n less));
+  whole = λ none never. absurd (never (Peer line side) (short-front line side bytes n less));
+}
+
+prompt_wait : (left rest : List Sent) (member : Sent) → marks_at (place_of member) left ≢ [] → rest ≡ left ++ member ∷ [] → Prompt left (left ++ member ∷ []) [] rest
+prompt_wait left rest member some is = record {
+  only_short = waits_here left rest [] member member refl is (inl some);
+  whole = λ none never. absurd (some (ap (marks_at (place_of member)) none));
+}
+
+solid_whole : (member : Sent) → ((line : ℕ) (side : Side) (bytes : List ℕ) → member ≡ Bytes line side bytes → ⊥) → received (Took member ∷ []) ≡ solid (member ∷ [])
+solid_whole (Connect line) other = refl
+solid_whole (Bytes line side bytes) other = absurd (other line side bytes refl)
+solid_whole (Close line side) other = refl
+solid_whole (Log level text) other = refl
+
+-- two shares of what passed, one after the other
+still_only_short : (left rest1 rest2 : List Sent) (s1 s2 : List Passed) → rest1 ≡ left → WaitsOnlyShort [] s1 rest1 → WaitsOnlyShort left s2 rest2 → WaitsOnlyShort [] (s1 ++ s2) rest2
+still_only_short left rest1 rest2 s1 s2 is first next = λ place none. go place (first place refl)
+  where
+    go : (place : Place) → (marks_at place rest1 ≡ []) ⊎ WasShort place s1 → (marks_at place rest2 ≡ []) ⊎ WasShort place (s1 ++ s2)
+    go place (inl empty) = elim (next place (ap (marks_at place) (sym is) ∙ empty)) [ inl gone ↦ inl gone | inr short ↦ inr (was_short-right place s1 s2 short) ]
+    go place (inr short) = inr (was_short-left place s1 s2 short)
+
+delivered_more : (before left rest1 rest2 : List Sent) (member : Sent) (s1 s2 : List Passed) → rest1 ≡ left → Delivered before s1 rest1 → Delivered (left ++ member ∷ []) s2 rest2
+    → Delivered (before ++ member ∷ []) (s1 ++ s2) rest2
+delivered_more before left rest1 rest2 member s1 s2 is first next = record {
+  goes_on = λ place.
+      ap (λ (l : List Sent). marks_at place l ++ marks_at place rest2) (received-append s1 s2)
+      ∙ ap (λ (m : List Mark). m ++ marks_at place rest2) (marks_at-append place (received s1) (received s2))
+      ∙ append_assoc (marks_at place (received s1)) (marks_at place (received s2)) (marks_at place rest2)
+      ∙ ap (λ (m : List Mark). marks_at place (received s1) ++ m) (next.goes_on place ∙ marks_at-push place left member)
+      ∙ sym (append_assoc (marks_at place (received s1)) (marks_at place left) (marks_of place member))
+      ∙ ap (λ (m : List Mark). m ++ marks_of place member) (ap (λ (l : List Sent). marks_at place (received s1) ++ marks_at place l) (sym is) ∙ first.goes_on place)
+      ∙ sym (marks_at-push place before member);
+  no_event = happened-append s1 s2 ∙ (λ i. first.no_event i ++ next.no_event i);
+  not_asked = asked-append s1 s2 ∙ (λ i. first.not_asked i ++ next.not_asked i);
+}
+
+still_prompt : (before left rest1 rest2 : List Sent) (member : Sent) (s1 s2 : List Passed) → rest1 ≡ left → Prompt [] before s1 rest1 → Prompt left (left ++ member ∷ []) s2 rest2
+    → Prompt [] (before ++ member ∷ []) (s1 ++ s2) rest2
+still_prompt before left rest1 rest2 member s1 s2 is first next = record {
+  only_short = still_only_short left rest1 rest2 s1 s2 is first.only_short next.only_short;
+  whole = λ none never.
+      let one = first.whole refl (λ place short. never place (was_short-left place s1 s2 short)) in
+      let empty : left ≡ [] = sym is ∙ one.1 in
+      let two = next.whole empty (λ place short. never place (was_short-right place s1 s2 short)) in
+      (received-append s1 s2 ∙ (λ i. one.0 i ++ two.0 i) ∙ ap (λ (l : List Sent). solid before ++ solid (l ++ member ∷ [])) empty ∙ sym (solid-append before (member ∷ [])), two.1);
+}
+
+-- more that is not offered waits behind the rest
+delivered_cut : (before steps : _) (rest more : List Sent) → Delivered before steps rest → Delivered (before ++ more) steps (rest ++ more)
+delivered_cut before steps rest more d = record {
+  goes_on = λ place.
+      ap (λ (m : List Mark). marks_at place (received steps) ++ m) (marks_at-append place rest more)
+      ∙ sym (append_assoc (marks_at place (received steps)) (marks_at place rest) (marks_at place more))
+      ∙ ap (λ (m : List Mark). m ++ marks_at place more) (d.goes_on place)
+      ∙ sym (marks_at-append place before more);
+  no_event = d.no_event;
+  not_asked = d.not_asked;
+}
+
+module _ {E : Type 0} (takes_whole : Bool) where
+  pub offered_wait : (world : Option (List Passed)) (left : List Sent) (member : Sent) (new : List Sent) (r : Result (Unit {0}) E) → OnOk r (new ≡ left ++ member ∷ [])
+      → marks_at (place_of member) left ≢ [] → Offered takes_whole world left (left ++ member ∷ []) r world new
+  offered_wait world left member new (Ok x) is some = record {
+    steps = [];
+    rest = left ++ member ∷ [];
+    told = gains_nothing world;
+    delivered = none_taken _;
+    taken_whole = λ t place h. h;
+    waits = (sym is, prompt_wait left (left ++ member ∷ []) member some refl);
+  }
+  offered_wait world left member new (Err e) is some = record {
+    steps = [];
+    rest = left ++ member ∷ [];
+    told = gains_nothing world;
+    delivered = none_taken _;
+    taken_whole = λ t place h. h;
+    waits = tt;
+  }
+
+  -- a call that takes its member or is refused
+  pub offered_whole : (old new : Option (List Passed)) (left : List Sent) (member : Sent) (r : Result (Unit {0}) E) → ((line : ℕ) (side : Side) (bytes : List ℕ) → member ≡ Bytes line side bytes → ⊥)
+      → Gains old (taking member r) new → marks_at (place_of member) left ≡ [] → Offered takes_whole old left (left ++ member ∷ []) r new left
+  offered_whole old new left member (Ok x) other told none = record {
+    steps = Took member ∷ [];
+    rest = left;
+    told = told;
+    delivered = whole_taken left member none;
+    taken_whole = λ t place h. h;
+    waits = (refl, prompt_all left member (Took member ∷ []) (solid_whole member other));
+  }
+  offered_whole old new left member (Err e) other told none = record {
+    steps = [];
+    rest = left ++ member ∷ [];
+    told = told;
+    delivered = none_taken _;
+    taken_whole = λ t place h. h;
+    waits = tt;
+  }
+
+  -- before the first
+  pub offered_none : (world : Option (List Passed)) → Offered {E = E} takes_whole world [] [] (Ok tt) world []
+  offered_none world = record {
+    steps = [];
+    rest = [];
+    told = gains_nothing world;
+    delivered = none_taken [];
+    taken_whole = λ t place h. h;
+    waits = (refl, record { only_short = λ place none. inl refl; whole = λ none never. (refl, refl) });
+  }
+
+  -- one member more
+  pub offered_next : (a b c : Option (List Passed)) (before left after : List Sent) (member : Sent) (r : Result (Unit {0}) E) → Offered {E = E} takes_whole a [] before (Ok tt) b left
+      → Offered takes_whole b left (left ++ member ∷ []) r c after → Offered takes_whole a [] (before ++ member ∷ []) r c after
+  offered_next a b c before left after member (Ok x) first next = record {
+    steps = first.steps ++ next.steps;
+    rest = next.rest;
+    told = gains_more a first.steps b next.steps c first.told next.told;
+    delivered = delivered_more before left first.rest next.rest member first.steps next.steps first.waits.0 first.delivered next.delivered;
+    taken_whole = λ t. never_short-append first.steps next.steps (first.taken_whole t) (next.taken_whole t);
+    waits = (next.waits.0, still_prompt before left first.rest next.rest member first.steps next.steps first.waits.0 first.waits.1 next.waits.1);
+  }
+  offered_next a b c before left after member (Err e) first next = record {
+    steps = first.steps ++ next.steps;
+    rest = next.rest;
+    told = gains_more a first.steps b next.steps c first.told next.told;
+    delivered = delivered_more before left first.rest next.rest member first.steps next.steps first.waits.0 first.delivered next.delivered;
+    taken_whole = λ t. never_short-append first.steps next.steps (first.taken_whole t) (next.taken_whole t);
+    waits = tt;
+  }
+
+  -- cut short, and what came behind was not offered
+  pub offered_cut : (a b : Option (List Passed)) (waited before more after after' : List Sent) (r r' : Result (Unit {0}) E) → IsErr r' → Offered takes_whole a waited before r b after
+      → Offered takes_whole a waited (before ++ more) r' b after'
+  offered_cut a b waited before more after after' r (Ok x) err run = absurd (cc)
+  offered_cut a b waited before more after after' r (Err e) err run = record {
+    steps = run.steps;
+    rest = run.rest ++ more;
+    told = run.told;
+    delivered = delivered_cut before run.steps run.rest more run.delivered;
+    taken_whole = run.taken_whole;
+    waits = tt;
+  }

@@ -1,0 +1,110 @@
+// What waits for a world that takes less than it is given.
+ghost use Rattle.std.specs.Prelude.{◌≡◌, ◌≤◌, ◌↔◌, ◌++◌, [], IsTrue, OnOk, OnErr};
+ghost use Rattle.outbox.specs.Cleared.{cleared, without};
+ghost use Rattle.outbox.specs.Delivery.{Offered};
+ghost use Rattle.outbox.specs.Places.{IsFull};
+
+use crate::member::{bytes_for, is_for};
+use crate::offer::offer;
+use crate::place::{Place, ended_by};
+use gate_base::{LineNo, OutOfMemory};
+use gate_io::{Sent, Side, What, World};
+use std::alloc::Global;
+use std::marker::Model;
+use std::mem;
+
+/// So many bytes of output that wait on a side of a line are enough.
+const FULL: usize = 65_536;
+
+/// What waits to be handed over, in order. Clauses see the list of its members.
+#[derive(Debug, Drop)]
+pub struct Outbox {
+    waiting: Vec<Sent>,
+}
+
+impl Model for Outbox {
+    ghost use Rattle.std.specs.Prelude.{List};
+    ghost use Rattle.gate_io.specs.declared.event.Sent.{Sent};
+
+    ghost Value = { List Sent };
+
+    ghost view = { λ o. o.waiting.items };
+}
+
+impl Outbox {
+    /// Nothing waits. It takes no memory.
+    pub fn new(alloc: Global) -> Self
+        ensures { result ≡ [] }
+    {
+        Outbox {
+            waiting: Vec::new(alloc),
+        }
+    }
+
+    /// What waits, in order.
+    pub fn waiting(&self) -> &[Sent]
+        ensures { result.now ≡ self.now }
+    {
+        &self.waiting
+    }
+
+    /// Drops what can't be sent any more once this happened. It takes no memory.
+    pub fn clear(&mut self, what: &What)
+        ensures { self.new ≡ cleared what.now self.old }
+    {
+        if let Some(place) = ended_by(what) {
+            forget(&mut self.waiting, &place);
+        }
+    }
+
+    /// Puts these behind what waits, all or none.
+    pub fn append(&mut self, sent: Vec<Sent>) -> Result<(), OutOfMemory>
+        ensures ok { OnOk result (self.new ≡ self.old ++ sent.items) }
+        ensures err { OnErr result (self.new ≡ self.old) }
+    {
+        let mut sent = sent;
+        self.waiting.append(&mut sent)?;
+        Ok(())
+    }
+
+    /// Offers all that waits, in order: a member is offered unless one before it waits on its side of its line. What the world
+    /// does not take waits on. After an Err nothing waits: what was not handed over by then is lost.
+    pub fn hand_over<W: World>(&mut self, alloc: Global, world: &mut W) -> Result<(), OutOfMemory>
+        ensures last { W.last world.new ≡ W.last world.old }
+        ensures nature { W.nature world.new ≡ W.nature world.old }
+        ensures faults { W.faults world.old ≤ W.faults world.new }
+        ensures offered { Offered (W.nature world.old).takes_whole (W.trace world.old) [] self.old result (W.trace world.new) self.new }
+        ensures err { OnErr result (self.new ≡ []) }
+    {
+        let waiting = mem::replace(&mut self.waiting, Vec::new(alloc));
+        let mut left = Vec::new(alloc);
+        for member in waiting {
+            offer(alloc, world, &mut left, member)?;
+        }
+        self.waiting = left;
+        Ok(())
+    }
+
+    /// Whether at least 65,536 bytes wait on a side of a line.
+    pub fn is_full(&self, line: LineNo, side: Side) -> bool
+        ensures { IsTrue result ↔ IsFull line side self.now }
+    {
+        let place = Place::Peer { line, side };
+        let mut room = FULL;
+        for member in self.waiting.as_slice() {
+            let n = bytes_for(member, &place);
+            if room <= n {
+                return true;
+            }
+            room -= n;
+        }
+        false
+    }
+}
+
+/// Drops what waits for a place.
+fn forget(waiting: &mut Vec<Sent>, place: &Place)
+    ensures { waiting.new.items ≡ without place.now waiting.old.items }
+{
+    waiting.retain(|member| !is_for(member, place));
+}

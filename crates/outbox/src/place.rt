@@ -1,0 +1,50 @@
+// Where things are sent to.
+ghost use Rattle.std.specs.Prelude.{◌≡◌};
+ghost use Rattle.outbox.specs.Cleared.{ended_by};
+ghost use Rattle.outbox.specs.Places.{place_of};
+
+use gate_base::LineNo;
+use gate_io::{Sent, Side, What};
+
+/// Where a member goes.
+#[derive(Clone, Copy, Debug, PartialEq, Eq)]
+pub enum Place {
+    /// The peer on a side of a line.
+    Peer { line: LineNo, side: Side },
+    /// The log.
+    Journal,
+}
+
+/// The place of a member.
+pub fn place_of(member: &Sent) -> Place
+    ensures { result ≡ place_of member.now }
+{
+    match member {
+        Sent::Connect { line } => Place::Peer {
+            line: *line,
+            side: Side::Up,
+        },
+        Sent::Bytes { line, side, .. } | Sent::Close { line, side } => Place::Peer {
+            line: *line,
+            side: *side,
+        },
+        Sent::Log { .. } => Place::Journal,
+    }
+}
+
+/// The place that takes nothing more once this happened.
+pub fn ended_by(what: &What) -> Option<Place>
+    ensures { result ≡ ended_by what.now }
+{
+    match what {
+        What::Gone { line, side } => Some(Place::Peer {
+            line: *line,
+            side: *side,
+        }),
+        What::Refused { line } => Some(Place::Peer {
+            line: *line,
+            side: Side::Up,
+        }),
+        _ => None,
+    }
+}
