@@ -1,6 +1,6 @@
 -- Joining neighbours.
-use Rattle.std.proofs.Common.{◌≡◌, Bool, true, false, List, [], ◌∷◌, ◌++◌, refl, sym, ◌∙◌, ap, subst, append_assoc, inl, inr}
-use Rattle.std.specs.Prelude.{if◌then◌else◌}
+use Rattle.std.proofs.Common.{◌≡◌, Bool, true, false, List, [], ◌∷◌, ◌++◌, refl, sym, ◌∙◌, ap, subst, append_assoc, inl, inr, Option, Some}
+use Rattle.std.specs.Prelude.{if◌then◌else◌, option_to_list}
 use Rattle.std.proofs.lemmas.List.{append-nil}
 use Rattle.std.proofs.lemmas.Bool.{cases_Bool}
 use Rattle.gate_io.specs.declared.event.Sent.{Sent}
@@ -140,3 +140,8 @@ behind_all-append first (next ∷ rest) last member = ap (λ (l : List Sent). fi
 pub behind-append : (front : List Sent) (last member : Sent) → behind (front ++ last ∷ []) member ≡ front ++ neighbours last member
 behind-append [] last member = refl
 behind-append (first ∷ rest) last member = behind_all-append first rest last member
+
+-- behind a list of which the last member was taken off
+pub behind-popped : (old front : List Sent) (popped : Option Sent) (last member : Sent) → popped ≡ Some last → old ≡ front ++ option_to_list popped → behind old member ≡ front ++ neighbours last member
+behind-popped old front popped last member some is =
+    ap (λ (l : List Sent). behind l member) (is ∙ ap (λ (o : Option Sent). front ++ option_to_list o) some) ∙ behind-append front last member

@@ -1,7 +1,7 @@
 -- What members and lists put at places.
-use Rattle.std.proofs.Common.{◌≡◌, ◌≢◌, ◌⊎◌, inl, inr, ℕ, ◌+◌, Bool, true, false, List, [], ◌∷◌, ◌++◌, length, take, drop, map, refl, sym, ◌∙◌, ap, subst, arith, append_assoc, take-append-drop}
-use Rattle.std.specs.Prelude.{if◌then◌else◌, filter, not}
-use Rattle.std.proofs.lemmas.List.{append-nil, map-append}
+use Rattle.std.proofs.Common.{◌≡◌, ◌≢◌, ◌⊎◌, inl, inr, ℕ, ◌+◌, ◌<◌, Bool, true, false, List, [], ◌∷◌, ◌++◌, length, take, drop, map, refl, sym, ◌∙◌, ap, subst, arith, append_assoc, take-append-drop}
+use Rattle.std.specs.Prelude.{if◌then◌else◌, filter, not, slice_index_or}
+use Rattle.std.proofs.lemmas.List.{append-nil, map-append, drop_more}
 use Rattle.std.proofs.lemmas.Bool.{cases_eq, eq-eqb, ne_eqb, and_from, and_left, and_right, cond-true, cond-false}
 use Rattle.gate_io.specs.declared.event.Sent.{Sent}
 use Rattle.gate_io.specs.declared.event.Sent.TheVariants.{Bytes}
@@ -104,3 +104,16 @@ marks_at-without_other place gone (s ∷ waiting) differ = elim (same_place (pla
       ap (λ (b : Bool). marks_at place (if not b then s ∷ without gone waiting else without gone waiting)) unlike.1
       ∙ ap (λ (m : List Mark). marks_of place s ++ m) (marks_at-without_other place gone waiting differ)
 ]
+
+-- the bytes of a member that is for a place
+pub octets_of-bytes : (place : Place) (member : Sent) (line : ℕ) (side : Side) (bytes : List ℕ) → member ≡ Bytes line side bytes → is_same_place (place_of member) place ≡ true
+    → octets_in (marks_of place member) ≡ length bytes
+octets_of-bytes place member line side bytes is equal =
+    ap octets_in (cond-true (is_same_place (place_of member) place) (marks_in member) [] equal ∙ ap marks_in is) ∙ octets_in-map bytes
+
+-- the bytes at a place from a member on
+pub octets_in-drop : (place : Place) (items : List Sent) (i : ℕ) (member : Sent) → i < length items → member ≡ slice_index_or items i member
+    → octets_in (marks_at place (drop i items)) ≡ octets_in (marks_of place member) + octets_in (marks_at place (drop (i + 1) items))
+octets_in-drop place items i member below is =
+    ap (λ (l : List Sent). octets_in (marks_at place l)) (drop_more items i member below ∙ ap (λ (s : Sent). s ∷ drop (i + 1) items) (sym is))
+    ∙ octets_in-append (marks_of place member) (marks_at place (drop (i + 1) items))

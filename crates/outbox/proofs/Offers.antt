@@ -235,6 +235,12 @@ delivered_cut before steps rest more d = record {
   not_asked = d.not_asked;
 }
 
+-- the members before these were offered
+pub record SoFar (takes_whole : Bool) (old : Option (List Passed)) (members more : List Sent) (new : Option (List Passed)) (left : List Sent) : Type 0 where
+  pub before : List Sent
+  pub members_are : before ++ more ≡ members
+  pub offered : Offered {E = AllocError} takes_whole old [] before (Ok tt) new left
+
 module _ {E : Type 0} (takes_whole : Bool) where
   pub offered_wait : (world : Option (List Passed)) (left : List Sent) (member : Sent) (new : List Sent) (r : Result (Unit {0}) E) → OnOk r (new ≡ left ++ member ∷ [])
       → marks_at (place_of member) left ≢ [] → Offered takes_whole world left (left ++ member ∷ []) r world new
@@ -318,3 +324,21 @@ module _ {E : Type 0} (takes_whole : Bool) where
     taken_whole = run.taken_whole;
     waits = tt;
   }
+
+-- one member more of the members that are offered
+pub so_far_next : (takes_whole same : Bool) (a b c : Option (List Passed)) (members left after more rest : List Sent) (member : Sent) → same ≡ takes_whole → more ≡ member ∷ rest
+    → SoFar takes_whole a members more b left → Offered {E = AllocError} same b left (left ++ member ∷ []) (Ok tt) c after → SoFar takes_whole a members rest c after
+so_far_next takes_whole same a b c members left after more rest member is next so_far now = record {
+  before = so_far.before ++ member ∷ [];
+  members_are = append_assoc so_far.before (member ∷ []) rest ∙ ap (λ (l : List Sent). so_far.before ++ l) (sym next) ∙ so_far.members_are;
+  offered = offered_next takes_whole a b c so_far.before left after member (Ok tt) so_far.offered (subst (λ (w : Bool). Offered {E = AllocError} w b left (left ++ member ∷ []) (Ok tt) c after) is now);
+}
+
+-- or cut short there
+pub so_far_cut : (takes_whole same : Bool) (a b c : Option (List Passed)) (members left after more rest gone : List Sent) (member : Sent) (r r' : Result (Unit {0}) AllocError) → same ≡ takes_whole
+    → more ≡ member ∷ rest → IsErr r' → SoFar takes_whole a members more b left → Offered same b left (left ++ member ∷ []) r c after → Offered takes_whole a [] members r' c gone
+so_far_cut takes_whole same a b c members left after more rest gone member r r' is next err so_far now =
+    subst (λ (l : List Sent). Offered takes_whole a [] l r' c gone)
+    (append_assoc so_far.before (member ∷ []) rest ∙ ap (λ (l : List Sent). so_far.before ++ l) (sym next) ∙ so_far.members_are)
+    (offered_cut takes_whole a c [] (so_far.before ++ member ∷ []) rest after gone r r' err
+    (offered_next takes_whole a b c so_far.before left after member r so_far.offered (subst (λ (w : Bool). Offered w b left (left ++ member ∷ []) r c after) is now)))

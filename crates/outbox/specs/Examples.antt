@@ -50,7 +50,8 @@ pub record JoinedExamples : Type 0 where
       joined (Bytes 1 Up (codes "a") ∷ Log Info (codes "x") ∷ Bytes 1 Up (codes "b") ∷ [])
       ≡ Bytes 1 Up (codes "a") ∷ Log Info (codes "x") ∷ Bytes 1 Up (codes "b") ∷ []
 
-abbrev piece : List Sent
+-- two bytes and a close
+abbrev pub piece : List Sent
 piece = Bytes 1 Up (codes "ab") ∷ Close 1 Up ∷ []
 
 -- Bytes of which the world takes some, and what may not be: nothing offered, a close before the bytes, the taken bytes in
@@ -63,10 +64,12 @@ pub record DeliveryExamples : Type 0 where
   pub wrong_rest : Delivered piece (Took (Bytes 1 Up (codes "a")) ∷ Short 1 Up ∷ []) (Bytes 1 Up (codes "a") ∷ Close 1 Up ∷ []) → ⊥
   pub log_waits : Prompt [] (Log Info (codes "x") ∷ []) [] (Log Info (codes "x") ∷ []) → ⊥
 
-abbrev at : ℕ → What → Event
+-- what happens at a moment
+abbrev pub at : ℕ → What → Event
 at now happens = record { now = now; what = happens }
 
-abbrev nothing_wanted : Wants
+-- no bytes are wanted
+abbrev pub nothing_wanted : Wants
 nothing_wanted = record { down = []; up = []; due = None }
 
 -- a turn that sends two bytes, of which one is taken; a turn with room; and one whose event ends the side

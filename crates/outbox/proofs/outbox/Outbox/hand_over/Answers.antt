@@ -1,0 +1,35 @@
+use Rattle.std.proofs.Common.{◌≡◌, List, [], Ok, refl, ap, sym, ◌∙◌, subst, arith}
+use Rattle.std.specs.declared.alloc.AllocError.{AllocError}
+use Rattle.gate_io.specs.Nature.{Nature}
+use Rattle.gate_io.specs.declared.event.Sent.{Sent}
+use Rattle.outbox.specs.Delivery.{Offered}
+use Rattle.outbox.proofs.Offers.{offered_none, so_far_next, so_far_cut}
+use Rattle.outbox.proofs.outbox.Outbox.hand_over.Goals as goal
+
+pub loop-member-init : goal.loop-member-init
+loop-member-init g c =
+    let whole = (g.W.World.nature c.args.world.now).takes_whole in
+    let trace = g.W.World.trace c.args.world.now in
+    record {
+      last = refl;
+      nature = refl;
+      faults = omega arith;
+      offered = record {
+        before = [];
+        members_are = c.into_iter-member-iterator.ensures.into_iter_gives.0 ∙ ap (λ v. v.items) c.replace-waiting.ensures.value ∙ c.self.view_is;
+        offered = subst (λ (l : List Sent). Offered {E = AllocError} whole trace [] [] (Ok tt) trace l) (sym c.new-left.ensures.items) (offered_none whole trace);
+      };
+    }
+
+pub loop-member-preserved : goal.loop-member-preserved
+loop-member-preserved g c = record {
+  last = c.offer.ensures.last ∙ c.loop-member.invariant.last;
+  nature = c.offer.ensures.nature ∙ c.loop-member.invariant.nature;
+  faults = omega (arith, c.offer.ensures.faults, c.loop-member.invariant.faults);
+  offered = so_far_next _ _ _ _ _ _ _ _ _ _ _ (ap (λ (n : Nature). n.takes_whole) c.loop-member.invariant.nature) c.in-Some.ensures.steps.0 c.loop-member.invariant.offered c.in_ok-offer.ensures.offered;
+}
+
+pub returns-in_err-offer-clause-offered : goal.returns-in_err-offer-clause-offered
+returns-in_err-offer-clause-offered g c =
+    so_far_cut _ _ _ _ _ _ _ _ _ _ _ _ c.offer.result _ (ap (λ (n : Nature). n.takes_whole) c.loop-member.invariant.nature) c.in-Some.ensures.steps.0 c.from_residual.ensures.0
+    c.loop-member.invariant.offered c.offer.ensures.offered

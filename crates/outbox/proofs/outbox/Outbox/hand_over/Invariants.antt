@@ -1,0 +1,12 @@
+use Rattle.std.proofs.Common.{◌≡◌, ◌≤◌}
+use Rattle.outbox.proofs.Offers.{SoFar}
+use Rattle.outbox.proofs.outbox.Outbox.hand_over.Given as goal
+
+-- the members so far were offered
+abbrev pub invariant-loop-member : goal.invariant-loop-member
+invariant-loop-member g l = record {
+  last : g.W.World.last l.world ≡ g.W.World.last l.fn.world;
+  nature : g.W.World.nature l.world ≡ g.W.World.nature l.fn.world;
+  faults : g.W.World.faults l.fn.world ≤ g.W.World.faults l.world;
+  offered : SoFar (g.W.World.nature l.fn.world).takes_whole (g.W.World.trace l.fn.world) l.fn.self l.member-iterator.rest.items (g.W.World.trace l.world) l.left.items;
+}
