@@ -1,11 +1,12 @@
 -- What turns deliver, one after another.
-use Rattle.std.proofs.Common.{◌≡◌, ◌⊎◌, ◌↔◌, inl, inr, ℕ, zero, suc, Bool, true, false, List, [], ◌∷◌, ◌++◌, length, Contains, Option, None, Some, refl, sym, ◌∙◌, ap, subst, append_assoc, arith, lit<}
+use Rattle.std.proofs.Common.{◌≡◌, ◌⊎◌, ◌↔◌, inl, inr, ℕ, zero, suc, Bool, true, false, List, [], ◌∷◌, ◌++◌, length, Contains, Option, None, Some, refl, sym, ◌∙◌, ap, subst, append_assoc, arith, lit<, Ok}
 use Rattle.std.specs.Bool.{OnTrue, OnFalse}
 use Rattle.std.proofs.lemmas.List.{append-nil}
 use Rattle.std.proofs.lemmas.Bool.{cases_Bool, OnTrue_at, OnFalse_at, OnTrue_from, OnFalse_from}
 use Rattle.gate_io.specs.Events.{is_stop}
-use Rattle.gate_io.specs.Passing.{happened, received, short_from, Shortfall}
+use Rattle.gate_io.specs.Passing.{asking, happened, received, short_from, Shortfall}
 use Rattle.gate_io.specs.Reads.{happened-append, received-append}
+use Rattle.gate_io.specs.Told.{Gains, gains_more}
 use Rattle.gate_io.specs.declared.event.Event.{Event}
 use Rattle.gate_io.specs.declared.event.Sent.{Sent}
 use Rattle.gate_io.specs.declared.event.Side.{Side}
@@ -15,7 +16,7 @@ use Rattle.gate_io.specs.declared.passed.Passed.{Passed}
 use Rattle.gate_io.specs.declared.passed.Passed.TheVariants.{Asked, Gave, Took, Short}
 use Rattle.gate_io.specs.declared.passed.Wants.{Wants}
 use Rattle.outbox.specs.Cleared.{cleared, ended_by, without, without_ended}
-use Rattle.outbox.specs.Delivery.{WasShort, NeverShort, solid, Delivered, Prompt}
+use Rattle.outbox.specs.Delivery.{WasShort, NeverShort, solid, Delivered, Prompt, Offered}
 use Rattle.outbox.specs.Places.{Mark, marks_at}
 use Rattle.outbox.specs.Turns.{OneTurn, to_go, HandsOver, Delivers, all_sent, StaysOpen, events_of}
 use Rattle.outbox.specs.declared.place.Place.{Place}
@@ -95,6 +96,17 @@ hands_over waiting turn wants taken rest goes_on delivered prompt = record {
   stopped = OnTrue_from (is_stop turn.event.what) _ (λ e. absurd (let f : true ≡ false = sym e ∙ goes_on in cc));
 }
 
+-- What a world told of a turn: it gave the event, and then all that was to go was offered to it.
+pub told_of_turn : (old mid new : Option (List Passed)) (wants : Wants) (event : Event) (taken : List Passed) → Gains old (asking wants (Ok event)) mid → Gains mid taken new → Gains old (Asked wants ∷ Gave event ∷ taken) new
+told_of_turn old mid new wants event taken given told = gains_more old (asking wants (Ok event)) mid taken new given told
+
+pub handed_over : {E : Type 0} (takes_whole : Bool) (mid new : Option (List Passed)) (waiting : List Sent) (turn : OneTurn) (wants : Wants) (before after : List Sent) → is_stop turn.event.what ≡ false
+    → before ≡ to_go waiting turn → (offered : Offered {E = E} takes_whole mid [] before (Ok tt) new after) → HandsOver waiting turn (Asked wants ∷ Gave turn.event ∷ offered.steps) after
+handed_over takes_whole mid new waiting turn wants before after goes_on is offered =
+    hands_over waiting turn wants offered.steps after goes_on
+    (subst (λ (l : List Sent). Delivered l offered.steps after) is (subst (λ (l : List Sent). Delivered before offered.steps l) offered.waits.0 offered.delivered))
+    (subst (λ (l : List Sent). Prompt [] l offered.steps after) is (subst (λ (l : List Sent). Prompt [] before offered.steps l) offered.waits.0 offered.waits.1))
+
 -- The turn of Stop, in which nothing is sent and nothing is offered.
 pub stands_still : (waiting : List Sent) (now : ℕ) (wants : Wants) → HandsOver waiting (record { event = record { now = now; what = Stop }; sent = [] }) (Asked wants ∷ Gave (record { now = now; what = Stop }) ∷ []) waiting
 stands_still waiting now wants = record {
@@ -154,10 +166,10 @@ marks_at-of_turns place waiting (turn ∷ turns) steps rest delivers stays =
     ∙ ap (λ (l : List Mark). marks_at place (received now) ++ l) (marks_at-of_turns place kept turns later rest delivers.5 stays.1)
     ∙ sym (append_assoc (marks_at place (received now)) (marks_at place kept) (marks_at place (all_sent turns)))
     ∙ ap (λ (l : List Mark). l ++ marks_at place (all_sent turns))
-      (ap (λ (l : List Sent). marks_at place l ++ marks_at place kept) (received-of_turn waiting turn now kept here)
-      ∙ here.delivered.goes_on place
-      ∙ marks_at-append place (cleared turn.event.what waiting) turn.sent
-      ∙ ap (λ (l : List Mark). l ++ marks_at place turn.sent) (marks_at-cleared turn.event.what place waiting stays.0))
+    (ap (λ (l : List Sent). marks_at place l ++ marks_at place kept) (received-of_turn waiting turn now kept here)
+    ∙ here.delivered.goes_on place
+    ∙ marks_at-append place (cleared turn.event.what waiting) turn.sent
+    ∙ ap (λ (l : List Mark). l ++ marks_at place turn.sent) (marks_at-cleared turn.event.what place waiting stays.0))
     ∙ append_assoc (marks_at place waiting) (marks_at place turn.sent) (marks_at place (all_sent turns))
     ∙ ap (λ (l : List Mark). marks_at place waiting ++ l) (sym (marks_at-append place turn.sent (all_sent turns)))
 

@@ -4,6 +4,7 @@ use Rattle.std.specs.Prelude.{if◌then◌else◌, nat_lt}
 use Rattle.std.specs.declared.alloc.AllocError.{AllocError}
 use Rattle.std.proofs.lemmas.List.{append-nil, take_all, drop_all}
 use Rattle.std.proofs.lemmas.Bool.{lt-ltb, le-ltb}
+use Rattle.std.proofs.lemmas.Result.{IfOk-from_err}
 use Rattle.gate_io.specs.Passing.{piece, front, sending, taking, happened, received, asked}
 use Rattle.gate_io.specs.Reads.{happened-append, received-append, asked-append, happened-front, received-front}
 use Rattle.gate_io.specs.Told.{Gains, gains_nothing, gains_more}
@@ -279,6 +280,17 @@ module _ {E : Type 0} (takes_whole : Bool) where
     delivered = none_taken _;
     taken_whole = λ t place h. h;
     waits = tt;
+  }
+
+  -- memory ran out before anything was offered
+  pub offered_early : (world : Option (List Passed)) (waited before after : List Sent) (r : Result (Unit {0}) E) → IsErr r → Offered takes_whole world waited before r world after
+  offered_early world waited before after r err = record {
+    steps = [];
+    rest = before;
+    told = gains_nothing world;
+    delivered = none_taken before;
+    taken_whole = λ t place h. h;
+    waits = IfOk-from_err r _ err;
   }
 
   -- before the first

@@ -9,6 +9,11 @@ mod outbox;
 mod place;
 
 pub use joining::joined;
-pub use laws::{clearing_drops_one_place, deliveries_add_up, joining_keeps_marks, worked_deliveries};
+pub use laws::{
+    clearing_drops_one_place, deliveries_add_up, joining_keeps_marks, worked_deliveries,
+};
 pub use outbox::Outbox;
 pub use place::{Place, ended_by, place_of};
+
+#[cfg(test)]
+mod tests;

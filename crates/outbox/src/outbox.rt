@@ -2,8 +2,10 @@
 ghost use Rattle.std.specs.Prelude.{◌≡◌, ◌≤◌, ◌↔◌, ◌++◌, [], IsTrue, OnOk, OnErr};
 ghost use Rattle.outbox.specs.Cleared.{cleared, without};
 ghost use Rattle.outbox.specs.Delivery.{Offered};
+ghost use Rattle.outbox.specs.Joined.{joined};
 ghost use Rattle.outbox.specs.Places.{IsFull};
 
+use crate::joining::joined;
 use crate::member::{bytes_for, is_for};
 use crate::offer::offer;
 use crate::place::{Place, ended_by};
@@ -65,6 +67,26 @@ impl Outbox {
         let mut sent = sent;
         self.waiting.append(&mut sent)?;
         Ok(())
+    }
+
+    /// Delivers what a turn sends, once this happened: drops what can't be sent any more, puts the list, with its neighbours
+    /// joined, behind what waits, and hands all over. After an Err it is to be used no more: something may be lost.
+    pub fn deliver<W: World>(
+        &mut self,
+        alloc: Global,
+        world: &mut W,
+        what: &What,
+        sent: Vec<Sent>,
+    ) -> Result<(), OutOfMemory>
+        ensures last { W.last world.new ≡ W.last world.old }
+        ensures nature { W.nature world.new ≡ W.nature world.old }
+        ensures faults { W.faults world.old ≤ W.faults world.new }
+        ensures offered { Offered (W.nature world.old).takes_whole (W.trace world.old) [] (cleared what.now self.old ++ joined sent.items) result (W.trace world.new) self.new }
+    {
+        self.clear(what);
+        let sent = joined(alloc, sent)?;
+        self.append(sent)?;
+        self.hand_over(alloc, world)
     }
 
     /// Offers all that waits, in order: a member is offered unless one before it waits on its side of its line. What the world

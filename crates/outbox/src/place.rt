@@ -2,6 +2,7 @@
 ghost use Rattle.std.specs.Prelude.{◌≡◌};
 ghost use Rattle.outbox.specs.Cleared.{ended_by};
 ghost use Rattle.outbox.specs.Places.{place_of};
+ghost use Rattle.outbox.specs.declared.place.Place.TheVariants.{Peer};
 
 use gate_base::LineNo;
 use gate_io::{Sent, Side, What};
@@ -15,19 +16,20 @@ pub enum Place {
     Journal,
 }
 
+/// The peer on a side of a line.
+fn peer(line: LineNo, side: Side) -> Place
+    ensures { result ≡ Peer line side }
+{
+    Place::Peer { line, side }
+}
+
 /// The place of a member.
 pub fn place_of(member: &Sent) -> Place
     ensures { result ≡ place_of member.now }
 {
     match member {
-        Sent::Connect { line } => Place::Peer {
-            line: *line,
-            side: Side::Up,
-        },
-        Sent::Bytes { line, side, .. } | Sent::Close { line, side } => Place::Peer {
-            line: *line,
-            side: *side,
-        },
+        Sent::Connect { line } => peer(*line, Side::Up),
+        Sent::Bytes { line, side, .. } | Sent::Close { line, side } => peer(*line, *side),
         Sent::Log { .. } => Place::Journal,
     }
 }
@@ -37,14 +39,8 @@ pub fn ended_by(what: &What) -> Option<Place>
     ensures { result ≡ ended_by what.now }
 {
     match what {
-        What::Gone { line, side } => Some(Place::Peer {
-            line: *line,
-            side: *side,
-        }),
-        What::Refused { line } => Some(Place::Peer {
-            line: *line,
-            side: Side::Up,
-        }),
+        What::Gone { line, side } => Some(peer(*line, *side)),
+        What::Refused { line } => Some(peer(*line, Side::Up)),
         _ => None,
     }
 }

@@ -95,7 +95,7 @@ returns-clause-turns c =
             [],
             refl,
             hands_over _ _ _ _ _ refl (record { goes_on = λ place. refl; no_event = refl; not_asked = refl })
-            (record { only_short = λ place none. inl refl; whole = λ none never. (refl, refl) }),
+                (record { only_short = λ place none. inl refl; whole = λ none never. (refl, refl) }),
             (refl, refl),
           ),
         ),
