@@ -5,6 +5,7 @@ use Rattle.std.proofs.lemmas.List.{append-nil}
 use Rattle.std.proofs.lemmas.Bool.{cases_Bool}
 use Rattle.gate_io.specs.declared.event.Sent.{Sent}
 use Rattle.gate_io.specs.declared.event.Sent.TheVariants.{Connect, Bytes, Close, Log}
+use Rattle.outbox.specs.Delivery.{IsFilled, AreFilled}
 use Rattle.outbox.specs.Joined.{are_one, as_one, neighbours, behind_all, behind, joined_behind, joined, FollowApart, IsJoined}
 use Rattle.outbox.specs.Places.{Mark, marks_of, marks_at}
 use Rattle.outbox.specs.declared.place.Place.{Place}
@@ -145,3 +146,35 @@ behind-append (first ∷ rest) last member = behind_all-append first rest last m
 pub behind-popped : (old front : List Sent) (popped : Option Sent) (last member : Sent) → popped ≡ Some last → old ≡ front ++ option_to_list popped → behind old member ≡ front ++ neighbours last member
 behind-popped old front popped last member some is =
     ap (λ (l : List Sent). behind l member) (is ∙ ap (λ (o : Option Sent). front ++ option_to_list o) some) ∙ behind-append front last member
+
+IsFilled-as_one : (first next : Sent) → IsFilled first → IsFilled (as_one first next)
+IsFilled-as_one (Connect line) next filled = tt
+IsFilled-as_one (Bytes line side []) next filled = elim filled [ ]
+IsFilled-as_one (Bytes line side (byte ∷ bytes)) (Connect l) filled = tt
+IsFilled-as_one (Bytes line side (byte ∷ bytes)) (Bytes l s more) filled = tt
+IsFilled-as_one (Bytes line side (byte ∷ bytes)) (Close l s) filled = tt
+IsFilled-as_one (Bytes line side (byte ∷ bytes)) (Log level text) filled = tt
+IsFilled-as_one (Close line side) next filled = tt
+IsFilled-as_one (Log level text) next filled = tt
+
+AreFilled-neighbours : (last member : Sent) → IsFilled last → IsFilled member → AreFilled (neighbours last member)
+AreFilled-neighbours last member filled too = elim (cases_Bool (are_one last member)) [
+  | inl equal ↦ subst AreFilled (sym (neighbours_one last member equal)) (IsFilled-as_one last member filled, tt)
+  | inr unlike ↦ subst AreFilled (sym (neighbours_two last member unlike)) (filled, (too, tt))
+]
+
+AreFilled-behind_all : (first : Sent) (rest : List Sent) (member : Sent) → IsFilled first → AreFilled rest → IsFilled member → AreFilled (behind_all first rest member)
+AreFilled-behind_all first [] member filled all too = AreFilled-neighbours first member filled too
+AreFilled-behind_all first (next ∷ rest) member filled all too = (filled, AreFilled-behind_all next rest member all.0 all.1 too)
+
+AreFilled-behind : (done : List Sent) (member : Sent) → AreFilled done → IsFilled member → AreFilled (behind done member)
+AreFilled-behind [] member all too = (too, tt)
+AreFilled-behind (first ∷ rest) member all too = AreFilled-behind_all first rest member all.0 all.1 too
+
+AreFilled-joined_behind : (sent done : List Sent) → AreFilled done → AreFilled sent → AreFilled (joined_behind done sent)
+AreFilled-joined_behind [] done all more = all
+AreFilled-joined_behind (member ∷ sent) done all more = AreFilled-joined_behind sent (behind done member) (AreFilled-behind done member all more.0) more.1
+
+-- joining makes no empty piece
+pub AreFilled-joined : (sent : List Sent) → AreFilled sent → AreFilled (joined sent)
+AreFilled-joined sent all = AreFilled-joined_behind sent [] tt all

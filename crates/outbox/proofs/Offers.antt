@@ -15,7 +15,7 @@ use Rattle.gate_io.specs.declared.event.Side.{Side}
 use Rattle.gate_io.specs.declared.passed.Passed.{Passed}
 use Rattle.gate_io.specs.declared.passed.Passed.TheVariants.{Asked, Gave, Took, Short}
 use Rattle.gate_io.specs.declared.passed.Wants.{Wants}
-use Rattle.outbox.specs.Delivery.{WasShort, NeverShort, solid, Delivered, WaitsOnlyShort, GoesWhole, Prompt, Offered}
+use Rattle.outbox.specs.Delivery.{WasShort, NeverShort, solid, AreFilled, Delivered, WaitsOnlyShort, GoesWhole, Prompt, Offered}
 use Rattle.outbox.specs.Places.{Mark, place_of, marks_of, marks_at}
 use Rattle.outbox.specs.declared.place.Place.{Place}
 use Rattle.outbox.specs.declared.place.Place.TheVariants.{Peer, Journal}
@@ -54,6 +54,24 @@ solid-append (Bytes line side [] ∷ a) b = solid-append a b
 solid-append (Bytes line side (x ∷ bytes) ∷ a) b = ap (λ (l : List Sent). Bytes line side (x ∷ bytes) ∷ l) (solid-append a b)
 solid-append (Close line side ∷ a) b = ap (λ (l : List Sent). Close line side ∷ l) (solid-append a b)
 solid-append (Log level text ∷ a) b = ap (λ (l : List Sent). Log level text ∷ l) (solid-append a b)
+
+-- empty pieces put nothing anywhere
+pub marks_at-solid : (place : Place) (sent : List Sent) → marks_at place (solid sent) ≡ marks_at place sent
+marks_at-solid place [] = refl
+marks_at-solid place (Connect line ∷ sent) = ap (λ (m : List Mark). marks_of place (Connect line) ++ m) (marks_at-solid place sent)
+marks_at-solid place (Bytes line side [] ∷ sent) = marks_at-solid place sent ∙ ap (λ (m : List Mark). m ++ marks_at place sent) (sym (marks_of-none place line side))
+marks_at-solid place (Bytes line side (x ∷ bytes) ∷ sent) = ap (λ (m : List Mark). marks_of place (Bytes line side (x ∷ bytes)) ++ m) (marks_at-solid place sent)
+marks_at-solid place (Close line side ∷ sent) = ap (λ (m : List Mark). marks_of place (Close line side) ++ m) (marks_at-solid place sent)
+marks_at-solid place (Log level text ∷ sent) = ap (λ (m : List Mark). marks_of place (Log level text) ++ m) (marks_at-solid place sent)
+
+-- and a list without them stays
+pub solid_same : (sent : List Sent) → AreFilled sent → solid sent ≡ sent
+solid_same [] filled = refl
+solid_same (Connect line ∷ sent) filled = ap (λ (l : List Sent). Connect line ∷ l) (solid_same sent filled.1)
+solid_same (Bytes line side [] ∷ sent) filled = absurd filled.0
+solid_same (Bytes line side (x ∷ bytes) ∷ sent) filled = ap (λ (l : List Sent). Bytes line side (x ∷ bytes) ∷ l) (solid_same sent filled.1)
+solid_same (Close line side ∷ sent) filled = ap (λ (l : List Sent). Close line side ∷ l) (solid_same sent filled.1)
+solid_same (Log level text ∷ sent) filled = ap (λ (l : List Sent). Log level text ∷ l) (solid_same sent filled.1)
 
 -- no event is asked for in a `send`
 asked-note : (line : ℕ) (side : Side) (b : Bool) → asked (if b then Short line side ∷ [] else []) ≡ []

@@ -31,6 +31,18 @@ solid (Bytes line side (byte ∷ bytes) ∷ sent) = Bytes line side (byte ∷ by
 solid (Close line side ∷ sent) = Close line side ∷ solid sent
 solid (Log level text ∷ sent) = Log level text ∷ solid sent
 
+-- the member is no empty piece
+abbrev pub IsFilled : Sent → Type 0
+IsFilled (Connect line) = Unit {0}
+IsFilled (Bytes line side []) = ⊥
+IsFilled (Bytes line side (byte ∷ bytes)) = Unit {0}
+IsFilled (Close line side) = Unit {0}
+IsFilled (Log level text) = Unit {0}
+
+abbrev pub AreFilled : List Sent → Type 0
+AreFilled [] = Unit {0}
+AreFilled (member ∷ sent) = IsFilled member × AreFilled sent
+
 -- At each place a front of what was to go was received, and the rest of it waits. No event was asked for or given meanwhile.
 pub record Delivered (before : List Sent) (steps : List Passed) (after : List Sent) : Type 0 where
   pub goes_on : (place : Place) → marks_at place (received steps) ++ marks_at place after ≡ marks_at place before

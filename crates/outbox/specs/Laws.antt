@@ -7,7 +7,7 @@ use Rattle.gate_io.specs.declared.event.Side.{Side}
 use Rattle.gate_io.specs.declared.event.What.{What}
 use Rattle.gate_io.specs.declared.passed.Passed.{Passed}
 use Rattle.outbox.specs.Cleared.{cleared, ended_by}
-use Rattle.outbox.specs.Delivery.{WasShort, NeverShort, Delivered, Prompt, solid}
+use Rattle.outbox.specs.Delivery.{WasShort, NeverShort, Delivered, Prompt, solid, AreFilled}
 use Rattle.outbox.specs.Joined.{joined, behind, IsJoined}
 use Rattle.outbox.specs.Places.{marks_at}
 use Rattle.outbox.specs.declared.place.Place.{Place}
@@ -28,6 +28,12 @@ pub record JoinsNeighbours : Type 0 where
   pub once : (sent : List Sent) → joined (joined sent) ≡ joined sent
   pub more : (sent : List Sent) (member : Sent) → joined (sent ++ member ∷ []) ≡ behind (joined sent) member
   pub in_parts : (first then_these : List Sent) → joined (joined first ++ then_these) ≡ joined (first ++ then_these)
+
+-- An empty piece is nothing at any place. A list without them is as it is, and so is the list with its neighbours joined.
+pub record EmptyPiecesAreNothing : Type 0 where
+  pub marks : (place : Place) (sent : List Sent) → marks_at place (solid sent) ≡ marks_at place sent
+  pub same : (sent : List Sent) → AreFilled sent → solid sent ≡ sent
+  pub joined : (sent : List Sent) → AreFilled sent → AreFilled (joined sent)
 
 -- The log takes each line as it is offered: nothing of it waits where nothing was held back.
 abbrev pub LogNeverWaits : Type 0

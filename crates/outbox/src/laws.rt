@@ -1,6 +1,6 @@
 // What the definitions say, as functions without a body.
 ghost use Rattle.outbox.specs.Examples.{PlaceExamples, ClearedExamples, JoinedExamples, DeliveryExamples, TurnExamples};
-ghost use Rattle.outbox.specs.Laws.{ClearsOnePlace, JoinsNeighbours, LogNeverWaits, ShortIsNoted, AddsUp};
+ghost use Rattle.outbox.specs.Laws.{ClearsOnePlace, EmptyPiecesAreNothing, JoinsNeighbours, LogNeverWaits, ShortIsNoted, AddsUp};
 
 /// An event that a connection is gone or was refused drops what waits for it, and nothing else.
 pub fn clearing_drops_one_place()
@@ -10,6 +10,11 @@ pub fn clearing_drops_one_place()
 /// Joining neighbours changes nothing of what each side of a line and the log get.
 pub fn joining_keeps_marks()
     ensures { JoinsNeighbours }
+{}
+
+/// A piece without bytes is nothing to anybody, so a list of things that are sent may be read without them.
+pub fn empty_pieces_are_nothing()
+    ensures { EmptyPiecesAreNothing }
 {}
 
 /// What turns deliver, one after another, adds up: all is received in order, or waits.

@@ -10,7 +10,8 @@ mod place;
 
 pub use joining::joined;
 pub use laws::{
-    clearing_drops_one_place, deliveries_add_up, joining_keeps_marks, worked_deliveries,
+    clearing_drops_one_place, deliveries_add_up, empty_pieces_are_nothing, joining_keeps_marks,
+    worked_deliveries,
 };
 pub use outbox::Outbox;
 pub use place::{Place, ended_by, place_of};
