@@ -1,6 +1,5 @@
 -- What turns deliver, one after another.
-use Rattle.std.proofs.Common.{◌≡◌, ◌⊎◌, ◌↔◌, inl, inr, ℕ, zero, suc, Bool, true, false, List, [], ◌∷◌, ◌++◌, length, Contains, Option, None, Some, refl, sym, ◌∙◌, ap, subst, append_assoc, arith, lit<, Ok}
-use Rattle.std.specs.Bool.{OnTrue, OnFalse}
+use Rattle.std.proofs.Common.{◌≡◌, inl, inr, ℕ, zero, suc, Bool, true, false, List, [], ◌∷◌, ◌++◌, Contains, Option, None, Some, refl, sym, ◌∙◌, ap, subst, append_assoc, arith, Ok}
 use Rattle.std.proofs.lemmas.List.{append-nil}
 use Rattle.std.proofs.lemmas.Bool.{cases_Bool, OnTrue_at, OnFalse_at, OnTrue_from, OnFalse_from}
 use Rattle.gate_io.specs.Events.{is_stop}
@@ -11,7 +10,7 @@ use Rattle.gate_io.specs.declared.event.Event.{Event}
 use Rattle.gate_io.specs.declared.event.Sent.{Sent}
 use Rattle.gate_io.specs.declared.event.Side.{Side}
 use Rattle.gate_io.specs.declared.event.What.{What}
-use Rattle.gate_io.specs.declared.event.What.TheVariants.{Stop}
+use Rattle.gate_io.specs.declared.event.What.TheVariants.{Opened, Bytes, End, Gone, Joined, Refused, Room, Clock, Stop}
 use Rattle.gate_io.specs.declared.passed.Passed.{Passed}
 use Rattle.gate_io.specs.declared.passed.Passed.TheVariants.{Asked, Gave, Took, Short}
 use Rattle.gate_io.specs.declared.passed.Wants.{Wants}
@@ -107,15 +106,27 @@ handed_over takes_whole mid new waiting turn wants before after goes_on is offer
     (subst (λ (l : List Sent). Delivered l offered.steps after) is (subst (λ (l : List Sent). Delivered before offered.steps l) offered.waits.0 offered.delivered))
     (subst (λ (l : List Sent). Prompt [] l offered.steps after) is (subst (λ (l : List Sent). Prompt [] before offered.steps l) offered.waits.0 offered.waits.1))
 
+-- an event that is not Stop
+pub is_no_stop : (what : What) → (what ≡ Stop → ⊥) → is_stop what ≡ false
+is_no_stop (Opened line) other = refl
+is_no_stop (Bytes line side bytes) other = refl
+is_no_stop (End line side) other = refl
+is_no_stop (Gone line side) other = refl
+is_no_stop (Joined line) other = refl
+is_no_stop (Refused line) other = refl
+is_no_stop (Room line side) other = refl
+is_no_stop Clock other = refl
+is_no_stop Stop other = absurd (other refl)
+
 -- The turn of Stop, in which nothing is sent and nothing is offered.
-pub stands_still : (waiting : List Sent) (now : ℕ) (wants : Wants) → HandsOver waiting (record { event = record { now = now; what = Stop }; sent = [] }) (Asked wants ∷ Gave (record { now = now; what = Stop }) ∷ []) waiting
-stands_still waiting now wants = record {
+pub stands_still : (waiting : List Sent) (event : Event) (wants : Wants) → event.what ≡ Stop → HandsOver waiting (record { event = event; sent = [] }) (Asked wants ∷ Gave event ∷ []) waiting
+stands_still waiting event wants is = record {
   wants = wants;
   taken = [];
   steps_are = refl;
-  delivered = record { goes_on = λ place. sym (ap (marks_at place) (append-nil waiting)); no_event = refl; not_asked = refl };
-  offered = tt;
-  stopped = (refl, refl, refl);
+  delivered = record { goes_on = λ place. ap (marks_at place) (sym (append-nil waiting) ∙ ap (λ (w : What). cleared w waiting ++ []) (sym is)); no_event = refl; not_asked = refl };
+  offered = OnFalse_from (is_stop event.what) _ (λ e. absurd (let f : true ≡ false = ap is_stop (sym is) ∙ e in cc));
+  stopped = OnTrue_from (is_stop event.what) _ (λ e. (refl, refl, refl));
 }
 
 pub delivers_none : (waiting : List Sent) → Delivers waiting [] [] waiting

@@ -1,24 +1,22 @@
 -- What one member's offer comes to, and the offers of a list.
-use Rattle.std.proofs.Common.{◌≡◌, ◌≢◌, ◌⊎◌, inl, inr, ℕ, ◌<◌, ◌≤◌, Bool, true, false, IsTrue, List, [], ◌∷◌, ◌++◌, length, take, drop, Option, Result, Ok, Err, OnOk, IsErr, refl, sym, ◌∙◌, ap, subst, arith, append_assoc, take-append-drop}
+use Rattle.std.proofs.Common.{◌≡◌, ◌≢◌, ◌⊎◌, inl, inr, ℕ, ◌<◌, ◌≤◌, Bool, true, false, List, [], ◌∷◌, ◌++◌, length, take, drop, Option, Result, Ok, Err, OnOk, IsErr, refl, sym, ◌∙◌, ap, subst, append_assoc, take-append-drop}
 use Rattle.std.specs.Prelude.{if◌then◌else◌, nat_lt}
 use Rattle.std.specs.declared.alloc.AllocError.{AllocError}
 use Rattle.std.proofs.lemmas.List.{append-nil, take_all, drop_all}
 use Rattle.std.proofs.lemmas.Bool.{lt-ltb, le-ltb}
 use Rattle.std.proofs.lemmas.Result.{IfOk-from_err}
-use Rattle.gate_io.specs.Passing.{piece, front, sending, taking, happened, received, asked}
+use Rattle.gate_io.specs.Passing.{piece, front, taking, happened, received, asked}
 use Rattle.gate_io.specs.Reads.{happened-append, received-append, asked-append, happened-front, received-front}
 use Rattle.gate_io.specs.Told.{Gains, gains_nothing, gains_more}
-use Rattle.gate_io.specs.declared.event.Event.{Event}
 use Rattle.gate_io.specs.declared.event.Sent.{Sent}
 use Rattle.gate_io.specs.declared.event.Sent.TheVariants.{Connect, Bytes, Close, Log}
 use Rattle.gate_io.specs.declared.event.Side.{Side}
 use Rattle.gate_io.specs.declared.passed.Passed.{Passed}
 use Rattle.gate_io.specs.declared.passed.Passed.TheVariants.{Asked, Gave, Took, Short}
-use Rattle.gate_io.specs.declared.passed.Wants.{Wants}
-use Rattle.outbox.specs.Delivery.{WasShort, NeverShort, solid, AreFilled, Delivered, WaitsOnlyShort, GoesWhole, Prompt, Offered}
+use Rattle.outbox.specs.Delivery.{WasShort, NeverShort, solid, AreFilled, Delivered, WaitsOnlyShort, Prompt, Offered}
 use Rattle.outbox.specs.Places.{Mark, place_of, marks_of, marks_at}
 use Rattle.outbox.specs.declared.place.Place.{Place}
-use Rattle.outbox.specs.declared.place.Place.TheVariants.{Peer, Journal}
+use Rattle.outbox.specs.declared.place.Place.TheVariants.{Peer}
 use Rattle.outbox.proofs.Marks.{cases_place, marks_elsewhere, marks_at-append, marks_at-push, marks_of-two, marks_of-none, append_empty}
 
 pub was_short-left : (place : Place) (a b : List Passed) → WasShort place a → WasShort place (a ++ b)

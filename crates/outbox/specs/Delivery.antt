@@ -1,12 +1,12 @@
 -- What a world takes of what is offered to it, and what waits.
-use Rattle.std.specs.Prelude.{◌≡◌, ◌⊎◌, ℕ, Bool, IsTrue, List, [], ◌∷◌, ◌++◌, Option, Result, OnOk}
+use Rattle.std.specs.Prelude.{◌≡◌, ◌⊎◌, Bool, IsTrue, List, [], ◌∷◌, ◌++◌, Option, Result, OnOk}
 use Rattle.gate_io.specs.Passing.{happened, received, asked}
 use Rattle.gate_io.specs.Told.{Gains}
 use Rattle.gate_io.specs.declared.event.Sent.{Sent}
 use Rattle.gate_io.specs.declared.event.Sent.TheVariants.{Connect, Bytes, Close, Log}
 use Rattle.gate_io.specs.declared.passed.Passed.{Passed}
 use Rattle.gate_io.specs.declared.passed.Passed.TheVariants.{Asked, Gave, Took, Short}
-use Rattle.outbox.specs.Places.{Mark, marks_at}
+use Rattle.outbox.specs.Places.{marks_at}
 use Rattle.outbox.specs.declared.place.Place.{Place}
 use Rattle.outbox.specs.declared.place.Place.TheVariants.{Peer}
 

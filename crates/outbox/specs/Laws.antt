@@ -1,13 +1,12 @@
 -- Laws of what waits and of what is delivered.
-use Rattle.std.specs.Prelude.{◌≡◌, ◌↔◌, ℕ, List, [], ◌∷◌, ◌++◌, Option, Some, Contains}
+use Rattle.std.specs.Prelude.{◌≡◌, ◌↔◌, ℕ, List, [], ◌∷◌, ◌++◌, Some, Contains}
 use Rattle.gate_io.specs.Passing.{happened, received, short_from}
-use Rattle.gate_io.specs.declared.event.Event.{Event}
 use Rattle.gate_io.specs.declared.event.Sent.{Sent}
 use Rattle.gate_io.specs.declared.event.Side.{Side}
 use Rattle.gate_io.specs.declared.event.What.{What}
 use Rattle.gate_io.specs.declared.passed.Passed.{Passed}
 use Rattle.outbox.specs.Cleared.{cleared, ended_by}
-use Rattle.outbox.specs.Delivery.{WasShort, NeverShort, Delivered, Prompt, solid, AreFilled}
+use Rattle.outbox.specs.Delivery.{WasShort, NeverShort, Prompt, solid, AreFilled}
 use Rattle.outbox.specs.Joined.{joined, behind, IsJoined}
 use Rattle.outbox.specs.Places.{marks_at}
 use Rattle.outbox.specs.declared.place.Place.{Place}

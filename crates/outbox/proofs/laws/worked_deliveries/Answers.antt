@@ -6,7 +6,7 @@ use Rattle.gate_io.specs.declared.event.Side.TheVariants.{Up}
 use Rattle.gate_io.specs.declared.event.What.TheVariants as what
 use Rattle.gate_io.specs.declared.passed.Passed.{Passed}
 use Rattle.gate_io.specs.declared.passed.Passed.TheVariants.{Asked, Gave, Took, Short}
-use Rattle.outbox.specs.Delivery.{WasShort, Delivered, WaitsOnlyShort, Prompt}
+use Rattle.outbox.specs.Delivery.{WasShort, Prompt}
 use Rattle.outbox.specs.Examples.{piece, at, nothing_wanted}
 use Rattle.outbox.specs.Places.{Mark, octet, closing, is_same_place, marks_at}
 use Rattle.outbox.specs.declared.place.Place.{Place}
@@ -100,5 +100,5 @@ returns-clause-turns c =
           ),
         ),
       );
-      stop = (asked ∷ Gave (at 5 what.Stop) ∷ [], [], piece, refl, stands_still _ _ _, (refl, refl));
+      stop = (asked ∷ Gave (at 5 what.Stop) ∷ [], [], piece, refl, stands_still _ _ _ refl, (refl, refl));
     }

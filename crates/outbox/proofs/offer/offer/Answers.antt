@@ -1,4 +1,4 @@
-use Rattle.std.proofs.Common.{ap, ◌∙◌, ◌++◌, sym}
+use Rattle.std.proofs.Common.{ap, ◌∙◌}
 use Rattle.outbox.specs.Places.{marks_at}
 use Rattle.outbox.specs.declared.place.Place.{Place}
 use Rattle.outbox.proofs.Offers.{offered_wait}

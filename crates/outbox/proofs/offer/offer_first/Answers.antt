@@ -1,8 +1,8 @@
-use Rattle.std.proofs.Common.{◌≡◌, sym, ap, ◌∙◌, subst}
+use Rattle.std.proofs.Common.{sym, ap, ◌∙◌, subst}
 use Rattle.gate_io.specs.Passing.{taking}
 use Rattle.gate_io.specs.Told.{Gains}
 use Rattle.gate_io.specs.declared.event.Sent.{Sent}
-use Rattle.gate_io.specs.declared.event.Sent.TheVariants.{Bytes, Log}
+use Rattle.gate_io.specs.declared.event.Sent.TheVariants.{Log}
 use Rattle.outbox.proofs.Offers.{offered_whole}
 use Rattle.outbox.proofs.offer.offer_first.Goals as goal
 

@@ -1,4 +1,4 @@
-use Rattle.std.proofs.Common.{◌≡◌, List, [], Ok, refl, ap, sym, ◌∙◌, subst, arith}
+use Rattle.std.proofs.Common.{List, [], Ok, refl, ap, sym, ◌∙◌, subst, arith}
 use Rattle.std.specs.declared.alloc.AllocError.{AllocError}
 use Rattle.gate_io.specs.Nature.{Nature}
 use Rattle.gate_io.specs.declared.event.Sent.{Sent}
