@@ -1,6 +1,6 @@
 //! Calls that were worked out by hand. The functions have nothing to do: their contracts are the laws.
 
-ghost use Rattle.std.specs.Prelude.{◌≡◌, List, [], ◌∷◌, Some, None, Ok, Err, codes as bytes_of};
+ghost use Rattle.std.specs.Prelude.{◌≡◌, [], ◌∷◌, Some, None, Ok, Err, codes as bytes_of};
 ghost use Rattle.gate_base.specs.declared.cause.Cause.TheVariants as causes;
 ghost use Rattle.wasm_syntax.specs.declared.types.Value.TheVariants as values;
 ghost use Rattle.wasm_syntax.specs.declared.types.ValueType.TheVariants as types;
@@ -8,7 +8,7 @@ ghost use Rattle.wasm_syntax.specs.ReductionExamples.{call, sum_module, module_o
 ghost use Rattle.wasm_invoke.specs.Arguments.{Fits, AllFit, values_of};
 ghost use Rattle.wasm_invoke.specs.Exports.{exported};
 ghost use Rattle.wasm_invoke.specs.Invoking.{answered, trapped, spent, went_as, went, Invokes};
-ghost use Rattle.wasm_invoke.specs.Examples.{function_export, memory_export, some_exports, set_body, starting, sums, bytes_of_sums};
+ghost use Rattle.wasm_invoke.specs.Examples.{memory_export, some_exports, set_body, starting, bytes_of_sums};
 ghost use Rattle.wasm_invoke.specs.declared.ends.End.TheVariants as ends;
 ghost use Rattle.wasm_invoke.specs.declared.ends.Refusal.TheVariants as refusals;
 
