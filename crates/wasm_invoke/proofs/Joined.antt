@@ -1,7 +1,5 @@
 -- The parts of an invocation make its answer.
-use Rattle.std.proofs.Common.{◌≡◌, ◌⊎◌, inl, inr, ℕ, ◌-◌, List, [], ◌∷◌, Option, Some, None, Result, Ok, Err, refl, sym, ap, ◌∙◌, subst}
-use Rattle.std.specs.Prelude.{slice_get}
-use Rattle.gate_base.specs.declared.cause.Cause.{Cause}
+use Rattle.std.proofs.Common.{◌≡◌, ◌⊎◌, inl, inr, ℕ, List, [], ◌∷◌, Option, Some, None, Result, Ok, Err, refl, sym, ap, ◌∙◌, subst}
 use Rattle.wasm_syntax.specs.declared.types.Value.{Value}
 use Rattle.wasm_syntax.specs.declared.types.ValueType.{ValueType}
 use Rattle.wasm_syntax.specs.declared.types.ValueType.TheVariants.{I32, I64}
@@ -11,7 +9,7 @@ use Rattle.wasm_syntax.specs.Grammar.{Spells}
 use Rattle.wasm_syntax.specs.Validity.{IsValid}
 use Rattle.wasm_syntax.specs.Reduction.{Program}
 use Rattle.wasm_syntax.specs.ReductionSteps.{Config}
-use Rattle.wasm_syntax.specs.ReductionPrograms.{program_of, first_config}
+use Rattle.wasm_syntax.specs.ReductionPrograms.{program_of}
 use Rattle.wasm_store.specs.declared.instance.Instance.{Instance}
 use Rattle.wasm_store.specs.declared.instance.LinkEnd.{LinkEnd}
 use Rattle.wasm_store.specs.declared.instance.LinkEnd.TheVariants as linking
@@ -23,9 +21,8 @@ use Rattle.wasm_invoke.specs.declared.ends.End.TheVariants as ends
 use Rattle.wasm_invoke.specs.declared.ends.Invoked.{Invoked}
 use Rattle.wasm_invoke.specs.declared.ends.Refusal.TheVariants as refusals
 use Rattle.wasm_invoke.specs.Arguments.{value_of, AllFit, values_of}
-use Rattle.wasm_invoke.specs.Exports.{exported}
 use Rattle.wasm_invoke.specs.Ends.{of_linking}
-use Rattle.wasm_invoke.specs.Invoking.{nothing_offered, pages, Went, answered, trapped, spent, Started, begins, ends_with, started, called, IsModule, AreArguments, Goes, Invokes}
+use Rattle.wasm_invoke.specs.Invoking.{nothing_offered, pages, Went, trapped, spent, Started, begins, started, called, Goes, Invokes}
 use Rattle.wasm_invoke.specs.Readied.{IsLinkedModule, EndsAnyhow, IsReadied, AsksNobody, AreGiven, AreRefused, TakesNothing, StartsAs, WentAs}
 use Rattle.wasm_invoke.proofs.Lone.{asks_nobody, takes_nothing}
 

@@ -1,5 +1,5 @@
 -- A module that is linked on a host that offers nothing asks its host for nothing, and its start function takes nothing.
-use Rattle.std.proofs.Common.{◌≡◌, ℕ, zero, suc, ◌<◌, List, [], ◌∷◌, ◌++◌, Bool, true, false, Option, Some, None, refl, sym, ap, ◌∙◌, subst, arith}
+use Rattle.std.proofs.Common.{◌≡◌, ℕ, zero, suc, ◌<◌, List, [], ◌∷◌, ◌++◌, Bool, true, Option, Some, None, refl, sym, ap, ◌∙◌, subst, arith}
 use Rattle.std.specs.Prelude.{slice_get, position, cond}
 use Rattle.std.specs.List.{position_from}
 use Rattle.std.proofs.lemmas.Iterator.Adapters.{position_from-zero}
@@ -12,14 +12,12 @@ use Rattle.wasm_syntax.specs.declared.module.Code.{Code}
 use Rattle.wasm_syntax.specs.declared.module.Module.{Module}
 use Rattle.wasm_syntax.specs.declared.valid.Part.TheVariants as part
 use Rattle.wasm_syntax.specs.Typing.{Is}
-use Rattle.wasm_syntax.specs.Validity.{function_of as index_of, imports_of, functions_of, IsStart, IsGood, starts, IsValid}
-use Rattle.wasm_syntax.specs.Reduction.{Function, imported}
-use Rattle.wasm_syntax.specs.ReductionPrograms.{type_at, host_functions, own_functions, program_of}
+use Rattle.wasm_syntax.specs.Validity.{function_of as index_of, imports_of, IsStart, IsGood, starts, IsValid}
+use Rattle.wasm_syntax.specs.Reduction.{imported}
+use Rattle.wasm_syntax.specs.ReductionPrograms.{host_functions, own_functions, program_of}
 use Rattle.wasm_store.specs.declared.instance.LinkEnd.{LinkEnd}
 use Rattle.wasm_store.specs.declared.instance.LinkEnd.TheVariants.{UnknownImport}
 use Rattle.wasm_store.specs.Linking.{judged_as, judged_kind, judgement, is_unknown, link_fault}
-use Rattle.wasm_machine.specs.Holds.{HasType}
-use Rattle.wasm_machine.specs.Machines.{Takes}
 use Rattle.wasm_machine.proofs.Splits.{same_some, no_some}
 use Rattle.wasm_machine.proofs.Valid.{program_fits}
 use Rattle.wasm_invoke.specs.Invoking.{nothing_offered, pages}

@@ -1,7 +1,6 @@
 -- One call of an exported function of a module, on a host that offers nothing (WebAssembly Core 1.0, sections 4.5.4 and 4.5.5).
 use Rattle.std.specs.Prelude.{◌≡◌, ℕ, ◌-◌, List, [], Option, None, Some, slice_get, Result, Ok, Err}
 use Rattle.gate_base.specs.declared.cause.Cause.{Cause}
-use Rattle.gate_base.specs.declared.cause.Cause.TheVariants as causes
 use Rattle.wasm_syntax.specs.declared.types.Value.{Value}
 use Rattle.wasm_syntax.specs.declared.types.FunctionType.{FunctionType}
 use Rattle.wasm_syntax.specs.declared.module.Module.{Module}

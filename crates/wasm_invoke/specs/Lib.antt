@@ -1,5 +1,6 @@
 pub mod Arguments
 pub mod Ends
+pub mod Examples
 pub mod Exports
 pub mod Invoking
 pub mod Readied

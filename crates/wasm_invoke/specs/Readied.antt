@@ -1,12 +1,11 @@
 -- The steps of an invocation, as its parts say them.
-use Rattle.std.specs.Prelude.{◌≡◌, ◌⊎◌, ℕ, List, [], Option, None, Some, slice_get, Result, Ok, Err, MatchOption}
+use Rattle.std.specs.Prelude.{◌≡◌, ℕ, List, [], Option, None, Some, Result, Ok, Err}
 use Rattle.wasm_syntax.specs.declared.types.Value.{Value}
 use Rattle.wasm_syntax.specs.declared.types.FunctionType.{FunctionType}
 use Rattle.wasm_syntax.specs.declared.module.Module.{Module}
 use Rattle.wasm_syntax.specs.Typing.{Is}
 use Rattle.wasm_syntax.specs.Reduction.{imported, Program}
-use Rattle.wasm_syntax.specs.ReductionSteps.{Config, invoked_config}
-use Rattle.wasm_syntax.specs.ReductionRuns.{run}
+use Rattle.wasm_syntax.specs.ReductionSteps.{Config}
 use Rattle.wasm_syntax.specs.ReductionPrograms.{program_of, first_config}
 use Rattle.wasm_store.specs.Instances.{Instantiated}
 use Rattle.wasm_store.specs.Linking.{IsLinked}
@@ -19,7 +18,7 @@ use Rattle.wasm_invoke.specs.declared.ends.Invoked.{Invoked}
 use Rattle.wasm_invoke.specs.declared.ends.Refusal.TheVariants as refusals
 use Rattle.wasm_invoke.specs.Arguments.{AllFit, values_of}
 use Rattle.wasm_invoke.specs.Exports.{exported}
-use Rattle.wasm_invoke.specs.Invoking.{pages, budget, Went, answered, trapped, spent, Started, begins, ends_with, started, went_as, IsModule, Invokes}
+use Rattle.wasm_invoke.specs.Invoking.{pages, Went, answered, trapped, spent, Started, begins, ends_with, IsModule, Invokes}
 
 -- the instance of the module that the bytes spell
 pub record IsLinkedModule (bytes : List ℕ) (i : Instantiated) : Type 0 where

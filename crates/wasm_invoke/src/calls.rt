@@ -89,9 +89,8 @@ fn run_start(machine: &mut Machine, start: Option<u32>) -> Result<(), End>
     let Some(func) = start else {
         return Ok(());
     };
-    machine.invoke(func, &[]);
     let mut fuel = BUDGET;
-    match machine.run(&mut fuel) {
+    match machine.call(func, &[], &mut fuel) {
         Stop::Finished { .. } => Ok(()),
         Stop::Trap { cause } => Err(End::Trapped(cause)),
         Stop::FuelSpent => Err(End::FuelSpent),
@@ -107,9 +106,8 @@ fn call(machine: &mut Machine, func: u32, args: &[Value]) -> Result<Invoked, End
     requires alone { AsksNobody (program_at machine.old) }
     ensures { WentAs result (went_as (run (program_at machine.old) budget (invoked_config func (slice_get (program_at machine.old).functions func) args.now (config_at machine.old)))) }
 {
-    machine.invoke(func, args);
     let mut fuel = BUDGET;
-    match machine.run(&mut fuel) {
+    match machine.call(func, args, &mut fuel) {
         Stop::Finished { result } => Ok(Invoked {
             result,
             used: BUDGET - fuel,

@@ -5,6 +5,7 @@ mod arguments;
 mod calls;
 mod ends;
 mod exports;
+pub mod laws;
 
 pub use calls::invoke;
 pub use ends::{End, Invoked, Refusal};

@@ -1,7 +1,7 @@
-use Rattle.std.proofs.Common.{map, string_bytes, Global, ◌≡◌, ◌≢◌, ℕ, ◌+◌, ◌<◌, ◌≤◌, length, List, [], ◌∷◌, ◌++◌, get_or, refl, ap, sym, ◌∙◌, subst, arith}
+use Rattle.std.proofs.Common.{map, string_bytes, Global, ◌≡◌, ◌+◌, ◌<◌, length, List, [], ◌∷◌, ◌++◌, get_or, ap, sym, ◌∙◌, subst, arith}
 use Rattle.std.proofs.lemmas.List.{get_or-map, length-map}
 use Rattle.wasm_syntax.specs.declared.types.Value.{Value}
-use Rattle.wasm_invoke.proofs.Fitting.{Rests, rests_start, rests_more, rests_fail, rests_end, fit_lengths}
+use Rattle.wasm_invoke.proofs.Fitting.{Rests, rests_more, rests_fail, fit_lengths}
 use Rattle.wasm_invoke.proofs.arguments.arguments.Goals as goal
 
 pub returns-then-types-words : goal.returns-then-types-words

@@ -1,4 +1,4 @@
-use Rattle.std.proofs.Common.{◌≡◌, ℕ, length, drop, map, string_bytes, ◌++◌}
+use Rattle.std.proofs.Common.{map, string_bytes}
 use Rattle.wasm_invoke.proofs.Fitting.{Rests}
 use Rattle.wasm_invoke.proofs.arguments.arguments.Given as goal
 

@@ -1,4 +1,4 @@
-use Rattle.std.proofs.Common.{◌≡◌, [], List, Some, Err, map, string_bytes, sym, subst}
+use Rattle.std.proofs.Common.{List, Err, map, string_bytes, sym, subst}
 use Rattle.std.proofs.lemmas.Result.{err_from_is_err_and}
 use Rattle.wasm_syntax.specs.declared.types.Value.{Value}
 use Rattle.wasm_syntax.specs.Reduction.{Program}
