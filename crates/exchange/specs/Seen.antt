@@ -6,6 +6,10 @@ use Rattle.http1_model.specs.Framing.{Framing}
 use Rattle.http1_model.specs.Unread.{Reading}
 use Rattle.http1_model.specs.Wire.{close_field}
 use Rattle.gate_io.specs.declared.event.Sent.{Sent}
+use Rattle.http1_model.specs.Messages as model
+use Rattle.h1_stream.specs.Seen.{seen_part}
+use Rattle.h1_stream.specs.declared.reader.Step as step
+use Rattle.h1_stream.specs.declared.reader.Step.TheVariants as steps
 use Rattle.h1_write.specs.Seen.{seen_framing}
 use Rattle.exchange.specs.State as state
 use Rattle.exchange.specs.Moves as moves
@@ -92,3 +96,10 @@ abbrev pub seen_happening : happening.Happening → Happening
 seen_happening (happenings.Came side bytes) = came side bytes.now
 seen_happening (happenings.Finished side) = finishes side
 seen_happening (happenings.Lost side) = lost side
+
+-- what an answer of a reader says, where this is the reading behind it
+abbrev pub heard_of : step.Step → Reading → moves.Heard
+heard_of (steps.Item i) new = moves.hands (seen_part i) new
+heard_of steps.NotYet new = moves.halts model.rest new
+heard_of steps.Over new = moves.halts model.over new
+heard_of (steps.Refused status) new = moves.halts (model.refusal status) new

@@ -35,3 +35,6 @@ new_line number = record { number = number; requests = new_reading None; exchang
 pub record Context : Type 0 where
   pub now : ℕ
   pub routes : List RouteEntry
+
+abbrev pub in_context : ℕ → List RouteEntry → Context
+in_context now routes = record { now = now; routes = routes }

@@ -1,7 +1,8 @@
 // What the gateway answers by itself, and the end of an exchange.
 ghost use Rattle.std.specs.Prelude.{◌≡◌, ◌≤◌, ◌∷◌, [], ◌++◌, List, IfOk, OnOk};
 ghost use Rattle.gate_io.specs.declared.event.Side.TheVariants.{Down};
-ghost use Rattle.exchange.specs.State.{Context};
+ghost use Rattle.gate_config.specs.declared.entries.RouteEntry.{RouteEntry};
+ghost use Rattle.exchange.specs.State.{in_context};
 ghost use Rattle.exchange.specs.Moves.{sending, fixed_answer, ended, answered_for};
 ghost use Rattle.exchange.specs.Seen.{at, seen_answered, line_of, Makes};
 
@@ -73,7 +74,7 @@ pub(crate) fn answer_for(
 ) -> Result<Move, OutOfMemory>
     requires least { 200 ≤ status }
     requires most { status ≤ 599 }
-    ensures { (here : Context) → here.now ≡ now → IfOk result (λ m. Makes (answered_for here (line_of number requests None) status stays (seen_answered answered)) out.old m out.new) }
+    ensures { (routes : List RouteEntry) → IfOk result (λ m. Makes (answered_for (in_context now routes) (line_of number requests None) status stays (seen_answered answered)) out.old m out.new) }
 {
     match answered {
         Answered::Awaited => {

@@ -1,12 +1,14 @@
 // The requests of a client.
-ghost use Rattle.std.specs.Prelude.{◌≡◌, ◌≤◌, ◌∷◌, [], ◌++◌, List, Some, None, IfOk, OnOk};
+ghost use Rattle.std.specs.Prelude.{◌≡◌, ◌≤◌, ◌∷◌, [], ◌++◌, ℕ, List, Some, None, IfOk, OnOk};
 ghost use Rattle.h1_head.specs.Seen.{seen_head};
+ghost use Rattle.gate_io.specs.declared.event.Sent.{Sent};
 ghost use Rattle.http1_model.specs.Messages.{refusal};
 ghost use Rattle.http1_model.specs.Unread.{Reading};
 ghost use Rattle.h1_stream.specs.Seen.{seen_part};
 ghost use Rattle.h1_write.specs.Seen.{seen_framing};
-ghost use Rattle.exchange.specs.State.{Context, unrouted};
-ghost use Rattle.exchange.specs.Moves.{hands, forwarding, request_came, idle_stop, unrouted_end};
+ghost use Rattle.gate_config.specs.declared.entries.RouteEntry.{RouteEntry};
+ghost use Rattle.exchange.specs.State.{Context, in_context, unrouted};
+ghost use Rattle.exchange.specs.Moves.{hands, forwarding, request_came, idle_stop, idle_move, unrouted_end, unrouted_move};
 ghost use Rattle.exchange.specs.Seen.{at, seen_request, seen_forwarded, seen_answered, line_of, Makes, Made, MadeHearing};
 
 use crate::heads::{has_route, head_bytes, request_framing, request_out, response_kind};
@@ -67,7 +69,7 @@ fn head_came(
     config: &Config,
     out: &mut SentList,
 ) -> Result<Move, OutOfMemory>
-    ensures { (here : Context) → here.routes ≡ config.now.routes → IfOk result (λ m. Makes (request_came here (line_of number requests None) (seen_head head)) out.old m out.new) }
+    ensures { (now : ℕ) → IfOk result (λ m. Makes (request_came (at now config.now) (line_of number requests None) (seen_head head)) out.old m out.new) }
 {
     if has_route(config, &head) {
         return forward(alloc, number, requests, head, out);
@@ -86,11 +88,42 @@ fn refuse(
 ) -> Result<Move, OutOfMemory>
     requires least { 200 ≤ status }
     requires most { status ≤ 599 }
-    ensures { (here : Context) (requests : Reading) → here.now ≡ now → IfOk result (λ m. Makes (idle_stop here (line_of number requests None) (refusal status)) out.old m out.new) }
+    ensures { (routes : List RouteEntry) (requests : Reading) → IfOk result (λ m. Makes (idle_stop (in_context now routes) (line_of number requests None) (refusal status)) out.old m out.new) }
 {
     answer(alloc, number, status, false, now, out)?;
     close(out, number, Side::Down)?;
     Ok(Move::Ends)
+}
+
+/// The line rests without an exchange.
+fn idle_line(number: LineNo, requests: MessageReader) -> Move
+    ensures { result ≡ Move.Rests (line_of number requests None) }
+{
+    Move::Rests(Line {
+        number,
+        requests,
+        exchange: None,
+    })
+}
+
+/// An item came where no exchange is open.
+fn idle_item(
+    alloc: Global,
+    number: LineNo,
+    requests: MessageReader,
+    item: Item,
+    config: &Config,
+    out: &mut SentList,
+) -> Result<Move, OutOfMemory>
+    ensures { (now : ℕ) → IfOk result (λ m. Makes (idle_move (at now config.now) (line_of number requests None) (hands (seen_part item) requests)) out.old m out.new) }
+{
+    match item {
+        Item::Head { head, .. } => head_came(alloc, number, requests, head, config, out),
+        // Where a head is due, nothing else comes.
+        Item::Interim { .. } => Ok(idle_line(number, requests)),
+        Item::Piece { .. } => Ok(idle_line(number, requests)),
+        Item::Trailers { .. } => Ok(idle_line(number, requests)),
+    }
 }
 
 /// Reads on where no exchange is open.
@@ -105,17 +138,8 @@ pub(crate) fn idle(
     ensures { IfOk result (λ m. Made (at now config.now) (line_of number requests None) out.old m out.new) }
 {
     match requests.next_item()? {
-        Step::Item {
-            item: Item::Head { head, .. },
-        } => head_came(alloc, number, requests, head, config, out),
-        Step::Item {
-            item: Item::Interim { .. } | Item::Piece { .. } | Item::Trailers { .. },
-        }
-        | Step::NotYet => Ok(Move::Rests(Line {
-            number,
-            requests,
-            exchange: None,
-        })),
+        Step::Item { item } => idle_item(alloc, number, requests, item, config, out),
+        Step::NotYet => Ok(idle_line(number, requests)),
         Step::Over => {
             close(out, number, Side::Down)?;
             Ok(Move::Ends)
@@ -133,7 +157,7 @@ fn answer_unrouted(
     now: u64,
     out: &mut SentList,
 ) -> Result<Move, OutOfMemory>
-    ensures { (here : Context) → here.now ≡ now → IfOk result (λ m. Makes (unrouted_end here (line_of number requests None) (seen_request request)) out.old m out.new) }
+    ensures { (routes : List RouteEntry) → IfOk result (λ m. Makes (unrouted_end (in_context now routes) (line_of number requests None) (seen_request request)) out.old m out.new) }
 {
     let stays = request.may_stay();
     answer(alloc, number, 404, stays, now, out)?;
@@ -148,6 +172,31 @@ fn answer_unrouted(
     Ok(Move::Ends)
 }
 
+/// An item of a request that no route takes came. It is dropped.
+fn dropped(number: LineNo, requests: MessageReader, request: Request, item: Item) -> Move
+    ensures { (here : Context) (out : List Sent) → Makes (unrouted_move here (line_of number requests None) (seen_request request) (hands (seen_part item) requests)) out result out }
+{
+    match item {
+        Item::Piece { end, .. } => {
+            let request = Request {
+                whole: end,
+                ..request
+            };
+            Move::Goes(line_without_route(number, requests, request))
+        }
+        Item::Trailers { .. } => {
+            let request = Request {
+                whole: true,
+                ..request
+            };
+            Move::Goes(line_without_route(number, requests, request))
+        }
+        // Where a body is due, no head comes.
+        Item::Head { .. } => Move::Rests(line_without_route(number, requests, request)),
+        Item::Interim { .. } => Move::Rests(line_without_route(number, requests, request)),
+    }
+}
+
 /// Reads on in a request that no route takes.
 pub(crate) fn drop_request(
     alloc: Global,
@@ -157,38 +206,16 @@ pub(crate) fn drop_request(
     now: u64,
     out: &mut SentList,
 ) -> Result<Move, OutOfMemory>
-    ensures { (here : Context) → here.now ≡ now → IfOk result (λ m. Made here (line_of number requests (Some (unrouted (seen_request request)))) out.old m out.new) }
+    ensures { (routes : List RouteEntry) → IfOk result (λ m. Made (in_context now routes) (line_of number requests (Some (unrouted (seen_request request)))) out.old m out.new) }
 {
     if request.whole {
         return answer_unrouted(alloc, number, requests, request, now, out);
     }
     match requests.next_item()? {
-        Step::Item {
-            item: Item::Piece { end, .. },
-        } => {
-            let request = Request {
-                whole: end,
-                ..request
-            };
-            Ok(Move::Goes(line_without_route(number, requests, request)))
-        }
-        Step::Item {
-            item: Item::Trailers { .. },
-        } => {
-            let request = Request {
-                whole: true,
-                ..request
-            };
-            Ok(Move::Goes(line_without_route(number, requests, request)))
-        }
-        Step::Item {
-            item: Item::Head { .. } | Item::Interim { .. },
-        } => Ok(Move::Rests(line_without_route(
-            number, requests, request,
-        ))),
-        Step::NotYet | Step::Over | Step::Refused { .. } => {
-            answer_unrouted(alloc, number, requests, request, now, out)
-        }
+        Step::Item { item } => Ok(dropped(number, requests, request, item)),
+        Step::NotYet => answer_unrouted(alloc, number, requests, request, now, out),
+        Step::Over => answer_unrouted(alloc, number, requests, request, now, out),
+        Step::Refused { .. } => answer_unrouted(alloc, number, requests, request, now, out),
     }
 }
 
@@ -219,9 +246,9 @@ fn item_came(
             forwarded.request.whole = true;
             Ok(Move::Goes(line_with(number, requests, forwarded)))
         }
-        Item::Head { .. } | Item::Interim { .. } => {
-            Ok(Move::Rests(line_with(number, requests, forwarded)))
-        }
+        // Where a body is due, no head comes.
+        Item::Head { .. } => Ok(Move::Rests(line_with(number, requests, forwarded))),
+        Item::Interim { .. } => Ok(Move::Rests(line_with(number, requests, forwarded))),
     }
 }
 
@@ -234,14 +261,15 @@ pub(crate) fn go_on(
     now: u64,
     out: &mut SentList,
 ) -> Result<Move, OutOfMemory>
-    ensures { (here : Context) → here.now ≡ now → IfOk result (λ m. Made here (line_of number requests (Some (seen_forwarded forwarded))) out.old m out.new) }
+    ensures { (routes : List RouteEntry) → IfOk result (λ m. Made (in_context now routes) (line_of number requests (Some (seen_forwarded forwarded))) out.old m out.new) }
 {
     if forwarded.request.whole {
         return respond(alloc, number, requests, forwarded, now, out);
     }
     match requests.next_item()? {
         Step::Item { item } => item_came(alloc, number, requests, forwarded, item, out),
-        Step::NotYet | Step::Over => respond(alloc, number, requests, forwarded, now, out),
+        Step::NotYet => respond(alloc, number, requests, forwarded, now, out),
+        Step::Over => respond(alloc, number, requests, forwarded, now, out),
         Step::Refused { number: status } => {
             let answered = forwarded.answered;
             answer_for(alloc, number, requests, status, false, answered, now, out)

@@ -5,7 +5,8 @@ ghost use Rattle.http1_model.specs.Framing.{head_wire, piece_wire, trailer_wire}
 ghost use Rattle.h1_head.specs.Seen.{seen_head};
 ghost use Rattle.h1_stream.specs.Seen.{seen_part};
 ghost use Rattle.h1_write.specs.Seen.{seen_framing};
-ghost use Rattle.exchange.specs.State.{Context};
+ghost use Rattle.gate_config.specs.declared.entries.RouteEntry.{RouteEntry};
+ghost use Rattle.exchange.specs.State.{in_context};
 ghost use Rattle.exchange.specs.Moves.{hands, sending, interim_bytes, response_came, piece_came, trailers_came, response_move};
 ghost use Rattle.exchange.specs.Seen.{seen_request, seen_forwarded, seen_answered, line_of, Makes, MadeResponding};
 
@@ -86,8 +87,8 @@ fn head_came(
     now: u64,
     out: &mut SentList,
 ) -> Result<Move, OutOfMemory>
-    ensures { (here : Context) → here.now ≡ now → IfOk result (λ m.
-        Makes (response_came here (line_of number requests None) (seen_request forwarded.request) (seen_framing forwarded.framing) forwarded.response (seen_head head)) out.old m out.new) }
+    ensures { (routes : List RouteEntry) → IfOk result (λ m.
+        Makes (response_came (in_context now routes) (line_of number requests None) (seen_request forwarded.request) (seen_framing forwarded.framing) forwarded.response (seen_head head)) out.old m out.new) }
 {
     let framing = response_framing(forwarded.request, &head);
     let stays = forwarded.request.stays_behind(framing);
@@ -160,8 +161,8 @@ fn item_came(
     now: u64,
     out: &mut SentList,
 ) -> Result<Move, OutOfMemory>
-    ensures { (here : Context) → here.now ≡ now → IfOk result (λ m.
-        Makes (response_move here (line_of number requests None) (seen_request forwarded.request) (seen_framing forwarded.framing) (seen_answered forwarded.answered) (hands (seen_part item) forwarded.response)) out.old m out.new) }
+    ensures { (routes : List RouteEntry) → IfOk result (λ m.
+        Makes (response_move (in_context now routes) (line_of number requests None) (seen_request forwarded.request) (seen_framing forwarded.framing) (seen_answered forwarded.answered) (hands (seen_part item) forwarded.response)) out.old m out.new) }
 {
     match item {
         Item::Head { head, .. } => head_came(alloc, number, requests, forwarded, head, now, out),
@@ -185,13 +186,14 @@ pub(crate) fn respond(
     now: u64,
     out: &mut SentList,
 ) -> Result<Move, OutOfMemory>
-    ensures { (here : Context) → here.now ≡ now → IfOk result (λ m.
-        MadeResponding here (line_of number requests None) (seen_request forwarded.request) (seen_framing forwarded.framing) forwarded.response (seen_answered forwarded.answered) out.old m out.new) }
+    ensures { (routes : List RouteEntry) → IfOk result (λ m.
+        MadeResponding (in_context now routes) (line_of number requests None) (seen_request forwarded.request) (seen_framing forwarded.framing) forwarded.response (seen_answered forwarded.answered) out.old m out.new) }
 {
     let mut forwarded = forwarded;
     match forwarded.response.next_item()? {
         Step::Item { item } => item_came(alloc, number, requests, forwarded, item, now, out),
-        Step::NotYet | Step::Over => Ok(Move::Rests(line_with(number, requests, forwarded))),
+        Step::NotYet => Ok(Move::Rests(line_with(number, requests, forwarded))),
+        Step::Over => Ok(Move::Rests(line_with(number, requests, forwarded))),
         Step::Refused { number: status } => {
             let stays = forwarded.request.may_stay();
             let answered = forwarded.answered;
