@@ -1,3 +1,5 @@
 mod Spaces
 mod LineEnds
+mod Texts
 mod Readings
+mod Orders

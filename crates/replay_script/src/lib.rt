@@ -2,13 +2,16 @@
 #![tactic(auto)]
 
 mod command;
+mod events;
 mod laws;
 mod print;
 mod read;
+mod spelling;
 mod split;
 mod words;
 
 pub use command::Command;
+pub use events::events_of;
 pub use laws::{one_reading, one_refusal, worked_lines};
 pub use print::print_sent;
 pub use read::{ScriptEnd, read_script};

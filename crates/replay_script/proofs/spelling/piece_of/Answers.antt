@@ -3,7 +3,7 @@ use Rattle.hex.specs.Hex.{decode_of}
 use Rattle.hex.proofs.HexLemmas.{decode_of-encode_lower}
 use Rattle.replay_script.specs.Commands.{IsPiece}
 use Rattle.replay_script.proofs.Spaces.{not_spelled}
-use Rattle.replay_script.proofs.command.piece_of.Goals as goal
+use Rattle.replay_script.proofs.spelling.piece_of.Goals as goal
 
 pub returns-in-Ok-clause-only : goal.returns-in-Ok-clause-only
 returns-in-Ok-clause-only c = λ bytes piece e.
