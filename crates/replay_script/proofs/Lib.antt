@@ -3,3 +3,4 @@ mod LineEnds
 mod Texts
 mod Readings
 mod Orders
+mod Walks

@@ -1,3 +1,4 @@
 pub mod Commands
 pub mod Scripts
 pub mod Prints
+pub mod ScriptWorld

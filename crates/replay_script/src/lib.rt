@@ -6,8 +6,10 @@ mod events;
 mod laws;
 mod print;
 mod read;
+mod script_world;
 mod spelling;
 mod split;
+mod trace;
 mod words;
 
 pub use command::Command;
@@ -15,6 +17,7 @@ pub use events::events_of;
 pub use laws::{one_reading, one_refusal, worked_lines};
 pub use print::print_sent;
 pub use read::{ScriptEnd, read_script};
+pub use script_world::ScriptWorld;
 
 #[cfg(test)]
 mod tests;
