@@ -2,3 +2,4 @@ pub mod Commands
 pub mod Scripts
 pub mod Prints
 pub mod ScriptWorld
+pub mod Laws

@@ -1,20 +1,14 @@
 -- What the world of a script is: all that passed, and the events that are left.
-use Rattle.std.specs.Prelude.{◌≡◌, ℕ, List, [], ◌∷◌, ◌++◌, length, drop, None, false, refl}
-use Rattle.std.proofs.Common.{ap, ◌∙◌}
+use Rattle.std.specs.Prelude.{◌≡◌, ℕ, List, [], ◌∷◌, ◌++◌, drop, None}
 use Rattle.gate_io.specs.declared.event.Event.{Event}
 use Rattle.gate_io.specs.declared.event.Sent.{Sent}
-use Rattle.gate_io.specs.declared.event.What.TheVariants.{Stop}
 use Rattle.gate_io.specs.declared.passed.Passed.{Passed}
 use Rattle.gate_io.specs.declared.passed.Passed.TheVariants.{Asked, Gave, Took, Short}
 use Rattle.gate_io.specs.declared.passed.Wants.{Wants}
-use Rattle.gate_io.specs.Events.{Last, AreInOrder, last_of, nothing_given, is_stop}
-use Rattle.gate_io.specs.MemoryWorld.{MemoryWorld, end_of, nature_of}
+use Rattle.gate_io.specs.Events.{Last, AreInOrder, last_of, nothing_given}
+use Rattle.gate_io.specs.MemoryWorld.{MemoryWorld, nature_of}
 use Rattle.gate_io.specs.Nature.{Nature}
-use Rattle.gate_io.specs.Passing.{happened, received}
-use Rattle.gate_io.specs.Reads.{received-append}
-use Rattle.gate_io.specs.Scripts.{first_of, gives_its_events}
-use Rattle.replay_script.specs.declared.command.Command.{Command}
-use Rattle.replay_script.specs.Scripts.{AreLines, at_start, events_of}
+use Rattle.gate_io.specs.Passing.{happened}
 
 -- all that passed, and the events that are left
 pub record Playing : Type 0 where

@@ -8,6 +8,7 @@ ghost use Rattle.replay_script.specs.declared.command.Command.TheVariants as com
 ghost use Rattle.replay_script.specs.Commands.{text_of};
 ghost use Rattle.replay_script.specs.Scripts.{script_text, IsScript, FirstBad};
 ghost use Rattle.replay_script.specs.Prints.{printed};
+ghost use Rattle.replay_script.specs.Laws.{PlaysItsScript};
 
 /// A text is the script of one list of lines at most.
 pub fn one_reading()
@@ -18,6 +19,12 @@ pub fn one_reading()
 pub fn one_refusal()
     ensures none { (text : List ℕ) (a : List Command) (n : ℕ) → IsScript text a → FirstBad text n → ⊥ }
     ensures one { (text : List ℕ) (m n : ℕ) → FirstBad text m → FirstBad text n → m ≡ n }
+{}
+
+/// The world of a script gives the script's events in order, up to its Stop, and no others; and what it keeps of what it took,
+/// turn by turn, joins to all that it took.
+pub fn worlds_play_their_scripts()
+    ensures { PlaysItsScript }
 {}
 
 /// Worked lines: what a script of each kind of line is, and what is printed.
