@@ -3,3 +3,4 @@ pub mod Scripts
 pub mod Prints
 pub mod ScriptWorld
 pub mod Laws
+pub mod Examples
