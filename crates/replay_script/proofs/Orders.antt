@@ -1,8 +1,8 @@
 -- The events of a script's lines are in order.
-use Rattle.std.proofs.Common.{◌≡◌, ℕ, ◌≤◌, false, List, [], ◌∷◌, refl, arith}
-use Rattle.gate_io.specs.Events.{Last, AreInOrder, given, nothing_given}
+use Rattle.std.proofs.Common.{◌≡◌, ◌≤◌, false, List, [], ◌∷◌, refl, arith}
+use Rattle.gate_io.specs.Events.{Last, AreInOrder, nothing_given}
 use Rattle.replay_script.specs.declared.command.Command.{Command}
-use Rattle.replay_script.specs.declared.command.Command.TheVariants.{At, Open, Bytes, End, Gone, Joined, Refused, UpBytes, UpEnd, UpGone, Clock, Stop}
+use Rattle.replay_script.specs.declared.command.Command.TheVariants.{At, Bytes, UpBytes, Stop}
 use Rattle.replay_script.specs.Scripts.{Standing, at_start, behind, AreLines, events_from, events_of}
 
 -- behind an event that was no Stop, at its moment or later

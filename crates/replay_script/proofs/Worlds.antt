@@ -5,7 +5,6 @@ use Rattle.std.proofs.lemmas.List.{append-nil}
 use Rattle.gate_io.specs.declared.event.Event.{Event}
 use Rattle.gate_io.specs.declared.event.Sent.{Sent}
 use Rattle.gate_io.specs.declared.event.What.{What}
-use Rattle.gate_io.specs.declared.event.What.TheVariants.{Stop}
 use Rattle.gate_io.specs.declared.passed.Passed.{Passed}
 use Rattle.gate_io.specs.declared.passed.Passed.TheVariants.{Asked, Gave, Took, Short}
 use Rattle.gate_io.specs.declared.passed.Wants.{Wants}
@@ -16,7 +15,7 @@ use Rattle.gate_io.specs.Passing.{happened, received}
 use Rattle.gate_io.specs.Reads.{happened-append, received-append}
 use Rattle.gate_io.specs.Scripts.{first_of, gives_its_events}
 use Rattle.replay_script.specs.declared.command.Command.{Command}
-use Rattle.replay_script.specs.declared.command.Command.TheVariants.{At, Open, Bytes, End, Gone, Joined, Refused, UpBytes, UpEnd, UpGone, Clock}
+use Rattle.replay_script.specs.declared.command.Command.TheVariants.{At}
 use Rattle.replay_script.specs.declared.command.Command.TheVariants.{Stop as StopLine}
 use Rattle.replay_script.specs.Scripts.{events_from, events_of, happens, moment_behind}
 use Rattle.replay_script.specs.Commands.{what_of}

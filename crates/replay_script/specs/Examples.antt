@@ -1,5 +1,5 @@
 -- Worked scripts: their events, moments that rise and that fall, and what the world of a script keeps.
-use Rattle.std.specs.Prelude.{◌≡◌, ℕ, List, [], ◌∷◌, length, codes, None}
+use Rattle.std.specs.Prelude.{◌≡◌, ℕ, [], ◌∷◌, length, codes, None}
 use Rattle.gate_io.specs.declared.event.Event.{Event}
 use Rattle.gate_io.specs.declared.event.Sent.TheVariants as sent
 use Rattle.gate_io.specs.declared.event.Side.TheVariants.{Down, Up}

@@ -14,9 +14,7 @@ mod words;
 
 pub use command::Command;
 pub use events::events_of;
-pub use laws::{
-    one_reading, one_refusal, worked_lines, worked_scripts, worlds_play_their_scripts,
-};
+pub use laws::{one_reading, one_refusal, worked_lines, worked_scripts, worlds_play_their_scripts};
 pub use print::print_sent;
 pub use read::{ScriptEnd, read_script};
 pub use script_world::ScriptWorld;

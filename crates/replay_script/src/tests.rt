@@ -41,7 +41,10 @@ fn scripts_are_read_to_their_first_bad_line(rt: HostRuntime) -> Result<(), Fail>
         ("at 5\nclock\nat 4\n", Err(3)),
         ("at\n", Err(1)),
         ("at 05\n", Err(1)),
-        ("gone 1\njoined 1\nrefused 1\nupend 1\nupgone 1\nclock\n", Ok(6)),
+        (
+            "gone 1\njoined 1\nrefused 1\nupend 1\nupgone 1\nclock\n",
+            Ok(6),
+        ),
         ("upbytes 1 00\nupbytes 1 0\n", Err(2)),
         ("joined 0\n", Err(1)),
         ("gone\n", Err(1)),
@@ -106,7 +109,8 @@ fn kind_of(what: What) -> u16 {
 }
 
 /// A line of each kind.
-const EACH: &[u8] = b"open 2\nat 7\nbytes 2 4142\nupbytes 2 43\nend 2\nupend 2\ngone 2\nupgone 2\njoined 2\nrefused 2\nclock\nstop\n";
+const EACH: &[u8] =
+    b"open 2\nat 7\nbytes 2 4142\nupbytes 2 43\nend 2\nupend 2\ngone 2\nupgone 2\njoined 2\nrefused 2\nclock\nstop\n";
 
 #[test]
 fn lines_say_what_happens(rt: HostRuntime) -> Result<(), Fail> {
@@ -167,7 +171,10 @@ fn a_world_plays_its_script(rt: HostRuntime) -> Result<(), Fail> {
         for sent in world.taken() {
             print_sent(alloc, &mut out, sent)?;
         }
-        assert_eq!(rt; out.as_slice(), b"connect 7\nup 7 47\nlog info \nclose 7\n".as_slice());
+        assert_eq!(rt;
+            out.as_slice(),
+            b"connect 7\nup 7 47\nlog info \nclose 7\n".as_slice()
+        );
     }
     Ok(())
 }

@@ -1,7 +1,6 @@
-use Rattle.std.proofs.Common.{◌≡◌, ◌∷◌, ◌++◌, [], ◌+◌, List, length, ap, sym, ◌∙◌, subst, arith, length-append, Bool, true, false}
-use Rattle.replay_script.specs.declared.command.Command.{Command}
+use Rattle.std.proofs.Common.{◌≡◌, ◌∷◌, ◌++◌, [], ◌+◌, length, ap, sym, ◌∙◌, subst, arith, length-append, Bool, true, false}
 use Rattle.replay_script.specs.Commands.{Spells}
-use Rattle.replay_script.specs.Scripts.{Standing, at_start, behind, behind_all, ComesNext, AreLines}
+use Rattle.replay_script.specs.Scripts.{Standing, at_start, behind, behind_all, AreLines}
 use Rattle.replay_script.proofs.Readings.{is_more, lines_more, behind_more, falls, rises, no_line_there, no_command_there, not_next_there}
 use Rattle.replay_script.proofs.read.read_script.Goals as goal
 

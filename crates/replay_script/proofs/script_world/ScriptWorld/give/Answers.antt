@@ -1,4 +1,4 @@
-use Rattle.std.proofs.Common.{◌≡◌, ◌∙◌, ap, ℕ}
+use Rattle.std.proofs.Common.{◌∙◌, ap, ℕ}
 use Rattle.gate_io.specs.MemoryWorld.{next_of}
 use Rattle.replay_script.proofs.Worlds.{nature_gave, gave_in_step}
 use Rattle.replay_script.proofs.script_world.ScriptWorld.give.Goals as goal

@@ -1,5 +1,3 @@
-use Rattle.std.proofs.Common.{◌≡◌, ◌++◌, ◌∷◌, [], sym}
-use Rattle.replay_script.specs.ScriptWorld.{nature, last}
 use Rattle.replay_script.proofs.Worlds.{nature_took, last_took, took_in_step}
 use Rattle.replay_script.proofs.script_world.ScriptWorld.take.Goals as goal
 
