@@ -46,7 +46,8 @@ pub loop-rest-preserved : goal.loop-rest-preserved
 loop-rest-preserved c =
     let spells : Spells c.in-Some.line.now c.in-Some-2.command = rw c.in-Some-2.is at c.in_ok-command.ensures in
     let added : c.push.new.self.items ≡ c.loop-rest.commands.items ++ (c.in-Some-2.command ∷ []) = c.in_ok-push.ensures.items in
-    let stood : behind_all at_start c.loop-rest.commands.items ≡ record { now = c.loop-rest.now; stopped = false } = c.loop-rest.invariant.standing ∙ ap (λ (b : Bool). record { now = c.loop-rest.now; stopped = b }) c.if-stopped.false in
+    let going : c.loop-rest.stopped ≡ false = cc in
+    let stood : behind_all at_start c.loop-rest.commands.items ≡ record { now = c.loop-rest.now; stopped = false } = c.loop-rest.invariant.standing ∙ ap (λ (b : Bool). record { now = c.loop-rest.now; stopped = b }) going in
     record {
       is = is_more c.args.text.now c.loop-rest.commands.items c.push.new.self.items c.loop-rest.rest.now c.in-Some.line.now c.in-Some.more.now c.in-Some-2.command
           c.loop-rest.invariant.is c.in-Some.ensures.1 spells.text added;
