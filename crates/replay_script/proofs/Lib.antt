@@ -1,3 +1,7 @@
 mod Spaces
 mod LineEnds
+mod Texts
 mod Readings
+mod Orders
+mod Walks
+mod Worlds

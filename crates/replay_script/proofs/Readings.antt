@@ -1,62 +1,38 @@
 -- A text is one script at most, or has one first line of no form.
-use Rattle.std.proofs.Common.{◌≡◌, ◌≢◌, ◌⊎◌, inl, inr, ℕ, ◌+◌, List, [], ◌∷◌, ◌++◌, length, refl, ap, sym, ◌∙◌, subst, append_assoc, arith, length-append}
+use Rattle.std.proofs.Common.{◌≡◌, ◌⊎◌, inl, inr, ℕ, ◌+◌, ◌≤◌, ◌<◌, Bool, false, List, [], ◌∷◌, ◌++◌, length, refl, ap, sym, ◌∙◌, subst, append_assoc, arith, length-append}
 use Rattle.std.proofs.lemmas.List.{append-nil}
-use Rattle.std.specs.List.{AllByRecursion}
 use Rattle.replay_script.specs.declared.command.Command.{Command}
-use Rattle.replay_script.specs.declared.command.Command.TheVariants.{Open, Bytes, End, Stop}
 use Rattle.replay_script.specs.Commands.{IsFree, IsInForm, Spells, text_of}
-use Rattle.replay_script.specs.Scripts.{script_text, StopsLast, IsScript, FirstBad}
+use Rattle.replay_script.specs.Scripts.{script_text, Standing, at_start, behind, behind_all, moment_behind, ComesNext, AreLines, IsScript, FirstBad}
 use Rattle.replay_script.proofs.Spaces.{split_alone, has_no_such}
-use Rattle.replay_script.proofs.LineEnds.{text_has_no_end, text_alone}
+use Rattle.replay_script.proofs.LineEnds.{text_has_no_end}
+use Rattle.replay_script.proofs.Texts.{text_alone}
 
 -- one more line
-pub script_more : (cs : List Command) (c : Command) (more : List ℕ) → script_text (cs ++ (c ∷ [])) ++ more ≡ script_text cs ++ (text_of c ++ (10 ∷ more))
+script_more : (cs : List Command) (c : Command) (more : List ℕ) → script_text (cs ++ (c ∷ [])) ++ more ≡ script_text cs ++ (text_of c ++ (10 ∷ more))
 script_more [] c more = append_assoc (text_of c) (10 ∷ []) more
 script_more (d ∷ cs) c more =
     append_assoc (text_of d) (10 ∷ script_text (cs ++ (c ∷ []))) more
     ∙ ap (λ (xs : List ℕ). text_of d ++ (10 ∷ xs)) (script_more cs c more)
     ∙ sym (append_assoc (text_of d) (10 ∷ script_text cs) (text_of c ++ (10 ∷ more)))
 
-pub all_more : (cs : List Command) (c : Command) → AllByRecursion IsInForm cs → IsInForm c → AllByRecursion IsInForm (cs ++ (c ∷ []))
-all_more [] c all one = (one, tt)
-all_more (d ∷ cs) c all one = (all.0, all_more cs c all.1 one)
+pub lines_more : (s : Standing) (cs : List Command) (c : Command) → AreLines s cs → ComesNext (behind_all s cs) c → AreLines s (cs ++ (c ∷ []))
+lines_more s [] c lines next = (next, tt)
+lines_more s (d ∷ cs) c lines next = (lines.0, lines_more (behind s d) cs c lines.1 next)
 
--- one line alone
-pub one_stops : (d : Command) → StopsLast (d ∷ [])
-one_stops (Open line) = tt
-one_stops (Bytes line bytes) = tt
-one_stops (End line) = tt
-one_stops Stop = tt
+pub behind_more : (s : Standing) (cs : List Command) (c : Command) → behind_all s (cs ++ (c ∷ [])) ≡ behind (behind_all s cs) c
+behind_more s [] c = refl
+behind_more s (d ∷ cs) c = behind_more (behind s d) cs c
 
--- nothing stands behind `stop`
-pub none_after_stop : (cs : List Command) (d : Command) → StopsLast ((cs ++ (Stop ∷ [])) ++ (d ∷ [])) → ⊥
-none_after_stop [] d h = h
-none_after_stop (Open line ∷ cs) d h = none_after_stop cs d h
-none_after_stop (Bytes line bytes ∷ cs) d h = none_after_stop cs d h
-none_after_stop (End line ∷ cs) d h = none_after_stop cs d h
-none_after_stop (Stop ∷ []) d h = h
-none_after_stop (Stop ∷ (c ∷ cs)) d h = h
+-- a line that sets an earlier moment may not come next
+pub falls : (s : Standing) (now : ℕ) (stopped : Bool) (c : Command) → s ≡ record { now = now; stopped = stopped } → moment_behind now c < now → ComesNext s c → ⊥
+falls s now stopped c same low next =
+    let rises : now ≤ moment_behind now c = (subst (λ (t : Standing). ComesNext t c) same next).rises in
+    omega (arith, low, rises)
 
--- another line may stand behind any other
-pub more_after : (cs : List Command) (c d : Command) → c ≢ Stop → StopsLast (cs ++ (c ∷ [])) → StopsLast ((cs ++ (c ∷ [])) ++ (d ∷ []))
-more_after [] (Open line) d other h = one_stops d
-more_after [] (Bytes line bytes) d other h = one_stops d
-more_after [] (End line) d other h = one_stops d
-more_after [] Stop d other h = absurd (other refl)
-more_after (Open line ∷ cs) c d other h = more_after cs c d other h
-more_after (Bytes line bytes ∷ cs) c d other h = more_after cs c d other h
-more_after (End line ∷ cs) c d other h = more_after cs c d other h
-more_after (Stop ∷ []) c d other h = absurd h
-more_after (Stop ∷ (x ∷ cs)) c d other h = absurd h
-
--- a front of a script stops last
-pub stops_front : (f : List Command) (c : Command) (more : List Command) → StopsLast (f ++ (c ∷ more)) → StopsLast (f ++ (c ∷ []))
-stops_front [] c more h = one_stops c
-stops_front (Open line ∷ f) c more h = stops_front f c more h
-stops_front (Bytes line bytes ∷ f) c more h = stops_front f c more h
-stops_front (End line ∷ f) c more h = stops_front f c more h
-stops_front (Stop ∷ []) c more h = absurd h
-stops_front (Stop ∷ (x ∷ f)) c more h = absurd h
+-- a line that sets no earlier moment may come next, where no `stop` was there
+pub rises : (s : Standing) (now : ℕ) (c : Command) → s ≡ record { now = now; stopped = false } → now ≤ moment_behind now c → IsInForm c → ComesNext s c
+rises s now c same low form = subst (λ (t : Standing). ComesNext t c) (sym same) (record { in_form = form; rises = low; goes_on = refl })
 
 -- no line is nothing
 no_line : (xs ys : List ℕ) → [] ≡ xs ++ (10 ∷ ys) → ⊥
@@ -68,40 +44,54 @@ no_line_there rest free command more e = has_no_such 10 (text_of command) more (
 
 -- a first line that spells no command
 pub no_command_there : (line more rest : List ℕ) → IsFree 10 line → rest ≡ line ++ (10 ∷ more) → ((c : Command) → Spells line c → ⊥)
-    → (command : Command) (behind : List ℕ) → IsInForm command → rest ≡ text_of command ++ (10 ∷ behind) → ⊥
-no_command_there line more rest free at none command behind form e =
-    none command (record { in_form = form; text = (split_alone 10 line (text_of command) more behind free (text_has_no_end command form) (sym at ∙ e)).0 })
+    → (s : Standing) (command : Command) (behind : List ℕ) → ComesNext s command → rest ≡ text_of command ++ (10 ∷ behind) → ⊥
+no_command_there line more rest free at none s command behind next e =
+    none command (record { in_form = next.in_form; text = (split_alone 10 line (text_of command) more behind free (text_has_no_end command next.in_form) (sym at ∙ e)).0 })
 
--- the one list is the other and more: a line c and others, and s is what they spell and r behind them
-pub record Extends (f g : List Command) (r s : List ℕ) : Type 0 where
+-- a first line that spells a command which may not come next
+pub not_next_there : (line more rest : List ℕ) (c : Command) → IsFree 10 line → rest ≡ line ++ (10 ∷ more) → Spells line c
+    → (s : Standing) → (ComesNext s c → ⊥) → (command : Command) (behind : List ℕ) → ComesNext s command → rest ≡ text_of command ++ (10 ∷ behind) → ⊥
+not_next_there line more rest c free at spells s none command behind next e =
+    let same : line ≡ text_of command = (split_alone 10 line (text_of command) more behind free (text_has_no_end command next.in_form) (sym at ∙ e)).0 in
+    none (subst (ComesNext s) (sym (text_alone c command spells.in_form next.in_form (sym spells.text ∙ same))) next)
+
+-- the one list is the other and more: a line that may come next and others, and s is what they spell and r behind them
+pub record Extends (at : Standing) (f g : List Command) (r s : List ℕ) : Type 0 where
   pub line : Command
   pub more : List Command
   pub is : f ≡ g ++ (line ∷ more)
-  pub form : IsInForm line
+  pub next : ComesNext (behind_all at g) line
   pub spelled : s ≡ text_of line ++ (10 ∷ (script_text more ++ r))
 
 -- two readings of one text: the same, or one goes on where the other ends
-pub fronts : (f g : List Command) (r s : List ℕ) → AllByRecursion IsInForm f → AllByRecursion IsInForm g → script_text f ++ r ≡ script_text g ++ s
-    → ((f ≡ g) × (r ≡ s)) ⊎ (Extends f g r s ⊎ Extends g f s r)
-fronts [] [] r s F G e = inl (refl, e)
-fronts [] (d ∷ g) r s F G e = inr (inr (record { line = d; more = g; is = refl; form = G.0; spelled = e ∙ append_assoc (text_of d) (10 ∷ script_text g) s }))
-fronts (c ∷ f) [] r s F G e = inr (inl (record { line = c; more = f; is = refl; form = F.0; spelled = sym e ∙ append_assoc (text_of c) (10 ∷ script_text f) r }))
-fronts (c ∷ f) (d ∷ g) r s F G e =
-    let parts = split_alone 10 (text_of c) (text_of d) (script_text f ++ r) (script_text g ++ s) (text_has_no_end c F.0) (text_has_no_end d G.0)
+fronts : (at : Standing) (f g : List Command) (r s : List ℕ) → AreLines at f → AreLines at g → script_text f ++ r ≡ script_text g ++ s
+    → ((f ≡ g) × (r ≡ s)) ⊎ (Extends at f g r s ⊎ Extends at g f s r)
+fronts at [] [] r s F G e = inl (refl, e)
+fronts at [] (d ∷ g) r s F G e = inr (inr (record { line = d; more = g; is = refl; next = G.0; spelled = e ∙ append_assoc (text_of d) (10 ∷ script_text g) s }))
+fronts at (c ∷ f) [] r s F G e = inr (inl (record { line = c; more = f; is = refl; next = F.0; spelled = sym e ∙ append_assoc (text_of c) (10 ∷ script_text f) r }))
+fronts at (c ∷ f) (d ∷ g) r s F G e =
+    let parts = split_alone 10 (text_of c) (text_of d) (script_text f ++ r) (script_text g ++ s) (text_has_no_end c F.0.in_form) (text_has_no_end d G.0.in_form)
     (sym (append_assoc (text_of c) (10 ∷ script_text f) r) ∙ e ∙ append_assoc (text_of d) (10 ∷ script_text g) s) in
-    let same : c ≡ d = text_alone c d F.0 G.0 parts.0 in
-    elim (fronts f g r s F.1 G.1 parts.1) [
+    let same : c ≡ d = text_alone c d F.0.in_form G.0.in_form parts.0 in
+    let F1 : AreLines (behind at d) f = subst (λ (x : Command). AreLines (behind at x) f) same F.1 in
+    elim (fronts (behind at d) f g r s F1 G.1 parts.1) [
       | inl both ↦ inl (cc (same, both.0), both.1)
       | inr one ↦ elim one [
-        | inl x ↦ inr (inl (record { line = x.line; more = x.more; is = cc (same, x.is); form = x.form; spelled = x.spelled }))
-        | inr y ↦ inr (inr (record { line = y.line; more = y.more; is = cc (same, y.is); form = y.form; spelled = y.spelled }))
+        | inl x ↦ inr (inl (record { line = x.line; more = x.more; is = cc (same, x.is); next = x.next; spelled = x.spelled }))
+        | inr y ↦ inr (inr (record {
+          line = y.line;
+          more = y.more;
+          is = cc (same, y.is);
+          next = subst (λ (x : Command). ComesNext (behind_all (behind at x) f) y.line) (sym same) y.next;
+          spelled = y.spelled;
+        }))
       ]
     ]
 
 -- a text is one script at most
 pub one_script : (text : List ℕ) (a b : List Command) → IsScript text a → IsScript text b → a ≡ b
 one_script text a b A B =
-    elim (fronts a b [] [] A.in_form B.in_form (append-nil (script_text a) ∙ sym A.is ∙ B.is ∙ sym (append-nil (script_text b)))) [
+    elim (fronts at_start a b [] [] A.lines B.lines (append-nil (script_text a) ∙ sym A.is ∙ B.is ∙ sym (append-nil (script_text b)))) [
       | inl both ↦ both.0
       | inr one ↦ elim one [ inl x ↦ absurd (no_line _ _ x.spelled) | inr y ↦ absurd (no_line _ _ y.spelled) ]
     ]
@@ -109,23 +99,17 @@ one_script text a b A B =
 -- no script has a first line of no form
 pub script_or_bad : (text : List ℕ) (a : List Command) (n : ℕ) → IsScript text a → FirstBad text n → ⊥
 script_or_bad text a n A B =
-    elim (fronts a B.front [] B.rest A.in_form B.in_form (append-nil (script_text a) ∙ sym A.is ∙ B.is)) [
+    elim (fronts at_start a B.front [] B.rest A.lines B.lines (append-nil (script_text a) ∙ sym A.is ∙ B.is)) [
       | inl both ↦ B.some (sym both.1)
-      | inr one ↦ elim one [
-        | inl x ↦ B.bad x.line _ x.form (stops_front B.front x.line x.more (subst StopsLast x.is A.stops)) x.spelled
-        | inr y ↦ no_line _ _ y.spelled
-      ]
+      | inr one ↦ elim one [ inl x ↦ B.bad x.line _ x.next x.spelled | inr y ↦ no_line _ _ y.spelled ]
     ]
 
 -- there is one first line of no form at most
 pub one_first_bad : (text : List ℕ) (m n : ℕ) → FirstBad text m → FirstBad text n → m ≡ n
 one_first_bad text m n A B =
-    elim (fronts A.front B.front A.rest B.rest A.in_form B.in_form (sym A.is ∙ B.is)) [
+    elim (fronts at_start A.front B.front A.rest B.rest A.lines B.lines (sym A.is ∙ B.is)) [
       | inl both ↦ A.number_is ∙ ap (λ (cs : List Command). length cs + 1) both.0 ∙ sym B.number_is
-      | inr one ↦ elim one [
-        | inl x ↦ absurd (B.bad x.line _ x.form (stops_front B.front x.line x.more (subst StopsLast x.is A.stops)) x.spelled)
-        | inr y ↦ absurd (A.bad y.line _ y.form (stops_front A.front y.line y.more (subst StopsLast y.is B.stops)) y.spelled)
-      ]
+      | inr one ↦ elim one [ inl x ↦ absurd (B.bad x.line _ x.next x.spelled) | inr y ↦ absurd (A.bad y.line _ y.next y.spelled) ]
     ]
 
 -- the text behind one more line

@@ -1,5 +1,5 @@
 -- Words between spaces, and numbers in decimal.
-use Rattle.std.proofs.Common.{◌≡◌, ◌≢◌, ℕ, suc, ◌+◌, ◌<◌, ◌≤◌, List, [], ◌∷◌, ◌++◌, length, get_or, take, drop, refl, ap, sym, ◌∙◌, subst, arith, Result, Ok, decimal, Option, None, Some, IsSome, IfSome, ◌-◌, add-one, true, false, Err, ◌⊎◌, inl, inr, IfOk, length-drop, drop-cons}
+use Rattle.std.proofs.Common.{◌≡◌, ◌≢◌, ℕ, suc, ◌+◌, ◌<◌, ◌≤◌, ◌^◌, List, [], ◌∷◌, ◌++◌, length, get_or, take, drop, refl, ap, sym, ◌∙◌, subst, arith, Result, Ok, decimal, Option, None, Some, IsSome, IfSome, ◌-◌, add-one, true, false, Err, ◌⊎◌, inl, inr, IfOk, length-drop, drop-cons}
 use Rattle.std.proofs.lemmas.List.{take_all, take-append-drop}
 use Rattle.std.specs.Char.{digit_value}
 use Rattle.std.specs.Str.{IsUtf8}
@@ -24,13 +24,17 @@ parts_are b text at low here =
     rw (take_all (length text - (at + 1)) (drop (at + 1) text) (omega (arith, length-drop (at + 1) text)))
     (sym (take-append-drop at text) ∙ ap (λ (xs : List ℕ). take at text ++ xs) (drop-cons text at 0 low ∙ ap (λ (x : ℕ). x ∷ drop (suc at) text) here ∙ rw (← add-one) refl))
 
+-- the number of a line is one of 64 bits
+pub line_fits : (n : ℕ) → IsLine n → n < 2 ^ 64
+line_fits n line = omega (arith, line.high)
+
 -- a number in decimal is text
-pub decimal_is_text : (n : ℕ) (word : List ℕ) → IsLine n → word ≡ decimal n → IsUtf8 word
-decimal_is_text n word line e = subst (λ (bs : List ℕ). IsUtf8 bs) (sym e) (IsUtf8-from_ascii (decimal n) (IsAscii-decimal n (omega (arith, line.high))))
+pub decimal_is_text : (n : ℕ) (word : List ℕ) → n < 2 ^ 64 → word ≡ decimal n → IsUtf8 word
+decimal_is_text n word low e = subst (λ (bs : List ℕ). IsUtf8 bs) (sym e) (IsUtf8-from_ascii (decimal n) (IsAscii-decimal n low))
 
 -- and is read back
-pub decimal_is_read : {E : Type 0} (n : ℕ) (word : List ℕ) (r : Result ℕ E) → IsLine n → word ≡ decimal n → ParsesUnsigned 32 10 word r → r ≡ Ok n
-decimal_is_read n word r line e parses = parse-decimal 32 n word r line.high (omega (arith, line.high)) e parses
+pub decimal_is_read : {E : Type 0} (k n : ℕ) (word : List ℕ) (r : Result ℕ E) → n < 2 ^ k → n < 2 ^ 64 → word ≡ decimal n → ParsesUnsigned k 10 word r → r ≡ Ok n
+decimal_is_read k n word r small low e parses = parse-decimal k n word r small low e parses
 
 -- a number in range is kept
 pub line_is_kept : (r : Option ℕ) (m n : ℕ) → IsLine n → m ≡ n → (1 ≤ m → IsSome r) → IfSome r (λ l. l ≡ m) → r ≡ Some n
@@ -43,8 +47,8 @@ digits_are_free [] all = tt
 digits_are_free (d ∷ ds) all =
     (λ e. let low : digit_value 32 < 10 = subst (λ (x : ℕ). digit_value x < 10) e all.0 in omega (arith, low), digits_are_free ds all.1)
 
-pub decimal_is_free : (n : ℕ) → IsLine n → IsFree 32 (decimal n)
-decimal_is_free n line = digits_are_free (decimal n) (decimal_is_IsNumeral n (omega (arith, line.high))).0.1
+pub decimal_is_free : (n : ℕ) → n < 2 ^ 64 → IsFree 32 (decimal n)
+decimal_is_free n low = digits_are_free (decimal n) (decimal_is_IsNumeral n low).0.1
 
 -- what is not decoded spells no piece, but for want of memory
 pub not_spelled : {E : Type 0} (r : Result (Option (List ℕ)) E) (refusal : FromHexError) (digits : List ℕ)

@@ -1,28 +1,77 @@
--- A script: its lines in order, each ended by LF.
-use Rattle.std.specs.Prelude.{◌≡◌, ℕ, ◌+◌, List, [], ◌∷◌, ◌++◌, length}
-use Rattle.std.specs.List.{AllByRecursion}
+-- A script: its lines in order, each ended by LF, and the events that they are.
+use Rattle.std.specs.Prelude.{◌≡◌, ℕ, ◌+◌, ◌≤◌, Bool, true, false, List, [], ◌∷◌, ◌++◌, length, Option, None, Some}
+use Rattle.gate_io.specs.declared.event.Event.{Event}
+use Rattle.gate_io.specs.declared.event.What.{What}
+use Rattle.gate_io.specs.MemoryWorld.{stop_at}
 use Rattle.replay_script.specs.declared.command.Command.{Command}
-use Rattle.replay_script.specs.declared.command.Command.TheVariants.{Open, Bytes, End, Stop}
-use Rattle.replay_script.specs.Commands.{text_of, IsInForm}
+use Rattle.replay_script.specs.declared.command.Command.TheVariants.{At, Open, Bytes, End, Gone, Joined, Refused, UpBytes, UpEnd, UpGone, Clock, Stop}
+use Rattle.replay_script.specs.Commands.{text_of, what_of, IsInForm}
 
 -- the text of the lines, each with an LF behind it
 abbrev pub script_text : List Command → List ℕ
 script_text [] = []
 script_text (command ∷ commands) = text_of command ++ (10 ∷ script_text commands)
 
--- no line stands behind `stop`
-abbrev pub StopsLast : List Command → Type 0
-StopsLast [] = Unit {0}
-StopsLast (Stop ∷ []) = Unit {0}
-StopsLast (Stop ∷ (command ∷ commands)) = ⊥
-StopsLast (Open line ∷ commands) = StopsLast commands
-StopsLast (Bytes line bytes ∷ commands) = StopsLast commands
-StopsLast (End line ∷ commands) = StopsLast commands
+-- How far the lines of a script have come: the moment of what happens next, and whether `stop` was there.
+pub record Standing : Type 0 where
+  pub now : ℕ
+  pub stopped : Bool
 
--- The text is the script of these lines. `stop` is the last one, or there is none.
+-- before the first line
+abbrev pub at_start : Standing
+at_start = record { now = 0; stopped = false }
+
+-- the moment behind a line: `at` sets it
+abbrev pub moment_behind : ℕ → Command → ℕ
+moment_behind now (At moment) = moment
+moment_behind now (Open line) = now
+moment_behind now (Bytes line bytes) = now
+moment_behind now (End line) = now
+moment_behind now (Gone line) = now
+moment_behind now (Joined line) = now
+moment_behind now (Refused line) = now
+moment_behind now (UpBytes line bytes) = now
+moment_behind now (UpEnd line) = now
+moment_behind now (UpGone line) = now
+moment_behind now Clock = now
+moment_behind now Stop = now
+
+abbrev pub is_stop : Command → Bool
+is_stop (At moment) = false
+is_stop (Open line) = false
+is_stop (Bytes line bytes) = false
+is_stop (End line) = false
+is_stop (Gone line) = false
+is_stop (Joined line) = false
+is_stop (Refused line) = false
+is_stop (UpBytes line bytes) = false
+is_stop (UpEnd line) = false
+is_stop (UpGone line) = false
+is_stop Clock = false
+is_stop Stop = true
+
+-- behind one line, and behind these
+abbrev pub behind : Standing → Command → Standing
+behind standing command = record { now = moment_behind standing.now command; stopped = is_stop command }
+
+abbrev pub behind_all : Standing → List Command → Standing
+behind_all standing [] = standing
+behind_all standing (command ∷ commands) = behind_all (behind standing command) commands
+
+-- The line may come next: it is within its bounds, no moment is less than the one before, and no line stands behind `stop`.
+pub record ComesNext (standing : Standing) (command : Command) : Type 0 where
+  pub in_form : IsInForm command
+  pub rises : standing.now ≤ moment_behind standing.now command
+  pub goes_on : standing.stopped ≡ false
+
+-- each of the lines may come next behind those before it
+abbrev pub AreLines : Standing → List Command → Type 0
+AreLines standing [] = Unit {0}
+AreLines standing (command ∷ commands) = ComesNext standing command × AreLines (behind standing command) commands
+
+-- The text is the script of these lines.
 pub record IsScript (text : List ℕ) (commands : List Command) : Type 0 where
-  pub in_form : AllByRecursion IsInForm commands
-  pub stops : StopsLast commands
+  pub lines : AreLines at_start commands
   pub is : text ≡ script_text commands
 
 -- The text begins with these lines, which are a script, and the line behind them, of this number from 1, is of no form:
@@ -30,9 +79,22 @@ pub record IsScript (text : List ℕ) (commands : List Command) : Type 0 where
 pub record FirstBad (text : List ℕ) (number : ℕ) : Type 0 where
   pub front : List Command
   pub rest : List ℕ
-  pub in_form : AllByRecursion IsInForm front
-  pub stops : StopsLast front
+  pub lines : AreLines at_start front
   pub is : text ≡ script_text front ++ rest
   pub number_is : number ≡ length front + 1
   pub some : rest ≡ [] → ⊥
-  pub bad : (command : Command) (more : List ℕ) → IsInForm command → StopsLast (front ++ (command ∷ [])) → rest ≡ text_of command ++ (10 ∷ more) → ⊥
+  pub bad : (command : Command) (more : List ℕ) → ComesNext (behind_all at_start front) command → rest ≡ text_of command ++ (10 ∷ more) → ⊥
+
+-- what happens at a moment, if anything
+abbrev pub happens : ℕ → Option What → List Event
+happens now None = []
+happens now (Some what) = record { now = now; what = what } ∷ []
+
+-- The events of lines, from a moment on: each happens at the moment that was set last, and at their end comes Stop.
+abbrev pub events_from : ℕ → List Command → List Event
+events_from now [] = stop_at now ∷ []
+events_from now (command ∷ commands) = happens now (what_of command) ++ events_from (moment_behind now command) commands
+
+-- the events of a script
+abbrev pub events_of : List Command → List Event
+events_of commands = events_from 0 commands

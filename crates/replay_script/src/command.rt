@@ -1,190 +1,165 @@
-// One line of a script.
-ghost use Rattle.std.specs.Prelude.{◌≡◌, ◌≢◌, ◌↔◌, IsTrue, ◌∷◌, ◌++◌, ℕ, List, IfOk, OnOk, MatchOption, decimal};
-ghost use Rattle.std.specs.Option.{ForSome};
-ghost use Rattle.hex.specs.Hex.{encode_lower};
-ghost use Rattle.replay_script.specs.declared.command.Command.{Command};
-ghost use Rattle.replay_script.specs.Commands.{text_of, what_of, IsInForm, IsLine, IsPiece, Spells};
+// The lines of a script, as commands.
+ghost use Rattle.std.specs.Prelude.{◌≡◌, ◌++◌, IfOk, OnOk};
+ghost use Rattle.replay_script.specs.Commands.{text_of, what_of};
+ghost use Rattle.replay_script.specs.Scripts.{is_stop, moment_behind};
 
-use crate::split::split_once;
-use crate::words::{print_bytes, print_number};
+use crate::words::{print_bytes, print_decimal, print_number};
 use gate_base::{LineNo, Octets, OutOfMemory};
 use gate_io::{Side, What};
-use hex::FromHexError;
-use std::alloc::{AllocError, Global};
-
-/// Most bytes that one line brings.
-const MAX_PIECE: usize = 16384;
+use std::alloc::Global;
 
 /// One line of a script.
 #[derive(Debug, Drop)]
 pub enum Command {
+    /// `at N`: what stands behind it happens at this moment, in nanoseconds since 1970-01-01 00:00:00 UTC.
+    At { moment: u64 },
     /// `open L`: a client's connection is opened.
     Open { line: LineNo },
     /// `bytes L HEX`: the client sends 1 to 16,384 bytes.
     Bytes { line: LineNo, bytes: Octets },
     /// `end L`: the client sends nothing more.
     End { line: LineNo },
+    /// `gone L`: the client's connection is gone.
+    Gone { line: LineNo },
+    /// `joined L`: the connection to the upstream server stands.
+    Joined { line: LineNo },
+    /// `refused L`: the upstream server was not reached.
+    Refused { line: LineNo },
+    /// `upbytes L HEX`: the upstream server sends 1 to 16,384 bytes.
+    UpBytes { line: LineNo, bytes: Octets },
+    /// `upend L`: the upstream server sends nothing more.
+    UpEnd { line: LineNo },
+    /// `upgone L`: the connection to the upstream server is gone.
+    UpGone { line: LineNo },
+    /// `clock`: time passed.
+    Clock,
     /// `stop`: nothing more comes. It is the last line.
     Stop,
 }
 
 impl Command {
-    /// What happens at this line, with a copy of its bytes.
-    pub fn what(&self, alloc: Global) -> Result<What, OutOfMemory>
+    /// What happens at this line, with a copy of its bytes. At `at` and at `stop` it is nothing.
+    pub fn what(&self, alloc: Global) -> Result<Option<What>, OutOfMemory>
         ensures { IfOk result (λ what. what ≡ what_of self.now) }
     {
         Ok(match self {
-            Command::Open { line } => What::Opened { line: *line },
-            Command::Bytes { line, bytes } => What::Bytes {
+            Command::At { .. } => None,
+            Command::Open { line } => Some(What::Opened { line: *line }),
+            Command::Bytes { line, bytes } => Some(What::Bytes {
                 line: *line,
                 side: Side::Down,
                 bytes: bytes.copy(alloc)?,
-            },
-            Command::End { line } => What::End {
+            }),
+            Command::End { line } => Some(What::End {
                 line: *line,
                 side: Side::Down,
-            },
-            Command::Stop => What::Stop,
+            }),
+            Command::Gone { line } => Some(What::Gone {
+                line: *line,
+                side: Side::Down,
+            }),
+            Command::Joined { line } => Some(What::Joined { line: *line }),
+            Command::Refused { line } => Some(What::Refused { line: *line }),
+            Command::UpBytes { line, bytes } => Some(What::Bytes {
+                line: *line,
+                side: Side::Up,
+                bytes: bytes.copy(alloc)?,
+            }),
+            Command::UpEnd { line } => Some(What::End {
+                line: *line,
+                side: Side::Up,
+            }),
+            Command::UpGone { line } => Some(What::Gone {
+                line: *line,
+                side: Side::Up,
+            }),
+            Command::Clock => Some(What::Clock),
+            Command::Stop => None,
         })
+    }
+
+    /// What happens at this line. At `at` and at `stop` it is nothing.
+    pub fn into_what(self) -> Option<What>
+        ensures { result ≡ what_of self }
+    {
+        match self {
+            Command::At { .. } => None,
+            Command::Open { line } => Some(What::Opened { line }),
+            Command::Bytes { line, bytes } => Some(What::Bytes {
+                line,
+                side: Side::Down,
+                bytes,
+            }),
+            Command::End { line } => Some(What::End {
+                line,
+                side: Side::Down,
+            }),
+            Command::Gone { line } => Some(What::Gone {
+                line,
+                side: Side::Down,
+            }),
+            Command::Joined { line } => Some(What::Joined { line }),
+            Command::Refused { line } => Some(What::Refused { line }),
+            Command::UpBytes { line, bytes } => Some(What::Bytes {
+                line,
+                side: Side::Up,
+                bytes,
+            }),
+            Command::UpEnd { line } => Some(What::End {
+                line,
+                side: Side::Up,
+            }),
+            Command::UpGone { line } => Some(What::Gone {
+                line,
+                side: Side::Up,
+            }),
+            Command::Clock => Some(What::Clock),
+            Command::Stop => None,
+        }
+    }
+
+    /// The moment of what stands behind this line, where this is the moment before it.
+    pub fn moment_behind(&self, now: u64) -> u64
+        ensures { result ≡ moment_behind now self.now }
+    {
+        match self {
+            Command::At { moment } => *moment,
+            _ => now,
+        }
     }
 
     /// Whether it is `stop`.
     pub fn is_stop(&self) -> bool
-        ensures { IsTrue result ↔ (self.now ≡ Command.Stop) }
+        ensures { result ≡ is_stop self.now }
     {
         matches!(self, Command::Stop)
     }
 }
 
-/// The command that a line without its LF spells, if any.
-pub(crate) fn command_of(alloc: Global, line: &[u8]) -> Result<Option<Command>, OutOfMemory>
-    ensures { IfOk result (λ found. MatchOption found ((c : Command) → Spells line.now c → ⊥) (Spells line.now)) }
-{
-    let Some(command) = guess(alloc, line)? else {
-        return Ok(None);
-    };
-    let mut text = Octets::new(alloc);
-    print_command(alloc, &mut text, &command)?;
-    if text.as_slice() == line {
-        Ok(Some(command))
-    } else {
-        Ok(None)
-    }
-}
-
-/// The one command that a line can spell, which it need not spell exactly.
-fn guess(alloc: Global, line: &[u8]) -> Result<Option<Command>, OutOfMemory>
-    ensures in_form { IfOk result (λ found. ForSome found IsInForm) }
-    ensures only { IfOk result (λ found. (c : Command) → Spells line.now c → found ≡ Some c) }
-{
-    if let Some(number) = line.strip_prefix(b"open ") {
-        Ok(open_of(number))
-    } else if let Some(number) = line.strip_prefix(b"end ") {
-        Ok(end_of(number))
-    } else if let Some(words) = line.strip_prefix(b"bytes ") {
-        bytes_of(alloc, words)
-    } else if line == b"stop".as_slice() {
-        Ok(Some(Command::Stop))
-    } else {
-        Ok(None)
-    }
-}
-
-/// The command `open` of a number.
-fn open_of(number: &[u8]) -> Option<Command>
-    ensures in_form { ForSome result IsInForm }
-    ensures only { (n : ℕ) → IsLine n → number.now ≡ decimal n → result ≡ Some (Command.Open n) }
-{
-    match line_of(number) {
-        Some(line) => Some(Command::Open { line }),
-        None => None,
-    }
-}
-
-/// The command `end` of a number.
-fn end_of(number: &[u8]) -> Option<Command>
-    ensures in_form { ForSome result IsInForm }
-    ensures only { (n : ℕ) → IsLine n → number.now ≡ decimal n → result ≡ Some (Command.End n) }
-{
-    match line_of(number) {
-        Some(line) => Some(Command::End { line }),
-        None => None,
-    }
-}
-
-/// The number of a line that a word spells in decimal.
-fn line_of(word: &[u8]) -> Option<LineNo>
-    ensures in_form { ForSome result IsLine }
-    ensures only { (n : ℕ) → IsLine n → word.now ≡ decimal n → result ≡ Some n }
-{
-    match str::from_utf8(word) {
-        Ok(text) => match text.parse::<u32>() {
-            Ok(number) => LineNo::new(number),
-            Err(_) => None,
-        },
-        Err(_) => None,
-    }
-}
-
-/// The command of the words behind `bytes`: a number, a space and the bytes.
-fn bytes_of(alloc: Global, words: &[u8]) -> Result<Option<Command>, OutOfMemory>
-    ensures in_form { IfOk result (λ found. ForSome found IsInForm) }
-    ensures only { IfOk result (λ found. (n : ℕ) (bytes : List ℕ) → IsLine n → IsPiece bytes → words.now ≡ decimal n ++ (32 ∷ encode_lower bytes) → found ≡ Some (Command.Bytes n bytes)) }
-{
-    let Some((number, digits)) = split_once(words, b' ') else {
-        return Ok(None);
-    };
-    let Some(line) = line_of(number) else {
-        return Ok(None);
-    };
-    match piece_of(alloc, digits)? {
-        Some(bytes) => Ok(Some(Command::Bytes { line, bytes })),
-        None => Ok(None),
-    }
-}
-
-/// The 1 to 16,384 bytes that hexadecimal digits spell.
-fn piece_of(alloc: Global, digits: &[u8]) -> Result<Option<Octets>, OutOfMemory>
-    ensures in_form { IfOk result (λ found. ForSome found IsPiece) }
-    ensures only { IfOk result (λ found. (bytes : List ℕ) → IsPiece bytes → digits.now ≡ encode_lower bytes → found ≡ Some bytes) }
-{
-    match hex::decode(alloc, digits) {
-        Ok(bytes) => Ok(within_bounds(bytes)),
-        Err(refusal) => not_decoded(refusal),
-    }
-}
-
-/// No bytes, but for want of memory.
-fn not_decoded(refusal: FromHexError) -> Result<Option<Octets>, OutOfMemory>
-    ensures { IfOk result (λ found. (found ≡ None) × (refusal ≢ FromHexError.OutOfMemory)) }
-{
-    match refusal {
-        FromHexError::OutOfMemory => Err(AllocError),
-        _ => Ok(None),
-    }
-}
-
-/// These bytes, where they are 1 to 16,384.
-fn within_bounds(bytes: Vec<u8>) -> Option<Octets>
-    ensures in_form { ForSome result IsPiece }
-    ensures only { IsPiece bytes.items → result ≡ Some bytes.items }
-{
-    if bytes.is_empty() || bytes.len() > MAX_PIECE {
-        return None;
-    }
-    Some(Octets::from_vec(bytes))
-}
-
 /// Puts the text of a command at the end, without an LF.
-fn print_command(alloc: Global, out: &mut Octets, command: &Command) -> Result<(), OutOfMemory>
+pub(crate) fn print_command(
+    alloc: Global,
+    out: &mut Octets,
+    command: &Command,
+) -> Result<(), OutOfMemory>
     ensures { OnOk result (out.new ≡ out.old ++ text_of command.now) }
 {
     match command {
+        Command::At { moment } => print_decimal(out, b"at ", *moment),
         Command::Open { line } => print_number(out, b"open ", *line),
         Command::Bytes { line, bytes } => {
             print_bytes(alloc, out, b"bytes ", *line, bytes.as_slice())
         }
         Command::End { line } => print_number(out, b"end ", *line),
+        Command::Gone { line } => print_number(out, b"gone ", *line),
+        Command::Joined { line } => print_number(out, b"joined ", *line),
+        Command::Refused { line } => print_number(out, b"refused ", *line),
+        Command::UpBytes { line, bytes } => {
+            print_bytes(alloc, out, b"upbytes ", *line, bytes.as_slice())
+        }
+        Command::UpEnd { line } => print_number(out, b"upend ", *line),
+        Command::UpGone { line } => print_number(out, b"upgone ", *line),
+        Command::Clock => out.extend_from_slice(b"clock"),
         Command::Stop => out.extend_from_slice(b"stop"),
     }
 }

@@ -4,7 +4,7 @@ ghost use Rattle.replay_script.specs.declared.read.ScriptEnd.TheVariants.{OutOfM
 ghost use Rattle.replay_script.specs.Scripts.{IsScript, FirstBad};
 
 use crate::Command;
-use crate::command::command_of;
+use crate::spelling::command_of;
 use crate::split::split_once;
 use std::alloc::{AllocError, AllocFailed, Global};
 
@@ -43,6 +43,7 @@ pub fn read_script(alloc: Global, text: &[u8]) -> Result<Vec<Command>, ScriptEnd
     let mut commands = Vec::with_capacity(alloc, line_count(text))?;
     let mut rest = text;
     let mut stopped = false;
+    let mut now = 0;
     while !rest.is_empty() {
         let bad = Err(ScriptEnd::BadLine {
             number: commands.len() as u32 + 1,
@@ -56,6 +57,11 @@ pub fn read_script(alloc: Global, text: &[u8]) -> Result<Vec<Command>, ScriptEnd
         let Some(command) = command_of(alloc, line)? else {
             return bad;
         };
+        let later = command.moment_behind(now);
+        if later < now {
+            return bad;
+        }
+        now = later;
         stopped = command.is_stop();
         commands.push(command)?;
         rest = more;

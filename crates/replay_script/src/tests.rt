@@ -1,7 +1,8 @@
 // What no clause says: that ample memory suffices, and one run of each call.
-use crate::{Command, ScriptEnd, print_sent, read_script};
-use gate_base::{Level, LineNo, Octets};
-use gate_io::{Sent, Side, What};
+use crate::{Command, ScriptEnd, ScriptWorld, events_of, print_sent, read_script};
+use gate_base::{Level, LineNo, Members, Octets};
+use gate_io::{Event, Sent, Side, Wants, What, World, are_in_order};
+use std::alloc::Global;
 use std::test::Fail;
 
 #[test]
@@ -33,7 +34,24 @@ fn scripts_are_read_to_their_first_bad_line(rt: HostRuntime) -> Result<(), Fail>
         ("end 1\nend 1 2\n", Err(2)),
         ("stop\nopen 1\n", Err(2)),
         ("stop\nstop\n", Err(2)),
-        ("clock\n", Err(1)),
+        ("stop\nat 1\n", Err(2)),
+        ("at 0\nat 18446744073709551615\n", Ok(2)),
+        ("at 18446744073709551616\n", Err(1)),
+        ("at 5\nat 5\nclock\nat 6\nstop\n", Ok(5)),
+        ("at 5\nclock\nat 4\n", Err(3)),
+        ("at\n", Err(1)),
+        ("at 05\n", Err(1)),
+        (
+            "gone 1\njoined 1\nrefused 1\nupend 1\nupgone 1\nclock\n",
+            Ok(6),
+        ),
+        ("upbytes 1 00\nupbytes 1 0\n", Err(2)),
+        ("joined 0\n", Err(1)),
+        ("gone\n", Err(1)),
+        ("clock 1\n", Err(1)),
+        ("upopen 1\n", Err(1)),
+        ("up\n", Err(1)),
+        ("on 1\n", Err(1)),
     ] {
         assert!(rt; text.len() <= 67_108_864);
         let read = read_script(rt.alloc(), text.as_bytes());
@@ -66,27 +84,98 @@ fn a_line_brings_at_most_16384_bytes(rt: HostRuntime) -> Result<(), Fail> {
     Ok(())
 }
 
-/// A bit for each kind of event that a script of today has.
-fn kind_of(what: What) -> u8 {
+/// A bit for each kind of event of a script.
+fn kind_of(what: What) -> u16 {
     match what {
         What::Opened { .. } => 1,
-        What::Bytes { .. } => 2,
-        What::End { .. } => 4,
-        What::Stop => 8,
-        _ => 128,
+        What::Bytes { side, .. } => match side {
+            Side::Down => 2,
+            Side::Up => 4,
+        },
+        What::End { side, .. } => match side {
+            Side::Down => 8,
+            Side::Up => 16,
+        },
+        What::Gone { side, .. } => match side {
+            Side::Down => 32,
+            Side::Up => 64,
+        },
+        What::Joined { .. } => 128,
+        What::Refused { .. } => 256,
+        What::Clock => 512,
+        What::Stop => 1024,
+        What::Room { .. } => 2048,
     }
 }
 
+/// A line of each kind.
+const EACH: &[u8] =
+    b"open 2\nat 7\nbytes 2 4142\nupbytes 2 43\nend 2\nupend 2\ngone 2\nupgone 2\njoined 2\nrefused 2\nclock\nstop\n";
+
 #[test]
 fn lines_say_what_happens(rt: HostRuntime) -> Result<(), Fail> {
-    let commands = read_script(rt.alloc(), b"open 2\nbytes 2 4142\nend 2\nstop\n")?;
-    let mut seen = 0u8;
+    let alloc = rt.alloc();
+    assert!(rt; EACH.len() <= 67_108_864);
+    let commands = read_script(alloc, EACH)?;
+    let mut copied = 0u16;
     for command in commands.iter() {
-        seen |= kind_of(command.what(rt.alloc())?);
+        if let Some(what) = command.what(alloc)? {
+            copied |= kind_of(what);
+        }
     }
-    assert_eq!(rt; seen, 15);
+    assert_eq!(rt; copied, 1023);
     assert_eq!(rt; commands.iter().filter(|c| c.is_stop()).count(), 1);
     assert!(rt; matches!(commands.first(), Some(Command::Open { .. })));
+    let events = events_of(alloc, commands)?;
+    assert!(rt; are_in_order(&events));
+    assert_eq!(rt; events.len(), 11);
+    let mut seen = 0u16;
+    for event in events {
+        seen |= kind_of(event.what);
+    }
+    assert_eq!(rt; seen, 2047);
+    Ok(())
+}
+
+/// A turn: an event is given, and each kind of thing is taken. The answer is the event.
+fn turn<W: World>(alloc: Global, world: &mut W, line: LineNo) -> Result<Event, Fail> {
+    let wants = Wants {
+        down: Members::new(alloc),
+        up: Members::new(alloc),
+        due: None,
+    };
+    let event = world.next(alloc, &wants)?;
+    world.connect(alloc, line)?;
+    let _ = world.send(alloc, line, Side::Up, b"G")?;
+    let _ = world.send(alloc, line, Side::Down, b"")?;
+    world.log(alloc, Level::Info, b"")?;
+    world.close(alloc, line, Side::Down)?;
+    Ok(event)
+}
+
+#[test]
+fn a_world_plays_its_script(rt: HostRuntime) -> Result<(), Fail> {
+    let alloc = rt.alloc();
+    let line = LineNo::new(7).ok_or("a line")?;
+    let commands = read_script(alloc, b"open 7\nat 5\nbytes 7 4142\nat 6\n")?;
+    let events = events_of(alloc, commands)?;
+    assert!(rt; are_in_order(&events));
+    let mut world = ScriptWorld::new(alloc, events);
+    assert_eq!(rt; world.seed(), [0; 32]);
+    // The events' moments, and their kinds.
+    for (moment, kind) in [(0u64, 1u16), (5, 2), (6, 1024), (6, 1024)] {
+        let event = turn(alloc, &mut world, line)?;
+        assert_eq!(rt; event.now, moment);
+        assert_eq!(rt; kind_of(event.what), kind);
+        let mut out = Octets::new(alloc);
+        for sent in world.taken() {
+            print_sent(alloc, &mut out, sent)?;
+        }
+        assert_eq!(rt;
+            out.as_slice(),
+            b"connect 7\nup 7 47\nlog info \nclose 7\n".as_slice()
+        );
+    }
     Ok(())
 }
 

@@ -6,12 +6,19 @@ use gate_base::{LineNo, Octets, OutOfMemory};
 use itoa::Buffer;
 use std::alloc::Global;
 
+/// Puts a word and a number at the end.
+pub(crate) fn print_decimal(out: &mut Octets, word: &[u8], number: u64) -> Result<(), OutOfMemory>
+    ensures { OnOk result (out.new ≡ out.old ++ (word.now ++ decimal number)) }
+{
+    out.extend_from_slice(word)?;
+    out.extend_from_slice(Buffer::new().format(number).as_bytes())
+}
+
 /// Puts a word and the number of a line at the end.
 pub(crate) fn print_number(out: &mut Octets, word: &[u8], line: LineNo) -> Result<(), OutOfMemory>
     ensures { OnOk result (out.new ≡ out.old ++ (word.now ++ decimal line)) }
 {
-    out.extend_from_slice(word)?;
-    out.extend_from_slice(Buffer::new().format(line.get()).as_bytes())
+    print_decimal(out, word, u64::from(line.get()))
 }
 
 /// Puts a word, the number of a line, a space and the bytes in hexadecimal at the end.

@@ -6,13 +6,13 @@ use Rattle.gate_io.specs.declared.event.Sent.TheVariants as sent
 use Rattle.gate_io.specs.declared.event.Side.TheVariants.{Down, Up}
 use Rattle.http1_model.specs.Wire.{wire_of}
 use Rattle.replay_script.specs.declared.command.Command.{Command}
-use Rattle.replay_script.specs.declared.command.Command.TheVariants.{Open, Bytes, End, Stop}
+use Rattle.replay_script.specs.declared.command.Command.TheVariants.{At, Open, Bytes, End, Gone, Joined, Refused, UpBytes, UpEnd, UpGone, Clock, Stop}
 use Rattle.replay_script.specs.Commands.{what_of}
 use Rattle.wasmgate.specs.declared.line.Line.{Line}
-use Rattle.wasmgate.specs.Turn.{State, Outcome, went, new_line, line_of, others, line_limit, opened, Reads, ComesOn, Comes, with_bytes, with_end, Turns}
+use Rattle.wasmgate.specs.Turn.{State, Outcome, went, unchanged, new_line, line_of, others, line_limit, opened, Reads, ComesOn, Comes, with_bytes, with_end, Turns, TurnsAt}
 use Rattle.wasmgate.specs.Replay.{Plays}
 use Rattle.wasmgate.specs.Laws.{speaks_of, own, is_for, own_sent, opens, ServedAlone, FrontAlone, LinesApart}
-use Rattle.wasmgate.proofs.Once.{same_outcome}
+use Rattle.wasmgate.proofs.Once.{same_outcome, is_no_stop}
 use Rattle.wasmgate.proofs.OpenLines.{tells, test_true, test_false, when, unless, number_of, line_alone, others_alone, line_beside, line_before, line_behind, length_others, Distinct, gone}
 use Rattle.wasmgate.proofs.LineReads.{kept_in, sent_in, closed_in, Reading, stays, sends, closes, either, reading, found_reads}
 use Rattle.wasmgate.proofs.Cuts.{outcome_is, full, room, turns_distinct, cuts_alike}
@@ -191,7 +191,7 @@ opens_alone n state o low None is f = record {
 
 -- a turn is one of this line, and the same alone; or it leaves this line, and sends nothing for it
 data Apart (n : ℕ) (state : State) (c : Command) (o : Outcome) : Type 0 where
-  mine : speaks_of n c ≡ true → Turns (only (line_of n state)) (what_of c) (went (part n o)) → own_sent n o.sent ≡ o.sent → Apart n state c o
+  mine : speaks_of n c ≡ true → TurnsAt (only (line_of n state)) (what_of c) (went (part n o)) → own_sent n o.sent ≡ o.sent → Apart n state c o
   another : speaks_of n c ≡ false → line_of n o.state ≡ line_of n state → own_sent n o.sent ≡ [] → Apart n state c o
 
 record Turned (n : ℕ) (state : State) (c : Command) (o : Outcome) : Type 0 where
@@ -200,18 +200,27 @@ record Turned (n : ℕ) (state : State) (c : Command) (o : Outcome) : Type 0 whe
 
 -- the turn at the line k, as the line n has it
 seen_from : (n k new : ℕ) (state : State) (c : Command) (o : Outcome) → speaks_of n c ≡ (k == n) → new ≡ opens (c ∷ [])
-    → Turns (only (line_of k state)) (what_of c) (went (part k o)) → Rest k new state o → Turned n state c o
+    → TurnsAt (only (line_of k state)) (what_of c) (went (part k o)) → Rest k new state o → Turned n state c o
 seen_from n k new state c o speaks new_is alone r = record {
   short = omega (arith, r.short, new_is);
   apart = elim (tells k n) [
-    | inl x ↦ mine (speaks ∙ x.0) (subst (λ (j : ℕ). Turns (only (line_of j state)) (what_of c) (went (part j o))) x.1 alone)
+    | inl x ↦ mine (speaks ∙ x.0) (subst (λ (j : ℕ). TurnsAt (only (line_of j state)) (what_of c) (went (part j o))) x.1 alone)
         (subst (λ (j : ℕ). own_sent j o.sent ≡ o.sent) x.1 r.for_it)
     | inr x ↦ another (speaks ∙ x.0) (r.beside n x.1) (r.for_others n x.1)
   ];
 }
 
+-- a line of a script at which nothing changes
+stayed : (n : ℕ) (state : State) (c : Command) (o : Outcome) → speaks_of n c ≡ false → opens (c ∷ []) ≡ 0 → went o ≡ unchanged state → Turned n state c o
+stayed n state c o speaks none t =
+    let e : o ≡ record { state = state; sent = [] } = same_outcome o (record { state = state; sent = [] }) t in
+    record {
+      short = omega (arith, ap (λ (r : Outcome). length r.state) e);
+      apart = another speaks (ap (λ (r : Outcome). line_of n r.state) e) (ap (λ (r : Outcome). own_sent n r.sent) e);
+    }
+
 turned : (n : ℕ) (state : State) (c : Command) (o : Outcome) → Distinct state → length state + opens (c ∷ []) ≤ line_limit
-    → Turns state (what_of c) (went o) → Turned n state c o
+    → TurnsAt state (what_of c) (went o) → Turned n state c o
 turned n state (Open k) o distinct low t =
     let a : OpensAlone k state (line_of k state) o = opens_alone k state o low (line_of k state) refl t in
     seen_from n k 1 state (Open k) o refl refl a.alone a.rest
@@ -222,20 +231,16 @@ turned n state (Bytes k bytes) o distinct low t =
 turned n state (End k) o distinct low t =
     let a : ComesAlone k state (line_of k state) with_end o = comes_alone k state with_end o (λ (j : Line). refl) distinct (line_of k state) refl t in
     seen_from n k 0 state (End k) o refl refl a.alone a.rest
-turned n state Stop o distinct low t =
-    let e : o ≡ record { state = state; sent = [] } = same_outcome o (record { state = state; sent = [] }) t in
-    record {
-      short = omega (arith, ap (λ (r : Outcome). length r.state) e);
-      apart = another refl (ap (λ (r : Outcome). line_of n r.state) e) (ap (λ (r : Outcome). own_sent n r.sent) e);
-    }
+turned n state (At moment) o distinct low t = stayed n state (At moment) o refl refl t
+turned n state Clock o distinct low t = stayed n state Clock o refl refl t
+turned n state Stop o distinct low t = stayed n state Stop o refl refl t
+turned n state c o distinct low t = absurd (is_no_stop o t)
 
 -- ---- whole scripts
 
 opens_first : (c : Command) (cs : List Command) → opens (c ∷ cs) ≡ opens (c ∷ []) + opens cs
 opens_first (Open k) cs = omega arith
-opens_first (Bytes k bytes) cs = omega arith
-opens_first (End k) cs = omega arith
-opens_first Stop cs = omega arith
+opens_first c cs = omega arith
 
 own_first : (n : ℕ) (c : Command) (cs : List Command) → speaks_of n c ≡ true → own n (c ∷ cs) ≡ c ∷ own n cs
 own_first n c cs is = when (speaks_of n c) (c ∷ own n cs) (own n cs) is

@@ -9,10 +9,10 @@ use Rattle.http1_model.specs.Head.{Head, HeadStep, found, not_yet, refused, Spel
 use Rattle.http1_model.specs.Messages.{stop, stop_unfinished, step_from}
 use Rattle.http1_model.proofs.Readings.{step_stays}
 use Rattle.replay_script.specs.declared.command.Command.{Command}
-use Rattle.replay_script.specs.declared.command.Command.TheVariants.{Open, Bytes, End, Stop}
+use Rattle.replay_script.specs.declared.command.Command.TheVariants.{At, Open, Bytes, End, Gone, Joined, Refused, UpBytes, UpEnd, UpGone, Clock, Stop}
 use Rattle.replay_script.specs.Commands.{what_of}
 use Rattle.wasmgate.specs.declared.line.Line.{Line}
-use Rattle.wasmgate.specs.Turn.{State, Outcome, Answer, went, not_built, unchanged, new_line, line_of, others, line_limit, opened, is_built, sends_up, read_answer, Reads, ComesOn, Comes, with_bytes, with_end, Turns}
+use Rattle.wasmgate.specs.Turn.{State, Outcome, Answer, went, not_built, unchanged, new_line, line_of, others, line_limit, opened, is_built, sends_up, read_answer, Reads, ComesOn, Comes, with_bytes, with_end, Turns, TurnsAt}
 use Rattle.wasmgate.specs.Replay.{Plays, Replays}
 use Rattle.wasmgate.specs.Laws.{joined, uncut, UncutSame, CutsAlike}
 use Rattle.wasmgate.proofs.Once.{same_outcome, is_no_stop, one_replay}
@@ -158,12 +158,17 @@ opened_distinct n state o distinct None is e = elim (tells (length state) line_l
       (distinct_behind state (new_line n) distinct is)
 ]
 
-pub turns_distinct : (state : State) (c : Command) (o : Outcome) → Distinct state → Turns state (what_of c) (went o) → Distinct o.state
+unchanged_distinct : (state : State) (o : Outcome) → Distinct state → went o ≡ unchanged state → Distinct o.state
+unchanged_distinct state o distinct e = subst (λ (r : Outcome). Distinct r.state) (sym (same_outcome o (record { state = state; sent = [] }) e)) distinct
+
+pub turns_distinct : (state : State) (c : Command) (o : Outcome) → Distinct state → TurnsAt state (what_of c) (went o) → Distinct o.state
 turns_distinct state (Open n) o distinct t = opened_distinct n state o distinct (line_of n state) refl t
 turns_distinct state (Bytes n bytes) o distinct t = comes_distinct n state (with_bytes bytes) o (λ line. refl) distinct t
 turns_distinct state (End n) o distinct t = comes_distinct n state with_end o (λ line. refl) distinct t
-turns_distinct state Stop o distinct t =
-    subst (λ (r : Outcome). Distinct r.state) (sym (same_outcome o (record { state = state; sent = [] }) t)) distinct
+turns_distinct state (At moment) o distinct t = unchanged_distinct state o distinct t
+turns_distinct state Clock o distinct t = unchanged_distinct state o distinct t
+turns_distinct state Stop o distinct t = unchanged_distinct state o distinct t
+turns_distinct state c o distinct t = absurd (is_no_stop o t)
 
 -- ---- whole scripts
 
@@ -186,13 +191,7 @@ joined_plays state (Bytes m x) (Bytes k y ∷ cs) a after distinct p = elim (tel
       (bytes_joined state m k x y cs a after distinct t.1 p)
   | inr t ↦ subst (λ (ds : List Command). Plays state ds a after) (sym (unless (m == k) (Bytes m (x ++ y) ∷ cs) (Bytes m x ∷ (Bytes k y ∷ cs)) t.0)) p
 ]
-joined_plays state (Bytes m x) (Open k ∷ cs) a after distinct p = p
-joined_plays state (Bytes m x) (End k ∷ cs) a after distinct p = p
-joined_plays state (Bytes m x) (Stop ∷ cs) a after distinct p = p
-joined_plays state (Bytes m x) [] a after distinct p = p
-joined_plays state (Open m) cs a after distinct p = p
-joined_plays state (End m) cs a after distinct p = p
-joined_plays state Stop cs a after distinct p = p
+joined_plays state c cs a after distinct p = p
 
 pub uncut_plays : (state : State) (cs : List Command) (a : List Sent) (after : State) → Distinct state → Plays state cs a after → Plays state (uncut cs) a after
 uncut_plays state [] a after distinct p = p
@@ -294,8 +293,8 @@ second_refused n x y state o distinct l is first second = by_line l is first
 abbrev Stops : State → List Command → List Sent → Type 0
 Stops state [] sent = ⊥
 Stops state (c ∷ cs) sent =
-    (Turns state (what_of c) not_built × (sent ≡ []))
-    ⊎ ((o : Outcome) × (more : List Sent) × Turns state (what_of c) (went o) × Stops o.state cs more × (sent ≡ o.sent ++ more))
+    (TurnsAt state (what_of c) not_built × (sent ≡ []))
+    ⊎ ((o : Outcome) × (more : List Sent) × TurnsAt state (what_of c) (went o) × Stops o.state cs more × (sent ≡ o.sent ++ more))
 
 -- the same, as it is told
 record UpTo (state : State) (commands : List Command) (sent : List Sent) : Type 0 where
@@ -305,11 +304,11 @@ record UpTo (state : State) (commands : List Command) (sent : List Sent) : Type 
   before : State
   is : commands ≡ front ++ (command ∷ more)
   plays : Plays state front sent before
-  stops : Turns before (what_of command) not_built
+  stops : TurnsAt before (what_of command) not_built
 
 stops_of : (state : State) (front more : List Command) (c : Command) (a : List Sent) (before : State) → Plays state front a before
-    → Turns before (what_of c) not_built → Stops state (front ++ (c ∷ more)) a
-stops_of state [] more c a before p t = inl (subst (λ (s : State). Turns s (what_of c) not_built) p.1 t, p.0)
+    → TurnsAt before (what_of c) not_built → Stops state (front ++ (c ∷ more)) a
+stops_of state [] more c a before p t = inl (subst (λ (s : State). TurnsAt s (what_of c) not_built) p.1 t, p.0)
 stops_of state (d ∷ front) more c a before p t = inr (p.0, p.1, p.2, stops_of p.0.state front more c p.1 before p.3 t, p.4)
 
 up_to : (state : State) (cs : List Command) (a : List Sent) → Stops state cs a → UpTo state cs a
@@ -357,13 +356,7 @@ joined_stops state (Bytes m x) (Bytes k y ∷ cs) a distinct p = elim (tells m k
       (bytes_stop state m k x y cs a distinct t.1 p)
   | inr t ↦ subst (λ (ds : List Command). Stops state ds a) (sym (unless (m == k) (Bytes m (x ++ y) ∷ cs) (Bytes m x ∷ (Bytes k y ∷ cs)) t.0)) p
 ]
-joined_stops state (Bytes m x) (Open k ∷ cs) a distinct p = p
-joined_stops state (Bytes m x) (End k ∷ cs) a distinct p = p
-joined_stops state (Bytes m x) (Stop ∷ cs) a distinct p = p
-joined_stops state (Bytes m x) [] a distinct p = p
-joined_stops state (Open m) cs a distinct p = p
-joined_stops state (End m) cs a distinct p = p
-joined_stops state Stop cs a distinct p = p
+joined_stops state c cs a distinct p = p
 
 uncut_stops : (state : State) (cs : List Command) (a : List Sent) → Distinct state → Stops state cs a → Stops state (uncut cs) a
 uncut_stops state [] a distinct s = s

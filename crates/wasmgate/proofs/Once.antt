@@ -9,7 +9,7 @@ use Rattle.replay_script.specs.Commands.{what_of}
 use Rattle.http1_model.proofs.Readings.{one_step}
 use Rattle.http1_model.specs.Messages.{step_from}
 use Rattle.wasmgate.specs.declared.line.Line.{Line}
-use Rattle.wasmgate.specs.Turn.{State, Outcome, Answer, went, not_built, line_of, others, read_answer, Reads, ComesOn, Comes, with_bytes, with_end, Turns}
+use Rattle.wasmgate.specs.Turn.{State, Outcome, Answer, went, not_built, line_of, others, read_answer, Reads, ComesOn, Comes, with_bytes, with_end, Turns, TurnsAt}
 use Rattle.wasmgate.specs.Replay.{Plays}
 use Rattle.wasmgate.specs.Laws.{OneReplay, FrontOfAll}
 
@@ -46,15 +46,20 @@ turns_one state what.Stop a b x y = x ∙ sym y
 pub same_outcome : (o p : Outcome) → went o ≡ went p → o ≡ p
 same_outcome o p e = cc
 
-pub went_one : (state : State) (w : What) (o p : Outcome) → Turns state w (went o) → Turns state w (went p) → o ≡ p
-went_one state w o p x y = same_outcome o p (turns_one state w (went o) (went p) x y)
+-- and so has a line of a script
+turns_at_one : (state : State) (w : Option What) (a b : Answer) → TurnsAt state w a → TurnsAt state w b → a ≡ b
+turns_at_one state None a b x y = x ∙ sym y
+turns_at_one state (Some w) a b x y = turns_one state w a b x y
+
+went_one : (state : State) (w : Option What) (o p : Outcome) → TurnsAt state w (went o) → TurnsAt state w (went p) → o ≡ p
+went_one state w o p x y = same_outcome o p (turns_at_one state w (went o) (went p) x y)
 
 pub is_no_stop : (o : Outcome) → went o ≡ not_built → ⊥
 is_no_stop o e = cc
 
 -- a line that was built was not "not built"
-goes_on : (state : State) (w : What) (o : Outcome) → Turns state w (went o) → Turns state w not_built → ⊥
-goes_on state w o x y = is_no_stop o (turns_one state w (went o) not_built x y)
+goes_on : (state : State) (w : Option What) (o : Outcome) → TurnsAt state w (went o) → TurnsAt state w not_built → ⊥
+goes_on state w o x y = is_no_stop o (turns_at_one state w (went o) not_built x y)
 
 -- two plays of one script
 pub plays_one : (state : State) (commands : List Command) (a b : List Sent) (x y : State) → Plays state commands a x → Plays state commands b y
@@ -81,7 +86,7 @@ front_done : (state : State) (f r g : List Command) (a b : List Sent) (x y : Sta
 front_done state [] r g a b x y is p q = (b, ap (λ (s : List Sent). s ++ b) (sym p.0))
 front_done state (c ∷ f) r [] a b x y is p q = absurd (no_cons c (f ++ r) (sym is))
 front_done state (c ∷ f) r (d ∷ g) a b x y is p q =
-    let turned : Turns state (what_of d) (went p.0) = subst (λ (e : Command). Turns state (what_of e) (went p.0)) (first_same c d (f ++ r) g is) p.2 in
+    let turned : TurnsAt state (what_of d) (went p.0) = subst (λ (e : Command). TurnsAt state (what_of e) (went p.0)) (first_same c d (f ++ r) g is) p.2 in
     let same : p.0 ≡ q.0 = went_one state (what_of d) p.0 q.0 turned q.2 in
     let moved : Plays q.0.state f p.1 x = subst (λ (o : Outcome). Plays o.state f p.1 x) same p.3 in
     let later = front_done q.0.state f r g p.1 q.1 x y (later_same c d (f ++ r) g is) moved q.3 in (
@@ -92,13 +97,13 @@ front_done state (c ∷ f) r (d ∷ g) a b x y is p q =
 
 -- some first lines of a script, and those before the line that is not built
 front_stops : (state : State) (f g r s : List Command) (d : Command) (a b : List Sent) (x y : State) → f ++ r ≡ g ++ (d ∷ s)
-    → Plays state f a x → Plays state g b y → Turns y (what_of d) not_built → (rest : List Sent) × (b ≡ a ++ rest)
+    → Plays state f a x → Plays state g b y → TurnsAt y (what_of d) not_built → (rest : List Sent) × (b ≡ a ++ rest)
 front_stops state [] g r s d a b x y is p q stops = (b, ap (λ (t : List Sent). t ++ b) (sym p.0))
 front_stops state (c ∷ f) [] r s d a b x y is p q stops =
-    absurd (goes_on state (what_of d) p.0 (subst (λ (e : Command). Turns state (what_of e) (went p.0)) (first_same c d (f ++ r) s is) p.2)
-    (subst (λ (t : State). Turns t (what_of d) not_built) q.1 stops))
+    absurd (goes_on state (what_of d) p.0 (subst (λ (e : Command). TurnsAt state (what_of e) (went p.0)) (first_same c d (f ++ r) s is) p.2)
+    (subst (λ (t : State). TurnsAt t (what_of d) not_built) q.1 stops))
 front_stops state (c ∷ f) (h ∷ g) r s d a b x y is p q stops =
-    let turned : Turns state (what_of h) (went p.0) = subst (λ (e : Command). Turns state (what_of e) (went p.0)) (first_same c h (f ++ r) (g ++ (d ∷ s)) is) p.2 in
+    let turned : TurnsAt state (what_of h) (went p.0) = subst (λ (e : Command). TurnsAt state (what_of e) (went p.0)) (first_same c h (f ++ r) (g ++ (d ∷ s)) is) p.2 in
     let same : p.0 ≡ q.0 = went_one state (what_of h) p.0 q.0 turned q.2 in
     let moved : Plays q.0.state f p.1 x = subst (λ (o : Outcome). Plays o.state f p.1 x) same p.3 in
     let later = front_stops q.0.state f g r s d p.1 q.1 x y (later_same c h (f ++ r) (g ++ (d ∷ s)) is) moved q.3 stops in (
@@ -109,30 +114,30 @@ front_stops state (c ∷ f) (h ∷ g) r s d a b x y is p q stops =
 
 -- a script that is played to its end has no line that is not built
 done_or_stops : (state : State) (f g s : List Command) (d : Command) (a b : List Sent) (x y : State) → f ≡ g ++ (d ∷ s)
-    → Plays state f a x → Plays state g b y → Turns y (what_of d) not_built → ⊥
+    → Plays state f a x → Plays state g b y → TurnsAt y (what_of d) not_built → ⊥
 done_or_stops state [] [] s d a b x y is p q stops = no_cons d s is
 done_or_stops state [] (h ∷ g) s d a b x y is p q stops = no_cons h (g ++ (d ∷ s)) is
 done_or_stops state (c ∷ f) [] s d a b x y is p q stops =
-    goes_on state (what_of d) p.0 (subst (λ (e : Command). Turns state (what_of e) (went p.0)) (first_same c d f s is) p.2)
-    (subst (λ (t : State). Turns t (what_of d) not_built) q.1 stops)
+    goes_on state (what_of d) p.0 (subst (λ (e : Command). TurnsAt state (what_of e) (went p.0)) (first_same c d f s is) p.2)
+    (subst (λ (t : State). TurnsAt t (what_of d) not_built) q.1 stops)
 done_or_stops state (c ∷ f) (h ∷ g) s d a b x y is p q stops =
-    let turned : Turns state (what_of h) (went p.0) = subst (λ (e : Command). Turns state (what_of e) (went p.0)) (first_same c h f (g ++ (d ∷ s)) is) p.2 in
+    let turned : TurnsAt state (what_of h) (went p.0) = subst (λ (e : Command). TurnsAt state (what_of e) (went p.0)) (first_same c h f (g ++ (d ∷ s)) is) p.2 in
     let same : p.0 ≡ q.0 = went_one state (what_of h) p.0 q.0 turned q.2 in
     let moved : Plays q.0.state f p.1 x = subst (λ (o : Outcome). Plays o.state f p.1 x) same p.3 in
     done_or_stops q.0.state f g s d p.1 q.1 x y (later_same c h f (g ++ (d ∷ s)) is) moved q.3 stops
 
 -- one line at most is the first that is not built
 stops_one : (state : State) (f g r s : List Command) (c d : Command) (a b : List Sent) (x y : State) → f ++ (c ∷ r) ≡ g ++ (d ∷ s)
-    → Plays state f a x → Turns x (what_of c) not_built → Plays state g b y → Turns y (what_of d) not_built → (a ≡ b) × (length f ≡ length g)
+    → Plays state f a x → TurnsAt x (what_of c) not_built → Plays state g b y → TurnsAt y (what_of d) not_built → (a ≡ b) × (length f ≡ length g)
 stops_one state [] [] r s c d a b x y is p u q v = (p.0 ∙ sym q.0, refl)
 stops_one state [] (h ∷ g) r s c d a b x y is p u q v =
-    absurd (goes_on state (what_of c) q.0 (subst (λ (e : Command). Turns state (what_of e) (went q.0)) (sym (first_same c h r (g ++ (d ∷ s)) is)) q.2)
-    (subst (λ (t : State). Turns t (what_of c) not_built) p.1 u))
+    absurd (goes_on state (what_of c) q.0 (subst (λ (e : Command). TurnsAt state (what_of e) (went q.0)) (sym (first_same c h r (g ++ (d ∷ s)) is)) q.2)
+    (subst (λ (t : State). TurnsAt t (what_of c) not_built) p.1 u))
 stops_one state (k ∷ f) [] r s c d a b x y is p u q v =
-    absurd (goes_on state (what_of d) p.0 (subst (λ (e : Command). Turns state (what_of e) (went p.0)) (first_same k d (f ++ (c ∷ r)) s is) p.2)
-    (subst (λ (t : State). Turns t (what_of d) not_built) q.1 v))
+    absurd (goes_on state (what_of d) p.0 (subst (λ (e : Command). TurnsAt state (what_of e) (went p.0)) (first_same k d (f ++ (c ∷ r)) s is) p.2)
+    (subst (λ (t : State). TurnsAt t (what_of d) not_built) q.1 v))
 stops_one state (k ∷ f) (h ∷ g) r s c d a b x y is p u q v =
-    let turned : Turns state (what_of h) (went p.0) = subst (λ (e : Command). Turns state (what_of e) (went p.0)) (first_same k h (f ++ (c ∷ r)) (g ++ (d ∷ s)) is) p.2 in
+    let turned : TurnsAt state (what_of h) (went p.0) = subst (λ (e : Command). TurnsAt state (what_of e) (went p.0)) (first_same k h (f ++ (c ∷ r)) (g ++ (d ∷ s)) is) p.2 in
     let same : p.0 ≡ q.0 = went_one state (what_of h) p.0 q.0 turned q.2 in
     let moved : Plays q.0.state f p.1 x = subst (λ (o : Outcome). Plays o.state f p.1 x) same p.3 in
     let later = stops_one q.0.state f g r s c d p.1 q.1 x y (later_same k h (f ++ (c ∷ r)) (g ++ (d ∷ s)) is) moved u q.3 v in

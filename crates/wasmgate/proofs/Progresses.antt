@@ -6,7 +6,7 @@ use Rattle.gate_io.specs.Told.{Gains, GainsFront, gains_nothing, gains_more, gai
 use Rattle.replay_script.specs.declared.command.Command.{Command}
 use Rattle.replay_script.specs.Commands.{what_of}
 use Rattle.replay_script.specs.Prints.{sent_line, printed}
-use Rattle.wasmgate.specs.Turn.{State, Outcome, went, not_built, Turns}
+use Rattle.wasmgate.specs.Turn.{State, Outcome, went, not_built, Turns, TurnsAt}
 use Rattle.wasmgate.specs.Replay.{Plays, Prints, PrintsFront, Advances}
 
 -- some first lines were played, and of what they print a part was written and the rest waits
@@ -24,9 +24,9 @@ printed_both (x ∷ a) b = ap (λ (t : List ℕ). sent_line x ++ t) (printed_bot
 
 -- one more line
 pub plays_more : (state : State) (front : List Command) (sent : List Sent) (mid : State) (command : Command) (o : Outcome)
-    → Plays state front sent mid → Turns mid (what_of command) (went o) → Plays state (front ++ (command ∷ [])) (sent ++ o.sent) o.state
+    → Plays state front sent mid → TurnsAt mid (what_of command) (went o) → Plays state (front ++ (command ∷ [])) (sent ++ o.sent) o.state
 plays_more state [] sent mid command o plays turns =
-    (o, [], subst (λ (s : State). Turns s (what_of command) (went o)) plays.1 turns, (refl, refl), ap (λ (ss : List Sent). ss ++ o.sent) plays.0 ∙ sym (append-nil o.sent))
+    (o, [], subst (λ (s : State). TurnsAt s (what_of command) (went o)) plays.1 turns, (refl, refl), ap (λ (ss : List Sent). ss ++ o.sent) plays.0 ∙ sym (append-nil o.sent))
 plays_more state (c ∷ front) sent mid command o plays turns = (
   plays.0,
   plays.1 ++ o.sent,
@@ -68,7 +68,7 @@ progress_done front state old mid new waits p g = record {
 }
 
 pub progress_stops : (commands front : List Command) (command : Command) (more : List Command) (state : State) (old mid new : Option (List ℕ)) (waits : List ℕ) (number : ℕ)
-    → commands ≡ front ++ (command ∷ more) → number ≡ length front + 1 → Turns state (what_of command) not_built
+    → commands ≡ front ++ (command ∷ more) → number ≡ length front + 1 → TurnsAt state (what_of command) not_built
     → Progress front state old mid waits → Gains mid waits new → Prints commands (Some number) old new
 progress_stops commands front command more state old mid new waits number is number_is stops p g = record {
   sent = p.sent;

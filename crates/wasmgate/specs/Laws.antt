@@ -3,7 +3,7 @@ use Rattle.std.specs.Prelude.{◌≡◌, ℕ, ◌+◌, ◌≤◌, ◌==◌, Bool
 use Rattle.gate_io.specs.declared.event.Sent.{Sent}
 use Rattle.gate_io.specs.declared.event.Sent.TheVariants as sent
 use Rattle.replay_script.specs.declared.command.Command.{Command}
-use Rattle.replay_script.specs.declared.command.Command.TheVariants.{Open, Bytes, End, Stop}
+use Rattle.replay_script.specs.declared.command.Command.TheVariants.{At, Open, Bytes, End, Gone, Joined, Refused, UpBytes, UpEnd, UpGone, Clock, Stop}
 use Rattle.wasmgate.specs.Turn.{line_limit}
 use Rattle.wasmgate.specs.Replay.{Replays, ReplaysFront}
 
@@ -19,13 +19,7 @@ FrontOfAll = (commands : List Command) (a b : List Sent) (n : Option ℕ) → Re
 abbrev pub joined : Command → List Command → List Command
 joined (Bytes line bytes) (Bytes next more ∷ commands) =
     if line == next then Bytes line (bytes ++ more) ∷ commands else Bytes line bytes ∷ (Bytes next more ∷ commands)
-joined (Bytes line bytes) (Open next ∷ commands) = Bytes line bytes ∷ (Open next ∷ commands)
-joined (Bytes line bytes) (End next ∷ commands) = Bytes line bytes ∷ (End next ∷ commands)
-joined (Bytes line bytes) (Stop ∷ commands) = Bytes line bytes ∷ (Stop ∷ commands)
-joined (Bytes line bytes) [] = Bytes line bytes ∷ []
-joined (Open line) commands = Open line ∷ commands
-joined (End line) commands = End line ∷ commands
-joined Stop commands = Stop ∷ commands
+joined command commands = command ∷ commands
 
 -- the script in which bytes of one line that stand next to each other are one piece, as if they had come at once
 abbrev pub uncut : List Command → List Command
@@ -44,9 +38,17 @@ CutsAlike = (commands others : List Command) (a b : List Sent) (m n : Option ℕ
 
 -- does the command speak of this line?
 abbrev pub speaks_of : ℕ → Command → Bool
+speaks_of number (At moment) = false
 speaks_of number (Open line) = line == number
 speaks_of number (Bytes line bytes) = line == number
 speaks_of number (End line) = line == number
+speaks_of number (Gone line) = line == number
+speaks_of number (Joined line) = line == number
+speaks_of number (Refused line) = line == number
+speaks_of number (UpBytes line bytes) = line == number
+speaks_of number (UpEnd line) = line == number
+speaks_of number (UpGone line) = line == number
+speaks_of number Clock = false
 speaks_of number Stop = false
 
 -- the commands of a script that speak of one line, in order
@@ -70,9 +72,7 @@ own_sent number (one ∷ more) = if is_for number one then one ∷ own_sent numb
 abbrev pub opens : List Command → ℕ
 opens [] = 0
 opens (Open line ∷ commands) = 1 + opens commands
-opens (Bytes line bytes ∷ commands) = opens commands
-opens (End line ∷ commands) = opens commands
-opens (Stop ∷ commands) = opens commands
+opens (command ∷ commands) = opens commands
 
 -- a line is served as if it were alone: its own commands alone send what the whole script sends for it, where there is room
 -- for each line that is opened

@@ -5,13 +5,13 @@ use Rattle.gate_io.specs.declared.event.Sent.{Sent}
 use Rattle.replay_script.specs.declared.command.Command.{Command}
 use Rattle.replay_script.specs.Commands.{what_of}
 use Rattle.replay_script.specs.Prints.{printed}
-use Rattle.wasmgate.specs.Turn.{State, Outcome, went, not_built, Turns}
+use Rattle.wasmgate.specs.Turn.{State, Outcome, went, not_built, Turns, TurnsAt}
 
 -- from the one state the lines lead to the other, and this is sent
 abbrev pub Plays : State → List Command → List Sent → State → Type 0
 Plays state [] sent after = (sent ≡ []) × (after ≡ state)
 Plays state (command ∷ commands) sent after =
-    (outcome : Outcome) × (more : List Sent) × Turns state (what_of command) (went outcome) × Plays outcome.state commands more after
+    (outcome : Outcome) × (more : List Sent) × TurnsAt state (what_of command) (went outcome) × Plays outcome.state commands more after
     × (sent ≡ outcome.sent ++ more)
 
 -- the lines of a front, and then one whose turn is not built, of this number from 1
@@ -23,7 +23,7 @@ pub record PlaysUpTo (commands : List Command) (sent : List Sent) (number : ℕ)
   pub is : commands ≡ front ++ (command ∷ more)
   pub number_is : number ≡ length front + 1
   pub plays : Plays [] front sent before
-  pub stops : Turns before (what_of command) not_built
+  pub stops : TurnsAt before (what_of command) not_built
 
 -- What the lines of a script send, from no open line on: all of them, or those before the first whose turn is not built.
 abbrev pub Replays : List Command → List Sent → Option ℕ → Type 0
@@ -53,6 +53,6 @@ pub record PrintsFront (commands : List Command) (old new : Option (List ℕ)) :
 -- One line leads from a state to the next, and what it sends is printed behind what waits.
 pub record Advances (before : State) (waits : List ℕ) (command : Command) (after : State) (waiting : List ℕ) : Type 0 where
   pub outcome : Outcome
-  pub turns : Turns before (what_of command) (went outcome)
+  pub turns : TurnsAt before (what_of command) (went outcome)
   pub state_is : after ≡ outcome.state
   pub waiting_is : waiting ≡ waits ++ printed outcome.sent

@@ -118,6 +118,11 @@ Turns state (what.Room number side) answer = answer ≡ unchanged state
 Turns state what.Clock answer = answer ≡ unchanged state
 Turns state what.Stop answer = answer ≡ unchanged state
 
+-- the turn at a line of a script; where nothing happens, as at `at` and at `stop`, nothing changes
+abbrev pub TurnsAt : State → Option What → Answer → Type 0
+TurnsAt state None answer = answer ≡ unchanged state
+TurnsAt state (Some what) answer = Turns state what answer
+
 -- a line whose request has gone up is read no further
 pub reads_asked : (lines : State) (line : Line) (answer : Answer) → line.asked ≡ true → answer ≡ went (record { state = lines ++ (line ∷ []); sent = [] }) → Reads lines line line.asked answer
 unfolding Reads

@@ -4,7 +4,7 @@ ghost use Rattle.gate_io.specs.Told.{Rose};
 ghost use Rattle.replay_script.specs.Commands.{what_of};
 ghost use Rattle.replay_script.specs.Prints.{printed};
 ghost use Rattle.wasmgate.specs.declared.replay.PlayEnd.TheVariants.{OutFault as OutFaultEnd, OutOfMemory as OutOfMemoryEnd};
-ghost use Rattle.wasmgate.specs.Turn.{Turns, not_built};
+ghost use Rattle.wasmgate.specs.Turn.{Turns, TurnsAt, not_built};
 ghost use Rattle.wasmgate.specs.Replay.{Prints, PrintsFront, Advances};
 
 use crate::line::Line;
@@ -80,10 +80,13 @@ fn advance(
     command: &Command,
 ) -> Result<bool, OutOfMemory>
     ensures went { result ≡ Ok true → Advances lines.old.items pending.old command.now lines.new.items pending.new }
-    ensures not_built { result ≡ Ok false → Turns lines.old.items (what_of command.now) not_built }
+    ensures not_built { result ≡ Ok false → TurnsAt lines.old.items (what_of command.now) not_built }
     ensures same { result ≡ Ok false → pending.new ≡ pending.old }
 {
-    match turn(alloc, lines, command.what(alloc)?)? {
+    let Some(what) = command.what(alloc)? else {
+        return Ok(true);
+    };
+    match turn(alloc, lines, what)? {
         Turned::Went { sent } => {
             print_all(alloc, pending, &sent)?;
             Ok(true)

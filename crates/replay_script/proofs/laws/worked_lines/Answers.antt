@@ -26,3 +26,31 @@ returns-clause-print c = refl
 pub returns-clause-log : goal.returns-clause-log
 unfolding encode_with
 returns-clause-log c = refl
+
+pub returns-clause-at : goal.returns-clause-at
+unfolding digits
+returns-clause-at c = refl
+
+pub returns-clause-gone : goal.returns-clause-gone
+unfolding digits
+returns-clause-gone c = refl
+
+pub returns-clause-joined : goal.returns-clause-joined
+unfolding digits
+returns-clause-joined c = refl
+
+pub returns-clause-refused : goal.returns-clause-refused
+unfolding digits
+returns-clause-refused c = refl
+
+pub returns-clause-upbytes : goal.returns-clause-upbytes
+unfolding digits encode_with
+returns-clause-upbytes c = refl
+
+pub returns-clause-upend : goal.returns-clause-upend
+unfolding digits
+returns-clause-upend c = refl
+
+pub returns-clause-upgone : goal.returns-clause-upgone
+unfolding digits
+returns-clause-upgone c = refl
