@@ -6,10 +6,10 @@ use Rattle.gate_io.specs.declared.event.Sent.TheVariants as sent
 use Rattle.gate_io.specs.declared.event.Side.TheVariants.{Down, Up}
 use Rattle.http1_model.specs.Wire.{wire_of}
 use Rattle.replay_script.specs.declared.command.Command.{Command}
-use Rattle.replay_script.specs.declared.command.Command.TheVariants.{At, Open, Bytes, End, Gone, Joined, Refused, UpBytes, UpEnd, UpGone, Clock, Stop}
+use Rattle.replay_script.specs.declared.command.Command.TheVariants.{At, Open, Bytes, End, Clock, Stop}
 use Rattle.replay_script.specs.Commands.{what_of}
 use Rattle.wasmgate.specs.declared.line.Line.{Line}
-use Rattle.wasmgate.specs.Turn.{State, Outcome, went, unchanged, new_line, line_of, others, line_limit, opened, Reads, ComesOn, Comes, with_bytes, with_end, Turns, TurnsAt}
+use Rattle.wasmgate.specs.Turn.{State, Outcome, went, unchanged, new_line, line_of, others, line_limit, opened, Reads, ComesOn, Comes, with_bytes, with_end, TurnsAt}
 use Rattle.wasmgate.specs.Replay.{Plays}
 use Rattle.wasmgate.specs.Laws.{speaks_of, own, is_for, own_sent, opens, ServedAlone, FrontAlone, LinesApart}
 use Rattle.wasmgate.proofs.Once.{same_outcome, is_no_stop}

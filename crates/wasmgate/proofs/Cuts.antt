@@ -9,7 +9,7 @@ use Rattle.http1_model.specs.Head.{Head, HeadStep, found, not_yet, refused, Spel
 use Rattle.http1_model.specs.Messages.{stop, stop_unfinished, step_from}
 use Rattle.http1_model.proofs.Readings.{step_stays}
 use Rattle.replay_script.specs.declared.command.Command.{Command}
-use Rattle.replay_script.specs.declared.command.Command.TheVariants.{At, Open, Bytes, End, Gone, Joined, Refused, UpBytes, UpEnd, UpGone, Clock, Stop}
+use Rattle.replay_script.specs.declared.command.Command.TheVariants.{At, Open, Bytes, End, Clock, Stop}
 use Rattle.replay_script.specs.Commands.{what_of}
 use Rattle.wasmgate.specs.declared.line.Line.{Line}
 use Rattle.wasmgate.specs.Turn.{State, Outcome, Answer, went, not_built, unchanged, new_line, line_of, others, line_limit, opened, is_built, sends_up, read_answer, Reads, ComesOn, Comes, with_bytes, with_end, Turns, TurnsAt}

@@ -6,7 +6,7 @@ use Rattle.gate_io.specs.Told.{Gains, GainsFront, gains_nothing, gains_more, gai
 use Rattle.replay_script.specs.declared.command.Command.{Command}
 use Rattle.replay_script.specs.Commands.{what_of}
 use Rattle.replay_script.specs.Prints.{sent_line, printed}
-use Rattle.wasmgate.specs.Turn.{State, Outcome, went, not_built, Turns, TurnsAt}
+use Rattle.wasmgate.specs.Turn.{State, Outcome, went, not_built, TurnsAt}
 use Rattle.wasmgate.specs.Replay.{Plays, Prints, PrintsFront, Advances}
 
 -- some first lines were played, and of what they print a part was written and the rest waits

@@ -5,7 +5,7 @@ use Rattle.gate_io.specs.declared.event.Sent.{Sent}
 use Rattle.replay_script.specs.declared.command.Command.{Command}
 use Rattle.replay_script.specs.Commands.{what_of}
 use Rattle.replay_script.specs.Prints.{printed}
-use Rattle.wasmgate.specs.Turn.{State, Outcome, went, not_built, Turns, TurnsAt}
+use Rattle.wasmgate.specs.Turn.{State, Outcome, went, not_built, TurnsAt}
 
 -- from the one state the lines lead to the other, and this is sent
 abbrev pub Plays : State → List Command → List Sent → State → Type 0

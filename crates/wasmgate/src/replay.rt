@@ -4,7 +4,7 @@ ghost use Rattle.gate_io.specs.Told.{Rose};
 ghost use Rattle.replay_script.specs.Commands.{what_of};
 ghost use Rattle.replay_script.specs.Prints.{printed};
 ghost use Rattle.wasmgate.specs.declared.replay.PlayEnd.TheVariants.{OutFault as OutFaultEnd, OutOfMemory as OutOfMemoryEnd};
-ghost use Rattle.wasmgate.specs.Turn.{Turns, TurnsAt, not_built};
+ghost use Rattle.wasmgate.specs.Turn.{TurnsAt, not_built};
 ghost use Rattle.wasmgate.specs.Replay.{Prints, PrintsFront, Advances};
 
 use crate::line::Line;
