@@ -7,6 +7,8 @@ mod laws;
 mod members;
 mod reply;
 
+pub use date::moment_text;
+pub use fields::has_date;
 pub use laws::{
     framing_examples, head_is_wire, moments_have_texts, reply_is_wire, worked_examples,
 };

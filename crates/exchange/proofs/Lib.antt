@@ -1,0 +1,5 @@
+pub mod Dates
+pub mod Tails
+pub mod Making
+pub mod Refusals
+pub mod Hearing

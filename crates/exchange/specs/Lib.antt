@@ -1,0 +1,5 @@
+pub mod State
+pub mod Heads
+pub mod Moves
+pub mod Turns
+pub mod Seen

@@ -1,0 +1,13 @@
+//! One line: the requests of its client go up one after another, and the response to each comes down.
+#![tactic(auto)]
+
+mod heads;
+mod line;
+mod reply;
+mod request;
+mod response;
+mod sending;
+mod turn;
+
+pub use line::Line;
+pub use turn::Happening;
