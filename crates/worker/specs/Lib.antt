@@ -1,0 +1,4 @@
+pub mod State
+pub mod Wants
+pub mod Turn
+pub mod Turned
