@@ -1,5 +1,6 @@
 -- Turns, by how they end.
 use Rattle.std.proofs.Common.{◌≡◌, Bool, true, false, List, [], ◌∷◌, ◌++◌, refl, ap, sym, subst, Option, Ok, Err}
+use Rattle.std.specs.Prelude.{IsTrue}
 use Rattle.gate_io.specs.Events.{is_stop}
 use Rattle.gate_io.specs.Passing.{asking}
 use Rattle.gate_io.specs.Told.{Gains}
@@ -22,8 +23,17 @@ use Rattle.exchange.specs.Seen.{at}
 use Rattle.exchange.specs.State.{Line}
 use Rattle.worker.specs.State.{Standing, with_lines}
 use Rattle.worker.specs.Turn.{Answers, Outcome, outcome, IsTurned}
-use Rattle.worker.specs.Turned.{one_turn, Whole, Unanswered, PartlySent}
+use Rattle.worker.specs.Turned.{TookWhole, one_turn, Whole, Unanswered, PartlySent}
 use Rattle.worker.specs.Wants.{wants_of}
+
+-- of a world that takes each piece whole, no `send` took less
+pub took_whole : {E : Type 0} (takes_whole : Bool) (old mid new : Option (List Passed)) (before after : List Sent) (wants : Wants) (event : Event) → IsTrue takes_whole
+    → Gains old (asking wants (Ok event)) mid → Offered {E = E} takes_whole mid [] before (Ok tt) new after → TookWhole old new
+took_whole takes_whole old mid new before after wants event whole given offered = record {
+  steps = Asked wants ∷ Gave event ∷ offered.steps;
+  told = told_of_turn old mid new wants event offered.steps given offered.told;
+  never = offered.taken_whole whole;
+}
 
 module _ {S : Type 0} (performs : S → List Made → S → Type 0) (nothing : (s : S) → performs s [] s) where
   -- the turn of Stop

@@ -9,7 +9,7 @@ use Rattle.gate_io.specs.declared.passed.Passed.{Passed}
 use Rattle.gate_io.specs.declared.passed.Passed.TheVariants.{Asked, Gave}
 use Rattle.store_model.specs.Made.{Made}
 use Rattle.store_model.specs.Program.{Program, done, Runs}
-use Rattle.outbox.specs.Delivery.{Delivered}
+use Rattle.outbox.specs.Delivery.{Delivered, NeverShort}
 use Rattle.outbox.specs.Turns.{OneTurn, HandsOver, to_go}
 use Rattle.worker.specs.State.{Standing}
 use Rattle.worker.specs.Turn.{Outcome, outcome, IsTurned}
@@ -33,6 +33,12 @@ pub record Whole {S : Type 0} (performs : S → List Made → S → Type 0) (sto
   pub told : Gains old steps new
   pub asks : asked steps ≡ wants_of from.state from.waiting ∷ []
   pub hands_over : HandsOver from.waiting (one_turn event sent) steps to.waiting
+
+-- what passed, in which no `send` took less than its piece
+pub record TookWhole (old new : Option (List Passed)) : Type 0 where
+  pub steps : List Passed
+  pub told : Gains old steps new
+  pub never : NeverShort steps
 
 -- No event was given. The worker and the shared stores are as before.
 pub record NoEvent {S : Type 0} (s : S) (old : Option (List Passed)) (from : Standing) (steps : List Passed) (to : Standing) (t : S) (new : Option (List Passed)) : Type 0 where

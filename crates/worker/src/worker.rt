@@ -1,8 +1,8 @@
 // A worker, and its turns.
-ghost use Rattle.std.specs.Prelude.{◌≡◌, ◌≤◌, length, IfOk};
+ghost use Rattle.std.specs.Prelude.{◌≡◌, ◌≤◌, IsTrue, length, IfOk};
 ghost use Rattle.gate_io.specs.Told.{Rose};
 ghost use Rattle.worker.specs.State.{new_worker};
-ghost use Rattle.worker.specs.Turned.{Turned};
+ghost use Rattle.worker.specs.Turned.{Turned, TookWhole};
 
 use crate::answer::answer;
 use crate::wanted::wants_of;
@@ -79,6 +79,7 @@ impl Worker {
         ensures nature { W.nature world.new ≡ W.nature world.old }
         ensures faults { W.faults world.old ≤ W.faults world.new }
         ensures fault { result ≡ Turn.WorldFault → Rose (W.faults world.old) (W.faults world.new) }
+        ensures whole { IsTrue (W.nature world.old).takes_whole → result ≡ Turn.Went → TookWhole (W.trace world.old) (W.trace world.new) }
         ensures turned { Turned S.performs shared.old (W.trace world.old) self.old result self.new shared.new (W.trace world.new) }
     {
         let Ok(wants) = wants_of(alloc, &self.outbox, &self.lines) else {
