@@ -4,4 +4,4 @@ mod Texts
 mod Readings
 mod Orders
 mod Walks
-mod Worlds
+pub mod Worlds

@@ -1,8 +1,5 @@
 mod Answered
 mod Fault
 mod Progresses
-mod Once
-mod OpenLines
-mod LineReads
-mod Cuts
-mod Alone
+mod Fronts
+mod Turns

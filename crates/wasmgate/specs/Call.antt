@@ -9,7 +9,7 @@ use Rattle.wasm_invoke.specs.declared.ends.End.TheVariants.{Refused, Trapped, Fu
 use Rattle.wasm_invoke.specs.Invoking.{Invokes}
 use Rattle.wasmgate.specs.declared.status.CallEnd.TheVariants.{Trap, FuelSpent}
 use Rattle.wasmgate.specs.declared.status.Status.{Status}
-use Rattle.wasmgate.specs.declared.status.Status.TheVariants.{Done, Usage, Module, FileFault, OutFault, OutOfMemory, Script, Invoke, NotBuilt}
+use Rattle.wasmgate.specs.declared.status.Status.TheVariants.{Done, Usage, Module, FileFault, OutFault, OutOfMemory, Script, Invoke}
 
 -- the line of the result, where there is one: its type, and its value as an unsigned number
 abbrev pub result_line : Option Value → List ℕ
@@ -33,7 +33,6 @@ IsCalled text export words FileFault old new = Gains old [] new
 IsCalled text export words OutOfMemory old new = Gains old [] new
 IsCalled text export words Usage old new = ⊥
 IsCalled text export words (Script line) old new = ⊥
-IsCalled text export words (NotBuilt line) old new = ⊥
 
 -- a status that a call may have, whatever the files tell, with nothing taken where it is a refusal
 abbrev pub OfCall : Status → (old new : Option (List ℕ)) → Type 0
@@ -45,7 +44,6 @@ OfCall FileFault old new = Gains old [] new
 OfCall OutOfMemory old new = Gains old [] new
 OfCall Usage old new = ⊥
 OfCall (Script line) old new = ⊥
-OfCall (NotBuilt line) old new = ⊥
 
 -- a status of another command: no module was refused, and no call gave no result
 abbrev pub OfOthers : Status → Type 0
@@ -57,4 +55,3 @@ OfOthers FileFault = Unit {0}
 OfOthers OutFault = Unit {0}
 OfOthers OutOfMemory = Unit {0}
 OfOthers (Script line) = Unit {0}
-OfOthers (NotBuilt line) = Unit {0}

@@ -14,7 +14,7 @@ use Rattle.wasm_invoke.specs.declared.ends.Refusal.TheVariants as refusals
 use Rattle.wasmgate.specs.declared.status.CallEnd.{CallEnd}
 use Rattle.wasmgate.specs.declared.status.CallEnd.TheVariants.{Trap, FuelSpent}
 use Rattle.wasmgate.specs.declared.status.Status.{Status}
-use Rattle.wasmgate.specs.declared.status.Status.TheVariants.{Done, Usage, Module, FileFault, OutFault, OutOfMemory, Script, Invoke, NotBuilt}
+use Rattle.wasmgate.specs.declared.status.Status.TheVariants.{Done, Usage, Module, FileFault, OutFault, OutOfMemory, Script, Invoke}
 use Rattle.wasmgate.specs.Words.{script_path}
 use Rattle.wasmgate.specs.Replay.{Prints, PrintsFront}
 
@@ -28,7 +28,6 @@ status_number OutFault = 7
 status_number OutOfMemory = 8
 status_number (Script line) = 9
 status_number (Invoke end) = 10
-status_number (NotBuilt line) = 11
 
 -- the words in front of the place of a reader's fault: the name of its row
 abbrev pub fault_words : ℕ → List ℕ
@@ -82,7 +81,6 @@ status_line OutFault = codes "wasmgate: out\n"
 status_line OutOfMemory = codes "wasmgate: memory\n"
 status_line (Script line) = codes "wasmgate: script " ++ (decimal line ++ (10 ∷ []))
 status_line (Invoke end) = end_line end
-status_line (NotBuilt line) = codes "wasmgate: notbuilt " ++ (decimal line ++ (10 ∷ []))
 
 -- how many bytes a script has at most: 64 MiB
 abbrev pub script_limit : ℕ
@@ -103,14 +101,14 @@ pub record ReadsNamed (old : Option (List (List ℕ))) (named : Option (List ℕ
 abbrev pub IsRefusedAt : List ℕ → ℕ → Type 0
 IsRefusedAt text line = ((script_limit < length text) × (line ≡ 0)) ⊎ ((length text ≤ script_limit) × FirstBad text line)
 
--- the text is a script, and all that its lines send was printed, or what those before the first line not built send
-pub record IsReplayed (text : List ℕ) (not_built : Option ℕ) (old new : Option (List ℕ)) : Type 0 where
+-- the text is a script, and all that it sends was printed
+pub record IsReplayed (text : List ℕ) (old new : Option (List ℕ)) : Type 0 where
   pub commands : List Command
   pub short : length text ≤ script_limit
   pub script : IsScript text commands
-  pub prints : Prints commands not_built old new
+  pub prints : Prints commands old new
 
--- the text is a script, and a front of what its lines send was printed
+-- the text is a script, and a front of what it prints was taken
 pub record IsCutShort (text : List ℕ) (old new : Option (List ℕ)) : Type 0 where
   pub commands : List Command
   pub short : length text ≤ script_limit

@@ -2,12 +2,9 @@
 #![tactic(auto)]
 
 mod call;
-mod laws;
-mod line;
 mod replay;
 mod run;
 mod status;
-mod turn;
 mod words;
 
 use gate_io::{HostFiles, HostSink};

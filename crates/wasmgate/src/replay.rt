@@ -1,18 +1,21 @@
-// The lines of a script, played one after another.
-ghost use Rattle.std.specs.Prelude.{◌≡◌, ◌≤◌, ◌<◌, ◌^◌, ◌++◌, ℕ, None, Some, Ok, true, false, OnOk, length};
-ghost use Rattle.gate_io.specs.Told.{Rose};
-ghost use Rattle.replay_script.specs.Commands.{what_of};
+// A script, played.
+ghost use Rattle.std.specs.Prelude.{◌≡◌, ◌≤◌, ◌++◌, ◌⊎◌, List, [], Err, IfOk, OnOk, OnErr};
+ghost use Rattle.gate_config.specs.Plain.{IsPlain};
+ghost use Rattle.gate_io.specs.Told.{Gains, GainsFront, Rose};
+ghost use Rattle.replay_script.specs.declared.command.Command.{Command};
 ghost use Rattle.replay_script.specs.Prints.{printed};
+ghost use Rattle.replay_script.specs.Scripts.{AreLines, at_start};
 ghost use Rattle.wasmgate.specs.declared.replay.PlayEnd.TheVariants.{OutFault as OutFaultEnd, OutOfMemory as OutOfMemoryEnd};
-ghost use Rattle.wasmgate.specs.Turn.{TurnsAt, not_built};
-ghost use Rattle.wasmgate.specs.Replay.{Prints, PrintsFront, Advances};
+ghost use Rattle.wasmgate.specs.Replay.{Prints, PrintsFront, IsReady, Flushed, Advances};
+ghost use Rattle.worker.specs.State.{first_state};
 
-use crate::line::Line;
-use crate::turn::{Turned, turn};
-use gate_base::{Octets, OutOfMemory};
+use gate_base::{Octets, OutOfMemory, WorkerNo};
+use gate_config::Config;
 use gate_io::{Failed, Sent, Sink, write_whole};
-use replay_script::{Command, print_sent};
+use replay_script::{Command, ScriptWorld, events_of, print_sent};
+use shared_store::Alone;
 use std::alloc::{AllocError, AllocFailed, Global};
+use worker::{Turn, Worker};
 
 /// How many bytes of output wait at most before they are written.
 const MAX_PENDING: usize = 65536;
@@ -20,8 +23,6 @@ const MAX_PENDING: usize = 65536;
 /// Why a script was not played to its end.
 #[derive(Clone, Copy, Debug, PartialEq, Eq)]
 pub enum PlayEnd {
-    /// What the event of this line wants is not built.
-    NotBuilt { line: u32 },
     /// A write failed.
     OutFault,
     /// Memory ran out.
@@ -44,54 +45,115 @@ impl From<Failed> for PlayEnd {
     }
 }
 
+/// The worker of a script, which has the plain configuration without plug-ins, number 1, and the seed of a script's world.
+fn plain_worker(alloc: Global) -> Result<Worker, OutOfMemory>
+    ensures plain { IfOk result (λ worker. IsPlain 0 worker.setting.config) }
+    ensures state { IfOk result (λ worker. worker.state ≡ first_state) }
+    ensures waiting { IfOk result (λ worker. worker.waiting ≡ []) }
+{
+    let config = Config::plain(alloc, 0)?;
+    let who = WorkerNo::new(1).unwrap();
+    Worker::new(alloc, config, who, [0; 32])
+}
+
+/// What plays a script: a worker in the script's world, and the stores that it shares with no other.
+#[derive(Drop)]
+struct Player {
+    worker: Worker,
+    world: ScriptWorld,
+    shared: Alone,
+}
+
+/// What plays these lines, before the first of them.
+fn player_of(alloc: Global, commands: Vec<Command>) -> Result<Player, OutOfMemory>
+    requires { AreLines at_start commands.items }
+    ensures ready { IfOk result (λ player. IsReady commands.items player.worker player.world) }
+    ensures vms { IfOk result (λ player. player.worker.setting.config.vms ≡ []) }
+    ensures nothing_waits { IfOk result (λ player. player.worker.waiting ≡ []) }
+{
+    let events = events_of(alloc, commands)?;
+    let world = ScriptWorld::new(alloc, events);
+    let worker = plain_worker(alloc)?;
+    let shared = Alone::new(alloc, 0)?;
+    Ok(Player {
+        worker,
+        world,
+        shared,
+    })
+}
+
 /// Plays the lines of a script from no open line on, and writes what they send.
-pub fn play<O: Sink>(alloc: Global, commands: &[Command], out: &mut O) -> Result<(), PlayEnd>
-    requires { length commands.now < 2 ^ 32 }
-    ensures done { OnOk result (Prints commands.now None (O.taken out.old) (O.taken out.new)) }
-    ensures not_built { (n : ℕ) → result ≡ Err (PlayEnd.NotBuilt n) → Prints commands.now (Some n) (O.taken out.old) (O.taken out.new) }
-    ensures out_fault { result ≡ Err PlayEnd.OutFault → PrintsFront commands.now (O.taken out.old) (O.taken out.new) }
-    ensures memory { result ≡ Err PlayEnd.OutOfMemory → PrintsFront commands.now (O.taken out.old) (O.taken out.new) }
+pub fn play<O: Sink>(alloc: Global, commands: Vec<Command>, out: &mut O) -> Result<(), PlayEnd>
+    requires { AreLines at_start commands.items }
+    ensures done { OnOk result (Prints commands.items (O.taken out.old) (O.taken out.new)) }
+    ensures out_fault { result ≡ Err PlayEnd.OutFault → PrintsFront commands.items (O.taken out.old) (O.taken out.new) }
+    ensures memory { result ≡ Err PlayEnd.OutOfMemory → Gains (O.taken out.old) [] (O.taken out.new) ⊎ PrintsFront commands.items (O.taken out.old) (O.taken out.new) }
     ensures faults { O.faults out.old ≤ O.faults out.new }
     ensures failed { result ≡ Err PlayEnd.OutFault → Rose (O.faults out.old) (O.faults out.new) }
 {
-    let mut lines = Vec::new(alloc);
+    let mut player = player_of(alloc, commands)?;
     let mut pending = Octets::new(alloc);
-    for (at, command) in commands.iter().enumerate() {
-        if !advance(alloc, &mut lines, &mut pending, command)? {
+    play_all(alloc, &mut player, &mut pending, out)
+}
+
+/// Takes one turn after another until Stop comes, and writes what they send.
+fn play_all<O: Sink>(
+    alloc: Global,
+    player: &mut Player,
+    pending: &mut Octets,
+    out: &mut O,
+) -> Result<(), PlayEnd>
+    requires pending { pending.old ≡ [] }
+    requires vms { player.old.worker.setting.config.vms ≡ [] }
+    requires nothing_waits { player.old.worker.waiting ≡ [] }
+    ensures done { (commands : List Command) → IsReady commands player.old.worker player.old.world → OnOk result (Prints commands (O.taken out.old) (O.taken out.new)) }
+    ensures front { (commands : List Command) → IsReady commands player.old.worker player.old.world → OnErr result (PrintsFront commands (O.taken out.old) (O.taken out.new)) }
+    ensures faults { O.faults out.old ≤ O.faults out.new }
+    ensures failed { result ≡ Err PlayEnd.OutFault → Rose (O.faults out.old) (O.faults out.new) }
+{
+    // Stop comes behind fewer events than that.
+    'turns: for _ in 0..u64::MAX {
+        if !advance(alloc, player, pending)? {
             write_whole(out, pending.as_slice())?;
-            return Err(PlayEnd::NotBuilt {
-                line: at as u32 + 1,
-            });
+            return Ok(());
         }
-        if pending.len() >= MAX_PENDING {
-            write_whole(out, pending.as_slice())?;
-            pending.clear();
-        }
+        flush(pending, out)?;
+    }
+    Err(PlayEnd::OutOfMemory)
+}
+
+/// Writes what waits, where that is enough.
+fn flush<O: Sink>(pending: &mut Octets, out: &mut O) -> Result<(), Failed>
+    ensures ok { OnOk result (Flushed pending.old (O.taken out.old) pending.new (O.taken out.new)) }
+    ensures err { OnErr result (GainsFront (O.taken out.old) pending.old (O.taken out.new)) }
+    ensures faults { O.faults out.old ≤ O.faults out.new }
+    ensures failed { OnErr result (Rose (O.faults out.old) (O.faults out.new)) }
+{
+    if pending.len() < MAX_PENDING {
+        return Ok(());
     }
     write_whole(out, pending.as_slice())?;
+    pending.clear();
     Ok(())
 }
 
-/// Does the turn at one line, and puts what it sends behind what waits to be written. False says that it is not built.
-fn advance(
-    alloc: Global,
-    lines: &mut Vec<Line>,
-    pending: &mut Octets,
-    command: &Command,
-) -> Result<bool, OutOfMemory>
-    ensures went { result ≡ Ok true → Advances lines.old.items pending.old command.now lines.new.items pending.new }
-    ensures not_built { result ≡ Ok false → TurnsAt lines.old.items (what_of command.now) not_built }
-    ensures same { result ≡ Ok false → pending.new ≡ pending.old }
+/// Does one turn, and puts what it sends behind what waits to be written. False says that its event was Stop.
+fn advance(alloc: Global, player: &mut Player, pending: &mut Octets) -> Result<bool, OutOfMemory>
+    requires vms { player.old.worker.setting.config.vms ≡ [] }
+    requires nothing_waits { player.old.worker.waiting ≡ [] }
+    ensures { IfOk result (λ goes_on. Advances player.old.worker player.old.world pending.old goes_on player.new.worker player.new.world pending.new) }
 {
-    let Some(what) = command.what(alloc)? else {
-        return Ok(true);
-    };
-    match turn(alloc, lines, what)? {
-        Turned::Went { sent } => {
-            print_all(alloc, pending, &sent)?;
+    match player
+        .worker
+        .turn(alloc, &mut player.world, &mut player.shared)
+    {
+        Turn::Went => {
+            print_all(alloc, pending, player.world.taken())?;
             Ok(true)
         }
-        Turned::NotBuilt => Ok(false),
+        Turn::Stopped => Ok(false),
+        Turn::WorldFault => unreachable!(),
+        Turn::OutOfMemory => Err(AllocError),
     }
 }
 

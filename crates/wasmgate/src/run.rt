@@ -38,9 +38,7 @@ pub fn run<F: Files, O: Sink, E: Sink>(
 
     // What is said of a script that the files tell.
     ensures done { result ≡ Status.Done → (text : List ℕ) → told_script (map string_bytes words.now) (F.holds files.old) ≡ Some text
-        → IsReplayed text None (O.taken out.old) (O.taken out.new) }
-    ensures not_built { (line : ℕ) (text : List ℕ) → result ≡ Status.NotBuilt line → told_script (map string_bytes words.now) (F.holds files.old) ≡ Some text
-        → IsReplayed text (Some line) (O.taken out.old) (O.taken out.new) }
+        → IsReplayed text (O.taken out.old) (O.taken out.new) }
     ensures script { (line : ℕ) (text : List ℕ) → result ≡ Status.Script line → told_script (map string_bytes words.now) (F.holds files.old) ≡ Some text
         → IsRefusedAt text line }
     ensures cut { result ≡ Status.OutFault → (text : List ℕ) → told_script (map string_bytes words.now) (F.holds files.old) ≡ Some text
@@ -83,9 +81,7 @@ fn replay<F: Files, O: Sink>(alloc: Global, path: &str, files: &mut F, out: &mut
     ensures out_faults { O.faults out.old ≤ O.faults out.new }
     ensures out_fault { result ≡ Status.OutFault → Rose (O.faults out.old) (O.faults out.new) }
     ensures done { result ≡ Status.Done → (text : List ℕ) → told_at (F.holds files.old) path.now ≡ Some text
-        → IsReplayed text None (O.taken out.old) (O.taken out.new) }
-    ensures not_built { (line : ℕ) (text : List ℕ) → result ≡ Status.NotBuilt line → told_at (F.holds files.old) path.now ≡ Some text
-        → IsReplayed text (Some line) (O.taken out.old) (O.taken out.new) }
+        → IsReplayed text (O.taken out.old) (O.taken out.new) }
     ensures script { (line : ℕ) (text : List ℕ) → result ≡ Status.Script line → told_at (F.holds files.old) path.now ≡ Some text → IsRefusedAt text line }
     ensures cut { result ≡ Status.OutFault → (text : List ℕ) → told_at (F.holds files.old) path.now ≡ Some text
         → IsCutShort text (O.taken out.old) (O.taken out.new) }
@@ -110,17 +106,15 @@ fn replay_text<O: Sink>(alloc: Global, text: &[u8], out: &mut O) -> Status
     ensures no_file_fault { result ≡ Status.FileFault → ⊥ }
     ensures out_faults { O.faults out.old ≤ O.faults out.new }
     ensures out_fault { result ≡ Status.OutFault → Rose (O.faults out.old) (O.faults out.new) }
-    ensures done { result ≡ Status.Done → IsReplayed text.now None (O.taken out.old) (O.taken out.new) }
-    ensures not_built { (line : ℕ) → result ≡ Status.NotBuilt line → IsReplayed text.now (Some line) (O.taken out.old) (O.taken out.new) }
+    ensures done { result ≡ Status.Done → IsReplayed text.now (O.taken out.old) (O.taken out.new) }
     ensures script { (line : ℕ) → result ≡ Status.Script line → FirstBad text.now line }
     ensures cut { result ≡ Status.OutFault → IsCutShort text.now (O.taken out.old) (O.taken out.new) }
     ensures memory { result ≡ Status.OutOfMemory → Gains (O.taken out.old) [] (O.taken out.new) ⊎ IsCutShort text.now (O.taken out.old) (O.taken out.new) }
     ensures script_takes_nothing { (line : ℕ) → result ≡ Status.Script line → Gains (O.taken out.old) [] (O.taken out.new) }
 {
     match read_script(alloc, text) {
-        Ok(commands) => match play(alloc, &commands, out) {
+        Ok(commands) => match play(alloc, commands, out) {
             Ok(()) => Status::Done,
-            Err(PlayEnd::NotBuilt { line }) => Status::NotBuilt { line },
             Err(PlayEnd::OutFault) => Status::OutFault,
             Err(PlayEnd::OutOfMemory) => Status::OutOfMemory,
         },

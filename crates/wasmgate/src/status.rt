@@ -37,8 +37,6 @@ pub enum Status {
     Script { line: u32 },
     /// The called function, or the start function, gave no result.
     Invoke { end: CallEnd },
-    /// What the event of this line of the script wants is not built.
-    NotBuilt { line: u32 },
 }
 
 impl Status {
@@ -59,7 +57,6 @@ impl Status {
             Status::OutOfMemory => 8,
             Status::Script { .. } => 9,
             Status::Invoke { .. } => 10,
-            Status::NotBuilt { .. } => 11,
         }
     }
 
@@ -79,7 +76,6 @@ impl Status {
             Status::OutOfMemory => write_whole(err, b"wasmgate: memory\n"),
             Status::Script { line } => write_line(err, b"wasmgate: script ", line),
             Status::Invoke { end } => write_whole(err, end_line(end)),
-            Status::NotBuilt { line } => write_line(err, b"wasmgate: notbuilt ", line),
         }
     }
 }

@@ -153,12 +153,12 @@ fn runs_end_with_their_status(rt: HostRuntime) -> Result<(), Fail> {
         ),
         (
             &["replay", "s"].as_slice(),
-            b"open 1\nend 1\nopen 12\nbytes 12 0a780a0a\n",
+            b"open 1\nend 1\nclock\nopen 1\ngone 1\nupbytes 1 0a\n",
             0,
             0,
-            Status::NotBuilt { line: 4 },
+            Status::Done,
             b"close 1\n",
-            b"wasmgate: notbuilt 4\n",
+            b"",
         ),
     ] {
         let words = words(alloc, command)?;

@@ -1,0 +1,114 @@
+-- One turn of a worker in the world of a script.
+use Rattle.std.proofs.Common.{◌≡◌, ℕ, Bool, true, false, not, List, [], ◌∷◌, ◌++◌, refl, sym, ap, ◌∙◌, subst, Option, Some}
+use Rattle.std.proofs.lemmas.List.{append-nil, append_cancel_left}
+use Rattle.std.specs.Bool.{OnTrue}
+use Rattle.gate_io.specs.Events.{is_stop}
+use Rattle.gate_io.specs.Passing.{happened, received}
+use Rattle.gate_io.specs.Reads.{happened-append}
+use Rattle.gate_io.specs.Told.{Gains}
+use Rattle.gate_io.specs.declared.event.Event.{Event}
+use Rattle.gate_io.specs.declared.event.Sent.{Sent}
+use Rattle.gate_io.specs.declared.passed.Passed.{Passed}
+use Rattle.gate_io.specs.declared.passed.Passed.TheVariants.{Asked, Gave}
+use Rattle.outbox.specs.Delivery.{solid, NeverShort}
+use Rattle.outbox.specs.Turns.{OneTurn, HandsOver, Delivers, all_sent}
+use Rattle.outbox.proofs.Deliveries.{in_order}
+use Rattle.replay_script.specs.Prints.{printed}
+use Rattle.replay_script.specs.ScriptWorld.{Playing, nature, taken_since}
+use Rattle.replay_script.proofs.Worlds.{plays_its_script}
+use Rattle.store_model.specs.Made.{Made}
+use Rattle.store_model.specs.Program.{Program, done, Reaches, Runs}
+use Rattle.worker.specs.State.{Standing}
+use Rattle.worker.specs.Turn.{Outcome, outcome, IsTurned}
+use Rattle.worker.specs.Turned.{one_turn, Whole, TookWhole}
+use Rattle.wasmgate.specs.Replay.{Advances}
+
+-- a program that is done makes no calls
+done_same : {A : Type 0} (a b : A) (ms : List Made) → Reaches (done a) ms (done b) → done a ≡ done b
+done_same a b [] same = same
+done_same a b (m ∷ ms) reaches = elim reaches [ ]
+
+-- what a turn's program came to is its outcome
+pub turned_done : {S : Type 0} (performs : S → List Made → S → Type 0) (s : S) (old : Option (List Passed)) (stop : Bool) (from to : Standing) (t : S) (new : Option (List Passed))
+    → (w : Whole performs stop s old from to t new) → IsTurned from.setting.config from.state w.event (done (outcome to.state w.sent))
+turned_done performs s old stop from to t new w = record {
+  sent = w.turned.sent;
+  after = w.turned.after;
+  answers = w.turned.answers;
+  is = sym (done_same _ _ w.runs.calls (subst (λ (p : Program Outcome). Reaches p w.runs.calls (done (outcome to.state w.sent))) w.turned.is w.runs.reaches));
+}
+
+same_trace : (a b : List Passed) → Some a ≡ Some b → a ≡ b
+same_trace a b e = cc
+
+-- what passed in a turn, which was told
+told_steps : (before after steps : List Passed) → Gains (Some before) steps (Some after) → after ≡ before ++ steps
+told_steps before after steps told = same_trace after (before ++ steps) told
+
+one_gain : (before after a b : List Passed) → Gains (Some before) a (Some after) → Gains (Some before) b (Some after) → a ≡ b
+one_gain before after a b first second = append_cancel_left before a b (sym (told_steps before after a first) ∙ told_steps before after b second)
+
+-- the events of a turn
+one_event : (waiting : List Sent) (event : Event) (sent : List Sent) (steps : List Passed) (rest : List Sent) → HandsOver waiting (one_turn event sent) steps rest → happened steps ≡ event ∷ []
+one_event waiting event sent steps rest h = ap happened h.steps_are ∙ ap (λ (es : List Event). event ∷ es) h.delivered.no_event
+
+given_once : (before after : Playing) (waiting : List Sent) (event : Event) (sent : List Sent) (steps : List Passed) (rest : List Sent) → Gains (Some before.trace) steps (Some after.trace)
+    → HandsOver waiting (one_turn event sent) steps rest → happened after.trace ≡ happened before.trace ++ event ∷ []
+given_once before after waiting event sent steps rest told h =
+    ap happened (told_steps before.trace after.trace steps told) ∙ happened-append before.trace steps
+    ∙ ap (λ (es : List Event). happened before.trace ++ es) (one_event waiting event sent steps rest h)
+
+-- what was taken since the turn's event is what was taken in the turn
+taken_in : (before after : List Passed) (waiting : List Sent) (event : Event) (sent : List Sent) (steps : List Passed) (rest : List Sent) → after ≡ before ++ steps
+    → HandsOver waiting (one_turn event sent) steps rest → taken_since after ≡ received steps
+taken_in before after waiting event sent steps rest is h =
+    ap taken_since (is ∙ ap (λ (t : List Passed). before ++ t) h.steps_are)
+    ∙ plays_its_script.share before h.taken h.wants event h.delivered.no_event ∙ sym (ap received h.steps_are)
+
+-- a world that takes whole took all that the turn sends
+taken_whole : (event : Event) (sent : List Sent) (steps : List Passed) (rest : List Sent) → HandsOver [] (one_turn event sent) steps rest → NeverShort steps
+    → (received steps ≡ solid sent) × (rest ≡ [])
+taken_whole event sent steps rest h never =
+    let delivers : Delivers [] (one_turn event sent ∷ []) steps rest = (steps, [], rest, sym (append-nil steps), h, (refl, refl)) in
+    let all = in_order (one_turn event sent ∷ []) steps rest delivers never in
+    (all.0 ∙ ap solid (append-nil sent), all.1)
+
+pub went_advances : {S : Type 0} (performs : S → List Made → S → Type 0) (s t : S) (from to : Standing) (before after : Playing) (waits waiting : List ℕ) (taken : List Sent)
+    → from.waiting ≡ [] → to.setting ≡ from.setting → nature after ≡ nature before → TookWhole (Some before.trace) (Some after.trace)
+    → Whole performs false s (Some before.trace) from to t (Some after.trace) → taken ≡ taken_since after.trace → waiting ≡ waits ++ printed taken
+    → Advances from before waits true to after waiting
+went_advances performs s t from to before after waits waiting taken none setting same took w is_taken is_waiting =
+    let h : HandsOver [] (one_turn w.event w.sent) w.steps to.waiting =
+    subst (λ (x : List Sent). HandsOver x (one_turn w.event w.sent) w.steps to.waiting) none w.hands_over in
+    let never : NeverShort w.steps = subst NeverShort (one_gain before.trace after.trace took.steps w.steps took.told w.told) took.never in
+    let all = taken_whole w.event w.sent w.steps to.waiting h never in
+    let sent_is : taken ≡ solid w.sent =
+    is_taken ∙ taken_in before.trace after.trace [] w.event w.sent w.steps to.waiting (told_steps before.trace after.trace w.steps w.told) h ∙ all.0 in
+    record {
+      event = w.event;
+      is_no_stop = w.is_stop;
+      sent = w.sent;
+      turned = turned_done performs s (Some before.trace) false from to t (Some after.trace) w;
+      setting_is = setting;
+      nothing_waits = all.1;
+      given = given_once before after from.waiting w.event w.sent w.steps to.waiting w.told w.hands_over;
+      nature_is = same;
+      waiting_is = is_waiting ∙ ap (λ (x : List Sent). waits ++ printed x) sent_is;
+    }
+
+pub stopped_advances : {S : Type 0} (performs : S → List Made → S → Type 0) (s t : S) (from to : Standing) (before after : Playing) (waits : List ℕ)
+    → from.waiting ≡ [] → to.setting ≡ from.setting → nature after ≡ nature before
+    → Whole performs true s (Some before.trace) from to t (Some after.trace) → Advances from before waits false to after waits
+stopped_advances performs s t from to before after waits none setting same w =
+    let still = subst (λ (b : Bool). OnTrue b ((w.sent ≡ []) × (w.hands_over.taken ≡ []) × (to.waiting ≡ from.waiting))) w.is_stop w.hands_over.stopped in
+    record {
+      event = w.event;
+      is_no_stop = w.is_stop;
+      sent = w.sent;
+      turned = turned_done performs s (Some before.trace) true from to t (Some after.trace) w;
+      setting_is = setting;
+      nothing_waits = still.2 ∙ none;
+      given = given_once before after from.waiting w.event w.sent w.steps to.waiting w.told w.hands_over;
+      nature_is = same;
+      waiting_is = sym (append-nil waits) ∙ ap (λ (x : List Sent). waits ++ printed (solid x)) (sym still.0);
+    }
