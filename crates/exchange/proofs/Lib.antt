@@ -4,3 +4,5 @@ pub mod Making
 pub mod Refusals
 pub mod Hearing
 pub mod Settling
+pub mod Once
+pub mod Examples
