@@ -6,3 +6,6 @@ pub mod Hearing
 pub mod Settling
 pub mod Once
 pub mod Examples
+pub mod Order
+pub mod Using
+pub mod Falling

@@ -10,6 +10,6 @@ mod response;
 mod sending;
 mod turn;
 
-pub use laws::{one_outcome, worked_turns};
+pub use laws::{few_moves, one_outcome, turns_in_order, worked_turns};
 pub use line::Line;
 pub use turn::Happening;
