@@ -1,5 +1,5 @@
 -- The worked examples, by computation.
-use Rattle.std.proofs.Common.{◌≡◌, true, false, List, ℕ, [], ◌∷◌, ◌++◌, None, Some, codes, refl, inl, inr, lit<, lit≤}
+use Rattle.std.proofs.Common.{true, false, List, ℕ, [], ◌∷◌, ◌++◌, None, Some, codes, refl, inl, inr, lit<, lit≤}
 use Rattle.std.specs.Fmt.{digits}
 use Rattle.gate_io.specs.declared.event.Sent.TheVariants.{Connect, Bytes, Close}
 use Rattle.gate_io.specs.declared.event.Side.TheVariants.{Down, Up}
@@ -14,10 +14,10 @@ use Rattle.http1_model.specs.Framing.{no_body, by_length}
 use Rattle.http1_model.specs.Head.{found, not_yet}
 use Rattle.http1_model.specs.Messages.{request, response, end, counted, head, body, done, rest, over, item, stop, SpellsHead}
 use Rattle.http1_model.specs.Moment.{year_from, month_from}
-use Rattle.http1_model.specs.Unread.{head_part, piece, Reading, new_reading, fed, Hands, Halts}
-use Rattle.exchange.specs.State.{awaited, begun, forwarded, Line, new_line}
+use Rattle.http1_model.specs.Unread.{head_part, piece, Reading, new_reading, fed}
+use Rattle.exchange.specs.State.{awaited, begun, forwarded, Line}
 use Rattle.exchange.specs.Moves.{hands, halts, goes, rests, ends, Idles, Responds}
-use Rattle.exchange.specs.Examples.{here, head_kept, idle, asked_whole, answering, open_with, up_before, ResponseExamples, RefusalExamples, HappeningExamples, TurnExamples}
+use Rattle.exchange.specs.Examples.{here, head_kept, idle, asked_whole, answering, up_before, ResponseExamples, RefusalExamples, HappeningExamples, TurnExamples}
 
 pub response_examples : ResponseExamples
 unfolding httparse_on_literals httpdate_on_literals digits year_from month_from

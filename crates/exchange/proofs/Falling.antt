@@ -1,5 +1,5 @@
 -- Each move that goes on does some of what is left to do.
-use Rattle.std.proofs.Common.{◌≡◌, ℕ, ◌+◌, ◌*◌, ◌<◌, ◌≤◌, Bool, true, false, List, [], ◌∷◌, ◌++◌, length, Option, None, Some, refl, sym, ap, ◌∙◌, subst, arith}
+use Rattle.std.proofs.Common.{◌≡◌, ℕ, ◌+◌, ◌*◌, ◌<◌, ◌≤◌, Bool, true, false, List, [], ◌∷◌, ◌++◌, length, Option, None, Some, refl, sym, ap, subst, arith}
 use Rattle.std.specs.Prelude.{if◌then◌else◌}
 use Rattle.gate_io.specs.declared.event.Sent.{Sent}
 use Rattle.gate_io.specs.declared.event.Sent.TheVariants.{Close}
@@ -8,11 +8,10 @@ use Rattle.http1_model.specs.Fields.{Pair}
 use Rattle.http1_model.specs.Framing.{Framing, head_wire, piece_wire, trailer_wire}
 use Rattle.http1_model.specs.Head.{Head}
 use Rattle.http1_model.specs.Messages.{Stop, rest, over, refusal}
-use Rattle.http1_model.specs.Unread.{Part, head_part, interim_part, piece, trailer_part, Reading}
+use Rattle.http1_model.specs.Unread.{head_part, interim_part, piece, trailer_part, Reading}
 use Rattle.exchange.specs.State.{Request, Answered, awaited, begun, Exchange, unrouted, forwarded, Line, Context}
 use Rattle.exchange.specs.Heads.{is_bare, request_of, path_of, has_route, response_framing, response_out, stays_behind, may_stay}
-use Rattle.exchange.specs.Moves.{Heard, hands, halts, Hears, Move, goes, rests, ends, sending, fixed_answer, with_requests, with_exchange, forwarding, request_came, idle_stop, idle_move, unrouted_end, unrouted_move, ended, answered_for, response_came, piece_came, trailers_came, response_stop, response_move, Responds, RequestHeard, Requests, Idles, Drops, UnroutedMoves, ForwardedMoves, MovesIn, MovesTo}
-use Rattle.exchange.specs.Turns.{Passes}
+use Rattle.exchange.specs.Moves.{Heard, hands, halts, Hears, Move, goes, rests, ends, sending, fixed_answer, with_requests, with_exchange, forwarding, request_came, idle_stop, idle_move, unrouted_end, unrouted_move, ended, answered_for, response_came, piece_came, trailers_came, response_stop, response_move, Responds, RequestHeard, UnroutedMoves, ForwardedMoves, MovesIn, MovesTo}
 use Rattle.exchange.specs.Laws.{end_left, exchange_left, left_to_do, MovesFall, FewMoves}
 use Rattle.exchange.specs.Seen.{Makes, Made}
 use Rattle.exchange.specs.declared.line.Move as move

@@ -1,14 +1,14 @@
 -- A line does one thing next, and its turns have one outcome.
-use Rattle.std.specs.Prelude.{◌≡◌, ℕ, Bool, true, false, List, [], ◌∷◌, ◌++◌, Option, None, Some, refl}
+use Rattle.std.specs.Prelude.{◌≡◌, ℕ, Bool, true, false, List, [], ◌∷◌, ◌++◌, Option, None, Some}
 use Rattle.std.proofs.Common.{◌∙◌, sym, ap, subst, append_assoc}
 use Rattle.gate_io.specs.declared.event.Sent.{Sent}
 use Rattle.http1_model.proofs.Parts.{same_next, one_part}
 use Rattle.http1_model.specs.Framing.{Framing}
 use Rattle.http1_model.specs.Messages.{Due, Stop, rest, over, refusal}
-use Rattle.http1_model.specs.Unread.{Part, head_part, interim_part, piece, trailer_part, Next, part, none, Reading, moved_on, waiting, Hands, Halts}
+use Rattle.http1_model.specs.Unread.{Part, head_part, interim_part, piece, trailer_part, part, none, Reading, moved_on, Hands, Halts}
 use Rattle.exchange.specs.State.{Request, Answered, Exchange, unrouted, forwarded, Line, Context}
-use Rattle.exchange.specs.Moves.{Heard, hands, halts, Hears, Move, goes, rests, ends, idle_move, unrouted_move, response_move, Responds, Requests, Idles, Drops, RequestHeard, UnroutedMoves, ForwardedMoves, MovesIn, MovesTo}
-use Rattle.exchange.specs.Turns.{Passes, IsLast, Settles, Happening, met, Follows}
+use Rattle.exchange.specs.Moves.{Heard, hands, halts, Hears, Move, goes, rests, ends, idle_move, unrouted_move, response_move, Responds, Requests, RequestHeard, UnroutedMoves, ForwardedMoves, MovesIn, MovesTo}
+use Rattle.exchange.specs.Turns.{Passes, IsLast, met, Follows}
 use Rattle.exchange.specs.Laws.{OneMove, OneSettling, OneOutcome}
 
 -- ---- what a reader says

@@ -3,18 +3,17 @@ use Rattle.std.specs.Prelude.{◌≡◌, ℕ, Bool, true, false, List, [], ◌�
 use Rattle.std.proofs.Common.{◌∙◌, sym, ap, subst, append_assoc}
 use Rattle.gate_io.specs.declared.event.Sent.{Sent}
 use Rattle.gate_io.specs.declared.event.Sent.TheVariants.{Connect, Bytes, Close, Log}
-use Rattle.gate_io.specs.declared.event.Side.{Side}
 use Rattle.gate_io.specs.declared.event.Side.TheVariants.{Down, Up}
 use Rattle.http1_model.specs.Framing.{Framing, head_wire, piece_wire, trailer_wire}
 use Rattle.http1_model.specs.Fields.{Pair}
 use Rattle.http1_model.specs.Head.{Head}
 use Rattle.http1_model.specs.Messages.{Stop, rest, over, refusal}
-use Rattle.http1_model.specs.Unread.{Part, head_part, interim_part, piece, trailer_part, Reading, new_reading, fed, finished}
+use Rattle.http1_model.specs.Unread.{head_part, interim_part, piece, trailer_part, Reading, new_reading, fed, finished}
 use Rattle.exchange.specs.State.{Request, Answered, awaited, begun, Exchange, unrouted, forwarded, Line, Context}
 use Rattle.exchange.specs.Heads.{is_bare, request_of, path_of, has_route, request_framing, request_out, asked_by, response_framing, response_out, stays_behind, may_stay}
-use Rattle.exchange.specs.Moves.{Heard, hands, halts, Move, goes, rests, ends, sending, fixed_answer, with_requests, with_exchange, forwarding, request_came, idle_stop, idle_move, read_so_far, unrouted_end, unrouted_move, ended, answered_for, interim_bytes, response_came, piece_came, trailers_came, response_stop, response_move, Responds, RequestHeard, Requests, UnroutedMoves, ForwardedMoves, MovesIn, MovesTo}
-use Rattle.exchange.specs.Turns.{Passes, IsLast, Settles, Happening, came, finishes, lost, unless, client_lost, came_up, finished_up, server_lost, met, Follows}
-use Rattle.exchange.specs.Laws.{has_server, Stands, InOrder, is_gone, TurnsInOrder}
+use Rattle.exchange.specs.Moves.{Heard, hands, halts, Move, goes, rests, ends, sending, fixed_answer, with_requests, with_exchange, forwarding, request_came, idle_stop, idle_move, read_so_far, unrouted_end, unrouted_move, ended, answered_for, interim_bytes, response_came, piece_came, trailers_came, response_stop, response_move, Responds, RequestHeard, UnroutedMoves, ForwardedMoves, MovesIn, MovesTo}
+use Rattle.exchange.specs.Turns.{Passes, IsLast, Settles, came, finishes, lost, unless, client_lost, came_up, finished_up, server_lost, met, Follows}
+use Rattle.exchange.specs.Laws.{has_server, Stands, InOrder, TurnsInOrder}
 
 -- ---- lists
 

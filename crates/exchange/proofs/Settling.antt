@@ -1,11 +1,11 @@
 -- Moves one behind the other.
-use Rattle.std.specs.Prelude.{◌≡◌, ℕ, List, [], ◌∷◌, ◌++◌, Option, None, Some, Result, Ok, Err, IfOk, refl}
+use Rattle.std.specs.Prelude.{◌≡◌, List, [], ◌∷◌, ◌++◌, Option, None, Some, Result, Ok, Err, IfOk, refl}
 use Rattle.std.proofs.Common.{◌∙◌, sym, ap, subst, append_assoc}
 use Rattle.std.proofs.lemmas.List.{append-nil}
 use Rattle.gate_io.specs.declared.event.Sent.{Sent}
 use Rattle.exchange.specs.State.{Line, Context}
 use Rattle.exchange.specs.Moves.{Move, goes, rests, ends, MovesTo}
-use Rattle.exchange.specs.Turns.{Passes, IsLast, Settles, Happening, met, Follows}
+use Rattle.exchange.specs.Turns.{Passes, Settles, Happening, met, Follows}
 use Rattle.exchange.specs.Seen.{Makes, Made, SoFar, Done, Turned}
 use Rattle.exchange.specs.declared.line.Move as move
 use Rattle.exchange.specs.declared.line.Move.TheVariants as to

@@ -1,6 +1,6 @@
 -- A part that is no end uses up bytes.
-use Rattle.std.proofs.Common.{◌≡◌, ℕ, suc, zero, ◌+◌, ◌-◌, ◌<◌, ◌≤◌, Bool, true, false, cond, List, [], ◌∷◌, ◌++◌, length, drop, take, Option, None, Some, Result, Ok, Err, refl, sym, ap, ◌∙◌, subst, inl, inr, arith}
-use Rattle.std.specs.Prelude.{◌⊎◌, bytes_eq, codes, nat_le, nat_lt, option_map}
+use Rattle.std.proofs.Common.{◌≡◌, ℕ, suc, zero, ◌+◌, ◌<◌, ◌≤◌, Bool, true, false, cond, List, [], ◌∷◌, length, take, Option, None, Some, Result, Ok, Err, refl, sym, ap, subst, inl, inr, arith}
+use Rattle.std.specs.Prelude.{bytes_eq, codes, nat_lt, option_map}
 use Rattle.std.proofs.lemmas.List.{length-drop}
 use Rattle.http1_model.proofs.ChunkLaws.{sought_fits}
 use Rattle.http1_model.proofs.Growth.{head_cut_fits}
@@ -9,10 +9,10 @@ use Rattle.http1_model.proofs.Readings.{Answers}
 use Rattle.http1_model.specs.Chunks as chunks
 use Rattle.http1_model.specs.Fields.{Pair}
 use Rattle.http1_model.specs.Head.{Head, HeadStep, found, not_yet, refused, step_of, IsAnswer, IsResponseAnswer, IsStepAt, SpellsBy}
-use Rattle.http1_model.specs.Lines.{Cut, whole, too_large, unfinished, head_limit, line_limit, head_cut, window_cut, cut_of, cut_lines, cut_open, cut_at, section_of, whole_lines, is_empty_line, skipped, after_empty_lines}
-use Rattle.http1_model.specs.Messages.{Item, request, interim, response, octet, end, trailers, Due, head, body, done, counted, coded, unbounded, Stop, Step, item, stop, due_behind, is_interim, item_of, stop_at, step_from, SpellsHead, counted_step, unbounded_step, trailers_left, end_step, section_step, stop_short, malformed, IsCodedStep, StepsTo}
+use Rattle.http1_model.specs.Lines.{Cut, whole, too_large, unfinished, head_limit, line_limit, head_cut, cut_of, cut_lines, cut_open, cut_at, section_of, whole_lines, is_empty_line, skipped, after_empty_lines}
+use Rattle.http1_model.specs.Messages.{request, interim, response, octet, end, trailers, Due, head, body, done, counted, coded, unbounded, Stop, Step, item, stop, due_behind, is_interim, item_of, step_from, SpellsHead, counted_step, unbounded_step, trailers_left, end_step, section_step, IsCodedStep, StepsTo}
 use Rattle.http1_model.specs.Trailers as trailing
-use Rattle.http1_model.specs.Unread.{Part, head_part, interim_part, piece, trailer_part, Next, part, none, Carries, by_itself, piece_before, IsNext, IsAlone, IsPiece, Reading, moved_on, unread_at, waiting, Hands, Halts}
+use Rattle.http1_model.specs.Unread.{Part, head_part, interim_part, piece, trailer_part, Next, part, none, Carries, by_itself, piece_before, IsNext, Reading, unread_at, Hands, Halts}
 
 -- ---- a head has bytes
 

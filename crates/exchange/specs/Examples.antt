@@ -1,18 +1,16 @@
 -- Worked examples: the rules of a line on values that are written out, and whole turns.
-use Rattle.std.specs.Prelude.{◌≡◌, ℕ, Bool, true, false, List, [], ◌∷◌, ◌++◌, Option, None, Some, codes}
-use Rattle.gate_config.specs.declared.entries.RouteEntry.{RouteEntry}
+use Rattle.std.specs.Prelude.{◌≡◌, ℕ, true, false, List, [], ◌∷◌, ◌++◌, None, Some, codes}
 use Rattle.gate_io.specs.declared.event.Sent.TheVariants.{Connect, Bytes, Close}
 use Rattle.gate_io.specs.declared.event.Side.TheVariants.{Down, Up}
 use Rattle.httparse.specs.Ascii.{crlf_bytes}
 use Rattle.http1_model.specs.Examples.{worked_text, worked_wire, worked_response_text, worked_response, worked_bare_response, worked_interim}
 use Rattle.http1_model.specs.Framing.{no_body, by_length, by_chunks, by_close}
-use Rattle.http1_model.specs.Head.{Head}
 use Rattle.http1_model.specs.Length.{chunked}
 use Rattle.http1_model.specs.Messages.{over, refusal}
 use Rattle.http1_model.specs.Unread.{interim_part, Reading, new_reading, fed, finished}
 use Rattle.exchange.specs.State.{Request, Answered, awaited, begun, forwarded, Line, new_line, Context, in_context}
 use Rattle.exchange.specs.Heads.{has_route, response_framing, stays_behind}
-use Rattle.exchange.specs.Moves.{hands, halts, goes, rests, ends, idle_stop, unrouted_end, answered_for, response_move, response_came, piece_came, RequestHeard}
+use Rattle.exchange.specs.Moves.{hands, halts, goes, rests, ends, idle_stop, unrouted_end, response_move, response_came, piece_came, RequestHeard}
 use Rattle.exchange.specs.Turns.{came, finishes, lost, met, Turns}
 
 -- the first moment, and one route
