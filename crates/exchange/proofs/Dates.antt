@@ -1,6 +1,6 @@
 -- The text of a moment is the value of a field.
-use Rattle.std.proofs.Common.{◌≡◌, ℕ, zero, suc, ◌+◌, ◌-◌, ◌*◌, ◌/◌, ◌%◌, ◌<◌, ◌≤◌, ◌^◌, Bool, true, false, ◌&&◌, List, [], ◌∷◌, ◌++◌, refl, sym, ap, ◌∙◌}
-use Rattle.std.specs.Prelude.{slice_index_or, codes, nat_lt}
+use Rattle.std.proofs.Common.{◌≡◌, ℕ, zero, suc, ◌+◌, ◌-◌, ◌/◌, ◌%◌, ◌<◌, ◌≤◌, ◌^◌, true, List, [], ◌∷◌, ◌++◌, refl, ◌∙◌}
+use Rattle.std.specs.Prelude.{slice_index_or, codes}
 use Rattle.std.specs.List.{list_all}
 use Rattle.std.proofs.lemmas.List.Folds.{list_all-append}
 use native.Mathlib.Omega.{arith}
@@ -47,11 +47,11 @@ date_passes p year day hour min sec =
     let century = digits_pass (p.year / 100) (omega (arith, year)) in
     let years = digits_pass (p.year % 100) (omega arith) in
     let time : is_field_value (time_of_day p) ≡ true =
-        both_pass (two_digits p.hour ++ codes ":" ++ two_digits p.min ++ codes ":") (two_digits p.sec)
-        (both_pass (two_digits p.hour ++ codes ":" ++ two_digits p.min) (codes ":")
-        (both_pass (two_digits p.hour ++ codes ":") (two_digits p.min)
-        (both_pass (two_digits p.hour) (codes ":") (digits_pass p.hour (omega (arith, hour))) refl) (digits_pass p.min (omega (arith, min)))) refl)
-        (digits_pass p.sec (omega (arith, sec))) in
+    both_pass (two_digits p.hour ++ codes ":" ++ two_digits p.min ++ codes ":") (two_digits p.sec)
+    (both_pass (two_digits p.hour ++ codes ":" ++ two_digits p.min) (codes ":")
+    (both_pass (two_digits p.hour ++ codes ":") (two_digits p.min)
+    (both_pass (two_digits p.hour) (codes ":") (digits_pass p.hour (omega (arith, hour))) refl) (digits_pass p.min (omega (arith, min)))) refl)
+    (digits_pass p.sec (omega (arith, sec))) in
     let l1 = day_name p.wday ++ codes ", " in
     let l2 = l1 ++ two_digits p.day in
     let l3 = l2 ++ codes " " in

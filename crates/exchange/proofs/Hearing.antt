@@ -1,6 +1,6 @@
 -- From the answers of the readers to the moves of the line.
-use Rattle.std.specs.Prelude.{◌≡◌, ℕ, Bool, true, false, List, [], ◌∷◌, ◌++◌, Option, None, Some, Result, Ok, Err, IfOk, refl}
-use Rattle.std.proofs.Common.{◌∙◌, sym, ap, subst}
+use Rattle.std.specs.Prelude.{◌≡◌, ℕ, Bool, true, false, List, Option, None, Some, Result, Ok, Err, IfOk, refl}
+use Rattle.std.proofs.Common.{◌∙◌, sym, subst}
 use Rattle.gate_io.specs.declared.event.Sent.{Sent}
 use Rattle.http1_model.specs.Framing.{Framing}
 use Rattle.http1_model.specs.Fields.{Pair}
@@ -11,7 +11,7 @@ use Rattle.h1_stream.specs.Steps.{Answers}
 use Rattle.h1_stream.specs.declared.reader.Step as step
 use Rattle.h1_stream.specs.declared.reader.Step.TheVariants as steps
 use Rattle.exchange.specs.State.{Request, Answered, awaited, begun, Exchange, unrouted, forwarded, Line, Context}
-use Rattle.exchange.specs.Moves.{Heard, hands, halts, Hears, answered_for, piece_came, trailers_came, Responds, unrouted_end, idle_move, unrouted_move, response_move, RequestHeard, UnroutedMoves, ForwardedMoves, Move}
+use Rattle.exchange.specs.Moves.{Heard, hands, halts, Hears, answered_for, piece_came, trailers_came, Responds, unrouted_end, idle_move, unrouted_move, response_move, UnroutedMoves, ForwardedMoves, Move}
 use Rattle.exchange.specs.Heads.{may_stay}
 use Rattle.exchange.specs.Seen.{heard_of, line_of, Makes, Made, MadeResponding, MadeHearing}
 use Rattle.exchange.specs.declared.line.Move as move

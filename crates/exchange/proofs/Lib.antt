@@ -4,3 +4,8 @@ pub mod Making
 pub mod Refusals
 pub mod Hearing
 pub mod Settling
+pub mod Once
+pub mod Examples
+pub mod Order
+pub mod Using
+pub mod Falling

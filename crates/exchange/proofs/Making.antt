@@ -1,7 +1,6 @@
 -- How moves are made, step by step.
-use Rattle.std.specs.Prelude.{◌≡◌, ℕ, ◌≤◌, Bool, true, false, List, [], ◌∷◌, ◌++◌, Option, None, Some, Result, Ok, Err, IfOk, refl}
+use Rattle.std.specs.Prelude.{◌≡◌, ℕ, Bool, true, false, List, [], ◌∷◌, ◌++◌, Result, Ok, Err, IfOk}
 use Rattle.std.proofs.Common.{◌∙◌, sym, ap, append_assoc}
-use native.Mathlib.Omega.{arith}
 use Rattle.gate_io.specs.declared.event.Sent.{Sent}
 use Rattle.gate_io.specs.declared.event.Sent.TheVariants.{Close}
 use Rattle.gate_io.specs.declared.event.Side.{Side}
@@ -12,7 +11,7 @@ use Rattle.http1_model.specs.Head.{Head}
 use Rattle.http1_model.specs.Unread.{Reading}
 use Rattle.exchange.specs.Heads.{is_bare, response_framing, response_out, may_stay, stays_behind}
 use Rattle.exchange.specs.State.{Request, Line, in_context}
-use Rattle.exchange.specs.Moves.{Move, goes, rests, ends, ended, sending, fixed_answer, answered_for, response_came, unrouted_end}
+use Rattle.exchange.specs.Moves.{ended, sending, fixed_answer, answered_for, response_came, unrouted_end}
 use Rattle.exchange.specs.Seen.{seen_answered, Makes}
 use Rattle.exchange.specs.declared.line.Answered as answered
 use Rattle.exchange.specs.declared.line.Answered.TheVariants as answers

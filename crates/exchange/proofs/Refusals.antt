@@ -1,5 +1,5 @@
 -- The statuses that refuse a text are those of responses.
-use Rattle.std.proofs.Common.{◌≡◌, ℕ, zero, suc, ◌≤◌, Bool, true, false, cond, eqb, ◌||◌, List, [], ◌∷◌, drop, Option, None, Some, bytes_eq, codes, refl, sym, ap, subst}
+use Rattle.std.proofs.Common.{◌≡◌, ℕ, zero, suc, ◌≤◌, Bool, true, false, cond, eqb, List, [], ◌∷◌, Option, None, Some, bytes_eq, codes, sym, subst}
 use Rattle.std.specs.Prelude.{length}
 use native.Mathlib.Omega.{arith}
 use Rattle.std.proofs.lemmas.Bool.Decides.{nat_tests}
@@ -8,7 +8,7 @@ use Rattle.http1_model.specs.Fields.{Pair}
 use Rattle.http1_model.specs.Head.{Head, HeadStep, found, not_yet, refused}
 use Rattle.http1_model.specs.Laws.{is_request_refusal}
 use Rattle.http1_model.specs.Lines.{after_empty_lines}
-use Rattle.http1_model.specs.Messages.{Due, head, body, done, counted, coded, unbounded, Stop, rest, over, refusal, Step, item, stop, StepsTo, SpellsHead, step_from, item_of, stop_at, stop_short, malformed, counted_step, unbounded_step, section_step, end_step, trailers_left, IsCodedStep, is_interim, due_behind, interim, response}
+use Rattle.http1_model.specs.Messages.{Due, head, body, done, counted, coded, unbounded, over, refusal, item, stop, StepsTo, SpellsHead, step_from, item_of, stop_at, stop_short, malformed, counted_step, unbounded_step, section_step, end_step, trailers_left, IsCodedStep, is_interim, due_behind, interim, response}
 use Rattle.http1_model.specs.Trailers as trailing
 use Rattle.http1_model.specs.Unread.{Reading, Halts}
 use Rattle.http1_model.proofs.Numbers.{refusal_numbers}

@@ -1,11 +1,11 @@
 -- Moves one behind the other.
-use Rattle.std.specs.Prelude.{◌≡◌, ℕ, List, [], ◌∷◌, ◌++◌, Option, None, Some, Result, Ok, Err, IfOk, refl}
+use Rattle.std.specs.Prelude.{◌≡◌, List, [], ◌∷◌, ◌++◌, Option, None, Some, Result, Ok, Err, IfOk, refl}
 use Rattle.std.proofs.Common.{◌∙◌, sym, ap, subst, append_assoc}
 use Rattle.std.proofs.lemmas.List.{append-nil}
 use Rattle.gate_io.specs.declared.event.Sent.{Sent}
 use Rattle.exchange.specs.State.{Line, Context}
 use Rattle.exchange.specs.Moves.{Move, goes, rests, ends, MovesTo}
-use Rattle.exchange.specs.Turns.{Passes, IsLast, Settles, Happening, met, Follows}
+use Rattle.exchange.specs.Turns.{Passes, Settles, Happening, met, Follows}
 use Rattle.exchange.specs.Seen.{Makes, Made, SoFar, Done, Turned}
 use Rattle.exchange.specs.declared.line.Move as move
 use Rattle.exchange.specs.declared.line.Move.TheVariants as to
@@ -15,9 +15,13 @@ passes_more : (at : Context) (line : Line) (lines : List Line) (sent now : List 
     → Passes at line (lines ++ next ∷ []) (sent ++ now) next
 passes_more at line [] sent now mid next passes moves =
     (now, [], subst (λ (l : Line). MovesTo at l (goes now next)) passes.1 moves, (refl, refl), ap (λ (s : List Sent). s ++ now) passes.0 ∙ sym (append-nil now))
-passes_more at line (l ∷ lines) sent now mid next passes moves =
-    (passes.0, passes.1 ++ now, passes.2, passes_more at l lines passes.1 now mid next passes.3 moves,
-    ap (λ (s : List Sent). s ++ now) passes.4 ∙ append_assoc passes.0 passes.1 now)
+passes_more at line (l ∷ lines) sent now mid next passes moves = (
+  passes.0,
+  passes.1 ++ now,
+  passes.2,
+  passes_more at l lines passes.1 now mid next passes.3 moves,
+  ap (λ (s : List Sent). s ++ now) passes.4 ∙ append_assoc passes.0 passes.1 now,
+)
 
 pub so_far_none : (at : Context) (line : Line) (old : List Sent) → SoFar at line old line old
 so_far_none at line old = record { lines = []; sent = []; passes = (refl, refl); is = sym (append-nil old) }
@@ -46,7 +50,15 @@ rests_done : (at : Context) (line mid next : Line) (old out new : List Sent) (m 
 rests_done at line mid next old out new (rests l) so moves makes = record {
   sent = so.sent ++ [];
   settles = record {
-    lines = so.lines; before = mid; earlier = so.sent; passes = so.passes; move = rests l; moves = moves; now = []; stops = (refl, ap Some makes.0); is = refl;
+    lines = so.lines;
+    before = mid;
+    earlier = so.sent;
+    passes = so.passes;
+    move = rests l;
+    moves = moves;
+    now = [];
+    stops = (refl, ap Some makes.0);
+    is = refl;
   };
   is = makes.1 ∙ so.is ∙ ap (λ (s : List Sent). old ++ s) (sym (append-nil so.sent));
 }
@@ -58,7 +70,15 @@ ends_done : (at : Context) (line mid : Line) (old out new : List Sent) (m : Move
 ends_done at line mid old out new (ends now) so moves makes = record {
   sent = so.sent ++ now;
   settles = record {
-    lines = so.lines; before = mid; earlier = so.sent; passes = so.passes; move = ends now; moves = moves; now = now; stops = (refl, refl); is = refl;
+    lines = so.lines;
+    before = mid;
+    earlier = so.sent;
+    passes = so.passes;
+    move = ends now;
+    moves = moves;
+    now = now;
+    stops = (refl, refl);
+    is = refl;
   };
   is = joins old so.sent now out new so.is makes;
 }

@@ -1,7 +1,7 @@
 -- The fields behind the framing field are taken by their list.
 use native.Mathlib.Omega.{arith}
-use Rattle.std.specs.Prelude.{◌≡◌, ℕ, ◌<◌, ◌≤◌, ◌^◌, ◌==◌, ◌++◌, true, false, codes, Result, Ok, Err, IsOk, OnOk, None, length, refl}
-use Rattle.std.proofs.Common.{◌∙◌, sym, ap, cond}
+use Rattle.std.specs.Prelude.{◌≡◌, ℕ, ◌<◌, ◌≤◌, ◌^◌, ◌==◌, ◌++◌, true, false, codes, Result, Ok, Err, IsOk, OnOk, None, refl}
+use Rattle.std.proofs.Common.{sym, cond}
 use Rattle.header_maps.proofs.Kept.{add_room}
 use Rattle.header_maps.specs.Faults.{add_fault}
 use Rattle.header_maps.specs.Headers.{Headers}

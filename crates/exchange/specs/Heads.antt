@@ -1,5 +1,5 @@
 -- Heads on their way out, the route of a request, and the rule of persistence.
-use Rattle.std.specs.Prelude.{ℕ, Bool, true, false, ◌&&◌, not, List, [], ◌∷◌, ◌++◌, ◌==◌, bytes_eq, codes, Option, None, Some, is_some, nat_lt, if◌then◌else◌}
+use Rattle.std.specs.Prelude.{ℕ, Bool, true, false, ◌&&◌, not, List, [], ◌∷◌, ◌++◌, ◌==◌, bytes_eq, codes, None, is_some, nat_lt, if◌then◌else◌}
 use Rattle.std.specs.List.{list_all, before_first}
 use Rattle.gate_config.specs.declared.entries.RouteEntry.{RouteEntry}
 use Rattle.gate_config.specs.Routes.{route_of}

@@ -3,3 +3,5 @@ pub mod Heads
 pub mod Moves
 pub mod Turns
 pub mod Seen
+pub mod Laws
+pub mod Examples

@@ -1,5 +1,5 @@
 -- The states and moves of the definitions that the code's values say.
-use Rattle.std.specs.Prelude.{◌≡◌, ℕ, List, [], ◌∷◌, ◌++◌, Option, None, Some}
+use Rattle.std.specs.Prelude.{◌≡◌, ℕ, List, [], ◌∷◌, ◌++◌, Option}
 use Rattle.gate_config.specs.declared.config.Config.{Config}
 use Rattle.header_maps.specs.Headers.{Headers}
 use Rattle.http1_model.specs.Framing.{Framing}

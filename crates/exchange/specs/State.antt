@@ -1,5 +1,5 @@
 -- An open line: what has come from its client, and the exchange that is open on it (RFC 9112, section 9).
-use Rattle.std.specs.Prelude.{ℕ, Bool, false, List, Option, None, Some}
+use Rattle.std.specs.Prelude.{ℕ, Bool, List, Option, None, Some}
 use Rattle.gate_io.specs.declared.event.Side.{Side}
 use Rattle.gate_io.specs.declared.event.Side.TheVariants.{Down, Up}
 use Rattle.gate_config.specs.declared.entries.RouteEntry.{RouteEntry}

@@ -1,12 +1,11 @@
 -- What happens on a line, and all that it does then.
-use Rattle.std.specs.Prelude.{◌≡◌, ℕ, Bool, true, false, List, [], ◌∷◌, ◌++◌, Option, None, Some, if◌then◌else◌}
+use Rattle.std.specs.Prelude.{◌≡◌, ℕ, Bool, true, false, List, [], ◌∷◌, ◌++◌, Option, None, Some}
 use Rattle.gate_io.specs.declared.event.Sent.{Sent}
 use Rattle.gate_io.specs.declared.event.Sent.TheVariants.{Close}
 use Rattle.gate_io.specs.declared.event.Side.{Side}
 use Rattle.gate_io.specs.declared.event.Side.TheVariants.{Down, Up}
-use Rattle.http1_model.specs.Framing.{Framing}
-use Rattle.http1_model.specs.Unread.{Reading, fed, finished}
-use Rattle.exchange.specs.State.{Request, Answered, Exchange, unrouted, forwarded, Line, Context}
+use Rattle.http1_model.specs.Unread.{fed, finished}
+use Rattle.exchange.specs.State.{Exchange, unrouted, forwarded, Line, Context}
 use Rattle.exchange.specs.Heads.{may_stay}
 use Rattle.exchange.specs.Moves.{Move, goes, rests, ends, with_requests, with_exchange, answered_for, MovesTo}
 

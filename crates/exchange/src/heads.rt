@@ -227,11 +227,7 @@ pub(crate) fn response_out(
 }
 
 /// The bytes of a head that is framed so.
-pub(crate) fn head_bytes(
-    alloc: Global,
-    head: Head,
-    framing: Framing,
-) -> Result<Octets, OutOfMemory>
+pub(crate) fn head_bytes(alloc: Global, head: Head, framing: Framing) -> Result<Octets, OutOfMemory>
     ensures { IfOk result (λ bytes. bytes ≡ head_wire (seen_framing framing) (seen_head head)) }
 {
     let mut bytes = Octets::new(alloc);

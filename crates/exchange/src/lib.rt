@@ -2,6 +2,7 @@
 #![tactic(auto)]
 
 mod heads;
+mod laws;
 mod line;
 mod reply;
 mod request;
@@ -9,5 +10,6 @@ mod response;
 mod sending;
 mod turn;
 
+pub use laws::{few_moves, one_outcome, turns_in_order, worked_turns};
 pub use line::Line;
 pub use turn::Happening;

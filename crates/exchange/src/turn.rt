@@ -15,7 +15,7 @@ use crate::sending::close;
 use gate_base::OutOfMemory;
 use gate_config::Config;
 use gate_io::{SentList, Side};
-use std::alloc::{AllocError, Global};
+use std::alloc::Global;
 
 /// What happens on a line.
 #[derive(Clone, Copy, Debug)]
@@ -66,15 +66,14 @@ impl Line {
         ensures { IfOk result (λ after. Done (at now config.now) self out.old after out.new) }
     {
         let mut line = self;
-        // Each move uses up bytes, but for an end that comes alone, so so many are never made.
-        'moves: for _ in 0..u64::MAX {
+        // Each move uses up bytes, or ends a request or an exchange.
+        'moves: loop {
             match line.step(alloc, now, config, out)? {
                 Move::Goes(next) => line = next,
                 Move::Rests(next) => return Ok(Some(next)),
                 Move::Ends => return Ok(None),
             }
         }
-        Err(AllocError)
     }
 
     /// A turn of the line: what happens comes to it, and it does all that it can do. What it sends is put behind what was sent

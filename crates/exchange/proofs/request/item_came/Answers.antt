@@ -1,7 +1,4 @@
 use Rattle.std.specs.Prelude.{refl}
-use Rattle.std.proofs.Common.{◌∙◌, ap}
-use Rattle.gate_io.specs.declared.event.Side.TheVariants.{Up}
-use Rattle.exchange.specs.Moves.{sending}
 use Rattle.exchange.proofs.Making.{sent_bytes}
 use Rattle.exchange.proofs.request.item_came.Goals as goal
 

@@ -2,7 +2,7 @@ use Rattle.exchange.proofs.Making.{response_whole}
 use Rattle.std.specs.Prelude.{None}
 use Rattle.h1_head.specs.Seen.{seen_head}
 use Rattle.exchange.specs.Seen.{line_of}
-use Rattle.std.proofs.Common.{◌∙◌, sym, ap}
+use Rattle.std.proofs.Common.{◌∙◌, sym}
 use Rattle.exchange.proofs.response.head_came.Goals as goal
 
 pub returns-then-bare : goal.returns-then-bare

@@ -1,4 +1,4 @@
-use Rattle.std.specs.Prelude.{Ok, refl}
+use Rattle.std.specs.Prelude.{refl}
 use Rattle.h1_stream.specs.declared.reader.Step.TheVariants as steps
 use Rattle.exchange.specs.declared.line.Move.TheVariants as to
 use Rattle.exchange.proofs.Hearing.{responds, responds_one}

@@ -1,3 +1,4 @@
+use Rattle.exchange.proofs.Falling.{made_falls}
 use Rattle.exchange.proofs.Settling.{so_far_none, so_far_goes, done_rests, done_ends}
 use Rattle.exchange.proofs.line.Line.settle.Goals as goal
 
@@ -12,3 +13,6 @@ returns-in-Ends c = done_ends _ _ _ _ _ _ c.in_ok-next.field-0 c.moves.invariant
 
 pub moves-preserved : goal.moves-preserved
 moves-preserved c = so_far_goes _ _ _ _ _ _ _ c.in_ok-next.field-0 c.moves.invariant c.in-Goes.is c.in_ok-next.ensures
+
+pub moves-smaller : goal.moves-smaller
+moves-smaller c = made_falls _ _ _ _ _ c.in_ok-next.field-0 c.in-Goes.is c.in_ok-next.ensures

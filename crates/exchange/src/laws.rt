@@ -1,0 +1,31 @@
+// What holds of every line, as functions without a body.
+ghost use Rattle.exchange.specs.Examples.{ResponseExamples, RefusalExamples, HappeningExamples, TurnExamples};
+ghost use Rattle.exchange.specs.Laws.{OneMove, OneSettling, OneOutcome, TurnsInOrder, MovesFall, FewMoves};
+
+/// What happens on a line has one outcome: what it sends, and what it is behind it, or that it is closed.
+pub fn one_outcome()
+    ensures next { OneMove }
+    ensures all { OneSettling }
+    ensures turn { OneOutcome }
+{}
+
+/// Responses, refusals, what happens on a line, and whole turns, worked on values that are written out.
+pub fn worked_turns()
+    ensures responses { ResponseExamples }
+    ensures refusals { RefusalExamples }
+    ensures happenings { HappeningExamples }
+    ensures turns { TurnExamples }
+{}
+
+/// What a turn sends is in order: a connection up is opened where there is none, and closed where there is one; bytes go up only
+/// where there is one; and nothing is sent behind the close of the client's connection, which comes last.
+pub fn turns_in_order()
+    ensures { TurnsInOrder }
+{}
+
+/// Each move that goes on does some of what is left to do: it uses up bytes, or ends a request or an exchange. So a line makes few
+/// moves until it stops.
+pub fn few_moves()
+    ensures each { MovesFall }
+    ensures all { FewMoves }
+{}
