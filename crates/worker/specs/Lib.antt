@@ -2,3 +2,4 @@ pub mod State
 pub mod Wants
 pub mod Turn
 pub mod Turned
+pub mod Lives

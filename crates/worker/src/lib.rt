@@ -4,6 +4,7 @@
 mod answer;
 mod listed;
 mod opened;
+mod run;
 mod wanted;
 mod worker;
 
