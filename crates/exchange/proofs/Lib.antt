@@ -3,3 +3,4 @@ pub mod Tails
 pub mod Making
 pub mod Refusals
 pub mod Hearing
+pub mod Settling

@@ -13,7 +13,7 @@ use Rattle.h1_stream.specs.declared.reader.Step.TheVariants as steps
 use Rattle.h1_write.specs.Seen.{seen_framing}
 use Rattle.exchange.specs.State as state
 use Rattle.exchange.specs.Moves as moves
-use Rattle.exchange.specs.Turns.{Settles, Happening, came, finishes, lost, Turns}
+use Rattle.exchange.specs.Turns.{Passes, Settles, Happening, came, finishes, lost, Turns}
 use Rattle.exchange.specs.declared.turn.Happening as happening
 use Rattle.exchange.specs.declared.turn.Happening.TheVariants as happenings
 use Rattle.exchange.specs.declared.line.Request as request
@@ -80,6 +80,13 @@ pub record MadeHearing (at : state.Context) (line : state.Line) (request : state
   pub move : moves.Move
   pub heard_so : moves.RequestHeard at line request framing response answered heard move
   pub makes : Makes move old answer new
+
+-- some moves were made, and the line is this then
+pub record SoFar (at : state.Context) (line : state.Line) (old : List Sent) (last : state.Line) (new : List Sent) : Type 0 where
+  pub lines : List state.Line
+  pub sent : List Sent
+  pub passes : Passes at line lines sent last
+  pub is : new ≡ old ++ sent
 
 -- all that a line does was done
 pub record Done (at : state.Context) (line : state.Line) (old : List Sent) (after : Option state.Line) (new : List Sent) : Type 0 where

@@ -1,5 +1,7 @@
 -- An open line: what has come from its client, and the exchange that is open on it (RFC 9112, section 9).
 use Rattle.std.specs.Prelude.{ℕ, Bool, false, List, Option, None, Some}
+use Rattle.gate_io.specs.declared.event.Side.{Side}
+use Rattle.gate_io.specs.declared.event.Side.TheVariants.{Down, Up}
 use Rattle.gate_config.specs.declared.entries.RouteEntry.{RouteEntry}
 use Rattle.http1_model.specs.Framing.{Framing}
 use Rattle.http1_model.specs.Unread.{Reading, new_reading}
@@ -38,3 +40,16 @@ pub record Context : Type 0 where
 
 abbrev pub in_context : ℕ → List RouteEntry → Context
 in_context now routes = record { now = now; routes = routes }
+
+-- ---- what is read of a side
+
+-- of the server's, in an exchange: there is a connection only where its request goes up
+abbrev pub response_in : Option Exchange → Option Reading
+response_in None = None
+response_in (Some (unrouted request)) = None
+response_in (Some (forwarded request framing response answered)) = Some response
+
+-- of a side of a line, if there is a connection
+abbrev pub reading_of : Side → Line → Option Reading
+reading_of Down line = Some line.requests
+reading_of Up line = response_in line.exchange

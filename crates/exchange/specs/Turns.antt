@@ -72,7 +72,7 @@ finished_up line (Some (forwarded request framing response answered)) =
 abbrev pub server_lost : Context → Line → Option Exchange → Move
 server_lost at line None = rests line
 server_lost at line (Some (unrouted request)) = rests line
-server_lost at line (Some (forwarded request framing response answered)) = answered_for at line 502 (may_stay request) answered
+server_lost at line (Some (forwarded request framing response answered)) = answered_for at (with_exchange line None) 502 (may_stay request) answered
 
 -- what happens comes to the line
 abbrev pub met : Context → Line → Happening → Move

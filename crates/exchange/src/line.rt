@@ -2,6 +2,7 @@
 ghost use Rattle.std.specs.Prelude.{◌≡◌, IfOk};
 
 use gate_base::{LineNo, OutOfMemory};
+use gate_io::Side;
 use h1_head::Kind;
 use h1_stream::MessageReader;
 use h1_write::Framing;
@@ -78,7 +79,9 @@ pub(crate) enum Move {
 }
 
 impl Line {
-    ghost use Rattle.exchange.specs.State.{new_line};
+    ghost use Rattle.std.specs.Prelude.{length};
+    ghost use Rattle.std.specs.Option.{option_map};
+    ghost use Rattle.exchange.specs.State.{new_line, reading_of, response_in};
 
     /// A line that was just opened.
     pub fn new(alloc: Global, number: LineNo) -> Result<Self, OutOfMemory>
@@ -96,5 +99,26 @@ impl Line {
         ensures { result ≡ self.now.number }
     {
         self.number
+    }
+
+    /// How many bytes of a side's text no part has used. There are none of Up without a connection up.
+    pub fn unread_len(&self, side: Side) -> Option<usize>
+        ensures { result ≡ option_map (λ r. length r.unread) (reading_of side self.now) }
+    {
+        match side {
+            Side::Down => Some(self.requests.unread_len()),
+            Side::Up => self.response_len(),
+        }
+    }
+
+    /// How many bytes of the response no part has used, where there is a connection up.
+    fn response_len(&self) -> Option<usize>
+        ensures { result ≡ option_map (λ r. length r.unread) (response_in self.now.exchange) }
+    {
+        match &self.exchange {
+            None => None,
+            Some(Exchange::Unrouted(_)) => None,
+            Some(Exchange::Forwarded(forwarded)) => Some(forwarded.response.unread_len()),
+        }
     }
 }

@@ -24,7 +24,7 @@ use h1_stream::{MessageReader, Step};
 use std::alloc::Global;
 
 /// The line, with a request on it that no route takes.
-fn line_without_route(number: LineNo, requests: MessageReader, request: Request) -> Line
+pub(crate) fn line_without_route(number: LineNo, requests: MessageReader, request: Request) -> Line
     ensures { result ≡ line_of number requests (Some (unrouted (seen_request request))) }
 {
     Line {
@@ -96,7 +96,7 @@ fn refuse(
 }
 
 /// The line rests without an exchange.
-fn idle_line(number: LineNo, requests: MessageReader) -> Move
+pub(crate) fn idle_line(number: LineNo, requests: MessageReader) -> Move
     ensures { result ≡ Move.Rests (line_of number requests None) }
 {
     Move::Rests(Line {
@@ -228,8 +228,8 @@ fn item_came(
     item: Item,
     out: &mut SentList,
 ) -> Result<Move, OutOfMemory>
-    ensures { (here : Context) → IfOk result (λ m.
-        MadeHearing here (line_of number requests None) (seen_request forwarded.request) (seen_framing forwarded.framing) forwarded.response (seen_answered forwarded.answered) (hands (seen_part item) requests) out.old m out.new) }
+    ensures { (here : Context) (before : Reading) → IfOk result (λ m.
+        MadeHearing here (line_of number before (Some (seen_forwarded forwarded))) (seen_request forwarded.request) (seen_framing forwarded.framing) forwarded.response (seen_answered forwarded.answered) (hands (seen_part item) requests) out.old m out.new) }
 {
     let mut forwarded = forwarded;
     let framing = forwarded.framing;

@@ -86,6 +86,13 @@ impl MessageReader {
         self.ended
     }
 
+    /// How many bytes of the text no item has used.
+    pub fn unread_len(&self) -> usize
+        ensures { result ≡ length self.now.unread }
+    {
+        self.text.as_slice().len()
+    }
+
     /// The next item of all text so far, in whatever pieces it came: a head, up to 16,384 bytes of a body, or trailers; or that
     /// there is none. A body's bytes come as soon as they are there.
     #[tactic(auto, using(crate::proofs::Answered::answered))]
