@@ -1,5 +1,5 @@
 -- Turns, one after another.
-use Rattle.std.proofs.Common.{◌≡◌, ℕ, ◌+◌, Bool, List, [], ◌∷◌, ◌++◌, length, refl, ap, sym, subst, ◌∙◌, append_assoc, length-append, Option}
+use Rattle.std.proofs.Common.{◌≡◌, ℕ, ◌+◌, Bool, ◌<◌, true, List, [], ◌∷◌, ◌++◌, length, refl, ap, sym, subst, ◌∙◌, append_assoc, length-append, arith, Option}
 use Rattle.std.proofs.lemmas.List.{append-nil}
 use Rattle.gate_config.specs.declared.config.Config.{Config}
 use Rattle.gate_io.specs.Told.{Gains, gains_nothing, gains_more}
@@ -12,8 +12,10 @@ use Rattle.outbox.specs.Turns.{OneTurn}
 use Rattle.outbox.proofs.Deliveries.{delivers_none, delivers-push}
 use Rattle.worker.specs.State.{State, Setting, Standing}
 use Rattle.worker.specs.Turn.{Outcome, outcome, IsTurned}
-use Rattle.worker.specs.Turned.{one_turn, Whole}
-use Rattle.worker.specs.Lives.{Means, Lived}
+use Rattle.worker.specs.Turned.{one_turn, Whole, Turned}
+use Rattle.worker.specs.declared.worker.Turn.{Turn}
+use Rattle.worker.specs.declared.worker.Turn.TheVariants.{Went, Stopped, WorldFault, OutOfMemory}
+use Rattle.worker.specs.Lives.{Means, Lived, Ran}
 
 -- one turn more
 pub means-push : (config : Config) (state : State) (turns : List OneTurn) (calls : List Made) (mid : State) (turn : OneTurn) (program : Program Outcome) (now : List Made) (to : State)
@@ -69,3 +71,15 @@ module _ {S : Type 0} (performs : S → List Made → S → Type 0) where
     told = gains_more old far.steps passed one.steps new far.told one.told;
     delivers = delivers-push from.waiting far.turns far.steps before.waiting (one_turn one.event one.sent) one.steps to.waiting far.delivers one.hands_over;
   }
+
+  -- turns, and then one of another end
+  pub ran_until : ((s t u : S) (a b : List Made) → performs s a t → performs t b u → performs s (a ++ b) u)
+      → (s mid t : S) (old passed new : Option (List Passed)) (from before to : Standing) (count most : ℕ) (end : Turn) → before.setting ≡ from.setting → count < most → (end ≡ Went → ⊥)
+      → Lived performs s old from count before mid passed → Turned performs mid passed before end to t new → Ran performs s old from most end to t new
+  ran_until joined s mid t old passed new from before to count most Went same below other far one = absurd (other refl)
+  ran_until joined s mid t old passed new from before to count most Stopped same below other far one =
+      record { count = count + 1; within = omega arith; lived = lived-push joined s mid t old passed new from before to count true same far one }
+  ran_until joined s mid t old passed new from before to count most WorldFault same below other far one =
+      record { count = count; below = below; before = before; shared = mid; passed = passed; lived = far; ends = one }
+  ran_until joined s mid t old passed new from before to count most OutOfMemory same below other far one =
+      record { count = count; below = below; before = before; shared = mid; passed = passed; lived = far; ends = one }
