@@ -9,3 +9,6 @@ mod wanted;
 mod worker;
 
 pub use worker::{Turn, Worker};
+
+#[cfg(test)]
+mod tests;
