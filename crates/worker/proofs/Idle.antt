@@ -1,10 +1,8 @@
 -- Events that do not fit.
-use Rattle.std.proofs.Common.{◌≡◌, ℕ, zero, suc, ◌<◌, Bool, true, false, List, [], ◌∷◌, length, refl, ap, sym, subst, ◌∙◌, arith, Option, None, Some, slice_set}
+use Rattle.std.proofs.Common.{◌≡◌, ℕ, zero, suc, true, List, [], ◌∷◌, refl, ap, sym, subst, ◌∙◌, Option, None, Some, slice_set}
 use Rattle.std.specs.List.{slice_get}
 use Rattle.std.specs.Option.{is_some}
-use Rattle.gate_config.specs.declared.config.Config.{Config}
 use Rattle.gate_io.specs.declared.event.Sent.{Sent}
-use Rattle.gate_io.specs.declared.event.Side.{Side}
 use Rattle.gate_io.specs.declared.event.Side.TheVariants.{Down, Up}
 use Rattle.gate_io.specs.declared.event.What.{What}
 use Rattle.gate_io.specs.declared.event.What.TheVariants.{Opened, Bytes, End, Gone, Joined, Refused, Room, Clock, Stop}
@@ -12,10 +10,10 @@ use Rattle.store_model.specs.Program.{done}
 use Rattle.outbox.specs.Joined.{joined}
 use Rattle.exchange.specs.State.{Line, Context, Exchange, unrouted, forwarded}
 use Rattle.exchange.specs.Moves.{Move, rests}
-use Rattle.exchange.specs.Turns.{Happening, came, finishes, lost, Turns, met, unless, came_up, finished_up, server_lost, Follows}
+use Rattle.exchange.specs.Turns.{Happening, came, finishes, lost, met, came_up, finished_up, server_lost, Follows}
 use Rattle.exchange.specs.Seen.{at}
 use Rattle.worker.specs.State.{with_lines}
-use Rattle.worker.specs.Turn.{OnLine, happening_of, place_in, gone_on, StandsStill, ActsAt, Happens, Opens, opened_sent, opened_lines, Answers, outcome}
+use Rattle.worker.specs.Turn.{OnLine, happening_of, place_in, gone_on, StandsStill, ActsAt, Happens, Opens, Answers, outcome}
 use Rattle.worker.specs.Laws.{DoesNotFit, FitsNone, IsIdle, IdleEventsChangeNothing}
 
 -- what stands at a place, put there again

@@ -2,3 +2,4 @@ pub mod Places
 pub mod Turns
 pub mod Lives
 pub mod Idle
+pub mod Reacts

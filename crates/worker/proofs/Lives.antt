@@ -2,9 +2,7 @@
 use Rattle.std.proofs.Common.{◌≡◌, ℕ, ◌+◌, Bool, ◌<◌, true, List, [], ◌∷◌, ◌++◌, length, refl, ap, sym, subst, ◌∙◌, append_assoc, length-append, arith, Option}
 use Rattle.std.proofs.lemmas.List.{append-nil}
 use Rattle.gate_config.specs.declared.config.Config.{Config}
-use Rattle.gate_io.specs.Told.{Gains, gains_nothing, gains_more}
-use Rattle.gate_io.specs.declared.event.Event.{Event}
-use Rattle.gate_io.specs.declared.event.Sent.{Sent}
+use Rattle.gate_io.specs.Told.{gains_nothing, gains_more}
 use Rattle.gate_io.specs.declared.passed.Passed.{Passed}
 use Rattle.store_model.specs.Made.{Made}
 use Rattle.store_model.specs.Program.{Program, done, Reaches}

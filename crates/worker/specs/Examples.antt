@@ -1,12 +1,12 @@
 -- Worked examples: what happens on which line, lines that are opened and closed, and what is wanted.
-use Rattle.std.specs.Prelude.{◌≡◌, ℕ, true, false, List, [], ◌∷◌, length, Option, None, Some, map}
+use Rattle.std.specs.Prelude.{◌≡◌, ℕ, true, false, List, [], ◌∷◌, length, None, Some}
 use Rattle.gate_io.specs.declared.event.Sent.TheVariants.{Bytes, Close}
 use Rattle.gate_io.specs.declared.event.Side.TheVariants.{Down, Up}
 use Rattle.gate_io.specs.declared.event.What.TheVariants as what
 use Rattle.gate_io.specs.declared.passed.Wants.{Wants}
 use Rattle.http1_model.specs.Framing.{no_body}
-use Rattle.http1_model.specs.Unread.{Reading, new_reading, fed}
-use Rattle.exchange.specs.State.{Request, Exchange, unrouted, forwarded, awaited, Line, new_line}
+use Rattle.http1_model.specs.Unread.{new_reading, fed}
+use Rattle.exchange.specs.State.{forwarded, awaited, Line, new_line}
 use Rattle.exchange.specs.Turns.{came, finishes, lost}
 use Rattle.worker.specs.State.{with_lines}
 use Rattle.worker.specs.Turn.{on_line, happening_of, place_in, gone_on, opened_lines, opened_sent}

@@ -68,7 +68,7 @@ fn react(
     }
     match happening_of(what) {
         None => Ok(()),
-        Some((line, happening)) => act(alloc, now, config, lines, line, happening, sent),
+        Some(on) => act(alloc, now, config, lines, on.0, on.1, sent),
     }
 }
 

@@ -1,4 +1,4 @@
-use Rattle.std.proofs.Common.{rules, refl, ◌∙◌, ◌≡◌, false, arith}
+use Rattle.std.proofs.Common.{refl, ◌∙◌, false, arith}
 use Rattle.worker.proofs.Lives.{lived_none, lived-push, ran_until}
 use Rattle.worker.proofs.worker.Worker.run.Goals as goal
 
