@@ -1,7 +1,7 @@
 -- Lines at their places.
-use Rattle.std.proofs.Common.{◌≡◌, ℕ, zero, suc, ◌<◌, ◌≤◌, ◌+◌, List, [], ◌∷◌, ◌++◌, length, refl, ap, sym, subst, ◌∙◌, arith, Option, Some, slice_index_or, slice_set, take, drop}
+use Rattle.std.proofs.Common.{◌≡◌, ℕ, zero, suc, ◌<◌, List, [], ◌∷◌, ◌++◌, length, refl, ap, sym, subst, ◌∙◌, arith, Option, Some, slice_index_or, slice_set}
 use Rattle.std.proofs.lemmas.Option.{slice_get-get_or}
-use Rattle.std.specs.List.{insert, remove, slice_get}
+use Rattle.std.specs.List.{insert, remove}
 use Rattle.gate_io.specs.declared.event.Sent.{Sent}
 use Rattle.exchange.specs.State.{Line, Context}
 use Rattle.exchange.specs.Seen.{Turned}

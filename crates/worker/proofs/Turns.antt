@@ -4,7 +4,6 @@ use Rattle.std.specs.Prelude.{IsTrue}
 use Rattle.gate_io.specs.Events.{is_stop}
 use Rattle.gate_io.specs.Passing.{asking}
 use Rattle.gate_io.specs.Told.{Gains}
-use Rattle.gate_io.specs.declared.ends.WorldEnd.{WorldEnd}
 use Rattle.gate_io.specs.declared.event.Event.{Event}
 use Rattle.gate_io.specs.declared.event.Sent.{Sent}
 use Rattle.gate_io.specs.declared.event.What.{What}
@@ -13,7 +12,7 @@ use Rattle.gate_io.specs.declared.passed.Passed.{Passed}
 use Rattle.gate_io.specs.declared.passed.Passed.TheVariants.{Asked, Gave}
 use Rattle.gate_io.specs.declared.passed.Wants.{Wants}
 use Rattle.store_model.specs.Made.{Made}
-use Rattle.store_model.specs.Program.{Program, done, Runs}
+use Rattle.store_model.specs.Program.{done}
 use Rattle.store_model.specs.Runs.{runs_none}
 use Rattle.outbox.specs.Cleared.{cleared}
 use Rattle.outbox.specs.Delivery.{Offered}
@@ -22,7 +21,7 @@ use Rattle.outbox.proofs.Deliveries.{told_of_turn, handed_over, stands_still, is
 use Rattle.exchange.specs.Seen.{at}
 use Rattle.exchange.specs.State.{Line}
 use Rattle.worker.specs.State.{Standing, with_lines}
-use Rattle.worker.specs.Turn.{Answers, Outcome, outcome, IsTurned}
+use Rattle.worker.specs.Turn.{Answers, outcome}
 use Rattle.worker.specs.Turned.{TookWhole, one_turn, Whole, Unanswered, PartlySent}
 use Rattle.worker.specs.Wants.{wants_of}
 

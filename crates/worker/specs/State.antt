@@ -1,5 +1,5 @@
 -- What a worker is between two turns.
-use Rattle.std.specs.Prelude.{ℕ, List, [], ◌≡◌, ◌<◌}
+use Rattle.std.specs.Prelude.{ℕ, List, []}
 use Rattle.gate_config.specs.declared.config.Config.{Config}
 use Rattle.gate_io.specs.declared.event.Sent.{Sent}
 use Rattle.exchange.specs.State.{Line}

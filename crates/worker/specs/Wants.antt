@@ -1,5 +1,5 @@
 -- What a worker asks of its world: from which sides of which lines it takes bytes.
-use Rattle.std.specs.Prelude.{ℕ, Bool, true, false, ◌&&◌, List, map, filter, length, nat_lt, Option, None, Some}
+use Rattle.std.specs.Prelude.{ℕ, Bool, false, ◌&&◌, List, map, filter, length, nat_lt, Option, None, Some}
 use Rattle.gate_io.specs.declared.event.Sent.{Sent}
 use Rattle.gate_io.specs.declared.event.Side.{Side}
 use Rattle.gate_io.specs.declared.event.Side.TheVariants.{Down, Up}

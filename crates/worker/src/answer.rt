@@ -1,5 +1,6 @@
 // What a worker does at an event.
-ghost use Rattle.std.specs.Prelude.{◌≡◌, [], IfOk, OnOk};
+ghost use Rattle.std.specs.Prelude.{◌≡◌, [], IfOk, OnOk, option_map};
+ghost use Rattle.worker.specs.Seen.{seen_on_line};
 ghost use Rattle.exchange.specs.Seen.{at, seen_happening};
 ghost use Rattle.worker.specs.Turn.{ActsAt, Answers, Happens, happening_of, place_in};
 
@@ -10,6 +11,22 @@ use gate_base::{LineNo, Members, OutOfMemory};
 use gate_config::Config;
 use gate_io::{Sent, SentList, Side, What};
 use std::alloc::Global;
+
+/// What happens at an event, and on which line, if anything does.
+fn happening_of(what: &What) -> Option<(LineNo, Happening<'_>)>
+    ensures { option_map seen_on_line result ≡ happening_of what.now }
+{
+    match what {
+        What::Bytes { line, side, bytes } => {
+            let (side, bytes) = (*side, bytes.as_slice());
+            Some((*line, Happening::Came { side, bytes }))
+        }
+        What::End { line, side } => Some((*line, Happening::Finished { side: *side })),
+        What::Gone { line, side } => Some((*line, Happening::Lost { side: *side })),
+        What::Refused { line } => Some((*line, Happening::Lost { side: Side::Up })),
+        _ => None,
+    }
+}
 
 /// Something happens on a line, which does all that it does then. On one that is not open nothing happens.
 fn act(
@@ -46,57 +63,12 @@ fn react(
     requires { sent.old ≡ [] }
     ensures { OnOk result (Answers (at now config.now) lines.old.items what.now sent.new lines.new.items) }
 {
-    match what {
-        What::Opened { line } => open(alloc, lines, *line, sent),
-        What::Bytes { line, side, bytes } => {
-            let (side, bytes) = (*side, bytes.as_slice());
-            act(
-                alloc,
-                now,
-                config,
-                lines,
-                *line,
-                Happening::Came { side, bytes },
-                sent,
-            )
-        }
-        What::End { line, side } => {
-            let side = *side;
-            act(
-                alloc,
-                now,
-                config,
-                lines,
-                *line,
-                Happening::Finished { side },
-                sent,
-            )
-        }
-        What::Gone { line, side } => {
-            let side = *side;
-            act(
-                alloc,
-                now,
-                config,
-                lines,
-                *line,
-                Happening::Lost { side },
-                sent,
-            )
-        }
-        What::Refused { line } => {
-            let side = Side::Up;
-            act(
-                alloc,
-                now,
-                config,
-                lines,
-                *line,
-                Happening::Lost { side },
-                sent,
-            )
-        }
-        What::Joined { .. } | What::Room { .. } | What::Clock | What::Stop => Ok(()),
+    if let What::Opened { line } = what {
+        return open(alloc, lines, *line, sent);
+    }
+    match happening_of(what) {
+        None => Ok(()),
+        Some(on) => act(alloc, now, config, lines, on.0, on.1, sent),
     }
 }
 

@@ -2,9 +2,15 @@
 #![tactic(auto)]
 
 mod answer;
+mod laws;
 mod listed;
 mod opened;
+mod run;
 mod wanted;
 mod worker;
 
+pub use laws::{idle_events_change_nothing, worked_turns};
 pub use worker::{Turn, Worker};
+
+#[cfg(test)]
+mod tests;

@@ -1,4 +1,4 @@
-use Rattle.std.proofs.Common.{◌≡◌, ◌∙◌, Option, None, Some, ◌<◌, length}
+use Rattle.std.proofs.Common.{◌≡◌, ◌∙◌, None, Some, ◌<◌, length}
 use Rattle.std.specs.Prelude.{◌==◌}
 use Rattle.std.proofs.lemmas.List.Quantifiers.{position-Some}
 use Rattle.exchange.specs.State.{Line}

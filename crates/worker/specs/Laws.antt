@@ -1,0 +1,48 @@
+-- What holds of every turn.
+use Rattle.std.specs.Prelude.{◌≡◌, ℕ, Bool, true, List, [], Option, None, Some, IsSome, slice_get}
+use Rattle.gate_config.specs.declared.config.Config.{Config}
+use Rattle.gate_io.specs.declared.event.Event.{Event}
+use Rattle.gate_io.specs.declared.event.Side.TheVariants.{Down, Up}
+use Rattle.gate_io.specs.declared.event.What.{What}
+use Rattle.gate_io.specs.declared.event.What.TheVariants.{Opened, Bytes, End, Gone, Joined, Refused, Room, Clock, Stop}
+use Rattle.http1_model.specs.Unread.{Reading}
+use Rattle.store_model.specs.Program.{Program, done}
+use Rattle.exchange.specs.State.{Line, reading_of}
+use Rattle.exchange.specs.Turns.{Happening, came, finishes, lost}
+use Rattle.worker.specs.State.{State}
+use Rattle.worker.specs.Turn.{OnLine, happening_of, place_in, Outcome, outcome, IsTurned}
+
+-- nothing more is read there: the text has ended, or there is no connection
+abbrev pub has_ended : Option Reading → Bool
+has_ended None = true
+has_ended (Some reading) = reading.ended
+
+-- what happens does not fit the line: it is of a side that has ended, or there is no connection up
+abbrev pub DoesNotFit : Happening → Line → Type 0
+DoesNotFit (came side bytes) line = has_ended (reading_of side line) ≡ true
+DoesNotFit (finishes side) line = has_ended (reading_of side line) ≡ true
+DoesNotFit (lost Down) line = ⊥
+DoesNotFit (lost Up) line = reading_of Up line ≡ None
+
+-- it fits no open line, or there is none of its number
+abbrev pub FitsNone : List Line → Option OnLine → Type 0
+FitsNone lines None = Unit {0}
+FitsNone lines (Some on) = (place : ℕ) (line : Line) → place_in on.number lines ≡ Some place → slice_get lines place ≡ Some line → DoesNotFit on.happening line
+
+abbrev pub IsIdle : List Line → What → Type 0
+IsIdle lines (Opened number) = IsSome (place_in number lines)
+IsIdle lines (Bytes number side bytes) = FitsNone lines (happening_of (Bytes number side bytes))
+IsIdle lines (End number side) = FitsNone lines (happening_of (End number side))
+IsIdle lines (Gone number side) = FitsNone lines (happening_of (Gone number side))
+IsIdle lines (Joined number) = Unit {0}
+IsIdle lines (Refused number) = FitsNone lines (happening_of (Refused number))
+IsIdle lines (Room number side) = Unit {0}
+IsIdle lines Clock = Unit {0}
+IsIdle lines Stop = Unit {0}
+
+-- EVENTS THAT DO NOT FIT CHANGE NOTHING: an Opened of an open line; any other event of a line that is not open; Bytes or End of a
+-- side that has ended; what comes from a server without a connection. So do those that change nothing by themselves.
+abbrev pub IdleEventsChangeNothing : Type 0
+IdleEventsChangeNothing =
+    (config : Config) (state : State) (event : Event) (program : Program Outcome) → IsIdle state.lines event.what → IsTurned config state event program
+    → program ≡ done (outcome state [])

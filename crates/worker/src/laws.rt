@@ -1,0 +1,15 @@
+// What the definitions say, as functions without a body.
+ghost use Rattle.worker.specs.Examples.{HappeningExamples, LineExamples, WantsExamples};
+ghost use Rattle.worker.specs.Laws.{IdleEventsChangeNothing};
+
+/// Events that do not fit change nothing.
+pub fn idle_events_change_nothing()
+    ensures { IdleEventsChangeNothing }
+{}
+
+/// What happens on which line, lines that are opened and closed, and what is wanted, worked on lists that are written out.
+pub fn worked_turns()
+    ensures happenings { HappeningExamples }
+    ensures lines { LineExamples }
+    ensures wants { WantsExamples }
+{}
