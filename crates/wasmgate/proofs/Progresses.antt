@@ -43,9 +43,13 @@ printed_both (x ∷ a) b = ap (λ (t : List ℕ). sent_line x ++ t) (printed_bot
 -- one more event
 pub plays_more : (config : Config) (state : State) (front : List Event) (sent : List Sent) (mid : State) (event : Event) (end : Outcome)
     → Plays config state front sent mid → IsTurned config mid event (done end) → Plays config state (front ++ (event ∷ [])) (sent ++ solid end.sent) end.state
-plays_more config state [] sent mid event end plays turned =
-    (end, [], subst (λ (s : State). IsTurned config s event (done end)) plays.1 turned, (refl, refl),
-    ap (λ (ss : List Sent). ss ++ solid end.sent) plays.0 ∙ sym (append-nil (solid end.sent)))
+plays_more config state [] sent mid event end plays turned = (
+  end,
+  [],
+  subst (λ (s : State). IsTurned config s event (done end)) plays.1 turned,
+  (refl, refl),
+  ap (λ (ss : List Sent). ss ++ solid end.sent) plays.0 ∙ sym (append-nil (solid end.sent)),
+)
 plays_more config state (e ∷ front) sent mid event end plays turned = (
   plays.0,
   plays.1 ++ solid end.sent,
@@ -116,7 +120,13 @@ far_cut commands worker world old mid new waits f g =
     record {
       sent = p.sent;
       replays = record {
-        config = worker.setting.config; plain = f.plain; front = happened world.trace; more = so_far.more; after = worker.state; is = so_far.is; plays = p.plays;
+        config = worker.setting.config;
+        plain = f.plain;
+        front = happened world.trace;
+        more = so_far.more;
+        after = worker.state;
+        is = so_far.is;
+        plays = p.plays;
       };
       gained = subst (λ (t : List ℕ). GainsFront old t new) (sym p.text) (gains_then_front old p.written mid waits new p.gained g);
     }
@@ -146,8 +156,13 @@ far_cut_done commands from before old mid new waits to after waiting f a g =
     record {
       sent = p.sent;
       replays = record {
-        config = to.setting.config; plain = subst (λ (s : Setting). IsPlain 0 s.config) (sym a.setting_is) f.plain; front = events_of commands; more = []; after = to.state;
-        is = sym (append-nil (events_of commands)); plays = p.plays;
+        config = to.setting.config;
+        plain = subst (λ (s : Setting). IsPlain 0 s.config) (sym a.setting_is) f.plain;
+        front = events_of commands;
+        more = [];
+        after = to.state;
+        is = sym (append-nil (events_of commands));
+        plays = p.plays;
       };
       gained = subst (λ (t : List ℕ). GainsFront old t new) (sym p.text) (gains_then_front old p.written mid waiting new p.gained g);
     }
@@ -161,4 +176,3 @@ printed_snoc sent i old mid new x low at so_far is =
     ap (λ (t : List ℕ). printed (take i sent) ++ t) (sym (append-nil (sent_line x)))
     ∙ sym (printed_both (take i sent) (x ∷ []))
     ∙ ap printed (ap (λ (y : Sent). take i sent ++ (y ∷ [])) at ∙ sym (take_more sent i x low)))
-
