@@ -3,3 +3,4 @@ mod Fault
 mod Progresses
 mod Fronts
 mod Turns
+mod Once

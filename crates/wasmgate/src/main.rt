@@ -2,6 +2,7 @@
 #![tactic(auto)]
 
 mod call;
+mod laws;
 mod replay;
 mod run;
 mod status;
