@@ -3,3 +3,5 @@ pub mod Turns
 pub mod Lives
 pub mod Idle
 pub mod Reacts
+pub mod Numbers
+pub mod Order

@@ -9,7 +9,7 @@ mod run;
 mod wanted;
 mod worker;
 
-pub use laws::{idle_events_change_nothing, worked_turns};
+pub use laws::{idle_events_change_nothing, lines_stay_in_order, worked_turns};
 pub use worker::{Turn, Worker};
 
 #[cfg(test)]
