@@ -5,3 +5,4 @@ pub mod Idle
 pub mod Reacts
 pub mod Numbers
 pub mod Order
+pub mod Once

@@ -17,6 +17,12 @@ use Rattle.worker.specs.State.{State, first_state}
 use Rattle.worker.specs.Wants.{wants_of}
 use Rattle.worker.specs.Turn.{OnLine, happening_of, place_in, most_lines, Outcome, outcome, IsTurned}
 
+-- AN EVENT HAS ONE TURN: the configuration and the state before it say all that it asks, sends and comes to.
+abbrev pub OneTurnEach : Type 0
+OneTurnEach =
+    (config : Config) (state : State) (event : Event) (program other : Program Outcome) → IsTurned config state event program → IsTurned config state event other
+    → program ≡ other
+
 -- nothing more is read there: the text has ended, or there is no connection
 abbrev pub has_ended : Option Reading → Bool
 has_ended None = true

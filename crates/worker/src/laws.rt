@@ -1,6 +1,11 @@
 // What the definitions say, as functions without a body.
 ghost use Rattle.worker.specs.Examples.{HappeningExamples, LineExamples, WantsExamples};
-ghost use Rattle.worker.specs.Laws.{IdleEventsChangeNothing, StaysOrderly, WantsAlwaysRise};
+ghost use Rattle.worker.specs.Laws.{OneTurnEach, IdleEventsChangeNothing, StaysOrderly, WantsAlwaysRise};
+
+/// An event has one turn: what a worker was before it says all that it sends and comes to.
+pub fn an_event_has_one_turn()
+    ensures { OneTurnEach }
+{}
 
 /// Events that do not fit change nothing.
 pub fn idle_events_change_nothing()
