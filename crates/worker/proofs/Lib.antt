@@ -3,3 +3,6 @@ pub mod Turns
 pub mod Lives
 pub mod Idle
 pub mod Reacts
+pub mod Numbers
+pub mod Order
+pub mod Once

@@ -1,16 +1,27 @@
 -- What holds of every turn.
-use Rattle.std.specs.Prelude.{◌≡◌, ℕ, Bool, true, List, [], Option, None, Some, IsSome, slice_get}
+use Rattle.std.specs.Prelude.{◌≡◌, ℕ, ◌+◌, ◌≤◌, Bool, true, List, [], ◌∷◌, length, Option, None, Some, IsSome, slice_get}
 use Rattle.gate_config.specs.declared.config.Config.{Config}
 use Rattle.gate_io.specs.declared.event.Event.{Event}
+use Rattle.gate_io.specs.declared.event.Sent.{Sent}
 use Rattle.gate_io.specs.declared.event.Side.TheVariants.{Down, Up}
 use Rattle.gate_io.specs.declared.event.What.{What}
 use Rattle.gate_io.specs.declared.event.What.TheVariants.{Opened, Bytes, End, Gone, Joined, Refused, Room, Clock, Stop}
 use Rattle.http1_model.specs.Unread.{Reading}
-use Rattle.store_model.specs.Program.{Program, done}
+use Rattle.store_model.specs.Made.{Made}
+use Rattle.store_model.specs.Program.{Program, done, Reaches}
+use Rattle.outbox.specs.Turns.{OneTurn}
 use Rattle.exchange.specs.State.{Line, reading_of}
 use Rattle.exchange.specs.Turns.{Happening, came, finishes, lost}
-use Rattle.worker.specs.State.{State}
-use Rattle.worker.specs.Turn.{OnLine, happening_of, place_in, Outcome, outcome, IsTurned}
+use Rattle.worker.specs.Lives.{Means}
+use Rattle.worker.specs.State.{State, first_state}
+use Rattle.worker.specs.Wants.{wants_of}
+use Rattle.worker.specs.Turn.{OnLine, happening_of, place_in, most_lines, Outcome, outcome, IsTurned}
+
+-- AN EVENT HAS ONE TURN: the configuration and the state before it say all that it asks, sends and comes to.
+abbrev pub OneTurnEach : Type 0
+OneTurnEach =
+    (config : Config) (state : State) (event : Event) (program other : Program Outcome) → IsTurned config state event program → IsTurned config state event other
+    → program ≡ other
 
 -- nothing more is read there: the text has ended, or there is no connection
 abbrev pub has_ended : Option Reading → Bool
@@ -46,3 +57,33 @@ abbrev pub IdleEventsChangeNothing : Type 0
 IdleEventsChangeNothing =
     (config : Config) (state : State) (event : Event) (program : Program Outcome) → IsIdle state.lines event.what → IsTurned config state event program
     → program ≡ done (outcome state [])
+
+-- each line's number is at least this, and above that of the line before it
+abbrev pub RiseFrom : ℕ → List Line → Type 0
+RiseFrom least [] = Unit {0}
+RiseFrom least (line ∷ lines) = (least ≤ line.number) × RiseFrom (line.number + 1) lines
+
+-- the lines stand in the order of their numbers, no two with one number, and they are 128 at most
+pub record IsOrderly (state : State) : Type 0 where
+  pub rise : RiseFrom 0 state.lines
+  pub few : length state.lines ≤ most_lines
+
+-- THE LINES STAY IN ORDER, AND AT MOST 128, from the first turn on.
+pub record StaysOrderly : Type 0 where
+  pub first : IsOrderly first_state
+  pub one : (config : Config) (state : State) (event : Event) (program : Program Outcome) (calls : List Made) (end : Outcome) → IsOrderly state
+      → IsTurned config state event program → Reaches program calls (done end) → IsOrderly end.state
+  pub all : (config : Config) (state : State) (turns : List OneTurn) (calls : List Made) (after : State) → IsOrderly state → Means config state turns calls after → IsOrderly after
+
+-- each number is at least this, and above the one before it
+abbrev pub NumbersFrom : ℕ → List ℕ → Type 0
+NumbersFrom least [] = Unit {0}
+NumbersFrom least (number ∷ numbers) = (least ≤ number) × NumbersFrom (number + 1) numbers
+
+-- So what is wanted is named in the order of the numbers, no line twice.
+pub record WantsRise (state : State) (waiting : List Sent) : Type 0 where
+  pub down : NumbersFrom 0 (wants_of state waiting).down
+  pub up : NumbersFrom 0 (wants_of state waiting).up
+
+abbrev pub WantsAlwaysRise : Type 0
+WantsAlwaysRise = (state : State) (waiting : List Sent) → IsOrderly state → WantsRise state waiting

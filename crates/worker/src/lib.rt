@@ -9,7 +9,9 @@ mod run;
 mod wanted;
 mod worker;
 
-pub use laws::{idle_events_change_nothing, worked_turns};
+pub use laws::{
+    an_event_has_one_turn, idle_events_change_nothing, lines_stay_in_order, worked_turns,
+};
 pub use worker::{Turn, Worker};
 
 #[cfg(test)]
