@@ -1,5 +1,5 @@
 -- A script sends one list.
-use Rattle.std.proofs.Common.{◌≡◌, ℕ, List, [], ◌∷◌, ◌++◌, refl, sym, ap, ◌∙◌, subst}
+use Rattle.std.proofs.Common.{◌≡◌, ℕ, List, [], ◌∷◌, ◌++◌, refl, sym, ap, ◌∙◌, subst, append_assoc}
 use Rattle.gate_config.specs.declared.config.Config.{Config}
 use Rattle.gate_io.specs.declared.event.Event.{Event}
 use Rattle.gate_io.specs.declared.event.Sent.{Sent}
@@ -11,7 +11,7 @@ use Rattle.worker.specs.State.{State, first_state}
 use Rattle.worker.specs.Turn.{Answers, Outcome, IsTurned}
 use Rattle.worker.proofs.Once.{one_turn_each}
 use Rattle.wasmgate.specs.Replay.{Plays, Replays}
-use Rattle.wasmgate.specs.Laws.{OneReplay}
+use Rattle.wasmgate.specs.Laws.{OneReplay, IsFront, FrontsOfOne}
 
 same_end : (x y : Outcome) → done x ≡ done y → x ≡ y
 same_end x y e = cc
@@ -38,3 +38,20 @@ plays_once c d state (event ∷ events) a b x y routes p q =
 
 pub one_replay : OneReplay
 one_replay commands a b x y = plays_once x.config y.config first_state (events_of commands) a b x.after y.after (x.plain.routes ∙ sym y.plain.routes) x.plays y.plays
+
+-- what some first events send is a front of what they send with more
+front_once : (c d : Config) (state : State) (front more : List Event) (whole sent : List Sent) (x y : State) → c.routes ≡ d.routes → Plays c state (front ++ more) whole x → Plays d state front sent y → IsFront sent whole
+front_once c d state [] more whole sent x y routes p q = record { rest = whole; is = ap (λ (t : List Sent). t ++ whole) (sym q.0) }
+front_once c d state (event ∷ front) more whole sent x y routes p q =
+    let end = turned_once c d state event p.0 q.0 routes p.2 q.2 in
+    let later : Plays c q.0.state (front ++ more) p.1 x = subst (λ (o : Outcome). Plays c o.state (front ++ more) p.1 x) end p.3 in
+    let far = front_once c d q.0.state front more p.1 q.1 x y routes later q.3 in
+    record {
+      rest = far.rest;
+      is = p.4 ∙ (λ i. solid (end i).sent ++ far.is i) ∙ sym (append_assoc (solid q.0.sent) q.1 far.rest) ∙ ap (λ (t : List Sent). t ++ far.rest) (sym q.4);
+    }
+
+pub fronts_of_one : FrontsOfOne
+fronts_of_one commands whole front a b =
+    front_once a.config b.config first_state b.front b.more whole front a.after b.after (a.plain.routes ∙ sym b.plain.routes)
+    (subst (λ (es : List Event). Plays a.config first_state es whole a.after) b.is a.plays) b.plays

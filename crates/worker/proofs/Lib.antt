@@ -1,6 +1,5 @@
 pub mod Places
 pub mod Turns
-pub mod Lives
 pub mod Idle
 pub mod Reacts
 pub mod Numbers

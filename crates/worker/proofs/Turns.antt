@@ -76,20 +76,24 @@ module _ {S : Type 0} (performs : S → List Made → S → Type 0) (nothing : (
 
   -- memory ran out before anything was handed over
   pub unanswered : (s : S) (old new : Option (List Passed)) (from : Standing) (wants : Wants) (event : Event)
-      → wants ≡ wants_of from.state from.waiting → Gains old (asking wants (Ok event)) new → Unanswered performs s old from s new
-  unanswered s old new from wants event wants_are given = record {
+      → wants ≡ wants_of from.state from.waiting → (event.what ≡ Stop → ⊥) → Gains old (asking wants (Ok event)) new → Unanswered performs s old from s new
+  unanswered s old new from wants event wants_are other given = record {
     event = event;
-    runs = λ program turned. (program, runs_none performs nothing s program);
+    goes_on = is_no_stop event.what other;
+    calls = [];
+    performed = nothing s;
+    reaches = λ program turned. (program, refl);
     told = subst (λ (w : Wants). Gains old (Asked w ∷ Gave event ∷ []) new) wants_are given;
   }
 
   -- memory ran out as it was handed over
   pub partly_sent : {E : Type 0} (e : E) (s : S) (takes_whole : Bool) (old mid new : Option (List Passed)) (from : Standing) (lines : List Line) (waiting : List Sent) (wants : Wants) (event : Event) (sent : List Sent)
-      → wants ≡ wants_of from.state from.waiting → Answers (at event.now from.setting.config) from.state.lines event.what sent lines
+      → wants ≡ wants_of from.state from.waiting → (event.what ≡ Stop → ⊥) → Answers (at event.now from.setting.config) from.state.lines event.what sent lines
       → Gains old (asking wants (Ok event)) mid → Offered {E = E} takes_whole mid [] (cleared event.what from.waiting ++ joined sent) (Err e) new waiting
       → PartlySent performs s old from s new
-  partly_sent e s takes_whole old mid new from lines waiting wants event sent wants_are answers given offered = record {
+  partly_sent e s takes_whole old mid new from lines waiting wants event sent wants_are other answers given offered = record {
     event = event;
+    goes_on = is_no_stop event.what other;
     program = done (outcome (with_lines lines) (joined sent));
     turned = record { sent = sent; after = lines; answers = answers; is = refl };
     end = outcome (with_lines lines) (joined sent);

@@ -8,7 +8,7 @@ use Rattle.gate_io.specs.declared.event.Sent.{Sent}
 use Rattle.gate_io.specs.declared.passed.Passed.{Passed}
 use Rattle.gate_io.specs.declared.passed.Passed.TheVariants.{Asked, Gave}
 use Rattle.store_model.specs.Made.{Made}
-use Rattle.store_model.specs.Program.{Program, done, Runs}
+use Rattle.store_model.specs.Program.{Program, done, Reaches, Runs}
 use Rattle.outbox.specs.Delivery.{Delivered, NeverShort}
 use Rattle.outbox.specs.Turns.{OneTurn, HandsOver, to_go}
 use Rattle.worker.specs.State.{Standing}
@@ -46,16 +46,21 @@ pub record NoEvent {S : Type 0} (s : S) (old : Option (List Passed)) (from : Sta
   pub shared : t ≡ s
   pub told : Gains old steps new
 
--- An event was given, and memory ran out before anything was handed over. A front of the calls of its program was made.
+-- An event other than Stop was given, and memory ran out before anything was handed over. These calls were made, and they are a front
+-- of those of the event's program.
 pub record Unanswered {S : Type 0} (performs : S → List Made → S → Type 0) (s : S) (old : Option (List Passed)) (from : Standing) (t : S) (new : Option (List Passed)) : Type 0 where
   pub event : Event
-  pub runs : (program : Program Outcome) → IsTurned from.setting.config from.state event program → (left : Program Outcome) × Runs performs s program left t
+  pub goes_on : is_stop event.what ≡ false
+  pub calls : List Made
+  pub performed : performs s calls t
+  pub reaches : (program : Program Outcome) → IsTurned from.setting.config from.state event program → (left : Program Outcome) × Reaches program calls left
   pub told : Gains old (Asked (wants_of from.state from.waiting) ∷ Gave event ∷ []) new
 
--- An event was given, its program ran to its end, and memory ran out as what it sends was handed over: at each place a front of
+-- An event other than Stop was given, its program ran to its end, and memory ran out as what it sends was handed over: at each place a front of
 -- what was to go was received.
 pub record PartlySent {S : Type 0} (performs : S → List Made → S → Type 0) (s : S) (old : Option (List Passed)) (from : Standing) (t : S) (new : Option (List Passed)) : Type 0 where
   pub event : Event
+  pub goes_on : is_stop event.what ≡ false
   pub program : Program Outcome
   pub turned : IsTurned from.setting.config from.state event program
   pub end : Outcome

@@ -5,7 +5,6 @@ mod answer;
 mod laws;
 mod listed;
 mod opened;
-mod run;
 mod wanted;
 mod worker;
 

@@ -1,24 +1,26 @@
 // Whole scripts over worlds in memory, with what each place gets worked out by hand.
+ghost use Rattle.std.specs.Prelude.{◌≤◌, length};
+
 use crate::{Turn, Worker};
 use gate_base::{CallNos, LineNo, Members, Octets, OutOfMemory, VmNo, WorkerNo};
 use gate_config::Config;
 use gate_io::{Event, MemWorld, Sent, Side, What, are_in_order};
-use std::alloc::Global;
+use std::alloc::{AllocError, Global};
 use std::process::Abort;
 use std::test::Fail;
 use store_model::{Call, Reply, Shared};
 
-/// No store at all.
+/// A store that is never asked.
 #[derive(Drop)]
 struct NoStores;
 
 impl Shared for NoStores {
-    ghost stores = { λ _. 0 };
+    ghost stores = { λ _. 1 };
 
     ghost performs = { λ _ _ _. Unit {0} };
 
     fn call(&mut self, _: Global, _: VmNo, _: &Call) -> Result<Reply, OutOfMemory> {
-        unreachable!()
+        Err(AllocError)
     }
 
     ghost nothing = { λ _. tt };
@@ -85,8 +87,21 @@ fn play(
     calls.push(fails)?;
     let mut world = MemWorld::new(alloc, events, [0; 32], most, calls);
     let mut worker = Worker::new(alloc, config, who, [0; 32])?;
-    let end = worker.run(alloc, &mut world, &mut NoStores, 1_000_000);
+    let end = turn_all(alloc, &mut worker, &mut world);
     Ok((end, world))
+}
+
+/// Takes turns until one of them ends otherwise than that an event was taken.
+fn turn_all(alloc: Global, worker: &mut Worker, world: &mut MemWorld) -> Turn
+    requires { length worker.old.setting.config.vms ≤ 1 }
+{
+    'turns: for _ in 0..1_000_000 {
+        match worker.turn(alloc, world, &mut NoStores) {
+            Turn::Went => {}
+            end => return end,
+        }
+    }
+    Turn::Went
 }
 
 /// What a side of a line got: `+` that its connection was opened, bytes, and `x` that it was closed.
