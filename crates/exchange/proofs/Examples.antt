@@ -16,7 +16,7 @@ use Rattle.http1_model.specs.Messages.{request, response, end, counted, head, bo
 use Rattle.http1_model.specs.Moment.{year_from, month_from}
 use Rattle.http1_model.specs.Unread.{head_part, piece, Reading, new_reading, fed}
 use Rattle.exchange.specs.State.{awaited, begun, forwarded, Line}
-use Rattle.exchange.specs.Moves.{hands, halts, goes, rests, ends, Idles, Responds}
+use Rattle.exchange.specs.Moves.{Hears, hands, halts, goes, rests, ends, IdlesBy, Responds}
 use Rattle.exchange.specs.Examples.{here, head_kept, idle, asked_whole, answering, up_before, ResponseExamples, RefusalExamples, HappeningExamples, TurnExamples}
 
 pub response_examples : ResponseExamples
@@ -82,7 +82,7 @@ abbrev asking : List ℕ → Reading
 asking text = fed text (new_reading None)
 
 -- its head is read where nothing is open
-asks_move : Idles here (record { number = 7; requests = asking worked_text; exchange = None }) (goes (Connect 7 ∷ Bytes 7 Up worked_wire ∷ []) (up_before []))
+asks_move : IdlesBy Hears here (record { number = 7; requests = asking worked_text; exchange = None }) (goes (Connect 7 ∷ Bytes 7 Up worked_wire ∷ []) (up_before []))
 unfolding httparse_on_literals matchit_on_literals digits
 asks_move = record {
   heard = hands (head_part worked_head) (asking []);
@@ -96,7 +96,7 @@ asks_move = record {
 }
 
 -- in front of another
-asks_first : Idles here (record { number = 7; requests = asking (worked_text ++ worked_text); exchange = None })
+asks_first : IdlesBy Hears here (record { number = 7; requests = asking (worked_text ++ worked_text); exchange = None })
     (goes (Connect 7 ∷ Bytes 7 Up worked_wire ∷ []) (up_before worked_text))
 unfolding httparse_on_literals matchit_on_literals digits
 asks_first = record {
@@ -169,7 +169,7 @@ body_move text = record {
   is = refl;
 }
 
-idle_move_rests : Idles here idle (rests idle)
+idle_move_rests : IdlesBy Hears here idle (rests idle)
 idle_move_rests = record {
   heard = halts rest (new_reading None);
   hears = record { next = inl (record { step = stop rest; there = (not_yet, refl, refl); is = refl }); is = refl };

@@ -116,7 +116,7 @@ responds at line request framing response new answered answer other old out (Ok 
 responds at line request framing response new answered answer other old out (Err e) same is makes = tt
 
 -- What a response does does not ask what exchange the line has beside it.
-alike : (at : Context) (number : ℕ) (requests : Reading) (exchange : Option Exchange) (request : Request) (framing : Framing) (answered : Answered) (heard : Heard)
+pub alike : (at : Context) (number : ℕ) (requests : Reading) (exchange : Option Exchange) (request : Request) (framing : Framing) (answered : Answered) (heard : Heard)
     → response_move at (line_of number requests None) request framing answered heard ≡ response_move at (line_of number requests exchange) request framing answered heard
 alike at number requests exchange request framing answered heard = by_part heard
   where

@@ -9,3 +9,11 @@ pub mod Examples
 pub mod Order
 pub mod Using
 pub mod Falling
+pub mod Items
+pub mod Resting
+pub mod Cutting
+pub mod CuttingUp
+pub mod Joins
+pub mod ItemTurns
+pub mod CutLaws
+pub mod CutExamples

@@ -11,9 +11,9 @@ use Rattle.http1_model.specs.Messages.{Stop, rest, over, refusal}
 use Rattle.http1_model.specs.Unread.{head_part, interim_part, piece, trailer_part, Reading, new_reading, fed, finished}
 use Rattle.exchange.specs.State.{Request, Answered, awaited, begun, Exchange, unrouted, forwarded, Line, Context}
 use Rattle.exchange.specs.Heads.{is_bare, request_of, path_of, has_route, request_framing, request_out, asked_by, response_framing, response_out, stays_behind, may_stay}
-use Rattle.exchange.specs.Moves.{Heard, hands, halts, Move, goes, rests, ends, sending, fixed_answer, with_requests, with_exchange, forwarding, request_came, idle_stop, idle_move, read_so_far, unrouted_end, unrouted_move, ended, answered_for, interim_bytes, response_came, piece_came, trailers_came, response_stop, response_move, Responds, RequestHeard, UnroutedMoves, ForwardedMoves, MovesIn, MovesTo}
-use Rattle.exchange.specs.Turns.{Passes, IsLast, Settles, came, finishes, lost, unless, client_lost, came_up, finished_up, server_lost, met, Follows}
-use Rattle.exchange.specs.Laws.{has_server, Stands, InOrder, TurnsInOrder}
+use Rattle.exchange.specs.Moves.{Heard, hands, halts, Hears, Move, goes, rests, ends, sending, fixed_answer, with_requests, with_exchange, forwarding, request_came, idle_stop, idle_move, read_so_far, unrouted_end, unrouted_move, ended, answered_for, interim_bytes, response_came, piece_came, trailers_came, response_stop, response_move, RespondsBy, RequestHeardBy, UnroutedMovesBy, ForwardedMovesBy, MovesInBy, MovesBy}
+use Rattle.exchange.specs.Turns.{PassesBy, IsLast, SettlesBy, Happening, came, finishes, lost, unless, client_lost, came_up, finished_up, server_lost, met, FollowsBy, TurnsBy}
+use Rattle.exchange.specs.Laws.{has_server, Stands, InOrder, is_gone, TurnsInOrder}
 
 -- ---- lists
 
@@ -148,41 +148,63 @@ response_move_keeps at line request framing answered (hands (piece bytes last) n
 response_move_keeps at line request framing answered (hands (trailer_part fields) new) = trailers_keep line request framing new answered fields
 response_move_keeps at line request framing answered (halts why new) = response_stop_keeps at line request framing new answered why
 
-responds_keeps : (at : Context) (line : Line) (request : Request) (framing : Framing) (response : Reading) (answered : Answered) (m : Move)
-    → Responds at line request framing response answered m → Keeps line.number true m
-responds_keeps at line request framing response answered m x =
+responds_keeps : (Reads : Reading → Heard → Type 0) (at : Context) (line : Line) (request : Request) (framing : Framing) (response : Reading) (answered : Answered) (m : Move)
+    → RespondsBy Reads at line request framing response answered m → Keeps line.number true m
+responds_keeps Reads at line request framing response answered m x =
     subst (Keeps line.number true) (sym x.is) (response_move_keeps at line request framing answered x.heard)
 
-heard_keeps : (at : Context) (line : Line) (request : Request) (framing : Framing) (response : Reading) (answered : Answered) (heard : Heard) (m : Move)
-    → RequestHeard at line request framing response answered heard m → Keeps line.number true m
-heard_keeps at line request framing response answered (hands (head_part h) new) m x = subst (Keeps line.number true) (sym x) (refl, refl)
-heard_keeps at line request framing response answered (hands (interim_part h) new) m x = subst (Keeps line.number true) (sym x) (refl, refl)
-heard_keeps at line request framing response answered (hands (piece bytes last) new) m x =
+heard_keeps : (Reads : Reading → Heard → Type 0) (at : Context) (line : Line) (request : Request) (framing : Framing) (response : Reading) (answered : Answered) (heard : Heard) (m : Move)
+    → RequestHeardBy Reads at line request framing response answered heard m → Keeps line.number true m
+heard_keeps Reads at line request framing response answered (hands (head_part h) new) m x = subst (Keeps line.number true) (sym x) (refl, refl)
+heard_keeps Reads at line request framing response answered (hands (interim_part h) new) m x = subst (Keeps line.number true) (sym x) (refl, refl)
+heard_keeps Reads at line request framing response answered (hands (piece bytes last) new) m x =
     subst (Keeps line.number true) (sym x) (up_alone line.number (piece_wire framing bytes last)
     (Some (with_exchange (with_requests line new) (Some (forwarded (read_so_far last request) framing response answered)))) (refl, refl))
-heard_keeps at line request framing response answered (hands (trailer_part fields) new) m x =
+heard_keeps Reads at line request framing response answered (hands (trailer_part fields) new) m x =
     subst (Keeps line.number true) (sym x) (up_alone line.number (trailer_wire framing fields)
     (Some (with_exchange (with_requests line new) (Some (forwarded (read_so_far true request) framing response answered)))) (refl, refl))
-heard_keeps at line request framing response answered (halts rest new) m x = responds_keeps at (with_requests line new) request framing response answered m x
-heard_keeps at line request framing response answered (halts over new) m x = responds_keeps at (with_requests line new) request framing response answered m x
-heard_keeps at line request framing response answered (halts (refusal status) new) m x =
+heard_keeps Reads at line request framing response answered (halts rest new) m x = responds_keeps Reads at (with_requests line new) request framing response answered m x
+heard_keeps Reads at line request framing response answered (halts over new) m x = responds_keeps Reads at (with_requests line new) request framing response answered m x
+heard_keeps Reads at line request framing response answered (halts (refusal status) new) m x =
     subst (Keeps line.number true) (sym x) (answered_keeps at (with_requests line new) status false answered)
 
-unrouted_moves_keep : (at : Context) (line : Line) (request : Request) (whole : Bool) (m : Move) → UnroutedMoves at line request whole m → Keeps line.number false m
-unrouted_moves_keep at line request true m x = subst (Keeps line.number false) (sym x) (unrouted_end_keeps at line request)
-unrouted_moves_keep at line request false m x = subst (Keeps line.number false) (sym x.is) (unrouted_keeps at line request x.heard)
+unrouted_moves_keep : (Reads : Reading → Heard → Type 0) (at : Context) (line : Line) (request : Request) (whole : Bool) (m : Move) → UnroutedMovesBy Reads at line request whole m → Keeps line.number false m
+unrouted_moves_keep Reads at line request true m x = subst (Keeps line.number false) (sym x) (unrouted_end_keeps at line request)
+unrouted_moves_keep Reads at line request false m x = subst (Keeps line.number false) (sym x.is) (unrouted_keeps at line request x.heard)
 
-forwarded_moves_keep : (at : Context) (line : Line) (request : Request) (framing : Framing) (response : Reading) (answered : Answered) (whole : Bool) (m : Move)
-    → ForwardedMoves at line request framing response answered whole m → Keeps line.number true m
-forwarded_moves_keep at line request framing response answered true m x = responds_keeps at line request framing response answered m x
-forwarded_moves_keep at line request framing response answered false m x = heard_keeps at line request framing response answered x.heard m x.is
+forwarded_moves_keep : (Reads : Reading → Heard → Type 0) (at : Context) (line : Line) (request : Request) (framing : Framing) (response : Reading) (answered : Answered) (whole : Bool) (m : Move)
+    → ForwardedMovesBy Reads at line request framing response answered whole m → Keeps line.number true m
+forwarded_moves_keep Reads at line request framing response answered true m x = responds_keeps Reads at line request framing response answered m x
+forwarded_moves_keep Reads at line request framing response answered false m x = heard_keeps Reads at line request framing response answered x.heard m x.is
 
-moves_keep : (at : Context) (line : Line) (exchange : Option Exchange) (m : Move) → line.exchange ≡ exchange → MovesIn at line exchange m
+moves_keep : (Reads : Reading → Heard → Type 0) (at : Context) (line : Line) (exchange : Option Exchange) (m : Move) → line.exchange ≡ exchange → MovesInBy Reads at line exchange m
     → Keeps line.number (has_server exchange) m
-moves_keep at line None m is x = subst (Keeps line.number false) (sym x.is) (idle_keeps at line x.heard is)
-moves_keep at line (Some (unrouted request)) m is x = unrouted_moves_keep at line request request.whole m x
-moves_keep at line (Some (forwarded request framing response answered)) m is x =
-    forwarded_moves_keep at line request framing response answered request.whole m x
+moves_keep Reads at line None m is x = subst (Keeps line.number false) (sym x.is) (idle_keeps at line x.heard is)
+moves_keep Reads at line (Some (unrouted request)) m is x = unrouted_moves_keep Reads at line request request.whole m x
+moves_keep Reads at line (Some (forwarded request framing response answered)) m is x =
+    forwarded_moves_keep Reads at line request framing response answered request.whole m x
+
+-- so a move keeps the line's number
+pub number_in_order : (number : ℕ) (gone up : Bool) (sent : List Sent) (after : Line) → InOrder number gone up sent (Some after) → after.number ≡ number
+number_in_order number true up [] after x = absurd (no_line after x.1)
+  where
+    no_line : (l : Line) → ◌≡◌ {A = Option Line} (Some l) None → ⊥
+    no_line l e = cc
+number_in_order number false up [] after x = x.0
+number_in_order number gone up (Connect line ∷ sent) after x = number_in_order number gone true sent after x.2
+number_in_order number gone up (Bytes line side [] ∷ sent) after x = elim x [ ]
+number_in_order number gone up (Bytes line Up (b ∷ bytes) ∷ sent) after x = number_in_order number gone up sent after x.2
+number_in_order number gone up (Bytes line Down (b ∷ bytes) ∷ sent) after x = number_in_order number gone up sent after x.2
+number_in_order number gone up (Close line Up ∷ sent) after x = number_in_order number gone false sent after x.2
+number_in_order number gone up (Close line Down ∷ sent) after x = absurd (no_line after x.4)
+  where
+    no_line : (l : Line) → ◌≡◌ {A = Option Line} (Some l) None → ⊥
+    no_line l e = cc
+number_in_order number gone up (Log level text ∷ sent) after x = elim x [ ]
+
+pub number_goes : (Reads : Reading → Heard → Type 0) (at : Context) (line next : Line) (sent : List Sent) → MovesBy Reads at line (goes sent next) → next.number ≡ line.number
+number_goes Reads at line next sent x =
+    number_in_order line.number false (has_server line.exchange) sent next (moves_keep Reads at line line.exchange (goes sent next) refl x)
 
 -- ---- turns
 
@@ -193,31 +215,31 @@ last_keeps number up (rests line) now after keeps last =
 last_keeps number up (ends sent) now after keeps last =
     subst (λ (s : List Sent). InOrder number false up s after) (sym last.0) (subst (InOrder number false up sent) (sym last.1) keeps)
 
-chain_keeps : (at : Context) (line : Line) (lines : List Line) (earlier now : List Sent) (before : Line) (m : Move) (after : Option Line)
-    → Passes at line lines earlier before → MovesTo at before m → IsLast m now after → InOrder line.number false (has_server line.exchange) (earlier ++ now) after
-chain_keeps at line [] earlier now before m after passes moves last =
-    let here : MovesTo at line m = subst (λ (l : Line). MovesTo at l m) passes.1 moves in
+chain_keeps : (Reads : Reading → Heard → Type 0) (at : Context) (line : Line) (lines : List Line) (earlier now : List Sent) (before : Line) (m : Move) (after : Option Line)
+    → PassesBy Reads at line lines earlier before → MovesBy Reads at before m → IsLast m now after → InOrder line.number false (has_server line.exchange) (earlier ++ now) after
+chain_keeps Reads at line [] earlier now before m after passes moves last =
+    let here : MovesBy Reads at line m = subst (λ (l : Line). MovesBy Reads at l m) passes.1 moves in
     subst (λ (s : List Sent). InOrder line.number false (has_server line.exchange) (s ++ now) after) (sym passes.0)
-    (last_keeps line.number (has_server line.exchange) m now after (moves_keep at line line.exchange m refl here) last)
-chain_keeps at line (mid ∷ lines) earlier now before m after passes moves last =
-    let later = chain_keeps at mid lines passes.1 now before m after passes.3 moves last in
-    let all = in_front line.number (has_server line.exchange) passes.0 (passes.1 ++ now) mid after (moves_keep at line line.exchange (goes passes.0 mid) refl passes.2) later in
+    (last_keeps line.number (has_server line.exchange) m now after (moves_keep Reads at line line.exchange m refl here) last)
+chain_keeps Reads at line (mid ∷ lines) earlier now before m after passes moves last =
+    let later = chain_keeps Reads at mid lines passes.1 now before m after passes.3 moves last in
+    let all = in_front line.number (has_server line.exchange) passes.0 (passes.1 ++ now) mid after (moves_keep Reads at line line.exchange (goes passes.0 mid) refl passes.2) later in
     subst (λ (s : List Sent). InOrder line.number false (has_server line.exchange) s after) (sym (ap (λ (s : List Sent). s ++ now) passes.4 ∙ append_assoc passes.0 passes.1 now)) all
 
-settles_keeps : (at : Context) (line : Line) (sent : List Sent) (after : Option Line) → Settles at line sent after
+pub settles_keeps : (Reads : Reading → Heard → Type 0) (at : Context) (line : Line) (sent : List Sent) (after : Option Line) → SettlesBy Reads at line sent after
     → InOrder line.number false (has_server line.exchange) sent after
-settles_keeps at line sent after s =
+settles_keeps Reads at line sent after s =
     subst (λ (l : List Sent). InOrder line.number false (has_server line.exchange) l after) (sym s.is)
-    (chain_keeps at line s.lines s.earlier s.now s.before s.move after s.passes s.moves s.stops)
+    (chain_keeps Reads at line s.lines s.earlier s.now s.before s.move after s.passes s.moves s.stops)
 
-follows_keeps : (at : Context) (number : ℕ) (up : Bool) (m : Move) (sent : List Sent) (after : Option Line) → Keeps number up m → Follows at m sent after
+follows_keeps : (Reads : Reading → Heard → Type 0) (at : Context) (number : ℕ) (up : Bool) (m : Move) (sent : List Sent) (after : Option Line) → Keeps number up m → FollowsBy Reads at m sent after
     → InOrder number false up sent after
-follows_keeps at number up (goes first line) sent after keeps f =
+follows_keeps Reads at number up (goes first line) sent after keeps f =
     subst (λ (s : List Sent). InOrder number false up s after) (sym f.is)
-    (in_front number up first f.later line after keeps (settles_keeps at line f.later after f.settles))
-follows_keeps at number up (rests line) sent after keeps f =
+    (in_front number up first f.later line after keeps (settles_keeps Reads at line f.later after f.settles))
+follows_keeps Reads at number up (rests line) sent after keeps f =
     subst (λ (s : List Sent). InOrder number false up s after) (sym f.0) (subst (Stands number false up) (sym f.1) keeps)
-follows_keeps at number up (ends first) sent after keeps f =
+follows_keeps Reads at number up (ends first) sent after keeps f =
     subst (λ (s : List Sent). InOrder number false up s after) (sym f.0) (subst (InOrder number false up first) (sym f.1) keeps)
 
 -- what happens comes to a line
@@ -244,24 +266,29 @@ server_lost_keeps at line (Some (unrouted request)) is = (refl, ap has_server is
 server_lost_keeps at line (Some (forwarded request framing response answered)) is = answered_keeps at (with_exchange line None) 502 (may_stay request) answered
 
 -- the client is gone
-client_lost_order : (at : Context) (line : Line) (exchange : Option Exchange) (sent : List Sent) (after : Option Line) → Follows at (client_lost line exchange) sent after
+client_lost_order : (Reads : Reading → Heard → Type 0) (at : Context) (line : Line) (exchange : Option Exchange) (sent : List Sent) (after : Option Line) → FollowsBy Reads at (client_lost line exchange) sent after
     → InOrder line.number true (has_server exchange) sent after
-client_lost_order at line None sent after f = subst (λ (s : List Sent). InOrder line.number true false s after) (sym f.0) (refl, f.1)
-client_lost_order at line (Some (unrouted request)) sent after f = subst (λ (s : List Sent). InOrder line.number true false s after) (sym f.0) (refl, f.1)
-client_lost_order at line (Some (forwarded request framing response answered)) sent after f =
+client_lost_order Reads at line None sent after f = subst (λ (s : List Sent). InOrder line.number true false s after) (sym f.0) (refl, f.1)
+client_lost_order Reads at line (Some (unrouted request)) sent after f = subst (λ (s : List Sent). InOrder line.number true false s after) (sym f.0) (refl, f.1)
+client_lost_order Reads at line (Some (forwarded request framing response answered)) sent after f =
     subst (λ (s : List Sent). InOrder line.number true true s after) (sym f.0) (refl, refl, (refl, f.1))
 
-pub turns_in_order : TurnsInOrder
-turns_in_order at line (came Down bytes) sent after turns =
-    follows_keeps at line.number (has_server line.exchange) (met at line (came Down bytes)) sent after
+-- what a turn sends is in order, in each way of reading
+pub turns_in_order_by : (Reads : Reading → Heard → Type 0) (at : Context) (line : Line) (happening : Happening) (sent : List Sent) (after : Option Line) → TurnsBy Reads at line happening sent after
+    → InOrder line.number (is_gone happening) (has_server line.exchange) sent after
+turns_in_order_by Reads at line (came Down bytes) sent after turns =
+    follows_keeps Reads at line.number (has_server line.exchange) (met at line (came Down bytes)) sent after
     (unless_keeps line.number (has_server line.exchange) line.requests.ended line (with_requests line (fed bytes line.requests)) (refl, refl) (refl, refl)) turns
-turns_in_order at line (came Up bytes) sent after turns =
-    follows_keeps at line.number (has_server line.exchange) (met at line (came Up bytes)) sent after (came_up_keeps line bytes line.exchange refl) turns
-turns_in_order at line (finishes Down) sent after turns =
-    follows_keeps at line.number (has_server line.exchange) (met at line (finishes Down)) sent after
+turns_in_order_by Reads at line (came Up bytes) sent after turns =
+    follows_keeps Reads at line.number (has_server line.exchange) (met at line (came Up bytes)) sent after (came_up_keeps line bytes line.exchange refl) turns
+turns_in_order_by Reads at line (finishes Down) sent after turns =
+    follows_keeps Reads at line.number (has_server line.exchange) (met at line (finishes Down)) sent after
     (unless_keeps line.number (has_server line.exchange) line.requests.ended line (with_requests line (finished line.requests)) (refl, refl) (refl, refl)) turns
-turns_in_order at line (finishes Up) sent after turns =
-    follows_keeps at line.number (has_server line.exchange) (met at line (finishes Up)) sent after (finished_up_keeps line line.exchange refl) turns
-turns_in_order at line (lost Down) sent after turns = client_lost_order at line line.exchange sent after turns
-turns_in_order at line (lost Up) sent after turns =
-    follows_keeps at line.number (has_server line.exchange) (met at line (lost Up)) sent after (server_lost_keeps at line line.exchange refl) turns
+turns_in_order_by Reads at line (finishes Up) sent after turns =
+    follows_keeps Reads at line.number (has_server line.exchange) (met at line (finishes Up)) sent after (finished_up_keeps line line.exchange refl) turns
+turns_in_order_by Reads at line (lost Down) sent after turns = client_lost_order Reads at line line.exchange sent after turns
+turns_in_order_by Reads at line (lost Up) sent after turns =
+    follows_keeps Reads at line.number (has_server line.exchange) (met at line (lost Up)) sent after (server_lost_keeps at line line.exchange refl) turns
+
+pub turns_in_order : TurnsInOrder
+turns_in_order at line happening sent after turns = turns_in_order_by Hears at line happening sent after turns

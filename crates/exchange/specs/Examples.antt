@@ -18,7 +18,7 @@ abbrev pub here : Context
 here = in_context 0 (record { path = codes "/"; filters = [] } ∷ [])
 
 -- a line of the text, with its end
-abbrev row : List ℕ → List ℕ
+abbrev pub row : List ℕ → List ℕ
 row text = text ++ crlf_bytes
 
 abbrev date_row : List ℕ

@@ -2,6 +2,10 @@ pub mod State
 pub mod Heads
 pub mod Moves
 pub mod Turns
+pub mod Between
+pub mod Cuts
 pub mod Seen
 pub mod Laws
+pub mod CutLaws
 pub mod Examples
+pub mod CutExamples

@@ -162,61 +162,82 @@ response_move at line request framing answered (halts why new) = response_stop a
 
 -- ---- the whole
 
+-- The moves are told by what the readers say, `Reads`: as the gateway reads, part by part, or in another way (`Cuts`).
+
 -- the response is read
-pub record Responds (at : Context) (line : Line) (request : Request) (framing : Framing) (response : Reading) (answered : Answered) (move : Move) : Type 0 where
+pub record RespondsBy (Reads : Reading → Heard → Type 0) (at : Context) (line : Line) (request : Request) (framing : Framing) (response : Reading) (answered : Answered) (move : Move) : Type 0 where
   pub heard : Heard
-  pub hears : Hears response heard
+  pub hears : Reads response heard
   pub is : move ≡ response_move at line request framing answered heard
 
 -- The rest of the request is read first; where no more of it has come, the response. A refusal closes the line. (Where a body is
 -- due, no head comes, and the text is not over.)
-abbrev pub RequestHeard : Context → Line → Request → Framing → Reading → Answered → Heard → Move → Type 0
-RequestHeard at line request framing response answered (hands (head_part h) new) move =
+abbrev pub RequestHeardBy : (Reading → Heard → Type 0) → Context → Line → Request → Framing → Reading → Answered → Heard → Move → Type 0
+RequestHeardBy Reads at line request framing response answered (hands (head_part h) new) move =
     move ≡ rests (with_exchange (with_requests line new) (Some (forwarded request framing response answered)))
-RequestHeard at line request framing response answered (hands (interim_part h) new) move =
+RequestHeardBy Reads at line request framing response answered (hands (interim_part h) new) move =
     move ≡ rests (with_exchange (with_requests line new) (Some (forwarded request framing response answered)))
-RequestHeard at line request framing response answered (hands (piece bytes last) new) move =
+RequestHeardBy Reads at line request framing response answered (hands (piece bytes last) new) move =
     move ≡ sent_up (with_requests line new) request framing response answered last (piece_wire framing bytes last)
-RequestHeard at line request framing response answered (hands (trailer_part fields) new) move =
+RequestHeardBy Reads at line request framing response answered (hands (trailer_part fields) new) move =
     move ≡ sent_up (with_requests line new) request framing response answered true (trailer_wire framing fields)
-RequestHeard at line request framing response answered (halts rest new) move =
-    Responds at (with_requests line new) request framing response answered move
-RequestHeard at line request framing response answered (halts over new) move =
-    Responds at (with_requests line new) request framing response answered move
-RequestHeard at line request framing response answered (halts (refusal status) new) move =
+RequestHeardBy Reads at line request framing response answered (halts rest new) move =
+    RespondsBy Reads at (with_requests line new) request framing response answered move
+RequestHeardBy Reads at line request framing response answered (halts over new) move =
+    RespondsBy Reads at (with_requests line new) request framing response answered move
+RequestHeardBy Reads at line request framing response answered (halts (refusal status) new) move =
     move ≡ answered_for at (with_requests line new) status false answered
 
-pub record Requests (at : Context) (line : Line) (request : Request) (framing : Framing) (response : Reading) (answered : Answered) (move : Move) : Type 0 where
+pub record RequestsBy (Reads : Reading → Heard → Type 0) (at : Context) (line : Line) (request : Request) (framing : Framing) (response : Reading) (answered : Answered) (move : Move) : Type 0 where
   pub heard : Heard
-  pub hears : Hears line.requests heard
-  pub is : RequestHeard at line request framing response answered heard move
+  pub hears : Reads line.requests heard
+  pub is : RequestHeardBy Reads at line request framing response answered heard move
 
-pub record Idles (at : Context) (line : Line) (move : Move) : Type 0 where
+pub record IdlesBy (Reads : Reading → Heard → Type 0) (at : Context) (line : Line) (move : Move) : Type 0 where
   pub heard : Heard
-  pub hears : Hears line.requests heard
+  pub hears : Reads line.requests heard
   pub is : move ≡ idle_move at line heard
 
-pub record Drops (at : Context) (line : Line) (request : Request) (move : Move) : Type 0 where
+pub record DropsBy (Reads : Reading → Heard → Type 0) (at : Context) (line : Line) (request : Request) (move : Move) : Type 0 where
   pub heard : Heard
-  pub hears : Hears line.requests heard
+  pub hears : Reads line.requests heard
   pub is : move ≡ unrouted_move at line request heard
 
 -- a request without a route, which is whole or not
-abbrev pub UnroutedMoves : Context → Line → Request → (whole : Bool) → Move → Type 0
-UnroutedMoves at line request true move = move ≡ unrouted_end at line request
-UnroutedMoves at line request false move = Drops at line request move
+abbrev pub UnroutedMovesBy : (Reading → Heard → Type 0) → Context → Line → Request → (whole : Bool) → Move → Type 0
+UnroutedMovesBy Reads at line request true move = move ≡ unrouted_end at line request
+UnroutedMovesBy Reads at line request false move = DropsBy Reads at line request move
 
 -- a request that goes up, which is whole or not
-abbrev pub ForwardedMoves : Context → Line → Request → Framing → Reading → Answered → (whole : Bool) → Move → Type 0
-ForwardedMoves at line request framing response answered true move = Responds at line request framing response answered move
-ForwardedMoves at line request framing response answered false move = Requests at line request framing response answered move
+abbrev pub ForwardedMovesBy : (Reading → Heard → Type 0) → Context → Line → Request → Framing → Reading → Answered → (whole : Bool) → Move → Type 0
+ForwardedMovesBy Reads at line request framing response answered true move = RespondsBy Reads at line request framing response answered move
+ForwardedMovesBy Reads at line request framing response answered false move = RequestsBy Reads at line request framing response answered move
 
 -- WHAT A LINE DOES NEXT
+abbrev pub MovesInBy : (Reading → Heard → Type 0) → Context → Line → Option Exchange → Move → Type 0
+MovesInBy Reads at line None move = IdlesBy Reads at line move
+MovesInBy Reads at line (Some (unrouted request)) move = UnroutedMovesBy Reads at line request request.whole move
+MovesInBy Reads at line (Some (forwarded request framing response answered)) move =
+    ForwardedMovesBy Reads at line request framing response answered request.whole move
+
+abbrev pub MovesBy : (Reading → Heard → Type 0) → Context → Line → Move → Type 0
+MovesBy Reads at line move = MovesInBy Reads at line line.exchange move
+
+-- as the gateway reads, part by part
+abbrev pub Responds : Context → Line → Request → Framing → Reading → Answered → Move → Type 0
+Responds at line request framing response answered move = RespondsBy Hears at line request framing response answered move
+
+abbrev pub RequestHeard : Context → Line → Request → Framing → Reading → Answered → Heard → Move → Type 0
+RequestHeard at line request framing response answered heard move = RequestHeardBy Hears at line request framing response answered heard move
+
+abbrev pub UnroutedMoves : Context → Line → Request → (whole : Bool) → Move → Type 0
+UnroutedMoves at line request whole move = UnroutedMovesBy Hears at line request whole move
+
+abbrev pub ForwardedMoves : Context → Line → Request → Framing → Reading → Answered → (whole : Bool) → Move → Type 0
+ForwardedMoves at line request framing response answered whole move = ForwardedMovesBy Hears at line request framing response answered whole move
+
 abbrev pub MovesIn : Context → Line → Option Exchange → Move → Type 0
-MovesIn at line None move = Idles at line move
-MovesIn at line (Some (unrouted request)) move = UnroutedMoves at line request request.whole move
-MovesIn at line (Some (forwarded request framing response answered)) move =
-    ForwardedMoves at line request framing response answered request.whole move
+MovesIn at line exchange move = MovesInBy Hears at line exchange move
 
 abbrev pub MovesTo : Context → Line → Move → Type 0
-MovesTo at line move = MovesIn at line line.exchange move
+MovesTo at line move = MovesBy Hears at line move

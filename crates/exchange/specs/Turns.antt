@@ -4,16 +4,16 @@ use Rattle.gate_io.specs.declared.event.Sent.{Sent}
 use Rattle.gate_io.specs.declared.event.Sent.TheVariants.{Close}
 use Rattle.gate_io.specs.declared.event.Side.{Side}
 use Rattle.gate_io.specs.declared.event.Side.TheVariants.{Down, Up}
-use Rattle.http1_model.specs.Unread.{fed, finished}
+use Rattle.http1_model.specs.Unread.{Reading, fed, finished}
 use Rattle.exchange.specs.State.{Exchange, unrouted, forwarded, Line, Context}
 use Rattle.exchange.specs.Heads.{may_stay}
-use Rattle.exchange.specs.Moves.{Move, goes, rests, ends, with_requests, with_exchange, answered_for, MovesTo}
+use Rattle.exchange.specs.Moves.{Heard, Hears, Move, goes, rests, ends, with_requests, with_exchange, answered_for, MovesBy}
 
 -- from a line on these moves are made, one behind the other, and this is sent; then it is this line
-abbrev pub Passes : Context → Line → List Line → List Sent → Line → Type 0
-Passes at line [] sent last = (sent ≡ []) × (last ≡ line)
-Passes at line (mid ∷ lines) sent last =
-    (now later : List Sent) × MovesTo at line (goes now mid) × Passes at mid lines later last × (sent ≡ now ++ later)
+abbrev pub PassesBy : (Reading → Heard → Type 0) → Context → Line → List Line → List Sent → Line → Type 0
+PassesBy Reads at line [] sent last = (sent ≡ []) × (last ≡ line)
+PassesBy Reads at line (mid ∷ lines) sent last =
+    (now later : List Sent) × MovesBy Reads at line (goes now mid) × PassesBy Reads at mid lines later last × (sent ≡ now ++ later)
 
 -- a move behind which nothing more is done at this event: this is sent, and the line is this, or it is closed
 abbrev pub IsLast : Move → List Sent → Option Line → Type 0
@@ -22,13 +22,13 @@ IsLast (rests line) now after = (now ≡ []) × (after ≡ Some line)
 IsLast (ends sent) now after = (now ≡ sent) × (after ≡ None)
 
 -- A line does all that it can do: this is sent, and what it is then, or nothing where it was closed.
-pub record Settles (at : Context) (line : Line) (sent : List Sent) (after : Option Line) : Type 0 where
+pub record SettlesBy (Reads : Reading → Heard → Type 0) (at : Context) (line : Line) (sent : List Sent) (after : Option Line) : Type 0 where
   pub lines : List Line
   pub before : Line
   pub earlier : List Sent
-  pub passes : Passes at line lines earlier before
+  pub passes : PassesBy Reads at line lines earlier before
   pub move : Move
-  pub moves : MovesTo at before move
+  pub moves : MovesBy Reads at before move
   pub now : List Sent
   pub stops : IsLast move now after
   pub is : sent ≡ earlier ++ now
@@ -83,16 +83,29 @@ met at line (lost Down) = client_lost line line.exchange
 met at line (lost Up) = server_lost at line line.exchange
 
 -- and then the line does all that it can do
-pub record SettlesBehind (at : Context) (first : List Sent) (line : Line) (sent : List Sent) (after : Option Line) : Type 0 where
+pub record SettlesBehind (Reads : Reading → Heard → Type 0) (at : Context) (first : List Sent) (line : Line) (sent : List Sent) (after : Option Line) : Type 0 where
   pub later : List Sent
-  pub settles : Settles at line later after
+  pub settles : SettlesBy Reads at line later after
   pub is : sent ≡ first ++ later
 
-abbrev pub Follows : Context → Move → List Sent → Option Line → Type 0
-Follows at (goes first line) sent after = SettlesBehind at first line sent after
-Follows at (rests line) sent after = (sent ≡ []) × (after ≡ Some line)
-Follows at (ends first) sent after = (sent ≡ first) × (after ≡ None)
+abbrev pub FollowsBy : (Reading → Heard → Type 0) → Context → Move → List Sent → Option Line → Type 0
+FollowsBy Reads at (goes first line) sent after = SettlesBehind Reads at first line sent after
+FollowsBy Reads at (rests line) sent after = (sent ≡ []) × (after ≡ Some line)
+FollowsBy Reads at (ends first) sent after = (sent ≡ first) × (after ≡ None)
 
 -- A TURN OF A LINE: what it sends at what happens, and what it is behind it, or nothing where it was closed.
+abbrev pub TurnsBy : (Reading → Heard → Type 0) → Context → Line → Happening → List Sent → Option Line → Type 0
+TurnsBy Reads at line happening sent after = FollowsBy Reads at (met at line happening) sent after
+
+-- as the gateway reads, part by part
+abbrev pub Passes : Context → Line → List Line → List Sent → Line → Type 0
+Passes at line lines sent last = PassesBy Hears at line lines sent last
+
+abbrev pub Settles : Context → Line → List Sent → Option Line → Type 0
+Settles at line sent after = SettlesBy Hears at line sent after
+
+abbrev pub Follows : Context → Move → List Sent → Option Line → Type 0
+Follows at move sent after = FollowsBy Hears at move sent after
+
 abbrev pub Turns : Context → Line → Happening → List Sent → Option Line → Type 0
-Turns at line happening sent after = Follows at (met at line happening) sent after
+Turns at line happening sent after = TurnsBy Hears at line happening sent after

@@ -1,8 +1,10 @@
 // What holds of every line, as functions without a body.
 ghost use Rattle.exchange.specs.Examples.{ResponseExamples, RefusalExamples, HappeningExamples, TurnExamples};
+ghost use Rattle.exchange.specs.CutExamples.{JoinExamples, BetweenExamples, ItemTurnExamples};
+ghost use Rattle.exchange.specs.CutLaws.{RestsBetween, TurnsItemByItem, OneItemTurn, LineCutsAlike};
 ghost use Rattle.exchange.specs.Laws.{OneMove, OneSettling, OneOutcome, TurnsInOrder, MovesFall, FewMoves};
 
-/// What happens on a line has one outcome: what it sends, and what it is behind it, or that it is closed.
+/// What happens on a line has one outcome at most: what it sends, and what it is behind it, or that it is closed.
 pub fn one_outcome()
     ensures next { OneMove }
     ensures all { OneSettling }
@@ -28,4 +30,28 @@ pub fn turns_in_order()
 pub fn few_moves()
     ensures each { MovesFall }
     ensures all { FewMoves }
+{}
+
+/// Between two turns a line rests: what is due on its two sides fits its exchange, and nothing that has come is left to be heard.
+pub fn lines_rest()
+    ensures { RestsBetween }
+{}
+
+/// Each turn is one item by item, in which each byte of a body is read and sent by itself, but for how what is sent is cut into
+/// chunks; and item by item there is one at most.
+pub fn turns_are_item_turns()
+    ensures each { TurnsItemByItem }
+    ensures one { OneItemTurn }
+{}
+
+/// Bytes that come in two pieces over one connection do, item by item, what they do in one piece.
+pub fn cuts_are_alike()
+    ensures { LineCutsAlike }
+{}
+
+/// What is sent but for how it is cut, lines between two turns, and turns item by item, worked on values that are written out.
+pub fn worked_cuts()
+    ensures joins { JoinExamples }
+    ensures between { BetweenExamples }
+    ensures turns { ItemTurnExamples }
 {}
