@@ -5,3 +5,14 @@ pub mod Reacts
 pub mod Numbers
 pub mod Order
 pub mod Once
+pub mod CutsBetween
+pub mod CutsJoined
+pub mod CutsTurned
+pub mod CutsOnce
+pub mod CutsPlaces
+pub mod CutsAlike
+pub mod ApartPlaces
+pub mod ApartSent
+pub mod ApartLines
+pub mod ApartOnce
+pub mod ApartCuts

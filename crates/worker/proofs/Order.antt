@@ -22,7 +22,7 @@ use Rattle.exchange.specs.Seen.{at}
 use Rattle.exchange.specs.Turns.{Happening, Turns}
 use Rattle.worker.specs.Lives.{Means}
 use Rattle.worker.specs.State.{State, with_lines}
-use Rattle.worker.specs.Turn.{OnLine, happening_of, place_in, place_for, gone_on, opened_lines, ActsAt, Happens, Answers, Outcome, outcome, IsTurned}
+use Rattle.worker.specs.Turn.{OnLine, happening_of, place_in, place_for, gone_on, opened_lines, ActsAtBy, HappensBy, AnswersBy, Outcome, outcome, IsTurned}
 use Rattle.worker.specs.Laws.{RiseFrom, IsOrderly, StaysOrderly, NumbersFrom, WantsAlwaysRise}
 use Rattle.worker.specs.Wants.{is_wanted, wanted_of}
 use Rattle.worker.proofs.Numbers.{turns_keep}
@@ -79,7 +79,7 @@ length-insert : (lines : List Line) (place : ℕ) (new : Line) → length (inser
 length-insert lines place new = simp (length-append, length-take, length-drop) (omega arith)
 
 -- they rise, and are not too many
-abbrev AreOrderly : List Line → Type 0
+abbrev pub AreOrderly : List Line → Type 0
 AreOrderly lines = RiseFrom 0 lines × (length lines ≤ 128)
 
 orderly_gone : (lines : List Line) (place : ℕ) (line : Line) (next : Option Line) → slice_get lines place ≡ Some line → ((after : Line) → next ≡ Some after → after.number ≡ line.number) → AreOrderly lines
@@ -96,37 +96,40 @@ orderly_opened number lines orderly = elim (cases_Bool (is_some (place_in number
   ]
 ]
 
-orderly_acts : (context : Context) (happening : Happening) (lines : List Line) (place : Option ℕ) (sent : List Sent) (after : List Line) → AreOrderly lines → ActsAt context happening lines place sent after
-    → AreOrderly after
-orderly_acts context happening lines None sent after orderly acts = subst AreOrderly (sym acts.1) orderly
-orderly_acts context happening lines (Some place) sent after orderly acts =
-    subst AreOrderly (sym acts.is) (orderly_gone lines place acts.line acts.next acts.stands
-    (λ next is. turns_keep context acts.line happening sent next (subst (λ (n : Option Line). Turns context acts.line happening sent n) is acts.turns)) orderly)
+-- however turns of lines are told, if each keeps the number of its line
+module _ (Turning : Context → Line → Happening → List Sent → Option Line → Type 0)
+    (keeps : (context : Context) (line : Line) (happening : Happening) (sent : List Sent) (after : Line) → Turning context line happening sent (Some after) → after.number ≡ line.number) where
+  orderly_acts : (context : Context) (happening : Happening) (lines : List Line) (place : Option ℕ) (sent : List Sent) (after : List Line) → AreOrderly lines
+      → ActsAtBy Turning context happening lines place sent after → AreOrderly after
+  orderly_acts context happening lines None sent after orderly acts = subst AreOrderly (sym acts.1) orderly
+  orderly_acts context happening lines (Some place) sent after orderly acts =
+      subst AreOrderly (sym acts.is) (orderly_gone lines place acts.line acts.next acts.stands
+      (λ next is. keeps context acts.line happening sent next (subst (λ (n : Option Line). Turning context acts.line happening sent n) is acts.turns)) orderly)
 
-orderly_happens : (context : Context) (lines : List Line) (on : Option OnLine) (sent : List Sent) (after : List Line) → AreOrderly lines → Happens context lines on sent after → AreOrderly after
-orderly_happens context lines None sent after orderly happens = subst AreOrderly (sym happens.1) orderly
-orderly_happens context lines (Some on) sent after orderly happens = orderly_acts context on.happening lines (place_in on.number lines) sent after orderly happens
+  orderly_happens : (context : Context) (lines : List Line) (on : Option OnLine) (sent : List Sent) (after : List Line) → AreOrderly lines → HappensBy Turning context lines on sent after → AreOrderly after
+  orderly_happens context lines None sent after orderly happens = subst AreOrderly (sym happens.1) orderly
+  orderly_happens context lines (Some on) sent after orderly happens = orderly_acts context on.happening lines (place_in on.number lines) sent after orderly happens
 
-orderly_answers : (context : Context) (lines : List Line) (what : What) (sent : List Sent) (after : List Line) → AreOrderly lines → Answers context lines what sent after → AreOrderly after
-orderly_answers context lines (Opened number) sent after orderly answers = subst AreOrderly (sym answers.1) (orderly_opened number lines orderly)
-orderly_answers context lines (Bytes number side bytes) sent after orderly answers = orderly_happens context lines (happening_of (Bytes number side bytes)) sent after orderly answers
-orderly_answers context lines (End number side) sent after orderly answers = orderly_happens context lines (happening_of (End number side)) sent after orderly answers
-orderly_answers context lines (Gone number side) sent after orderly answers = orderly_happens context lines (happening_of (Gone number side)) sent after orderly answers
-orderly_answers context lines (Joined number) sent after orderly answers = subst AreOrderly (sym answers.1) orderly
-orderly_answers context lines (Refused number) sent after orderly answers = orderly_happens context lines (happening_of (Refused number)) sent after orderly answers
-orderly_answers context lines (Room number side) sent after orderly answers = subst AreOrderly (sym answers.1) orderly
-orderly_answers context lines Clock sent after orderly answers = subst AreOrderly (sym answers.1) orderly
-orderly_answers context lines Stop sent after orderly answers = subst AreOrderly (sym answers.1) orderly
+  pub orderly_answers : (context : Context) (lines : List Line) (what : What) (sent : List Sent) (after : List Line) → AreOrderly lines → AnswersBy Turning context lines what sent after → AreOrderly after
+  orderly_answers context lines (Opened number) sent after orderly answers = subst AreOrderly (sym answers.1) (orderly_opened number lines orderly)
+  orderly_answers context lines (Bytes number side bytes) sent after orderly answers = orderly_happens context lines (happening_of (Bytes number side bytes)) sent after orderly answers
+  orderly_answers context lines (End number side) sent after orderly answers = orderly_happens context lines (happening_of (End number side)) sent after orderly answers
+  orderly_answers context lines (Gone number side) sent after orderly answers = orderly_happens context lines (happening_of (Gone number side)) sent after orderly answers
+  orderly_answers context lines (Joined number) sent after orderly answers = subst AreOrderly (sym answers.1) orderly
+  orderly_answers context lines (Refused number) sent after orderly answers = orderly_happens context lines (happening_of (Refused number)) sent after orderly answers
+  orderly_answers context lines (Room number side) sent after orderly answers = subst AreOrderly (sym answers.1) orderly
+  orderly_answers context lines Clock sent after orderly answers = subst AreOrderly (sym answers.1) orderly
+  orderly_answers context lines Stop sent after orderly answers = subst AreOrderly (sym answers.1) orderly
 
 -- a program that has ended makes no calls, and has this end
-end_is : (o end : Outcome) (calls : List Made) → Reaches (done o) calls (done end) → end ≡ o
+pub end_is : (o end : Outcome) (calls : List Made) → Reaches (done o) calls (done end) → end ≡ o
 end_is o end [] reaches = cc
 end_is o end (m ∷ calls) reaches = absurd reaches
 
 pub orderly_turn : (config : Config) (state : State) (event : Event) (program : Program Outcome) (calls : List Made) (end : Outcome) → IsOrderly state → IsTurned config state event program
     → Reaches program calls (done end) → IsOrderly end.state
 orderly_turn config state event program calls end orderly turned reaches =
-    let lines = orderly_answers (at event.now config) state.lines event.what turned.sent turned.after (orderly.rise, orderly.few) turned.answers in
+    let lines = orderly_answers Turns turns_keep (at event.now config) state.lines event.what turned.sent turned.after (orderly.rise, orderly.few) turned.answers in
     let is : end ≡ outcome (with_lines turned.after) (joined turned.sent) = end_is _ end calls (subst (λ (p : Program Outcome). Reaches p calls (done end)) turned.is reaches) in
     subst (λ (o : Outcome). IsOrderly o.state) (sym is) (record { rise = lines.0; few = lines.1 })
 

@@ -5,4 +5,8 @@ pub mod Seen
 pub mod Turned
 pub mod Lives
 pub mod Laws
+pub mod Cuts
+pub mod CutLaws
+pub mod Apart
+pub mod ApartLaws
 pub mod Examples

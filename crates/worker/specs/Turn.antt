@@ -58,22 +58,24 @@ happening_of Stop = None
 abbrev pub StandsStill : List Line → List Sent → List Line → Type 0
 StandsStill lines sent after = (sent ≡ []) × (after ≡ lines)
 
+-- The turns of lines are told by `Turning`: as the gateway reads, part by part, or in another way (`Cuts`).
+
 -- A line takes a turn. The others stay.
-pub record Acts (context : Context) (happening : Happening) (lines : List Line) (place : ℕ) (sent : List Sent) (after : List Line) : Type 0 where
+pub record ActsBy (Turning : Context → Line → Happening → List Sent → Option Line → Type 0) (context : Context) (happening : Happening) (lines : List Line) (place : ℕ) (sent : List Sent) (after : List Line) : Type 0 where
   pub line : Line
   pub stands : slice_get lines place ≡ Some line
   pub next : Option Line
-  pub turns : Turns context line happening sent next
+  pub turns : Turning context line happening sent next
   pub is : after ≡ gone_on lines place next
 
 -- on a line that is not open nothing happens
-abbrev pub ActsAt : Context → Happening → List Line → Option ℕ → List Sent → List Line → Type 0
-ActsAt context happening lines None sent after = StandsStill lines sent after
-ActsAt context happening lines (Some place) sent after = Acts context happening lines place sent after
+abbrev pub ActsAtBy : (Context → Line → Happening → List Sent → Option Line → Type 0) → Context → Happening → List Line → Option ℕ → List Sent → List Line → Type 0
+ActsAtBy Turning context happening lines None sent after = StandsStill lines sent after
+ActsAtBy Turning context happening lines (Some place) sent after = ActsBy Turning context happening lines place sent after
 
-abbrev pub Happens : Context → List Line → Option OnLine → List Sent → List Line → Type 0
-Happens context lines None sent after = StandsStill lines sent after
-Happens context lines (Some on) sent after = ActsAt context on.happening lines (place_in on.number lines) sent after
+abbrev pub HappensBy : (Context → Line → Happening → List Sent → Option Line → Type 0) → Context → List Line → Option OnLine → List Sent → List Line → Type 0
+HappensBy Turning context lines None sent after = StandsStill lines sent after
+HappensBy Turning context lines (Some on) sent after = ActsAtBy Turning context on.happening lines (place_in on.number lines) sent after
 
 -- so many lines are open at most
 abbrev pub most_lines : ℕ
@@ -95,16 +97,29 @@ opened_sent number lines =
 abbrev pub Opens : ℕ → List Line → List Sent → List Line → Type 0
 Opens number lines sent after = (sent ≡ opened_sent number lines) × (after ≡ opened_lines number lines)
 
+abbrev pub AnswersBy : (Context → Line → Happening → List Sent → Option Line → Type 0) → Context → List Line → What → List Sent → List Line → Type 0
+AnswersBy Turning context lines (Opened number) sent after = Opens number lines sent after
+AnswersBy Turning context lines (Bytes number side bytes) sent after = HappensBy Turning context lines (happening_of (Bytes number side bytes)) sent after
+AnswersBy Turning context lines (End number side) sent after = HappensBy Turning context lines (happening_of (End number side)) sent after
+AnswersBy Turning context lines (Gone number side) sent after = HappensBy Turning context lines (happening_of (Gone number side)) sent after
+AnswersBy Turning context lines (Joined number) sent after = HappensBy Turning context lines (happening_of (Joined number)) sent after
+AnswersBy Turning context lines (Refused number) sent after = HappensBy Turning context lines (happening_of (Refused number)) sent after
+AnswersBy Turning context lines (Room number side) sent after = HappensBy Turning context lines (happening_of (Room number side)) sent after
+AnswersBy Turning context lines Clock sent after = HappensBy Turning context lines (happening_of Clock) sent after
+AnswersBy Turning context lines Stop sent after = HappensBy Turning context lines (happening_of Stop) sent after
+
+-- as the gateway reads, part by part
+abbrev pub Acts : Context → Happening → List Line → ℕ → List Sent → List Line → Type 0
+Acts context happening lines place sent after = ActsBy Turns context happening lines place sent after
+
+abbrev pub ActsAt : Context → Happening → List Line → Option ℕ → List Sent → List Line → Type 0
+ActsAt context happening lines place sent after = ActsAtBy Turns context happening lines place sent after
+
+abbrev pub Happens : Context → List Line → Option OnLine → List Sent → List Line → Type 0
+Happens context lines on sent after = HappensBy Turns context lines on sent after
+
 abbrev pub Answers : Context → List Line → What → List Sent → List Line → Type 0
-Answers context lines (Opened number) sent after = Opens number lines sent after
-Answers context lines (Bytes number side bytes) sent after = Happens context lines (happening_of (Bytes number side bytes)) sent after
-Answers context lines (End number side) sent after = Happens context lines (happening_of (End number side)) sent after
-Answers context lines (Gone number side) sent after = Happens context lines (happening_of (Gone number side)) sent after
-Answers context lines (Joined number) sent after = Happens context lines (happening_of (Joined number)) sent after
-Answers context lines (Refused number) sent after = Happens context lines (happening_of (Refused number)) sent after
-Answers context lines (Room number side) sent after = Happens context lines (happening_of (Room number side)) sent after
-Answers context lines Clock sent after = Happens context lines (happening_of Clock) sent after
-Answers context lines Stop sent after = Happens context lines (happening_of Stop) sent after
+Answers context lines what sent after = AnswersBy Turns context lines what sent after
 
 -- ---- a turn
 

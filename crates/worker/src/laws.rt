@@ -1,8 +1,9 @@
 // What the definitions say, as functions without a body.
 ghost use Rattle.worker.specs.Examples.{HappeningExamples, LineExamples, WantsExamples};
+ghost use Rattle.worker.specs.CutLaws.{CutsAlike, OneItemMeaning, TurnsAreItemTurns};
 ghost use Rattle.worker.specs.Laws.{OneTurnEach, IdleEventsChangeNothing, StaysOrderly, WantsAlwaysRise};
 
-/// An event has one turn: what a worker was before it says all that it sends and comes to.
+/// An event has one turn at most: what a worker was before it says all that it sends and comes to.
 pub fn an_event_has_one_turn()
     ensures { OneTurnEach }
 {}
@@ -23,4 +24,18 @@ pub fn worked_turns()
     ensures happenings { HappeningExamples }
     ensures lines { LineExamples }
     ensures wants { WantsExamples }
+{}
+
+/// Each turn is one item by item, in which each byte of a body is read and sent by itself, but for how what is sent is cut into
+/// chunks; and item by item events say one thing at most.
+pub fn turns_are_item_turns()
+    ensures each { TurnsAreItemTurns }
+    ensures one { OneItemMeaning }
+{}
+
+/// What events say item by item, they say too where pieces that may as well come at once do so: of two pieces, one right behind the
+/// other, the first does at the moment of the second what it does at its own; no request was answered before its end, that no route
+/// takes; and behind a response no next exchange was opened.
+pub fn cuts_are_alike()
+    ensures { CutsAlike }
 {}
