@@ -4,3 +4,4 @@ mod Progresses
 mod Fronts
 mod Turns
 mod Once
+mod Cuts

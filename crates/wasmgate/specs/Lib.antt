@@ -3,3 +3,4 @@ pub mod Words
 pub mod Call
 pub mod Run
 pub mod Laws
+pub mod Cuts
