@@ -50,7 +50,7 @@ abbrev pub RequestRests : (whole : Bool) → Reading → Type 0
 RequestRests true requests = Unit {0}
 RequestRests false requests = Waits requests
 
--- nothing is left to do: no request waits for an answer that no route takes, and all that has come of a request and of its response
+-- nothing is left to do: no request that no route takes waits for its answer, and all that has come of a request and of its response
 -- has been heard
 abbrev pub RestsIn : Line → Option Exchange → Type 0
 RestsIn line None = Waits line.requests

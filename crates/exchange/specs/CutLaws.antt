@@ -41,8 +41,9 @@ Lacks member [] = Unit {0}
 Lacks member (first ∷ sent) = (first ≡ member → ⊥) × Lacks member sent
 
 -- What the first of two pieces does not send, where they may as well come at once. Of a request that no route takes, what has come is
--- read, and then it is answered; its line stays open only where its end has come by then, so here it was not answered before its end.
--- What comes from a server behind its response belongs to nothing, unless the next exchange is open by then; here none was opened.
+-- read, and then it is answered; its line stays open only where its end has come by then. So no such answer was sent that closes the
+-- line. (That excludes one to a whole request too, where it would do no harm.) What comes behind a response belongs to nothing. But
+-- where the first piece opened the next connection, the second came over that one, and is another text; so none was opened.
 abbrev pub Joinable : Context → ℕ → Side → List Sent → Type 0
 Joinable at number Down sent = Lacks (Bytes number Down (fixed_answer at.now 404 false)) sent
 Joinable at number Up sent = Lacks (Connect number) sent
