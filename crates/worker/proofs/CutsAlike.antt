@@ -1,5 +1,6 @@
 -- What events say item by item, they say where pieces of a connection's bytes come at once.
-use Rattle.std.proofs.Common.{◌≡◌, ℕ, false, List, [], ◌∷◌, ◌++◌, refl, ap, sym, subst, ◌∙◌, append_assoc, Option, None, Some, is_some, slice_set}
+use Rattle.std.proofs.Common.{◌≡◌, ℕ, false, List, [], ◌∷◌, ◌++◌, refl, ap, sym, subst, ◌∙◌, append_assoc, Option, None, Some, is_some, slice_set, inl, inr}
+use Rattle.std.specs.Prelude.{◌⊎◌}
 use Rattle.std.specs.List.{slice_get}
 use Rattle.gate_config.specs.declared.config.Config.{Config}
 use Rattle.gate_io.specs.declared.event.Event.{Event}
@@ -17,7 +18,7 @@ use Rattle.exchange.proofs.CutLaws.{line_cuts_alike, item_number}
 use Rattle.exchange.proofs.Resting.{item_between, new_between}
 use Rattle.worker.specs.Turn.{place_in, gone_on, ActsBy, ActsAtBy}
 use Rattle.worker.specs.Apart.{line_in}
-use Rattle.worker.specs.Cuts.{ItemAnswers, ItemMeans, AllBetween, IsCut, Merges, MergesTo}
+use Rattle.worker.specs.Cuts.{ItemAnswers, ItemMeans, AllBetween, IsCut, Merges, Retimes, ComesTo}
 use Rattle.worker.specs.Laws.{RiseFrom}
 use Rattle.worker.specs.CutLaws.{CutsAlike}
 use Rattle.worker.proofs.CutsBetween.{between_get, between_answers}
@@ -81,33 +82,31 @@ cut_acts at side front back lines (Some place) number first second mid after ris
 
 -- two pieces at once
 cut_answers : (config : Config) (lines : List Line) (whole first second : Event) (cut : IsCut whole first second) (now next : List Sent) (mid after : List Line) → RiseFrom 0 lines → AllBetween lines
-    → ItemAnswers (at whole.now config) lines first.what now mid → Joinable (at whole.now config) cut.number cut.side now → ItemAnswers (at second.now config) mid second.what next after
+    → ItemAnswers (at first.now config) lines first.what now mid → Joinable (at whole.now config) cut.number cut.side now → ItemAnswers (at second.now config) mid second.what next after
     → ItemAnswers (at whole.now config) lines whole.what (now ++ next) after
 cut_answers config lines whole first second cut now next mid after rise all a joins b =
     let p : ItemAnswers (at whole.now config) lines (Bytes cut.number cut.side cut.front) now mid =
-    subst (λ (w : What). ItemAnswers (at whole.now config) lines w now mid) cut.first_is a in
+    subst (λ (w : What). ItemAnswers (at whole.now config) lines w now mid) cut.first_is (subst (λ (n : ℕ). ItemAnswers (at n config) lines first.what now mid) cut.first_now a) in
     let q : ItemAnswers (at whole.now config) mid (Bytes cut.number cut.side cut.back) next after =
     subst (λ (w : What). ItemAnswers (at whole.now config) mid w next after) cut.second_is (subst (λ (n : ℕ). ItemAnswers (at n config) mid second.what next after) cut.second_now b) in
     subst (λ (w : What). ItemAnswers (at whole.now config) lines w (now ++ next) after) (sym cut.whole_is)
     (cut_acts (at whole.now config) cut.side cut.front cut.back lines (place_in cut.number lines) cut.number now next mid after rise refl all p joins q)
 
--- what the first piece does, and that it may come with the second
-abbrev JoinsBehind : Config → List Line → List Event → (whole first : Event) → ℕ → Side → Type 0
-JoinsBehind config lines before whole first number side =
-    (s now : List Sent) (mid next : List Line) → ItemMeans config lines before s mid → ItemAnswers (at first.now config) mid first.what now next
-    → ItemAnswers (at whole.now config) mid first.what now next × Joinable (at whole.now config) number side now
+-- the first piece may as well come with the second
+abbrev JoinableBehind : Config → List Line → List Event → (whole first : Event) → ℕ → Side → Type 0
+JoinableBehind config lines before whole first number side =
+    (s now : List Sent) (mid next : List Line) → ItemMeans config lines before s mid → ItemAnswers (at first.now config) mid first.what now next → Joinable (at whole.now config) number side now
 
 -- events in front of them, and behind
 merge_behind : (config : Config) (lines : List Line) (before : List Event) (whole first second : Event) (cut : IsCut whole first second) (behind : List Event) (sent : List Sent) (after : List Line)
-    → AreOrderly lines → AllBetween lines → JoinsBehind config lines before whole first cut.number cut.side
+    → AreOrderly lines → AllBetween lines → JoinableBehind config lines before whole first cut.number cut.side
     → ItemMeans config lines (before ++ first ∷ second ∷ behind) sent after → ItemMeans config lines (before ++ whole ∷ behind) sent after
 merge_behind config lines [] whole first second cut behind sent after orderly all joins m =
-    let then_this = m.4 in
-    let so = joins [] m.0 lines m.2 (refl, refl) m.3 in (
+    let then_this = m.4 in (
       m.0 ++ then_this.0,
       then_this.1,
       then_this.2,
-      cut_answers config lines whole first second cut m.0 then_this.0 m.2 then_this.2 orderly.0 all so.0 so.1 then_this.3,
+      cut_answers config lines whole first second cut m.0 then_this.0 m.2 then_this.2 orderly.0 all m.3 (joins [] m.0 lines m.2 (refl, refl) m.3) then_this.3,
       then_this.4,
       m.5 ∙ ap (λ (s : List Sent). m.0 ++ s) then_this.5 ∙ sym (append_assoc m.0 then_this.0 then_this.1),
     )
@@ -126,15 +125,47 @@ merged_alike : (config : Config) (lines : List Line) (events merged : List Event
     → ItemMeans config lines events sent after → ItemMeans config lines merged sent after
 merged_alike config lines events merged sent after orderly all m means =
     subst (λ (es : List Event). ItemMeans config lines es sent after) (sym m.merged_are)
-    (merge_behind config lines m.before m.whole m.first m.second m.cut m.behind sent after orderly all m.joins
+    (merge_behind config lines m.before m.whole m.first m.second m.cut m.behind sent after orderly all m.joinable
     (subst (λ (es : List Event). ItemMeans config lines es sent after) m.events_are means))
 
--- one merge after another
-merged_to : (config : Config) (lines : List Line) (events : List Event) (lists : List (List Event)) (merged : List Event) (sent : List Sent) (after : List Line) → AreOrderly lines → AllBetween lines
-    → MergesTo config lines events lists merged → ItemMeans config lines events sent after → ItemMeans config lines merged sent after
-merged_to config lines events [] merged sent after orderly all same means = subst (λ (es : List Event). ItemMeans config lines es sent after) (sym same) means
-merged_to config lines events (next ∷ lists) merged sent after orderly all merges means =
-    merged_to config lines next lists merged sent after orderly all merges.1 (merged_alike config lines events next sent after orderly all merges.0 means)
+-- an event at another moment, with events in front of it and behind
+retime_behind : (config : Config) (lines : List Line) (before : List Event) (event other : Event) (behind : List Event) (sent : List Sent) (after : List Line) → other.what ≡ event.what
+    → ((s now : List Sent) (mid next : List Line) → ItemMeans config lines before s mid → ItemAnswers (at event.now config) mid event.what now next → ItemAnswers (at other.now config) mid event.what now next)
+    → ItemMeans config lines (before ++ event ∷ behind) sent after → ItemMeans config lines (before ++ other ∷ behind) sent after
+retime_behind config lines [] event other behind sent after what_is same m = (
+  m.0,
+  m.1,
+  m.2,
+  subst (λ (w : What). ItemAnswers (at other.now config) lines w m.0 m.2) (sym what_is) (same [] m.0 lines m.2 (refl, refl) m.3),
+  m.4,
+  m.5,
+)
+retime_behind config lines (e ∷ before) event other behind sent after what_is same m = (
+  m.0,
+  m.1,
+  m.2,
+  m.3,
+  retime_behind config m.2 before event other behind m.1 after what_is (λ s now mid next means answers. same (m.0 ++ s) now mid next (m.0, s, m.2, m.3, means, refl) answers) m.4,
+  m.5,
+)
+
+retimed_alike : (config : Config) (lines : List Line) (events retimed : List Event) (sent : List Sent) (after : List Line) → Retimes config lines events retimed
+    → ItemMeans config lines events sent after → ItemMeans config lines retimed sent after
+retimed_alike config lines events retimed sent after r means =
+    subst (λ (es : List Event). ItemMeans config lines es sent after) (sym r.retimed_are)
+    (retime_behind config lines r.before r.event r.other r.behind sent after r.what_is r.same (subst (λ (es : List Event). ItemMeans config lines es sent after) r.events_are means))
+
+-- one step, and one after another
+step_alike : (config : Config) (lines : List Line) (events next : List Event) (sent : List Sent) (after : List Line) → AreOrderly lines → AllBetween lines
+    → Merges config lines events next ⊎ Retimes config lines events next → ItemMeans config lines events sent after → ItemMeans config lines next sent after
+step_alike config lines events next sent after orderly all (inl m) means = merged_alike config lines events next sent after orderly all m means
+step_alike config lines events next sent after orderly all (inr r) means = retimed_alike config lines events next sent after r means
+
+steps_alike : (config : Config) (lines : List Line) (events : List Event) (lists : List (List Event)) (end : List Event) (sent : List Sent) (after : List Line) → AreOrderly lines → AllBetween lines
+    → ComesTo config lines events lists end → ItemMeans config lines events sent after → ItemMeans config lines end sent after
+steps_alike config lines events [] end sent after orderly all same means = subst (λ (es : List Event). ItemMeans config lines es sent after) (sym same) means
+steps_alike config lines events (next ∷ lists) end sent after orderly all steps means =
+    steps_alike config lines next lists end sent after orderly all steps.1 (step_alike config lines events next sent after orderly all steps.0 means)
 
 pub cuts_alike : CutsAlike
-cuts_alike config lines events lists merged sent after orderly all merges means = merged_to config lines events lists merged sent after (orderly.rise, orderly.few) all merges means
+cuts_alike config lines events lists end sent after orderly all steps means = steps_alike config lines events lists end sent after (orderly.rise, orderly.few) all steps means

@@ -16,3 +16,5 @@ pub mod ApartSent
 pub mod ApartLines
 pub mod ApartOnce
 pub mod ApartCuts
+pub mod Filled
+pub mod ApartJoined

@@ -72,10 +72,10 @@ rise-insert (line ∷ lines) number least new is missing below rise = elim (case
   | inr behind ↦ rw (behind, one-add) (rise.0, rise-insert lines number (line.number + 1) new is missing.1 (grind (arith, nat_tests, behind, missing.0)) rise.1)
 ]
 
-length-gone : (lines : List Line) (place : ℕ) → length (remove lines place) ≤ length lines
+pub length-gone : (lines : List Line) (place : ℕ) → length (remove lines place) ≤ length lines
 length-gone lines place = simp (length-append, length-take, length-drop) (omega arith)
 
-length-insert : (lines : List Line) (place : ℕ) (new : Line) → length (insert lines place new) ≤ length lines + 1
+pub length-insert : (lines : List Line) (place : ℕ) (new : Line) → length (insert lines place new) ≤ length lines + 1
 length-insert lines place new = simp (length-append, length-take, length-drop) (omega arith)
 
 -- they rise, and are not too many

@@ -1,5 +1,5 @@
 -- A line by itself: what happens on it, and what is sent on it, whatever happens on the other lines.
-use Rattle.std.specs.Prelude.{◌≡◌, ◌⊎◌, ℕ, ◌==◌, Bool, false, List, [], ◌∷◌, ◌++◌, filter, Option, None, Some, if◌then◌else◌}
+use Rattle.std.specs.Prelude.{◌≡◌, ◌⊎◌, ℕ, ◌+◌, ◌≤◌, ◌==◌, Bool, true, false, List, [], ◌∷◌, ◌++◌, length, filter, Option, None, Some, if◌then◌else◌}
 use Rattle.gate_config.specs.declared.config.Config.{Config}
 use Rattle.gate_io.specs.declared.event.Event.{Event}
 use Rattle.gate_io.specs.declared.event.Sent.{Sent}
@@ -12,7 +12,7 @@ use Rattle.exchange.specs.Seen.{at}
 use Rattle.exchange.specs.Turns.{Happening}
 use Rattle.exchange.specs.Cuts.{ItemTurns}
 use Rattle.exchange.specs.CutLaws.{Joinable}
-use Rattle.worker.specs.Turn.{OnLine, happening_of}
+use Rattle.worker.specs.Turn.{OnLine, happening_of, most_lines}
 use Rattle.worker.specs.Cuts.{IsCut}
 
 -- ---- what concerns a line
@@ -57,13 +57,15 @@ line_in number (line ∷ lines) = if line.number == number then Some line else l
 abbrev pub IsSameLine : Option Line → List Sent → Option Line → Type 0
 IsSameLine line sent after = (sent ≡ []) × (after ≡ line)
 
--- a line that is not open is opened, or closed at once, where there is no room for it
-abbrev pub OpensAlone : ℕ → List Sent → Option Line → Type 0
-OpensAlone number sent after = ((sent ≡ []) × (after ≡ Some (new_line number))) ⊎ ((sent ≡ sends.Close number Down ∷ []) × (after ≡ None))
+-- A line that is not open is opened. Where the worker may be full, that is not that it is, there may be no room for it: then it is opened,
+-- or its connection is closed at once.
+abbrev pub OpensAlone : Bool → ℕ → List Sent → Option Line → Type 0
+OpensAlone true number sent after = ((sent ≡ []) × (after ≡ Some (new_line number))) ⊎ ((sent ≡ sends.Close number Down ∷ []) × (after ≡ None))
+OpensAlone false number sent after = (sent ≡ []) × (after ≡ Some (new_line number))
 
-abbrev pub OpenedAlone : ℕ → Option Line → List Sent → Option Line → Type 0
-OpenedAlone number None sent after = OpensAlone number sent after
-OpenedAlone number (Some line) sent after = IsSameLine (Some line) sent after
+abbrev pub OpenedAlone : Bool → ℕ → Option Line → List Sent → Option Line → Type 0
+OpenedAlone may_be_full number None sent after = OpensAlone may_be_full number sent after
+OpenedAlone may_be_full number (Some line) sent after = IsSameLine (Some line) sent after
 
 -- on a line that is not open nothing happens
 abbrev pub TurnsAlone : (Context → Line → Happening → List Sent → Option Line → Type 0) → Context → Happening → Option Line → List Sent → Option Line → Type 0
@@ -75,29 +77,30 @@ HappensAlone Turning context line None sent after = IsSameLine line sent after
 HappensAlone Turning context line (Some on) sent after = TurnsAlone Turning context on.happening line sent after
 
 -- what a line does at an event that is of it
-abbrev pub AnswersAlone : (Context → Line → Happening → List Sent → Option Line → Type 0) → Context → ℕ → Option Line → What → List Sent → Option Line → Type 0
-AnswersAlone Turning context number line (Opened n) sent after = OpenedAlone number line sent after
-AnswersAlone Turning context number line (Bytes n side bytes) sent after = HappensAlone Turning context line (happening_of (Bytes n side bytes)) sent after
-AnswersAlone Turning context number line (End n side) sent after = HappensAlone Turning context line (happening_of (End n side)) sent after
-AnswersAlone Turning context number line (Gone n side) sent after = HappensAlone Turning context line (happening_of (Gone n side)) sent after
-AnswersAlone Turning context number line (Joined n) sent after = HappensAlone Turning context line (happening_of (Joined n)) sent after
-AnswersAlone Turning context number line (Refused n) sent after = HappensAlone Turning context line (happening_of (Refused n)) sent after
-AnswersAlone Turning context number line (Room n side) sent after = HappensAlone Turning context line (happening_of (Room n side)) sent after
-AnswersAlone Turning context number line Clock sent after = HappensAlone Turning context line (happening_of Clock) sent after
-AnswersAlone Turning context number line Stop sent after = HappensAlone Turning context line (happening_of Stop) sent after
+abbrev pub AnswersAlone : Bool → (Context → Line → Happening → List Sent → Option Line → Type 0) → Context → ℕ → Option Line → What → List Sent → Option Line → Type 0
+AnswersAlone may_be_full Turning context number line (Opened n) sent after = OpenedAlone may_be_full number line sent after
+AnswersAlone may_be_full Turning context number line (Bytes n side bytes) sent after = HappensAlone Turning context line (happening_of (Bytes n side bytes)) sent after
+AnswersAlone may_be_full Turning context number line (End n side) sent after = HappensAlone Turning context line (happening_of (End n side)) sent after
+AnswersAlone may_be_full Turning context number line (Gone n side) sent after = HappensAlone Turning context line (happening_of (Gone n side)) sent after
+AnswersAlone may_be_full Turning context number line (Joined n) sent after = HappensAlone Turning context line (happening_of (Joined n)) sent after
+AnswersAlone may_be_full Turning context number line (Refused n) sent after = HappensAlone Turning context line (happening_of (Refused n)) sent after
+AnswersAlone may_be_full Turning context number line (Room n side) sent after = HappensAlone Turning context line (happening_of (Room n side)) sent after
+AnswersAlone may_be_full Turning context number line Clock sent after = HappensAlone Turning context line (happening_of Clock) sent after
+AnswersAlone may_be_full Turning context number line Stop sent after = HappensAlone Turning context line (happening_of Stop) sent after
 
--- WHAT EVENTS SAY OF ONE LINE, item by item: from the line on, or from where it is not open, at these events that are of it
-abbrev pub AloneMeans : Config → ℕ → Option Line → List Event → List Sent → Option Line → Type 0
-AloneMeans config number line [] sent after = IsSameLine line sent after
-AloneMeans config number line (event ∷ events) sent after =
-    (now later : List Sent) × (mid : Option Line) × AnswersAlone ItemTurns (at event.now config) number line event.what now mid
-    × AloneMeans config number mid events later after × (sent ≡ now ++ later)
+-- WHAT EVENTS SAY OF ONE LINE, item by item: from the line on, or from where it is not open, at these events that are of it. Where the
+-- worker may not be full, there is room at each event that opens the line.
+abbrev pub AloneMeans : Bool → Config → ℕ → Option Line → List Event → List Sent → Option Line → Type 0
+AloneMeans may_be_full config number line [] sent after = IsSameLine line sent after
+AloneMeans may_be_full config number line (event ∷ events) sent after =
+    (now later : List Sent) × (mid : Option Line) × AnswersAlone may_be_full ItemTurns (at event.now config) number line event.what now mid
+    × AloneMeans may_be_full config number mid events later after × (sent ≡ now ++ later)
 
 -- ---- cuts, on one line
 
--- Of one line's events two pieces, one right behind the other among these, come at once in the other list. What the first does item by
--- item at its moment, it does at that of the second too, and it may as well come with the second.
-pub record MergesAlone (config : Config) (number : ℕ) (line : Option Line) (events merged : List Event) : Type 0 where
+-- Of one line's events two pieces, one right behind the other among these, come at once in the other list. By what the first sends item
+-- by item, they may as well.
+pub record MergesAlone (may_be_full : Bool) (config : Config) (number : ℕ) (line : Option Line) (events merged : List Event) : Type 0 where
   pub before : List Event
   pub first : Event
   pub second : Event
@@ -106,12 +109,25 @@ pub record MergesAlone (config : Config) (number : ℕ) (line : Option Line) (ev
   pub cut : IsCut whole first second
   pub events_are : events ≡ before ++ first ∷ second ∷ behind
   pub merged_are : merged ≡ before ++ whole ∷ behind
-  pub joins : (sent now : List Sent) (mid next : Option Line) → AloneMeans config number line before sent mid → AnswersAlone ItemTurns (at first.now config) number mid first.what now next
-      → AnswersAlone ItemTurns (at whole.now config) number mid first.what now next × Joinable (at whole.now config) number cut.side now
+  pub joinable : (sent now : List Sent) (mid next : Option Line) → AloneMeans may_be_full config number line before sent mid
+      → AnswersAlone may_be_full ItemTurns (at first.now config) number mid first.what now next → Joinable (at whole.now config) number cut.side now
 
-abbrev pub MergesAloneTo : Config → ℕ → Option Line → List Event → List (List Event) → List Event → Type 0
-MergesAloneTo config number line events [] merged = merged ≡ events
-MergesAloneTo config number line events (next ∷ lists) merged = MergesAlone config number line events next × MergesAloneTo config number line next lists merged
+-- one event comes at another moment in the other list, at which it does the same item by item
+pub record RetimesAlone (may_be_full : Bool) (config : Config) (number : ℕ) (line : Option Line) (events retimed : List Event) : Type 0 where
+  pub before : List Event
+  pub event : Event
+  pub other : Event
+  pub behind : List Event
+  pub what_is : other.what ≡ event.what
+  pub events_are : events ≡ before ++ event ∷ behind
+  pub retimed_are : retimed ≡ before ++ other ∷ behind
+  pub same : (sent now : List Sent) (mid next : Option Line) → AloneMeans may_be_full config number line before sent mid
+      → AnswersAlone may_be_full ItemTurns (at event.now config) number mid event.what now next → AnswersAlone may_be_full ItemTurns (at other.now config) number mid event.what now next
+
+abbrev pub ComesAloneTo : Bool → Config → ℕ → Option Line → List Event → List (List Event) → List Event → Type 0
+ComesAloneTo may_be_full config number line events [] end = end ≡ events
+ComesAloneTo may_be_full config number line events (next ∷ lists) end =
+    (MergesAlone may_be_full config number line events next ⊎ RetimesAlone may_be_full config number line events next) × ComesAloneTo may_be_full config number line next lists end
 
 -- the event opens no line
 abbrev pub OpensNot : What → Type 0
@@ -128,3 +144,26 @@ OpensNot Stop = Unit {0}
 abbrev pub NeverOpens : List Event → Type 0
 NeverOpens [] = Unit {0}
 NeverOpens (event ∷ events) = OpensNot event.what × NeverOpens events
+
+-- ---- room for lines
+
+-- as many lines as an event opens at most
+abbrev pub opened_by : What → ℕ
+opened_by (Opened number) = 1
+opened_by (Bytes number side bytes) = 0
+opened_by (End number side) = 0
+opened_by (Gone number side) = 0
+opened_by (Joined number) = 0
+opened_by (Refused number) = 0
+opened_by (Room number side) = 0
+opened_by Clock = 0
+opened_by Stop = 0
+
+-- how many events of a list open a line
+abbrev pub opened_in : List Event → ℕ
+opened_in [] = 0
+opened_in (event ∷ events) = opened_by event.what + opened_in events
+
+-- there is room for all lines that the events open, even where no line is closed
+abbrev pub IsRoomy : List Line → List Event → Type 0
+IsRoomy lines events = length lines + opened_in events ≤ most_lines

@@ -11,7 +11,7 @@ use Rattle.exchange.specs.Cuts.{JoinsChunks}
 use Rattle.worker.specs.Laws.{IsOrderly}
 use Rattle.worker.specs.State.{State, with_lines}
 use Rattle.worker.specs.Turn.{Outcome, IsTurned}
-use Rattle.worker.specs.Cuts.{ItemAnswers, ItemMeans, AllBetween, MergesTo}
+use Rattle.worker.specs.Cuts.{ItemAnswers, ItemMeans, AllBetween, ComesTo}
 
 -- the lines do at the event, item by item, what its turn says: they come to the same, and send the same but for how chunks are cut
 pub record IsItemTurn (config : Config) (lines : List Line) (event : Event) (end : Outcome) : Type 0 where
@@ -36,8 +36,9 @@ OneItemMeaning =
     (config : Config) (lines : List Line) (events : List Event) (a b : List Sent) (x y : List Line)
     → ItemMeans config lines events a x → ItemMeans config lines events b y → IsSame a b x y
 
--- CUTS ARE ALIKE: what events say item by item, they say too where such pieces come at once.
+-- CUTS ARE ALIKE: what events say item by item, they say too where pieces come at once that may as well, and at other moments at which
+-- they do the same.
 abbrev pub CutsAlike : Type 0
 CutsAlike =
-    (config : Config) (lines : List Line) (events : List Event) (lists : List (List Event)) (merged : List Event) (sent : List Sent) (after : List Line)
-    → IsOrderly (with_lines lines) → AllBetween lines → MergesTo config lines events lists merged → ItemMeans config lines events sent after → ItemMeans config lines merged sent after
+    (config : Config) (lines : List Line) (events : List Event) (lists : List (List Event)) (end : List Event) (sent : List Sent) (after : List Line)
+    → IsOrderly (with_lines lines) → AllBetween lines → ComesTo config lines events lists end → ItemMeans config lines events sent after → ItemMeans config lines end sent after

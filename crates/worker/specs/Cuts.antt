@@ -1,5 +1,5 @@
 -- What a worker's lines do at events item by item, and events whose bytes are cut otherwise.
-use Rattle.std.specs.Prelude.{◌≡◌, ℕ, List, [], ◌∷◌, ◌++◌}
+use Rattle.std.specs.Prelude.{◌≡◌, ◌⊎◌, ℕ, List, [], ◌∷◌, ◌++◌}
 use Rattle.gate_config.specs.declared.config.Config.{Config}
 use Rattle.gate_io.specs.declared.event.Event.{Event}
 use Rattle.gate_io.specs.declared.event.Sent.{Sent}
@@ -29,7 +29,7 @@ abbrev pub AllBetween : List Line → Type 0
 AllBetween [] = Unit {0}
 AllBetween (line ∷ lines) = IsBetween line × AllBetween lines
 
--- bytes that come at once, or in two pieces, at the moment of the second
+-- bytes that come at once, or in two pieces, at one moment
 pub record IsCut (whole first second : Event) : Type 0 where
   pub number : ℕ
   pub side : Side
@@ -38,10 +38,11 @@ pub record IsCut (whole first second : Event) : Type 0 where
   pub whole_is : whole.what ≡ Bytes number side (front ++ back)
   pub first_is : first.what ≡ Bytes number side front
   pub second_is : second.what ≡ Bytes number side back
+  pub first_now : first.now ≡ whole.now
   pub second_now : second.now ≡ whole.now
 
--- Of the one list of events two pieces, one right behind the other, come at once in the other list. What the first does item by item at
--- its moment, it does at that of the second too, and it may as well come with the second.
+-- Of the one list of events two pieces, one right behind the other, come at once in the other list. By what the first sends item by
+-- item, they may as well.
 pub record Merges (config : Config) (lines : List Line) (events merged : List Event) : Type 0 where
   pub before : List Event
   pub first : Event
@@ -51,10 +52,22 @@ pub record Merges (config : Config) (lines : List Line) (events merged : List Ev
   pub cut : IsCut whole first second
   pub events_are : events ≡ before ++ first ∷ second ∷ behind
   pub merged_are : merged ≡ before ++ whole ∷ behind
-  pub joins : (sent now : List Sent) (mid next : List Line) → ItemMeans config lines before sent mid → ItemAnswers (at first.now config) mid first.what now next
-      → ItemAnswers (at whole.now config) mid first.what now next × Joinable (at whole.now config) cut.number cut.side now
+  pub joinable : (sent now : List Sent) (mid next : List Line) → ItemMeans config lines before sent mid → ItemAnswers (at first.now config) mid first.what now next
+      → Joinable (at whole.now config) cut.number cut.side now
 
--- any number of pieces come at once, two of them at each step from one list of events to the next
-abbrev pub MergesTo : Config → List Line → List Event → List (List Event) → List Event → Type 0
-MergesTo config lines events [] merged = merged ≡ events
-MergesTo config lines events (next ∷ lists) merged = Merges config lines events next × MergesTo config lines next lists merged
+-- One event comes at another moment in the other list, at which it does the same item by item.
+pub record Retimes (config : Config) (lines : List Line) (events retimed : List Event) : Type 0 where
+  pub before : List Event
+  pub event : Event
+  pub other : Event
+  pub behind : List Event
+  pub what_is : other.what ≡ event.what
+  pub events_are : events ≡ before ++ event ∷ behind
+  pub retimed_are : retimed ≡ before ++ other ∷ behind
+  pub same : (sent now : List Sent) (mid next : List Line) → ItemMeans config lines before sent mid → ItemAnswers (at event.now config) mid event.what now next
+      → ItemAnswers (at other.now config) mid event.what now next
+
+-- from one list of events to another by any number of such steps, over these lists
+abbrev pub ComesTo : Config → List Line → List Event → List (List Event) → List Event → Type 0
+ComesTo config lines events [] end = end ≡ events
+ComesTo config lines events (next ∷ lists) end = (Merges config lines events next ⊎ Retimes config lines events next) × ComesTo config lines next lists end

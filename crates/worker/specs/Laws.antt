@@ -9,6 +9,7 @@ use Rattle.gate_io.specs.declared.event.What.TheVariants.{Opened, Bytes, End, Go
 use Rattle.http1_model.specs.Unread.{Reading}
 use Rattle.store_model.specs.Made.{Made}
 use Rattle.store_model.specs.Program.{Program, done, Reaches}
+use Rattle.outbox.specs.Delivery.{AreFilled}
 use Rattle.outbox.specs.Turns.{OneTurn}
 use Rattle.exchange.specs.State.{Line, reading_of}
 use Rattle.exchange.specs.Turns.{Happening, came, finishes, lost}
@@ -22,6 +23,12 @@ abbrev pub OneTurnEach : Type 0
 OneTurnEach =
     (config : Config) (state : State) (event : Event) (program other : Program Outcome) → IsTurned config state event program → IsTurned config state event other
     → program ≡ other
+
+-- A TURN SENDS NO EMPTY PIECE.
+abbrev pub SendsFilled : Type 0
+SendsFilled =
+    (config : Config) (state : State) (event : Event) (program : Program Outcome) (calls : List Made) (end : Outcome) → IsTurned config state event program
+    → Reaches program calls (done end) → AreFilled end.sent
 
 -- nothing more is read there: the text has ended, or there is no connection
 abbrev pub has_ended : Option Reading → Bool

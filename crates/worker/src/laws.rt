@@ -1,11 +1,16 @@
 // What the definitions say, as functions without a body.
 ghost use Rattle.worker.specs.Examples.{HappeningExamples, LineExamples, WantsExamples};
 ghost use Rattle.worker.specs.CutLaws.{CutsAlike, OneItemMeaning, TurnsAreItemTurns};
-ghost use Rattle.worker.specs.Laws.{OneTurnEach, IdleEventsChangeNothing, StaysOrderly, WantsAlwaysRise};
+ghost use Rattle.worker.specs.Laws.{OneTurnEach, SendsFilled, IdleEventsChangeNothing, StaysOrderly, WantsAlwaysRise};
 
 /// An event has one turn at most: what a worker was before it says all that it sends and comes to.
 pub fn an_event_has_one_turn()
     ensures { OneTurnEach }
+{}
+
+/// A turn sends no empty piece.
+pub fn turns_send_no_empty_piece()
+    ensures { SendsFilled }
 {}
 
 /// Events that do not fit change nothing.
@@ -33,9 +38,9 @@ pub fn turns_are_item_turns()
     ensures one { OneItemMeaning }
 {}
 
-/// What events say item by item, they say too where pieces that may as well come at once do so: of two pieces, one right behind the
-/// other, the first does at the moment of the second what it does at its own; no request was answered before its end, that no route
-/// takes; and behind a response no next exchange was opened.
+/// What events say item by item, they say too where neighbouring pieces of a line's bytes come at once that may as well, and where events
+/// come at other moments at which they do the same. Pieces may as well come at once where the first sends no answer that closes the line
+/// behind a request that no route takes, and opens no connection behind a response.
 pub fn cuts_are_alike()
     ensures { CutsAlike }
 {}

@@ -9,7 +9,9 @@ mod opened;
 mod wanted;
 mod worker;
 
-pub use apart::{cuts_are_alike_apart, lines_are_apart};
+pub use apart::{
+    cuts_are_alike_apart, cuts_are_alike_in_room, lines_are_apart, lines_are_apart_in_room,
+};
 pub use laws::{
     an_event_has_one_turn, idle_events_change_nothing, lines_stay_in_order, worked_turns,
 };
