@@ -1,5 +1,5 @@
 -- Scripts that differ in how bytes are cut send the same, since a worker's lines do, item by item.
-use Rattle.std.proofs.Common.{◌≡◌, List, [], ◌∷◌, ◌++◌, refl, sym, ap, ◌∙◌, subst}
+use Rattle.std.proofs.Common.{◌≡◌, ℕ, false, List, [], ◌∷◌, ◌++◌, Option, None, refl, sym, ap, ◌∙◌, subst}
 use Rattle.gate_config.specs.declared.config.Config.{Config}
 use Rattle.gate_config.specs.Plain.{IsPlain}
 use Rattle.gate_io.specs.declared.event.Event.{Event}
@@ -12,13 +12,17 @@ use Rattle.replay_script.specs.Scripts.{events_of}
 use Rattle.store_model.specs.Program.{done}
 use Rattle.worker.specs.State.{State, first_state}
 use Rattle.worker.specs.Cuts.{ItemAnswers, ItemMeans, AllBetween}
+use Rattle.worker.specs.Apart.{events_on, sent_on, line_in, AloneMeans, IsRoomy}
+use Rattle.worker.proofs.ApartCuts.{cuts_alone, one_alone_meaning}
+use Rattle.worker.proofs.ApartJoined.{joins_on}
+use Rattle.worker.proofs.ApartLines.{lines_apart_in_room}
 use Rattle.worker.proofs.CutsAlike.{cuts_alike}
 use Rattle.worker.proofs.CutsOnce.{one_item_meaning}
 use Rattle.worker.proofs.Order.{stays_orderly}
 use Rattle.worker.proofs.CutsTurned.{turns_are_item_turns}
 use Rattle.worker.proofs.CutsJoined.{tokens_solid, joins_itself, joins_like, joins_append}
 use Rattle.wasmgate.specs.Replay.{Plays, Replays}
-use Rattle.wasmgate.specs.Cuts.{IsMerged, CutsSendAlike}
+use Rattle.wasmgate.specs.Cuts.{IsJoined, CutsSendAlike, IsJoinedOn, LinesSendAlike}
 
 -- what events say item by item, and that what is sent is it with chunks joined
 record ItemPlays (config : Config) (lines : List Line) (events : List Event) (sent : List Sent) (after : List Line) : Type 0 where
@@ -52,25 +56,73 @@ means_by c d lines (event ∷ events) sent after routes means = (
   means.5,
 )
 
--- the other script sends what the pieces say item by item, with chunks joined
-merged_joins : (pieces others : List Command) (config : Config) (single b : List Sent) (after : List Line) → IsPlain 0 config
-    → ItemMeans config [] (events_of pieces) single after → IsMerged pieces others → Replays others b → JoinsChunks single b
-merged_joins pieces others config single b after is_plain means merged other =
-    let here = cuts_alike config [] (events_of pieces) merged.lists (events_of others) single after stays_orderly.first tt (merged.merges config is_plain) means in
-    let play = item_plays other.config first_state (events_of others) b other.after tt other.plays in
-    let there = means_by other.config config [] (events_of others) play.single other.after.lines (other.plain.routes ∙ sym is_plain.routes) play.means in
-    let same = one_item_meaning config [] (events_of others) play.single single other.after.lines after there here in
-    subst (λ (s : List Sent). JoinsChunks s b) same.sent play.joins
+-- what a script's events say item by item, the list to which they come says too, by any plain configuration
+record Joined (config : Config) (commands : List Command) (events : List Event) (sent : List Sent) : Type 0 where
+  single : List Sent
+  after : List Line
+  means : ItemMeans config [] events single after
+  joins : JoinsChunks single sent
+
+script_joined : (commands : List Command) (events : List Event) (sent : List Sent) (config : Config) → IsPlain 0 config → IsJoined commands events → Replays commands sent
+    → Joined config commands events sent
+script_joined commands events sent config plain joined played =
+    let play = item_plays played.config first_state (events_of commands) sent played.after tt played.plays in
+    let here = means_by played.config config [] (events_of commands) play.single played.after.lines (played.plain.routes ∙ sym plain.routes) play.means in
+    record {
+      single = play.single;
+      after = played.after.lines;
+      means = cuts_alike config [] (events_of commands) joined.lists events play.single played.after.lines stays_orderly.first tt (joined.steps config plain) here;
+      joins = play.joins;
+    }
 
 pub cuts_send_alike : CutsSendAlike
-cuts_send_alike pieces commands others sent a b merged_a merged_b played by_a by_b =
-    let play = item_plays played.config first_state (events_of pieces) sent played.after tt played.plays in
+cuts_send_alike commands others events a b joined_a joined_b by_a by_b =
+    let one = script_joined commands events a by_a.config by_a.plain joined_a by_a in
+    let other = script_joined others events b by_a.config by_a.plain joined_b by_b in
+    let same = one_item_meaning by_a.config [] events other.single one.single other.after one.after other.means one.means in
     record {
-      config = played.config;
-      plain = played.plain;
-      after = played.after.lines;
-      single = play.single;
-      means = play.means;
-      one = merged_joins pieces commands played.config play.single a played.after.lines played.plain play.means merged_a by_a;
-      other = merged_joins pieces others played.config play.single b played.after.lines played.plain play.means merged_b by_b;
+      config = by_a.config;
+      plain = by_a.plain;
+      after = one.after;
+      single = one.single;
+      means = one.means;
+      one = one.joins;
+      other = subst (λ (s : List Sent). JoinsChunks s b) same.sent other.joins;
+    }
+
+-- ---- line by line
+
+record JoinedOn (config : Config) (number : ℕ) (commands : List Command) (events : List Event) (sent : List Sent) : Type 0 where
+  single : List Sent
+  after : Option Line
+  means : AloneMeans false config number None events single after
+  joins : JoinsChunks single (sent_on number sent)
+
+line_joined : (number : ℕ) (commands : List Command) (events : List Event) (sent : List Sent) (config : Config) → IsPlain 0 config → IsRoomy [] (events_of commands)
+    → IsJoinedOn number commands events → Replays commands sent → JoinedOn config number commands events sent
+line_joined number commands events sent config plain roomy joined played =
+    let play = item_plays played.config first_state (events_of commands) sent played.after tt played.plays in
+    let here = means_by played.config config [] (events_of commands) play.single played.after.lines (played.plain.routes ∙ sym plain.routes) play.means in
+    let alone = lines_apart_in_room config [] (events_of commands) play.single played.after.lines number stays_orderly.first roomy here in
+    record {
+      single = sent_on number play.single;
+      after = line_in number played.after.lines;
+      means = cuts_alone false config number None (events_on number (events_of commands)) joined.lists events (sent_on number play.single) (line_in number played.after.lines) tt
+          (joined.steps config plain) alone;
+      joins = joins_on number play.single sent play.joins;
+    }
+
+pub lines_send_alike : LinesSendAlike
+lines_send_alike number commands others events a b roomy_a roomy_b joined_a joined_b by_a by_b =
+    let one = line_joined number commands events a by_a.config by_a.plain roomy_a joined_a by_a in
+    let other = line_joined number others events b by_a.config by_a.plain roomy_b joined_b by_b in
+    let same = one_alone_meaning by_a.config number None events other.single one.single other.after one.after other.means one.means in
+    record {
+      config = by_a.config;
+      plain = by_a.plain;
+      after = one.after;
+      single = one.single;
+      means = one.means;
+      one = one.joins;
+      other = subst (λ (s : List Sent). JoinsChunks s (sent_on number b)) same.sent other.joins;
     }

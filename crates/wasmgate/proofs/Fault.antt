@@ -1,11 +1,9 @@
 -- Bytes that are too many for a module, and what holds of each of a list.
-use Rattle.std.proofs.Common.{◌≡◌, ℕ, ◌-◌, ◌<◌, ◌≤◌, Bool, true, false, nat_le, if◌then◌else◌, List, [], ◌∷◌, length, Option, None, Some, Result, Ok, Err, refl, sym, ap, ◌∙◌, subst, arith}
+use Rattle.std.proofs.Common.{◌≡◌, ℕ, ◌<◌, Bool, false, nat_le, if◌then◌else◌, List, [], ◌∷◌, length, Option, None, Some, Err, refl, sym, ap, subst, arith}
 use Rattle.std.specs.Prelude.{◌&&◌, map}
 use Rattle.std.specs.List.{list_all}
-use Rattle.gate_io.specs.Paths.{told_at, file_at, ReadsTold}
+use Rattle.gate_io.specs.Paths.{told_at, ReadsTold}
 use Rattle.gate_io.specs.declared.ends.FileEnd.TheVariants.{TooLong}
-use Rattle.wasm_syntax.specs.declared.module.Module.{Module}
-use Rattle.wasm_syntax.specs.Format.{Fault}
 use Rattle.wasm_syntax.specs.Grammar.{header, header_read, body_read, most_bytes, module_read, FirstFault}
 
 past_most : (b : List ℕ) → most_bytes < length b → nat_le (length b) most_bytes ≡ false

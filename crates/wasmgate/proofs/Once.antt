@@ -1,5 +1,5 @@
 -- A script sends one list.
-use Rattle.std.proofs.Common.{◌≡◌, ℕ, List, [], ◌∷◌, ◌++◌, refl, sym, ap, ◌∙◌, subst, append_assoc}
+use Rattle.std.proofs.Common.{◌≡◌, List, [], ◌∷◌, ◌++◌, sym, ap, ◌∙◌, subst, append_assoc}
 use Rattle.gate_config.specs.declared.config.Config.{Config}
 use Rattle.gate_io.specs.declared.event.Event.{Event}
 use Rattle.gate_io.specs.declared.event.Sent.{Sent}
@@ -10,7 +10,7 @@ use Rattle.store_model.specs.Program.{Program, done}
 use Rattle.worker.specs.State.{State, first_state}
 use Rattle.worker.specs.Turn.{Answers, Outcome, IsTurned}
 use Rattle.worker.proofs.Once.{one_turn_each}
-use Rattle.wasmgate.specs.Replay.{Plays, Replays}
+use Rattle.wasmgate.specs.Replay.{Plays}
 use Rattle.wasmgate.specs.Laws.{OneReplay, IsFront, FrontsOfOne}
 
 same_end : (x y : Outcome) → done x ≡ done y → x ≡ y

@@ -1,9 +1,8 @@
 -- How far a script was played, and what was written of what it prints.
-use Rattle.std.proofs.Common.{◌≡◌, ℕ, ◌+◌, Bool, true, false, List, [], ◌∷◌, ◌++◌, length, Option, None, Some, refl, ap, sym, ◌∙◌, subst, append_assoc, ◌<◌, suc, get_or, take, drop}
+use Rattle.std.proofs.Common.{◌≡◌, ℕ, ◌+◌, Bool, true, false, List, [], ◌∷◌, ◌++◌, length, Option, refl, ap, sym, ◌∙◌, subst, append_assoc, ◌<◌, get_or, take}
 use Rattle.std.proofs.lemmas.List.{append-nil, take_more}
 use Rattle.gate_config.specs.declared.config.Config.{Config}
 use Rattle.gate_config.specs.Plain.{IsPlain}
-use Rattle.gate_io.specs.Events.{is_stop}
 use Rattle.gate_io.specs.Passing.{happened}
 use Rattle.gate_io.specs.declared.event.Event.{Event}
 use Rattle.gate_io.specs.declared.event.Sent.{Sent}
@@ -17,7 +16,7 @@ use Rattle.store_model.specs.Program.{done}
 use Rattle.worker.specs.State.{State, first_state, Standing, Setting}
 use Rattle.worker.specs.Turn.{Outcome, outcome, IsTurned}
 use Rattle.wasmgate.specs.Replay.{Plays, Prints, PrintsFront, IsReady, Flushed, Advances}
-use Rattle.wasmgate.proofs.Fronts.{GoOn, go_on_more, Goes, goes, gave_all}
+use Rattle.wasmgate.proofs.Fronts.{GoOn, go_on_more, goes, gave_all}
 
 -- some first events were played, and of what they print a part was written and the rest waits
 pub record Progress (config : Config) (front : List Event) (state : State) (old new : Option (List ℕ)) (waits : List ℕ) : Type 0 where

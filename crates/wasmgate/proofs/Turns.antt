@@ -1,23 +1,21 @@
 -- One turn of a worker in the world of a script.
-use Rattle.std.proofs.Common.{◌≡◌, ℕ, Bool, true, false, not, List, [], ◌∷◌, ◌++◌, refl, sym, ap, ◌∙◌, subst, Option, Some}
+use Rattle.std.proofs.Common.{◌≡◌, ℕ, Bool, true, false, List, [], ◌∷◌, ◌++◌, refl, sym, ap, ◌∙◌, subst, Option, Some}
 use Rattle.std.proofs.lemmas.List.{append-nil, append_cancel_left}
 use Rattle.std.specs.Bool.{OnTrue}
-use Rattle.gate_io.specs.Events.{is_stop}
 use Rattle.gate_io.specs.Passing.{happened, received}
 use Rattle.gate_io.specs.Reads.{happened-append}
 use Rattle.gate_io.specs.Told.{Gains}
 use Rattle.gate_io.specs.declared.event.Event.{Event}
 use Rattle.gate_io.specs.declared.event.Sent.{Sent}
 use Rattle.gate_io.specs.declared.passed.Passed.{Passed}
-use Rattle.gate_io.specs.declared.passed.Passed.TheVariants.{Asked, Gave}
 use Rattle.outbox.specs.Delivery.{solid, NeverShort}
-use Rattle.outbox.specs.Turns.{OneTurn, HandsOver, Delivers, all_sent}
+use Rattle.outbox.specs.Turns.{HandsOver, Delivers}
 use Rattle.outbox.proofs.Deliveries.{in_order}
 use Rattle.replay_script.specs.Prints.{printed}
 use Rattle.replay_script.specs.ScriptWorld.{Playing, nature, taken_since}
 use Rattle.replay_script.proofs.Worlds.{plays_its_script}
 use Rattle.store_model.specs.Made.{Made}
-use Rattle.store_model.specs.Program.{Program, done, Reaches, Runs}
+use Rattle.store_model.specs.Program.{Program, done, Reaches}
 use Rattle.worker.specs.State.{Standing}
 use Rattle.worker.specs.Turn.{Outcome, outcome, IsTurned}
 use Rattle.worker.specs.Turned.{one_turn, Whole, TookWhole}

@@ -1,6 +1,5 @@
 -- What a call of an exported function prints, and how it ends.
-use Rattle.std.specs.Prelude.{◌≡◌, ℕ, List, [], ◌∷◌, ◌++◌, Option, None, Some, Ok, Err, codes, decimal}
-use Rattle.gate_base.specs.declared.cause.Cause.{Cause}
+use Rattle.std.specs.Prelude.{ℕ, List, [], ◌∷◌, ◌++◌, Option, None, Some, Ok, Err, codes, decimal}
 use Rattle.gate_io.specs.Told.{Gains, GainsFront}
 use Rattle.wasm_syntax.specs.declared.types.Value.{Value}
 use Rattle.wasm_syntax.specs.declared.types.Value.TheVariants.{I32, I64}

@@ -5,7 +5,6 @@ use Rattle.gate_io.specs.Told.{Gains, GainsFront, Rose}
 use Rattle.gate_io.specs.Paths.{told_at}
 use Rattle.replay_script.specs.declared.command.Command.{Command}
 use Rattle.replay_script.specs.Scripts.{IsScript, FirstBad}
-use Rattle.gate_base.specs.declared.cause.Cause.{Cause}
 use Rattle.gate_base.specs.declared.cause.Cause.TheVariants as causes
 use Rattle.wasm_store.specs.declared.instance.LinkEnd.{LinkEnd}
 use Rattle.wasm_store.specs.declared.instance.LinkEnd.TheVariants as linking

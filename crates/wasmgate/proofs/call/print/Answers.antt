@@ -1,5 +1,5 @@
-use Rattle.std.proofs.Common.{ℕ, List, decimal, ◌∷◌, ◌++◌, [], codes}
-use Rattle.gate_io.specs.Told.{Gains, GainsFront, gains_then_front, gains_front_of_more}
+use Rattle.std.proofs.Common.{decimal, ◌∷◌, ◌++◌, [], codes}
+use Rattle.gate_io.specs.Told.{gains_then_front, gains_front_of_more}
 use Rattle.wasmgate.specs.Call.{result_line}
 use Rattle.wasmgate.proofs.Answered.{on_err, err_map}
 use Rattle.wasmgate.proofs.call.print.Goals as goal

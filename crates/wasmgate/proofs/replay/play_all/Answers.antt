@@ -1,4 +1,4 @@
-use Rattle.std.proofs.Common.{◌≡◌, ℕ, Bool, true, false, List, ap, ◌∙◌, subst, arith}
+use Rattle.std.proofs.Common.{ℕ, Bool, List, ap, ◌∙◌, subst, arith}
 use Rattle.gate_io.specs.Told.{Gains, GainsFront, gains_none}
 use Rattle.worker.specs.State.{Setting}
 use Rattle.wasmgate.specs.Replay.{Advances}
