@@ -18,3 +18,4 @@ pub mod ApartOnce
 pub mod ApartCuts
 pub mod Filled
 pub mod ApartJoined
+pub mod CutExamples

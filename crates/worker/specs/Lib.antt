@@ -10,3 +10,4 @@ pub mod CutLaws
 pub mod Apart
 pub mod ApartLaws
 pub mod Examples
+pub mod CutExamples

@@ -1,5 +1,6 @@
 // What the definitions say, as functions without a body.
 ghost use Rattle.worker.specs.Examples.{HappeningExamples, LineExamples, WantsExamples};
+ghost use Rattle.worker.specs.CutExamples.{CutExamples, LineOnlyExamples};
 ghost use Rattle.worker.specs.CutLaws.{CutsAlike, OneItemMeaning, TurnsAreItemTurns};
 ghost use Rattle.worker.specs.Laws.{OneTurnEach, SendsFilled, IdleEventsChangeNothing, StaysOrderly, WantsAlwaysRise};
 
@@ -43,4 +44,11 @@ pub fn turns_are_item_turns()
 /// behind a request that no route takes, and opens no connection behind a response.
 pub fn cuts_are_alike()
     ensures { CutsAlike }
+{}
+
+/// A head in two pieces that may as well come at once, or the first at another moment, and what concerns one line, worked on values that are
+/// written out.
+pub fn worked_cuts()
+    ensures cuts { CutExamples }
+    ensures lines { LineOnlyExamples }
 {}
