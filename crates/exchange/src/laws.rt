@@ -32,7 +32,8 @@ pub fn few_moves()
     ensures all { FewMoves }
 {}
 
-/// Between two turns a line rests: what is due on its two sides fits its exchange, and nothing that has come is left to be heard.
+/// Between two turns a line rests: what is due on its two sides fits its exchange, and nothing that has come of the open request or of
+/// its response is left to be heard. (What has come of the requests behind it waits.)
 pub fn lines_rest()
     ensures { RestsBetween }
 {}
@@ -44,7 +45,8 @@ pub fn turns_are_item_turns()
     ensures one { OneItemTurn }
 {}
 
-/// Bytes that come in two pieces over one connection do, item by item, what they do in one piece.
+/// Bytes that come in two pieces do, item by item, what they do in one piece, where the first piece sends no answer that closes the line
+/// behind a request that no route takes, and opens no connection behind a response.
 pub fn cuts_are_alike()
     ensures { LineCutsAlike }
 {}

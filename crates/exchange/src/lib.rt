@@ -10,6 +10,9 @@ mod response;
 mod sending;
 mod turn;
 
-pub use laws::{few_moves, one_outcome, turns_in_order, worked_turns};
+pub use laws::{
+    cuts_are_alike, few_moves, lines_rest, one_outcome, turns_are_item_turns, turns_in_order,
+    worked_cuts, worked_turns,
+};
 pub use line::Line;
 pub use turn::Happening;
