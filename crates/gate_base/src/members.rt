@@ -1,6 +1,8 @@
 // A list of members of one type, proved once for all of them.
 ghost use Rattle.std.specs.Prelude.{◌≡◌, [], ◌∷◌, ◌++◌, ◌<◌, ◌↔◌, length, OnOk, OnErr, IfNone, IfSome, IsTrue, slice_index_or};
 
+ghost use Rattle.std.specs.Borrow.{sem};
+
 use crate::{LineNo, Octets, OutOfMemory};
 use std::alloc::Global;
 use std::marker::Model;
@@ -29,6 +31,8 @@ impl<M> Model for Members<M> {
 }
 
 impl<M> Members<M> {
+    ghost use Rattle.gate_base.specs.Lending.{LendsMember};
+
     /// No members. It takes no memory.
     pub fn new(alloc: Global) -> Self
         ensures { result ≡ [] }
@@ -77,6 +81,15 @@ impl<M> Members<M> {
         ensures { result.now ≡ slice_index_or self.now at result.now }
     {
         &self.items[at]
+    }
+
+    /// The member at a place, from 0, to be written.
+    pub fn get_mut(&mut self, at: usize) -> &mut M
+        requires { at < length self.old }
+        ensures* lends { sem 𝓛 (LendsMember M.row self.entry at result) }
+        ensures value { result.now ≡ slice_index_or self.old at result.now }
+    {
+        &mut self.items[at]
     }
 
     /// The members in order.
