@@ -231,6 +231,7 @@ fn type_of(v: Value) -> ValueType
 }
 
 /// A numeric instruction.
+#[inline(always)]
 pub(crate) fn calculate(i: &Instr, values: &mut Stack<Value>) -> Acts
     requires { length values.old.members ≤ values.old.room }
     ensures acts { (s : Stores) (own : List Values) → calculated_by (numeric_of i.now) s own values.old.members ≡ acted_as result values.new.members s own }
@@ -244,6 +245,7 @@ pub(crate) fn calculate(i: &Instr, values: &mut Stack<Value>) -> Acts
 }
 
 /// An operator with one operand.
+#[inline(always)]
 fn calculate_one(op: Op1, values: &mut Stack<Value>) -> Acts
     requires { length values.old.members ≤ values.old.room }
     ensures acts { (t u : ValueTypes) (f : ℕ → ℕ) (s : Stores) (own : List Values) → IsOne op t u f → doing (unary t u f) s own values.old.members ≡ acted_as result values.new.members s own }
@@ -261,6 +263,7 @@ fn calculate_one(op: Op1, values: &mut Stack<Value>) -> Acts
 
 /// An operator with two operands, the second of which stands topmost.
 #[tactic(auto, using(crate::proofs::Operands::two_does, crate::proofs::Operands::two_lack_first, crate::proofs::Operands::two_lack_second))]
+#[inline(always)]
 fn calculate_two(op: Op2, values: &mut Stack<Value>) -> Acts
     requires { length values.old.members ≤ values.old.room }
     ensures acts { (t u : ValueTypes) (f : ℕ → ℕ → Result ℕ Undefined) (s : Stores) (own : List Values) → IsTwo op t u f → doing (binary t u f) s own values.old.members ≡ acted_as result values.new.members s own }
@@ -280,6 +283,7 @@ fn calculate_two(op: Op2, values: &mut Stack<Value>) -> Acts
 }
 
 /// The same, of operands that it takes.
+#[inline(always)]
 fn apply_two(op: Op2, a: Value, b: Value, values: &mut Stack<Value>) -> Acts
     requires types { Takes2 op a b }
     requires room { length values.old.members < values.old.room }

@@ -33,6 +33,7 @@ pub fn apply1(op: Op1, a: Value) -> Value
 /// The value of an operator with two operands, which have the operator's type: Divide exactly for a
 /// zero divisor, Overflow exactly where a signed division has the least number by -1. It takes no
 /// memory.
+#[inline(always)]
 pub fn apply2(op: Op2, a: Value, b: Value) -> Result<Value, NumTrap>
     requires { Takes2 op a b }
     ensures { result ≡ value2 op a b }

@@ -21,6 +21,7 @@ pub enum Numeric {
 
 /// The operator that an instruction is (Core 1.0 section 5.4.5): what `apply1` and `apply2` give of it is what the
 /// instruction makes of operands of its types.
+#[inline(always)]
 pub fn operator_of(i: &Instr) -> Numeric
     ensures means { Means result (numeric_of i.now) }
     ensures acts { (most : ℕ) → ActsAs result (act_of most i.now) }

@@ -48,6 +48,7 @@ impl Instr {
     ghost use Rattle.wasm_syntax.specs.Rows.{row_of, labels_of};
 
     /// Its row.
+    #[inline(always)]
     pub fn row(&self) -> Row
         ensures { result ≡ row_of self.now }
     {
