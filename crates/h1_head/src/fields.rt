@@ -1,5 +1,5 @@
 // The fields of a head, as spans of its text.
-ghost use Rattle.std.specs.Prelude.{◌≡◌, ◌≤◌, length, All, IfOk};
+ghost use Rattle.std.specs.Prelude.{◌≡◌, ◌≤◌, codes, length, All, IfOk};
 ghost use Rattle.http1_model.specs.Fields.{is_listed, is_hop_name, is_response_hop_name, values_of};
 ghost use Rattle.http1_model.specs.Lines.{head_limit};
 ghost use Rattle.http_header.specs.Token.{lowercase};
@@ -109,8 +109,22 @@ impl<'t> Fields<'t> {
         false
     }
 
-    /// Whether a field of this name, in any case of letters, is dropped; `host` may pass, as in a response.
-    fn is_dropped(&self, host_passes: bool, name: &[u8]) -> bool
+    /// The same, by the field lines of Connection.
+    fn is_among(&self, connection: Lines<'t>, name: &[u8]) -> bool
+        requires { AreLines (values_of (codes "connection") (fields_of self.now)) connection }
+        ensures { result ≡ is_listed (lowercase name.now) (fields_of self.now) }
+    {
+        match connection {
+            Lines::Absent => false,
+            Lines::One(value) => lists(value, name),
+            Lines::Many => self.is_listed(name),
+        }
+    }
+
+    /// Whether a field of this name, in any case of letters, is dropped, by the field lines of Connection; `host` may pass, as
+    /// in a response.
+    fn is_dropped(&self, host_passes: bool, connection: Lines<'t>, name: &[u8]) -> bool
+        requires { AreLines (values_of (codes "connection") (fields_of self.now)) connection }
         ensures { result ≡ dropped_from host_passes (fields_of self.now) (lowercase name.now) }
     {
         let is_hop = if host_passes {
@@ -118,7 +132,7 @@ impl<'t> Fields<'t> {
         } else {
             is_hop_name(name)
         };
-        is_hop || self.is_listed(name)
+        is_hop || self.is_among(connection, name)
     }
 
     /// The list with the fields that pass put last, in order; `host` may pass, as in a response.
@@ -131,9 +145,10 @@ impl<'t> Fields<'t> {
         ensures { IsListed (with_fields list (passing_in host_passes (fields_of self.now))) result }
     {
         let mut list = list;
+        let connection = self.lines_of(b"connection");
         for span in self.spans {
             let (name, value) = self.pair_at(span);
-            if !self.is_dropped(host_passes, name) {
+            if !self.is_dropped(host_passes, connection, name) {
                 list.add(alloc, name, value)?;
             }
         }

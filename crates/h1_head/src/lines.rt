@@ -23,7 +23,7 @@ pub enum Cut {
 }
 
 /// The length of the first line of a text with its end, if that line is whole.
-fn line_len(text: &[u8]) -> Option<usize>
+pub fn line_len(text: &[u8]) -> Option<usize>
     ensures within { IfSome result (λ len. (0 < len) × (len ≤ length text.now)) }
     ensures lines { MatchOption result (whole_lines text.now ≡ [])
         (λ len. whole_lines text.now ≡ take len text.now ∷ whole_lines (drop len text.now)) }

@@ -2,3 +2,4 @@ pub mod Answered
 pub mod Bodies
 pub mod Coded
 pub mod Heads
+pub mod Quiet

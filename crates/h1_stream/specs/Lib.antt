@@ -1,3 +1,4 @@
 pub mod Behind
 pub mod Seen
 pub mod Steps
+pub mod Quiet

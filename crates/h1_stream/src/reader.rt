@@ -1,12 +1,15 @@
 // The reader of one side of a line.
-ghost use Rattle.std.specs.Prelude.{◌≡◌, false, length, IfOk, OnOk, OnErr};
+ghost use Rattle.std.specs.Prelude.{◌≡◌, ◌++◌, Bool, false, length, IfOk, OnOk, OnErr};
 ghost use Rattle.http1_model.specs.Unread.{IsNext, new_reading, fed, finished, waiting};
+ghost use Rattle.h1_stream.specs.Quiet.{IsQuiet};
+ghost use Rattle.http1_model.specs.Messages.{Due as Dues};
+ghost use Rattle.h1_stream.specs.Seen.{seen_due};
 
 use crate::body::body_next;
 use crate::next::{Due, Next, Stop, head_next};
 use crate::unread::Unread;
 use gate_base::OutOfMemory;
-use h1_head::{Item, Kind, skip_empty_lines};
+use h1_head::{Cut, Item, Kind, head_cut, line_len, skip_empty_lines};
 use std::alloc::Global;
 use std::marker::Model;
 
@@ -23,6 +26,41 @@ pub enum Step {
     Refused { number: u16 },
 }
 
+/// How many bytes of a head may come.
+const HEAD_LIMIT: usize = 65_536;
+
+/// Whether an unfinished head is still all there is when a piece comes.
+fn stays_quiet(quiet: bool, text: &[u8], piece: &[u8]) -> bool
+    ensures { (ended : Bool) (due : Dues) → IsQuiet quiet ended due text.now → IsQuiet result ended due (text.now ++ piece.now) }
+{
+    if !quiet {
+        return false;
+    }
+    if text.len() >= HEAD_LIMIT || piece.len() >= HEAD_LIMIT - text.len() {
+        return false;
+    }
+    line_len(piece).is_none()
+}
+
+/// Whether a head is due that is not finished, with no empty lines before it.
+fn is_unfinished(ended: bool, due: &Due, text: &[u8]) -> bool
+    ensures { IsQuiet result ended (seen_due due.now) text.now }
+{
+    if ended {
+        return false;
+    }
+    let Due::Head = due else {
+        return false;
+    };
+    if skip_empty_lines(text) != 0 {
+        return false;
+    }
+    match head_cut(text) {
+        Cut::Unfinished => true,
+        Cut::Whole { .. } | Cut::TooLarge => false,
+    }
+}
+
 /// Reads one side of a line: the requests of a client, or the response to one request with its interim heads (RFC 9112). It
 /// keeps the bytes that no item has used, and no others. Clauses see what it answers, whether its text has ended, what is due
 /// and what is unread.
@@ -33,6 +71,8 @@ pub struct MessageReader {
     ended: bool,
     due: Due,
     text: Unread,
+    /// Whether the text is looked at no more until a line, an end or too much comes.
+    quiet: bool,
 }
 
 impl Model for MessageReader {
@@ -42,7 +82,11 @@ impl Model for MessageReader {
 
     ghost use Rattle.h1_stream.specs.Seen.{asked_of, seen_due};
 
+    ghost use Rattle.h1_stream.specs.Quiet.{IsQuiet};
+
     ghost view = { λ r. record { asked = asked_of r.kind; ended = r.ended; due = seen_due r.due; unread = r.text } };
+
+    ghost invariant = { λ r. IsQuiet r.quiet r.ended (seen_due r.due) r.text };
 }
 
 impl MessageReader {
@@ -60,6 +104,7 @@ impl MessageReader {
             ended: false,
             due: Due::Head,
             text: Unread::new(alloc),
+            quiet: false,
         })
     }
 
@@ -69,13 +114,17 @@ impl MessageReader {
         ensures ok { OnOk result (self.new ≡ fed piece.now self.old) }
         ensures err { OnErr result (self.new ≡ self.old) }
     {
-        self.text.push(piece)
+        let quiet = stays_quiet(self.quiet, self.text.as_slice(), piece);
+        self.text.push(piece)?;
+        self.quiet = quiet;
+        Ok(())
     }
 
     /// Says that the text has ended. It takes no memory.
     pub fn end(&mut self)
         ensures { self.new ≡ finished self.old }
     {
+        self.quiet = false;
         self.ended = true;
     }
 
@@ -100,8 +149,13 @@ impl MessageReader {
         ensures ok { IfOk result (λ step. Answers self.old step self.new) }
         ensures err { OnErr result (self.new ≡ self.old) }
     {
+        if self.quiet {
+            return Ok(Step::NotYet);
+        }
         let next = self.next()?;
-        Ok(self.take(next))
+        let step = self.take(next);
+        self.hush();
+        Ok(step)
     }
 
     /// What is unread next.
@@ -123,6 +177,7 @@ impl MessageReader {
         requires { IsWithin (length self.old.unread) next }
         ensures { Takes self.old next result self.new }
     {
+        self.quiet = false;
         match next {
             Next::Part { item, used, due } => {
                 self.text.use_up(used);
@@ -140,10 +195,18 @@ impl MessageReader {
         }
     }
 
+    /// Notes whether an unfinished head is all there is.
+    fn hush(&mut self)
+        ensures { self.new ≡ self.old }
+    {
+        self.quiet = is_unfinished(self.ended, &self.due, self.text.as_slice());
+    }
+
     /// Reads over empty lines where a head is due.
     fn skip(&mut self)
         ensures { self.new ≡ waiting self.old }
     {
+        self.quiet = false;
         if let Due::Head = self.due {
             let count = skip_empty_lines(self.text.as_slice());
             self.text.use_up(count);
