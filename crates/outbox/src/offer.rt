@@ -1,5 +1,5 @@
 // One member's offer to a world.
-ghost use Rattle.std.specs.Prelude.{◌≡◌, ◌≢◌, ◌≤◌, [], ◌∷◌, ◌++◌, OnOk};
+ghost use Rattle.std.specs.Prelude.{◌≡◌, ◌≢◌, ◌≤◌, ◌<◌, [], ◌∷◌, ◌++◌, length, drop, OnOk};
 ghost use Rattle.std.specs.Bool.{OnTrue, OnFalse};
 ghost use Rattle.gate_io.specs.declared.event.Sent.TheVariants.{Bytes};
 ghost use Rattle.outbox.specs.Delivery.{Offered};
@@ -48,6 +48,24 @@ fn keep_bytes(
     Ok(())
 }
 
+/// Puts the bytes from a place on behind those that are left. Where that is all of them, they are moved.
+fn keep_rest(
+    alloc: Global,
+    left: &mut Vec<Sent>,
+    line: LineNo,
+    side: Side,
+    bytes: Octets,
+    n: usize,
+) -> Result<(), OutOfMemory>
+    requires { n < length bytes }
+    ensures { OnOk result (left.new.items ≡ left.old.items ++ Bytes line side (drop n bytes) ∷ []) }
+{
+    if n == 0 {
+        return keep(left, Sent::Bytes { line, side, bytes });
+    }
+    keep_bytes(alloc, left, line, side, &bytes.as_slice()[n..])
+}
+
 /// Offers bytes to a side of a line for which nothing is left.
 fn offer_bytes<W: World>(
     alloc: Global,
@@ -55,17 +73,17 @@ fn offer_bytes<W: World>(
     left: &mut Vec<Sent>,
     line: LineNo,
     side: Side,
-    bytes: &[u8],
+    bytes: Octets,
 ) -> Result<(), OutOfMemory>
     requires { marks_at (Peer line side) left.old.items ≡ [] }
     ensures last { W.last world.new ≡ W.last world.old }
     ensures nature { W.nature world.new ≡ W.nature world.old }
     ensures faults { W.faults world.old ≤ W.faults world.new }
-    ensures offered { Offered (W.nature world.old).takes_whole (W.trace world.old) left.old.items (left.old.items ++ Bytes line side bytes.now ∷ []) result (W.trace world.new) left.new.items }
+    ensures offered { Offered (W.nature world.old).takes_whole (W.trace world.old) left.old.items (left.old.items ++ Bytes line side bytes ∷ []) result (W.trace world.new) left.new.items }
 {
-    let n = world.send(alloc, line, side, bytes)?;
+    let n = world.send(alloc, line, side, bytes.as_slice())?;
     if n < bytes.len() {
-        keep_bytes(alloc, left, line, side, &bytes[n..])?;
+        keep_rest(alloc, left, line, side, bytes, n)?;
     }
     Ok(())
 }
@@ -85,9 +103,7 @@ fn offer_first<W: World>(
 {
     match member {
         Sent::Connect { line } => world.connect(alloc, line),
-        Sent::Bytes { line, side, bytes } => {
-            offer_bytes(alloc, world, left, line, side, bytes.as_slice())
-        }
+        Sent::Bytes { line, side, bytes } => { offer_bytes(alloc, world, left, line, side, bytes) }
         Sent::Close { line, side } => world.close(alloc, line, side),
         Sent::Log { level, text } => world.log(alloc, level, text.as_slice()),
     }

@@ -19,5 +19,5 @@ returns-in-Close-clause-offered g c =
 pub returns-in-Log-clause-offered : goal.returns-in-Log-clause-offered
 returns-in-Log-clause-offered g c =
     offered_whole _ (g.W.World.trace c.args.world.now) (g.W.World.trace c.log.new.self) c.args.left.now.items c.args.member c.log.result (λ line side bytes e. cc (c.in-Log.is, e))
-    (subst (λ (s : Sent). Gains (g.W.World.trace c.args.world.now) (taking s c.log.result) (g.W.World.trace c.log.new.self)) (ap (Log c.in-Log.level) c.as_slice-in-Log.ensures ∙ sym c.in-Log.is) c.log.ensures.trace)
+    (subst (λ (s : Sent). Gains (g.W.World.trace c.args.world.now) (taking s c.log.result) (g.W.World.trace c.log.new.self)) (ap (Log c.in-Log.level) c.as_slice.ensures ∙ sym c.in-Log.is) c.log.ensures.trace)
     c.requires
