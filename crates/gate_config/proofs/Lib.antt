@@ -1,3 +1,4 @@
 mod Slashes
 mod Kept
 mod Within
+mod OneMore
