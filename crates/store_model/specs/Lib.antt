@@ -4,8 +4,10 @@ pub mod Queues
 pub mod Store
 pub mod Parts
 pub mod History
+pub mod Metrics
 pub mod Made
 pub mod Replies
+pub mod MetricReplies
 pub mod Program
 pub mod Runs
 pub mod Followed

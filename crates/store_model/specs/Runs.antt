@@ -1,27 +1,36 @@
 -- How runs of programs begin, go on and join.
 use Rattle.std.specs.Prelude.{◌≡◌, ℕ, List, [], ◌∷◌, ◌++◌, refl, Result, Ok, Err, IsErr, IfOk, Option, None, Some}
 use Rattle.std.proofs.Common.{subst, sym, ap}
-use Rattle.store_model.specs.Made.{Made, made}
-use Rattle.store_model.specs.Program.{Program, done, ask, bind, Reaches, Runs, Ends, Comes}
+use Rattle.store_model.specs.Made.{Made, made, made_ask, called, measured}
+use Rattle.store_model.specs.Program.{Program, done, ask, measure, bind, Reaches, Runs, Ends, Comes}
 use Rattle.store_model.specs.declared.call.Call.{Call}
 use Rattle.store_model.specs.declared.call.Reply.{Reply}
+use Rattle.store_model.specs.declared.metric.MetricAsk.{MetricAsk}
+use Rattle.store_model.specs.declared.metric.MetricReply.{MetricReply}
 
 -- first these calls, and then those
 pub reaches_join : {A : Type 0} (ms ns : List Made) (p q r : Program A) → Reaches p ms q → Reaches q ns r → Reaches p (ms ++ ns) r
 reaches_join [] ns p q r same rest = subst (λ (x : Program _). Reaches x ns r) (sym same) rest
 reaches_join (m ∷ ms) ns (done a) q r first rest = first
-reaches_join (m ∷ ms) ns (ask vm call k) q r first rest = (first.0, first.1, reaches_join ms ns (k m.reply) q r first.2 rest)
+reaches_join (called m ∷ ms) ns (ask vm call k) q r first rest = (first.0, first.1, reaches_join ms ns (k m.reply) q r first.2 rest)
+reaches_join (measured m ∷ ms) ns (ask vm call k) q r first rest = elim first [ ]
+reaches_join (called m ∷ ms) ns (measure vm call k) q r first rest = elim first [ ]
+reaches_join (measured m ∷ ms) ns (measure vm call k) q r first rest = (first.0, first.1, reaches_join ms ns (k m.reply) q r first.2 rest)
 
 -- the calls of a part are calls of the whole
 pub reaches_bind : {A B : Type 0} (ms : List Made) (p q : Program A) (f : A → Program B) → Reaches p ms q → Reaches (bind p f) ms (bind q f)
 reaches_bind [] p q f same = ap (λ (x : Program _). bind x f) same
 reaches_bind (m ∷ ms) (done a) q f first = elim first [ ]
-reaches_bind (m ∷ ms) (ask vm call k) q f first = (first.0, first.1, reaches_bind ms (k m.reply) q f first.2)
+reaches_bind (called m ∷ ms) (ask vm call k) q f first = (first.0, first.1, reaches_bind ms (k m.reply) q f first.2)
+reaches_bind (measured m ∷ ms) (ask vm call k) q f first = elim first [ ]
+reaches_bind (called m ∷ ms) (measure vm call k) q f first = elim first [ ]
+reaches_bind (measured m ∷ ms) (measure vm call k) q f first = (first.0, first.1, reaches_bind ms (k m.reply) q f first.2)
 
 -- ---- programs in three parts, and parts that agree
 pub bind_assoc : {A B C : Type 0} (p : Program A) (f : A → Program B) (g : B → Program C) → bind (bind p f) g ≡ bind p (λ a. bind (f a) g)
 bind_assoc (done a) f g = refl
 bind_assoc (ask vm call k) f g = λ i. ask vm call (λ r. bind_assoc (k r) f g i)
+bind_assoc (measure vm call k) f g = λ i. measure vm call (λ r. bind_assoc (k r) f g i)
 
 pub bind_same : {A B : Type 0} (p : Program A) (f g : A → Program B) → ((a : A) → f a ≡ g a) → bind p f ≡ bind p g
 bind_same p f g same = λ i. bind p (λ a. same a i)
@@ -29,6 +38,7 @@ bind_same p f g same = λ i. bind p (λ a. same a i)
 pub bind_done : {A : Type 0} (p : Program A) → bind p done ≡ p
 bind_done (done a) = refl
 bind_done (ask vm call k) = λ i. ask vm call (λ r. bind_done (k r) i)
+bind_done (measure vm call k) = λ i. measure vm call (λ r. bind_done (k r) i)
 
 -- ---- what begins a run
 module _ {S : Type 0} (performs : S → List Made → S → Type 0) where
@@ -44,6 +54,11 @@ module _ {S : Type 0} (performs : S → List Made → S → Type 0) where
   pub runs_call : {A : Type 0} (s t : S) (vm : ℕ) (call : Call) (reply : Reply) (k : Reply → Program A) →
       performs s (made vm call reply ∷ []) t → Runs performs s (ask vm call k) (k reply) t
   runs_call s t vm call reply k here = record { calls = made vm call reply ∷ []; reaches = (refl, refl, refl); performed = here }
+
+  -- one metric ask
+  pub runs_measure : {A : Type 0} (s t : S) (vm : ℕ) (asked : MetricAsk) (reply : MetricReply) (k : MetricReply → Program A) →
+      performs s (made_ask vm asked reply ∷ []) t → Runs performs s (measure vm asked k) (k reply) t
+  runs_measure s t vm asked reply k here = record { calls = made_ask vm asked reply ∷ []; reaches = (refl, refl, refl); performed = here }
 
   -- the run of a part is one of the whole
   pub runs_bind : {A B : Type 0} {s t : S} {p q : Program A} (f : A → Program B) → Runs performs s p q t → Runs performs s (bind p f) (bind q f) t
@@ -83,7 +98,12 @@ module _ {S : Type 0} {performs : S → List Made → S → Type 0} (joined : (s
       Runs performs s p (ask vm call k) t → performs t (made vm call reply ∷ []) u → Runs performs s p (k reply) u
   then_call {t} {u} {vm} {call} {k} reply first here = runs_then first (runs_call performs t u vm call reply k here)
 
-  -- a further call was refused memory
+  -- a further metric ask was answered
+  pub then_measure : {A : Type 0} {s t u : S} {p : Program A} {vm : ℕ} {asked : MetricAsk} {k : MetricReply → Program A} (reply : MetricReply) →
+      Runs performs s p (measure vm asked k) t → performs t (made_ask vm asked reply ∷ []) u → Runs performs s p (k reply) u
+  then_measure {t} {u} {vm} {asked} {k} reply first here = runs_then first (runs_measure performs t u vm asked reply k here)
+
+  -- a further call or ask was refused memory
   pub then_still : {A : Type 0} {s t u : S} {p q : Program A} → Runs performs s p q t → performs t [] u → Runs performs s p q u
   then_still {t} {u} {q} first here = runs_then first (runs_still performs t u q here)
 

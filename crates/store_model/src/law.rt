@@ -1,7 +1,7 @@
 // Worked examples of the definitions, and laws above them. Nothing here does anything when it runs.
 ghost use Rattle.std.specs.Prelude.{◌≡◌, ◌⊎◌, ◌↔◌, ℕ, ◌<◌, ◌≤◌, List, ◌++◌, length, true, false, All, None, Some};
 ghost use Rattle.store_model.specs.Bounds.{items_of_a_queue, notices_of_a_queue, numbers_of_a_store, names_of_a_store, bytes_of_a_store};
-ghost use Rattle.store_model.specs.Followed.{followed, replies_in, calls_in, end_of};
+ghost use Rattle.store_model.specs.Followed.{followed, replies_in, sums_in, calls_in, asks_in, end_of};
 ghost use Rattle.store_model.specs.History.{IsLegal, IsLegalFrom, store_acts, store_after, value_from};
 ghost use Rattle.store_model.specs.KeyLaws.{last_set, drawn, rising};
 ghost use Rattle.store_model.specs.Keys.{accepts, held_at, put, used_by_keys};
@@ -69,7 +69,7 @@ pub fn notice_goes_to_the_registrant()
 
 /// A program that comes to some end by its calls is a function of their replies, and over stores of one thread a function of the stores.
 pub fn programs_are_functions()
-    ensures replies { (p q : Program Answer) (calls : List Made) → Reaches p calls q → followed p (replies_in calls) ≡ record { calls = calls_in calls; end = end_of q } }
+    ensures replies { (p q : Program Answer) (calls : List Made) → Reaches p calls q → followed p (replies_in calls) (sums_in calls) ≡ record { calls = calls_in calls; asks = asks_in calls; end = end_of q } }
     ensures stores { (p : Program Answer) (s t : Stores) (a : Answer) → Runs Performs s p (done a) t → played p s ≡ record { stores = t; end = a } }
 {}
 

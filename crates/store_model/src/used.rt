@@ -15,6 +15,9 @@ pub const MOST_NOTICES: u64 = 1_024;
 /// The last number that a Set draws.
 pub const MOST_NUMBER: u32 = 4_294_967_295;
 
+/// Metrics of one VM name, at most.
+pub const MOST_METRICS: u64 = 64;
+
 /// What a part of a store uses of its limits.
 #[derive(Clone, Copy, Debug, PartialEq, Eq)]
 pub struct Used {
