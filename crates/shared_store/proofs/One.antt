@@ -10,7 +10,7 @@ use Rattle.store_model.specs.declared.call.Call.{Call}
 use Rattle.store_model.specs.declared.call.Reply.{Reply}
 use Rattle.store_model.specs.declared.entry.Entry.{Entry}
 use Rattle.store_model.specs.History.{entry, own, store_acts}
-use Rattle.store_model.specs.Made.{Made, made, entries_on}
+use Rattle.store_model.specs.Made.{Made, MadeCall, made, entries_on}
 use Rattle.turn_table.specs.Seats.{Seated, IsSameSeat, Called, Refused}
 use Rattle.shared_store.specs.Moving.{GoesOn, SeatsGoOn, OneWent, goes_nowhere}
 use Rattle.shared_store.specs.Tables.{table_of, AreNumbered}
@@ -61,8 +61,8 @@ one_goes seats k v w calls at goes others = record {
 pub call_goes : (old new : List Seated) (vm : ℕ) (call : Call) (reply : Reply) → OneWent old vm new (λ v w. Called store_acts v w call reply) → SeatsGoOn old (made vm call reply ∷ []) new
 call_goes old new vm call reply o = let v = o.before in let w = o.after in
     subst (SeatsGoOn old (made vm call reply ∷ [])) (sym o.new_is) (one_goes old vm v w (made vm call reply ∷ []) o.there_is
-    (subst (λ (z : ℕ × List Entry). GoesOn z.0 v w z.1) (λ i. (o.vm_is i, sym (ap (λ b. map (λ (m : Made). entry v.number m.call m.reply) (cond b (made vm call reply ∷ []) [])) (eq-eqb vm vm refl)) i)) (goes_called v w call reply o.same o.how))
-    (λ n j ne. ap (λ b. map (λ (m : Made). entry n m.call m.reply) (cond b (made vm call reply ∷ []) [])) (ne_eqb vm j (λ e. ne (sym e)))))
+    (subst (λ (z : ℕ × List Entry). GoesOn z.0 v w z.1) (λ i. (o.vm_is i, sym (ap (λ b. map (λ (m : MadeCall). entry v.number m.call m.reply) (cond b (record { vm = vm; call = call; reply = reply } ∷ []) [])) (eq-eqb vm vm refl)) i)) (goes_called v w call reply o.same o.how))
+    (λ n j ne. ap (λ b. map (λ (m : MadeCall). entry n m.call m.reply) (cond b (record { vm = vm; call = call; reply = reply } ∷ []) [])) (ne_eqb vm j (λ e. ne (sym e)))))
 
 -- where it was refused memory, they went on by no call
 pub refusal_goes : (old new : List Seated) (vm : ℕ) (call : Call) → OneWent old vm new (λ v w. Refused store_acts v w call) → SeatsGoOn old [] new

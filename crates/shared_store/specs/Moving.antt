@@ -8,7 +8,7 @@ use mathlib.Core.Option.{some, some-injective}
 use lib.ListN.{get_elem?}
 use Rattle.store_model.specs.declared.entry.Entry.{Entry}
 use Rattle.store_model.specs.History.{entry, own, IsLegal}
-use Rattle.store_model.specs.Made.{Made, entries_on}
+use Rattle.store_model.specs.Made.{Made, MadeCall, called, measured, calls_among, entries_on}
 use Rattle.turn_table.specs.Seats.{Seated, IsSameSeat}
 use Rattle.turn_table.proofs.Prefixes.{prefix_self, prefix_trans}
 use Rattle.turn_table.proofs.Places.{at_below}
@@ -35,8 +35,16 @@ pub record OneWent (old : List Seated) (vm : ℕ) (new : List Seated) (went : Se
   pub same : IsSameSeat before after
   pub how : went before after
 
+calls_append : (a b : List Made) → calls_among (a ++ b) ≡ calls_among a ++ calls_among b
+calls_append [] b = refl
+calls_append (called m ∷ a) b = ap (λ l. m ∷ l) (calls_append a b)
+calls_append (measured m ∷ a) b = calls_append a b
+
 entries_append : (who vm : ℕ) (a b : List Made) → entries_on who vm (a ++ b) ≡ entries_on who vm a ++ entries_on who vm b
-entries_append who vm a b = ap (map (λ m. entry who m.call m.reply)) (filter-append (λ m. m.vm == vm) a b) ∙ map-append (λ m. entry who m.call m.reply) (filter (λ m. m.vm == vm) a) (filter (λ m. m.vm == vm) b)
+entries_append who vm a b =
+    ap (λ l. map (λ (m : MadeCall). entry who m.call m.reply) (filter (λ (m : MadeCall). m.vm == vm) l)) (calls_append a b)
+    ∙ ap (map (λ (m : MadeCall). entry who m.call m.reply)) (filter-append (λ (m : MadeCall). m.vm == vm) (calls_among a) (calls_among b))
+    ∙ map-append (λ (m : MadeCall). entry who m.call m.reply) (filter (λ (m : MadeCall). m.vm == vm) (calls_among a)) (filter (λ (m : MadeCall). m.vm == vm) (calls_among b))
 
 -- what is at a place of a list
 pub there : {A : Type 0} (l : List A) (k : ℕ) → k < length l → (x : A) × (get_elem? l k ≡ some x)

@@ -3,9 +3,10 @@ ghost use Rattle.std.specs.Prelude.{◌≡◌, ◌<◌, ◌≤◌, ◌/◌, leng
 ghost use Rattle.store_model.specs.QueueLaws.{items_of};
 ghost use Rattle.store_model.specs.Queues.{item_count_of};
 ghost use Rattle.store_model.specs.Sequential.{store_at};
-ghost use Rattle.shared_store.specs.Fresh.{fresh_stores};
+ghost use Rattle.shared_store.specs.Fresh.{fresh_metrics, fresh_stores};
 
 use crate::Store;
+use crate::metrics::Metrics;
 use gate_base::{OutOfMemory, QueueId, VmNo, WorkerNo};
 use shared_queues::OctetsList;
 use std::alloc::Global;
@@ -20,6 +21,7 @@ mod tests;
 pub struct Alone {
     who: WorkerNo,
     stores: Vec<Store>,
+    metrics: Vec<Metrics>,
 }
 
 impl Model for Alone {
@@ -27,7 +29,7 @@ impl Model for Alone {
 
     ghost Value = { Stores };
 
-    ghost view = { λ s. record { who = s.who; stores = s.stores.items } };
+    ghost view = { λ s. record { who = s.who; stores = s.stores.items; metrics = s.metrics.items } };
 }
 
 impl Alone {
@@ -35,15 +37,21 @@ impl Alone {
     #[tactic(auto, using(crate::specs::Fresh::fresh_rules))]
     pub fn new(alloc: Global, vms: u8) -> Result<Self, OutOfMemory>
         requires { vms ≤ 16 }
-        ensures { IfOk result (λ s. s ≡ record { who = 1; stores = fresh_stores vms }) }
+        ensures { IfOk result (λ s. s ≡ record { who = 1; stores = fresh_stores vms; metrics = fresh_metrics vms }) }
     {
         let mut stores = Vec::new(alloc);
+        let mut metrics = Vec::new(alloc);
         for n in 0..vms {
             let vm = VmNo::new(n).unwrap();
             stores.push(Store::new(alloc, vm))?;
+            metrics.push(Metrics::new(alloc))?;
         }
         let who = WorkerNo::new(1).unwrap();
-        Ok(Alone { who, stores })
+        Ok(Alone {
+            who,
+            stores,
+            metrics,
+        })
     }
 
     /// Makes the next calls under this worker's number. It takes no memory.
@@ -76,7 +84,10 @@ impl Alone {
 
 impl Shared for Alone {
     ghost use Rattle.std.specs.Prelude.{length};
+    ghost use Rattle.std.specs.Prelude.{true};
     ghost use Rattle.store_model.specs.Sequential.{Performs, performs_nothing, performs_joined};
+
+    ghost measures = { true };
 
     ghost stores = { λ s. length s.stores };
 
@@ -86,7 +97,13 @@ impl Shared for Alone {
         self.stores[vm.get() as usize].apply(alloc, self.who, call)
     }
 
+    fn has_metrics(&self) -> bool {
+        true
+    }
+
     ghost nothing = { performs_nothing };
 
     ghost joined = { performs_joined };
+
+    ghost not_built = { λ s vm ask none. Prim.cc };
 }

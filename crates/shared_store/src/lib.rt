@@ -7,6 +7,7 @@ mod asks;
 mod closed;
 mod law;
 mod lists;
+mod metrics;
 mod seats;
 mod store;
 mod tables;

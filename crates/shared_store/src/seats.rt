@@ -85,7 +85,10 @@ impl<'a, R: Wait, G: Gate> StoreSeat<'a, R, G> {
 
 impl<'a, R: Wait, G: Gate> Shared for StoreSeat<'a, R, G> {
     ghost use Rattle.std.specs.Prelude.{length};
+    ghost use Rattle.std.specs.Prelude.{true};
     ghost use Rattle.shared_store.specs.Moving.{SeatsGoOn, seats_nothing, seats_joined};
+
+    ghost measures = { true };
 
     ghost stores = { length };
 
@@ -95,7 +98,13 @@ impl<'a, R: Wait, G: Gate> Shared for StoreSeat<'a, R, G> {
         self.ask(alloc, vm, call)
     }
 
+    fn has_metrics(&self) -> bool {
+        true
+    }
+
     ghost nothing = { seats_nothing };
 
     ghost joined = { seats_joined };
+
+    ghost not_built = { λ s vm ask none. Prim.cc };
 }

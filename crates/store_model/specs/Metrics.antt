@@ -2,6 +2,8 @@
 use Rattle.std.specs.Prelude.{ℕ, zero, suc, ◌+◌, ◌-◌, ◌%◌, ◌^◌, ◌&&◌, Bool, true, false, List, [], ◌∷◌, ◌++◌, length, replicate, sum_by, position, slice_get, slice_index_or, slice_set, Option, Some, None, nat_lt, if◌then◌else◌, ℤ, pos, negsuc}
 use Rattle.std.specs.Int.{w64, cast_unsigned}
 use Rattle.std.specs.Str.{bytes_eq}
+use Rattle.store_model.specs.declared.metric.Share.{Share}
+use Rattle.store_model.specs.declared.metric.Metric.{Metric}
 use Rattle.store_model.specs.declared.metric.MetricKind.{MetricKind}
 use Rattle.store_model.specs.declared.metric.MetricKind.TheVariants.{Counter, Gauge}
 use Rattle.store_model.specs.declared.metric.MetricAsk.{MetricAsk}
@@ -9,17 +11,6 @@ use Rattle.store_model.specs.declared.metric.MetricAsk.TheVariants.{Define, Add,
 use Rattle.store_model.specs.declared.metric.MetricReply.{MetricReply}
 use Rattle.store_model.specs.declared.metric.MetricReply.TheVariants.{Unknown, BadKind, Full, Id, Done, Total}
 use Rattle.store_model.specs.declared.used.TheConstants.{MOST_METRICS}
-
--- what one worker has of a metric: whether it got the id from a Define, and its own word
-pub record Share : Type 0 where
-  pub knows : Bool
-  pub word : ℕ
-
--- A metric: a kind and a name, which together are what it is, and the shares of workers 1 to 8, in order.
-pub record Metric : Type 0 where
-  pub kind : MetricKind
-  pub name : List ℕ
-  pub shares : List Share
 
 abbrev pub no_share : Share
 no_share = record { knows = false; word = 0 }

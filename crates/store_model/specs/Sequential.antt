@@ -5,12 +5,13 @@ use Rattle.std.proofs.Common.{subst, sym, ap, ◌∙◌, length-set, get_or-set_
 use Rattle.std.proofs.lemmas.Bool.{cases_eq}
 use Rattle.store_model.specs.History.{entry, store_acts, value_from, replies_from, IsLegalFrom}
 use Rattle.store_model.specs.Made.{Made, MadeCall, called, measured, calls_among, entries_on}
-use Rattle.store_model.specs.Metrics.{Metric, applied_ask}
+use Rattle.store_model.specs.Metrics.{applied_ask}
 use Rattle.store_model.specs.declared.entry.Entry.{Entry}
 use Rattle.store_model.specs.Store.{Store, empty_store, applied}
 use Rattle.store_model.specs.Program.{Program, done, ask, measure, Reaches, Runs}
 use Rattle.store_model.specs.declared.call.Call.{Call}
 use Rattle.store_model.specs.declared.call.Reply.{Reply}
+use Rattle.store_model.specs.declared.metric.Metric.{Metric}
 use Rattle.store_model.specs.declared.metric.MetricAsk.{MetricAsk}
 use Rattle.store_model.specs.declared.metric.MetricReply.{MetricReply}
 

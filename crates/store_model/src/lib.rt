@@ -15,6 +15,6 @@ pub use law::{
     notice_goes_to_the_registrant, numbers_rise_by_one, parts_are_the_whole,
     programs_are_functions, stale_set_changes_nothing, worked_rows,
 };
-pub use metric::{MetricAsk, MetricKind, MetricReply};
+pub use metric::{Metric, MetricAsk, MetricKind, MetricReply, Share};
 pub use shared::Shared;
 pub use used::{MOST_BYTES, MOST_ITEMS, MOST_METRICS, MOST_NAMES, MOST_NOTICES, MOST_NUMBER, Used};

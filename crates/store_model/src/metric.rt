@@ -10,6 +10,24 @@ pub enum MetricKind {
     Gauge,
 }
 
+/// What one worker has of a metric.
+#[derive(Clone, Copy, Debug, PartialEq, Eq)]
+pub struct Share {
+    /// Whether it got the id from a Define.
+    pub knows: bool,
+    /// Its own word.
+    pub word: u64,
+}
+
+/// A metric of a VM name: a kind and a name, which together are what it is, and what each worker has of it.
+#[derive(Debug, Drop)]
+pub struct Metric {
+    pub kind: MetricKind,
+    pub name: Octets,
+    /// The shares of workers 1 to 8, in order.
+    pub shares: [Share; 8],
+}
+
 /// An ask of the metrics of a VM name.
 #[derive(Debug, Drop)]
 pub enum MetricAsk {

@@ -13,9 +13,7 @@ use std::alloc::{AllocError, Global};
 /// The stores and the metrics of all VM names, as one worker calls them.
 pub trait Shared {
     /// Whether there are metrics.
-    const HAS_METRICS: bool;
-
-    ghost HAS_METRICS: { Bool };
+    ghost measures: { Bool };
 
     /// How many stores there are, numbered from 0.
     ghost stores: { Self → ℕ };
@@ -31,6 +29,10 @@ pub trait Shared {
         ensures done { IfOk result (λ reply. performs self.old (made vm call.now reply ∷ []) self.new) }
         ensures err { OnErr result (performs self.old [] self.new) };
 
+    /// Whether there are metrics.
+    fn has_metrics(&self) -> bool
+        ensures { result ≡ measures };
+
     /// Asks the metrics of a VM name. Where there are none it is answered so, and nothing is asked; where there are, an implementation
     /// that does not write this function anew has no memory for an answer.
     fn metric(
@@ -43,10 +45,10 @@ pub trait Shared {
         ensures stores { stores self.new ≡ stores self.old }
         ensures reply { IfOk result (λ reply. IsReplyToAsk ask.now reply) }
         ensures done { IfOk result (λ reply. performs self.old (made_ask vm ask.now reply ∷ []) self.new) }
-        ensures not_built { result ≡ Ok NotBuilt → (HAS_METRICS ≡ false) × performs self.old [] self.new }
+        ensures not_built { result ≡ Ok NotBuilt → (measures ≡ false) × performs self.old [] self.new }
         ensures err { OnErr result (performs self.old [] self.new) }
     {
-        if Self::HAS_METRICS {
+        if self.has_metrics() {
             return Err(AllocError);
         }
         Ok(MetricReply::NotBuilt)
@@ -56,5 +58,5 @@ pub trait Shared {
 
     ghost joined: { (s t u : Self) (a b : List Made) → performs s a t → performs t b u → performs s (a ++ b) u };
 
-    ghost not_built: { (s : Self) (vm : ℕ) (ask : MetricAsk) → HAS_METRICS ≡ false → performs s (made_ask vm ask NotBuilt ∷ []) s };
+    ghost not_built: { (s : Self) (vm : ℕ) (ask : MetricAsk) → measures ≡ false → performs s (made_ask vm ask NotBuilt ∷ []) s };
 }
