@@ -20,6 +20,7 @@ pub mod WorkedBodies
 pub mod WorkedRuns
 pub mod WorkedCases
 pub mod RunLaws
+pub mod BelowLaws
 pub mod WorkedValidity
 pub mod OperandTable
 pub mod MemoryLaws

@@ -8,7 +8,7 @@ ghost use Rattle.wasm_syntax.specs.declared.instr.Instr.TheVariants as instr;
 ghost use Rattle.wasm_syntax.specs.ReductionSteps.{answered_config, idle_config};
 ghost use Rattle.wasm_syntax.specs.ReductionRuns.{run};
 ghost use Rattle.wasm_syntax.specs.ReductionCases.{pair_module, run_pair, asked_of, calls_pair, calls_element, asks_pair, resumed, called_while, then_resumed, small, run_small, gave, select_body, shift_body, quotient_body, lone_if_body, dropping_body, tee_body, globals_body, load_body, store_body, grow_body, standing, none};
-ghost use Rattle.wasm_syntax.specs.ReductionLaws.{RunsToItsEnd, HostedRunsToItsEnd, FuelOnlyBounds, EachHasItsRule};
+ghost use Rattle.wasm_syntax.specs.ReductionLaws.{RunsToItsEnd, HostedRunsToItsEnd, FuelOnlyBounds, CallsBelowStay, AnswersStayAbove, AnswersKeepDepth, EachHasItsRule};
 ghost use Rattle.wasm_syntax.specs.ReductionPrograms.{first_config, program_of};
 ghost use Rattle.wasm_syntax.specs.ReductionExamples.{call, sum_module, run_body, rests, unreachable_body, divide_body, overflow_body, memory_body, element_body, endless_body, if_body, table_body, return_body, asking_module, echo, exit, ask};
 
@@ -116,6 +116,14 @@ pub fn hosted_runs_take_their_steps<H>()
 /// More fuel changes nothing but what is left, unless the fuel was spent.
 pub fn fuel_only_bounds()
     ensures { FuelOnlyBounds }
+{}
+
+/// A run touches no call below the topmost one, nor does the host's answer, after which there is as much left to run as
+/// before it.
+pub fn calls_below_stay()
+    ensures runs { CallsBelowStay }
+    ensures answers { AnswersStayAbove }
+    ensures depth { AnswersKeepDepth }
 {}
 
 /// Each instruction that holds no others has its rule.
