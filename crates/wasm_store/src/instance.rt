@@ -146,8 +146,9 @@ impl Instance {
     }
 }
 
-/// The first cause why a module cannot be linked.
-pub(crate) fn fault<L: Links>(links: &L, m: &Module, pages: u32) -> Option<LinkEnd>
+/// The first cause why a module cannot be linked on a host that offers these functions and allows so many pages, and none
+/// exactly where nothing stands against it. It takes no memory, so it is never want of it.
+pub fn fault<L: Links>(links: &L, m: &Module, pages: u32) -> Option<LinkEnd>
     ensures { result ≡ link_fault (L.judged links.now) m.now pages }
 {
     if let Some(index) = first_unknown(links, m) {

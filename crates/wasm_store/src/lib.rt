@@ -12,7 +12,7 @@ mod segments;
 mod table;
 
 pub use globals::Globals;
-pub use instance::{Instance, LinkEnd, Parts};
+pub use instance::{Instance, LinkEnd, Parts, fault as link_fault};
 pub use links::{Judged, Links, NoLinks};
 pub use memory::{Memory, PAGE};
 pub use table::Table;
