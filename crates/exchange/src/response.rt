@@ -131,6 +131,20 @@ fn piece_came(
     Ok(Move::Goes(line_with(number, requests, forwarded)))
 }
 
+/// Sends trailers down.
+fn send_trailers(
+    alloc: Global,
+    number: LineNo,
+    fields: HeaderList,
+    framing: Framing,
+    out: &mut SentList,
+) -> Result<(), OutOfMemory>
+    ensures { OnOk result (out.new ≡ out.old ++ sending number Down (trailer_wire (seen_framing framing) fields.pairs)) }
+{
+    let bytes = trailer_bytes(alloc, fields, framing)?;
+    send(out, number, Side::Down, bytes)
+}
+
 /// Its trailers came, with which it is whole.
 fn trailers_came(
     alloc: Global,
@@ -146,8 +160,7 @@ fn trailers_came(
     let Answered::Begun { framing, stays } = forwarded.answered else {
         return Ok(Move::Rests(line_with(number, requests, forwarded)));
     };
-    let bytes = trailer_bytes(alloc, fields, framing)?;
-    send(out, number, Side::Down, bytes)?;
+    send_trailers(alloc, number, fields, framing, out)?;
     end_exchange(number, requests, stays, out)
 }
 
