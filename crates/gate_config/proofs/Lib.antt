@@ -2,3 +2,4 @@ mod Slashes
 mod Kept
 mod Within
 mod OneMore
+mod Held

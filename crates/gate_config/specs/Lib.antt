@@ -3,4 +3,4 @@ pub mod Kept
 pub mod Plain
 pub mod Laws
 pub mod Examples
-pub mod Adds
+pub mod Given

@@ -1,6 +1,6 @@
 -- The plain configuration: so many VMs, a plug-in of the same name for each, and routes that take every path from `/` on
 -- through all of them.
-use Rattle.std.specs.Prelude.{◌≡◌, ℕ, zero, suc, ◌+◌, List, [], ◌∷◌, ◌++◌, false, if◌then◌else◌, nat_lt, codes}
+use Rattle.std.specs.Prelude.{◌≡◌, ℕ, zero, suc, ◌+◌, List, [], ◌∷◌, ◌++◌, false, None, if◌then◌else◌, nat_lt, codes}
 use Rattle.gate_base.specs.declared.level.Level.TheVariants.{Info}
 use Rattle.gate_config.specs.declared.config.Config.{Config}
 use Rattle.gate_config.specs.declared.entries.VmEntry.{VmEntry}
@@ -12,7 +12,7 @@ abbrev pub name_of : ℕ → List ℕ
 name_of k = 109 ∷ (if nat_lt k 9 then (49 + k) ∷ [] else 49 ∷ (39 + k) ∷ [])
 
 abbrev pub plain_vm : ℕ → VmEntry
-plain_vm k = record { name = name_of k; «module» = []; configuration = []; fuel = 10000000; pages = 128 }
+plain_vm k = record { name = name_of k; «module» = []; configuration = []; fuel = 10000000; pages = 128; code = None }
 
 abbrev pub plain_plugin : ℕ → PluginEntry
 plain_plugin k = record { name = name_of k; vm = k; configuration = []; fail_open = false }

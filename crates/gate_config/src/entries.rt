@@ -1,5 +1,6 @@
 // The lists of a configuration.
 use gate_base::{Members, Octets, Text, VmNo};
+use wasm_syntax::ValidModule;
 
 /// One VM: an instance of a module in each worker.
 #[derive(Debug, Drop)]
@@ -14,6 +15,8 @@ pub struct VmEntry {
     pub fuel: u64,
     /// The pages that its memory may have, 1 to 256.
     pub pages: u32,
+    /// The module of the file, once it was read and validated.
+    pub code: Option<ValidModule>,
 }
 
 /// One plug-in: a filter that a VM runs.

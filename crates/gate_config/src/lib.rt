@@ -3,6 +3,7 @@
 
 mod adds;
 mod config;
+mod copies;
 mod entries;
 mod laws;
 mod plain;

@@ -44,6 +44,7 @@ fn plain_vm_list(alloc: Global, n: u8) -> Result<VmList, OutOfMemory>
             configuration: Octets::new(alloc),
             fuel: 10_000_000,
             pages: 128,
+            code: None,
         })?;
     }
     Ok(vms)

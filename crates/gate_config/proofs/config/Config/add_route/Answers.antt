@@ -1,6 +1,6 @@
-use Rattle.std.proofs.Common.{◌≡◌, ◌∙◌, ap, ap₂, sym, rules, List, [], ◌∷◌, ◌++◌, ℕ}
+use Rattle.std.proofs.Common.{◌≡◌, ◌∙◌, ap, ap₂, sym, List, [], ◌∷◌, ◌++◌, ℕ}
 use Rattle.gate_config.specs.declared.entries.RouteEntry.{RouteEntry}
-use Rattle.gate_config.specs.Adds.{route_with}
+use Rattle.gate_config.specs.Given.{given, route_with}
 use Rattle.gate_config.specs.Routes.{Table, table_of, with_route}
 use Rattle.gate_config.proofs.OneMore.{kept_more, table_more, on_ok}
 use Rattle.gate_config.proofs.config.Config.add_route.Goals as goal
@@ -21,4 +21,4 @@ pub returns-in-Ok-insert_route-clause-ok : goal.returns-in-Ok-insert_route-claus
 returns-in-Ok-insert_route-clause-ok c =
     let pushed = on_ok c.push.result _ (sym c.is_err.ensures.value ∙ c.if-is_err.false) c.push.ensures.ok in
     let e = pushed ∙ ap (λ (x : RouteEntry). c.args.self.now.routes ++ x ∷ []) c.in-Ok.ensures in
-    record { routes = e; vms = search rules; plugins = search rules; workers = search rules; listen = search rules; upstream = search rules; deadline = search rules; log_level = search rules }
+    ap (λ (rs : List RouteEntry). record (given c.args.self.now) { routes = rs }) e

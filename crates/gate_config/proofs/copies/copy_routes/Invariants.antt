@@ -1,5 +1,5 @@
 use Rattle.std.proofs.Common.{◌≡◌, take}
-use Rattle.gate_config.proofs.adds.copy_routes.Given as goal
+use Rattle.gate_config.proofs.copies.copy_routes.Given as goal
 
 abbrev pub invariant-loop-route : goal.invariant-loop-route
 invariant-loop-route l = l.copy ≡ take l.route-index l.route-items

@@ -1,5 +1,5 @@
 use Rattle.std.proofs.Common.{◌≡◌, take}
-use Rattle.gate_config.proofs.adds.copy_numbers.Given as goal
+use Rattle.gate_config.proofs.copies.copy_numbers.Given as goal
 
 abbrev pub invariant-loop-number : goal.invariant-loop-number
 invariant-loop-number l = l.copy ≡ take l.number-index l.number-items

@@ -1,0 +1,8 @@
+use Rattle.gate_config.proofs.OneMore.{pushed_plugin}
+use Rattle.gate_config.proofs.config.Config.add_plugin.Goals as goal
+
+pub invariant_of-self : goal.invariant_of-self
+invariant_of-self c = record {
+  kept = pushed_plugin c.push.result c.args.self.now.workers c.args.self.now.vms c.args.self.now.plugins c.push.new.self c.args.self.now.routes c.args.entry c.push.ensures.ok c.push.ensures.err c.args.self.now.kept c.requires.count c.requires.bounds c.requires.fresh;
+  routed = c.args.self.now.routed;
+}
