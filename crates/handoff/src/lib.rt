@@ -1,0 +1,10 @@
+//! Lines that one worker hands to another.
+#![tactic(auto)]
+
+mod handoff;
+mod law;
+mod rule;
+
+pub use handoff::{Giver, Handoff, Taker};
+pub use law::{lines_are_taken_in_order, worked_relays};
+pub use rule::{Hands, HasLine};
