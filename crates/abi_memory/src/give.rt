@@ -1,0 +1,99 @@
+// Bytes and numbers out of a guest's memory and into it.
+
+ghost use Rattle.std.specs.Prelude.{◌≡◌, ◌<◌, ◌^◌, length, true, false, IfOk};
+ghost use Rattle.wasm_syntax.specs.Memory.{bytes_at};
+ghost use Rattle.abi_types.specs.GuestAt.{is_range, Keeps, StillWaits, IsOutside};
+ghost use Rattle.abi_memory.specs.Giving.{has_place, numbering, numbered_as, placing, giving, Gives, RestsAfterGiving};
+
+use abi_types::{AllocEnd, Guest, GuestEnd};
+use gate_base::{Cause, Octets};
+use std::alloc::Global;
+
+/// Where a guest is told the place and the size of bytes.
+#[derive(Clone, Copy, Debug)]
+pub struct Place {
+    /// Where the place of the bytes is written.
+    pub pointer: u32,
+    /// Where their number is written.
+    pub size: u32,
+}
+
+/// Why bytes were not given.
+#[derive(Clone, Copy, Debug, PartialEq, Eq)]
+pub enum GiveEnd {
+    /// A place for the answer, or the range that the allocator gave, is not inside, or the allocator gave 0.
+    InvalidAccess,
+    /// The guest exports no allocator.
+    NoAllocator,
+    /// The allocator trapped.
+    Trapped { cause: Cause },
+    /// The fuel of the callback was spent in the allocator.
+    FuelSpent,
+}
+
+/// The bytes of a range. Outside comes exactly where the range is not inside; one of no bytes always is.
+pub fn take_bytes<G: Guest>(alloc: Global, guest: &G, at: u32, len: u32) -> Result<Octets, GuestEnd>
+    ensures ok { IfOk result (λ o. (is_range (G.at guest.now).config.store.memory at len ≡ true) × (o ≡ bytes_at (G.at guest.now).config.store.memory at len)) }
+    ensures err { IsOutside result → is_range (G.at guest.now).config.store.memory at len ≡ false }
+{
+    guest.read(alloc, at, len)
+}
+
+/// Writes a number of four bytes, the lowest first. None comes exactly where a byte of its place is outside. It takes no memory.
+pub fn give_number<G: Guest>(guest: &mut G, at: u32, v: u32) -> Option<()>
+    requires { G.rests guest.old }
+    ensures run { numbering at v (G.at guest.old) ≡ numbered_as result (G.at guest.new) }
+    ensures rests { StillWaits (G.rests guest.new) (G.at guest.old) (G.at guest.new) }
+    ensures keeps { Keeps (G.at guest.old) (G.at guest.new) }
+{
+    guest.write(at, &v.to_le_bytes())
+}
+
+/// Whether a range that a guest names is inside; one of no bytes always is.
+pub fn is_within<G: Guest>(guest: &G, at: u64, len: u64) -> bool
+    ensures { result ≡ has_place at len (G.at guest.now) }
+{
+    let size = guest.size();
+    len == 0 || (at <= size && len <= size - at)
+}
+
+/// Bytes at a place, and then the place and the size where the guest wants them.
+fn give_at<G: Guest>(guest: &mut G, ptr: u32, bytes: &[u8], told: Place) -> Result<(), GiveEnd>
+    requires rests { G.rests guest.old }
+    requires short { length bytes.now < 2 ^ 32 }
+    ensures run { Gives (placing ptr bytes.now told (G.at guest.old)) result (G.at guest.new) }
+    ensures rests { RestsAfterGiving result (StillWaits (G.rests guest.new) (G.at guest.old) (G.at guest.new)) }
+    ensures keeps { Keeps (G.at guest.old) (G.at guest.new) }
+{
+    if !is_within(guest, ptr as u64, bytes.len() as u64)
+        || !is_within(guest, told.pointer as u64, 4)
+        || !is_within(guest, told.size as u64, 4)
+    {
+        return Err(GiveEnd::InvalidAccess);
+    }
+    let _ = guest.write(ptr, bytes);
+    let _ = give_number(guest, told.pointer, ptr);
+    let _ = give_number(guest, told.size, bytes.len() as u32);
+    Ok(())
+}
+
+/// Gives bytes in memory of the guest's own, which its allocator gives, and tells it where they are. No bytes are the place 0
+/// and the size 0, without an allocation. After a refusal the guest is as its allocator left it.
+pub fn give_bytes<G: Guest>(guest: &mut G, bytes: &[u8], told: Place) -> Result<(), GiveEnd>
+    requires rests { G.rests guest.old }
+    requires short { length bytes.now < 2 ^ 32 }
+    ensures run { Gives (giving bytes.now told (G.at guest.old)) result (G.at guest.new) }
+    ensures rests { RestsAfterGiving result (StillWaits (G.rests guest.new) (G.at guest.old) (G.at guest.new)) }
+    ensures keeps { Keeps (G.at guest.old) (G.at guest.new) }
+{
+    if bytes.is_empty() {
+        return give_at(guest, 0, bytes, told);
+    }
+    match guest.allocate(bytes.len() as u32) {
+        Ok(0) => Err(GiveEnd::InvalidAccess),
+        Ok(ptr) => give_at(guest, ptr, bytes, told),
+        Err(AllocEnd::NoAllocator) => Err(GiveEnd::NoAllocator),
+        Err(AllocEnd::Trapped { cause }) => Err(GiveEnd::Trapped { cause }),
+        Err(AllocEnd::FuelSpent) => Err(GiveEnd::FuelSpent),
+    }
+}

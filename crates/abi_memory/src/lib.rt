@@ -1,0 +1,6 @@
+//! Bytes and numbers out of a guest's memory and into it.
+#![tactic(auto)]
+
+mod give;
+
+pub use give::{GiveEnd, Place, give_bytes, give_number, is_within, take_bytes};
