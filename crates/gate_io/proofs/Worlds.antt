@@ -10,9 +10,10 @@ use Rattle.gate_io.specs.declared.event.Side.{Side}
 use Rattle.gate_io.specs.declared.passed.Passed.{Passed}
 use Rattle.gate_io.specs.declared.passed.Passed.TheVariants.{Asked, Gave, Took}
 use Rattle.gate_io.specs.declared.passed.Wants.{Wants}
+use Rattle.gate_io.specs.Calls.{risen}
 use Rattle.gate_io.specs.Events.{Last, AreInOrder, after_next, given, is_stop, last_of, last_of-append, nothing_given}
 use Rattle.gate_io.specs.Given.{ComesNext}
-use Rattle.gate_io.specs.MemoryWorld.{MemoryWorld, Answers, Offers, Refuses, Takes, IsInStep, stop_at, next_of, end_of, script_of, last_in, is_empty, nature_of, took_more, failed_once, went_on, risen}
+use Rattle.gate_io.specs.MemoryWorld.{MemoryWorld, Answers, Offers, Refuses, RefusesPiece, Takes, IsInStep, stop_at, next_of, end_of, script_of, last_in, is_empty, nature_of, took_more, failed_once, went_on}
 use Rattle.gate_io.specs.Nature.{Nature}
 use Rattle.gate_io.specs.Passing.{happened, front}
 use Rattle.gate_io.specs.Reads.{happened-append, happened-front}
@@ -39,6 +40,10 @@ refused : (w v : MemoryWorld) → Refuses w v → nature_of v ≡ nature_of w
 refused w v (inl listed) = ap nature_of listed.1
 refused w v (inr free) = ap nature_of free.1
 
+refused_piece : (w v : MemoryWorld) → RefusesPiece w v → nature_of v ≡ nature_of w
+refused_piece w v (inl listed) = ap nature_of listed.1
+refused_piece w v (inr free) = ap nature_of free.2
+
 -- a call that takes something, or is refused
 pub nature_taken : {T E : Type 0} (r : Result T E) (w v : MemoryWorld) (sent : Sent) → Takes w sent r v → nature_of v ≡ nature_of w
 nature_taken (Ok x) w v sent a = ap nature_of a.1 ∙ still w (Took sent ∷ []) refl
@@ -46,8 +51,8 @@ nature_taken (Err e) w v sent a = refused w v a
 
 -- a call that takes the front of a piece, or is refused
 pub nature_offered : {E : Type 0} (r : Result ℕ E) (w v : MemoryWorld) (line : ℕ) (side : Side) (bytes : List ℕ) → Offers w line side bytes r v → nature_of v ≡ nature_of w
-nature_offered (Ok n) w v line side bytes a = ap nature_of a.2 ∙ still w (front line side bytes n) (happened-front line side bytes n)
-nature_offered (Err e) w v line side bytes a = refused w v a
+nature_offered (Ok n) w v line side bytes a = ap nature_of a.3 ∙ still w (front line side bytes n) (happened-front line side bytes n)
+nature_offered (Err e) w v line side bytes a = refused_piece w v a
 
 -- a Stop at the moment of the last event changes no script
 stop_ends : (events : List Event) (now k : ℕ) → slice_index_or (events ++ stop_at now ∷ []) k (stop_at now) ≡ slice_index_or events k (stop_at now)
@@ -138,13 +143,17 @@ refused_last : (w v : MemoryWorld) → Refuses w v → last_in v ≡ last_in w
 refused_last w v (inl listed) = ap last_in listed.1
 refused_last w v (inr free) = ap last_in free.1
 
+refused_piece_last : (w v : MemoryWorld) → RefusesPiece w v → last_in v ≡ last_in w
+refused_piece_last w v (inl listed) = ap last_in listed.1
+refused_piece_last w v (inr free) = ap last_in free.2
+
 pub last_taken : {T E : Type 0} (r : Result T E) (w v : MemoryWorld) (sent : Sent) → Takes w sent r v → last_in v ≡ last_in w
 last_taken (Ok x) w v sent a = ap last_in a.1 ∙ still_last w (Took sent ∷ []) refl
 last_taken (Err e) w v sent a = refused_last w v a
 
 pub last_offered : {E : Type 0} (r : Result ℕ E) (w v : MemoryWorld) (line : ℕ) (side : Side) (bytes : List ℕ) → Offers w line side bytes r v → last_in v ≡ last_in w
-last_offered (Ok n) w v line side bytes a = ap last_in a.2 ∙ still_last w (front line side bytes n) (happened-front line side bytes n)
-last_offered (Err e) w v line side bytes a = refused_last w v a
+last_offered (Ok n) w v line side bytes a = ap last_in a.3 ∙ still_last w (front line side bytes n) (happened-front line side bytes n)
+last_offered (Err e) w v line side bytes a = refused_piece_last w v a
 
 pub last_answered : (r : Result Event WorldEnd) (w v : MemoryWorld) (wants : Wants) → Answers w wants r v → last_in v ≡ after_next (last_in w) r
 last_answered (Ok event) w v wants a = ap last_in a.3 ∙ last_passed w.trace wants event

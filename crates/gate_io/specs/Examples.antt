@@ -74,10 +74,17 @@ pub record ScriptExamples : Type 0 where
 -- A world that gives Clock at 5, and takes two bytes of a piece, and whose first and third call are to fail; and the same
 -- before its second call.
 abbrev world : MemoryWorld
-world = record { seed = []; trace = []; left = at 5 Clock ∷ []; most = Some 2; fails = 1 ∷ 3 ∷ []; calls = 0; faults = 0 }
+world = record { seed = []; trace = []; left = at 5 Clock ∷ []; most = Some 2; fails = 1 ∷ 3 ∷ []; calls = 0; faults = 0; refused = []; sends = 0 }
 
 abbrev second : MemoryWorld
 second = record world { calls = 1 }
+
+-- one of which no call is to fail, and whose second call of `send` is refused memory; and the same after a first one
+abbrev refusing : MemoryWorld
+refusing = record world { fails = []; refused = 2 ∷ [] }
+
+abbrev sent_once : MemoryWorld
+sent_once = record refusing { calls = 7; sends = 1 }
 
 -- a call that is listed, and the next one
 pub record CallExamples : Type 0 where
@@ -85,10 +92,14 @@ pub record CallExamples : Type 0 where
   pub next_gives_nothing : (event : Event) (after : MemoryWorld) → Answers world wants (Ok event) after → ⊥
   pub next_gives : Answers second wants (Ok (at 5 Clock)) (record second { trace = Asked wants ∷ Gave (at 5 Clock) ∷ []; left = []; calls = 2 })
   pub next_fails_not : (after : MemoryWorld) → Answers second wants (Err Failed) after → ⊥
-  pub send_fails : Offers world 1 Up (codes "abc") (Err OutOfMemory) (record world { calls = 1 })
+  pub send_fails : Offers world 1 Up (codes "abc") (Err OutOfMemory) (record world { calls = 1; sends = 1 })
   pub send_takes_nothing : (n : ℕ) (after : MemoryWorld) → Offers {E = WorldEnd} world 1 Up (codes "abc") (Ok n) after → ⊥
   pub send_takes_two :
-      Offers {E = WorldEnd} second 1 Up (codes "abc") (Ok 2) (record second { trace = Took (sent.Bytes 1 Up (codes "ab")) ∷ Short 1 Up ∷ []; calls = 2 })
+      Offers {E = WorldEnd} second 1 Up (codes "abc") (Ok 2) (record second { trace = Took (sent.Bytes 1 Up (codes "ab")) ∷ Short 1 Up ∷ []; calls = 2; sends = 1 })
   pub send_takes_no_more : (after : MemoryWorld) → Offers {E = WorldEnd} second 1 Up (codes "abc") (Ok 3) after → ⊥
   pub connect_fails : Takes {T = Unit {0}} world (sent.Connect 1) (Err OutOfMemory) (record world { calls = 1 })
   pub connects : Takes {E = WorldEnd} second (sent.Connect 1) (Ok (tt {0})) (record second { trace = Took (sent.Connect 1) ∷ []; calls = 2 })
+  pub first_send : Offers {E = WorldEnd} refusing 1 Up (codes "a") (Ok 1) (record refusing { trace = Took (sent.Bytes 1 Up (codes "a")) ∷ []; calls = 1; sends = 1 })
+  pub second_send : Offers sent_once 1 Up (codes "a") (Err OutOfMemory) (record sent_once { calls = 8; sends = 2 })
+  pub second_send_takes_nothing : (n : ℕ) (after : MemoryWorld) → Offers {E = WorldEnd} sent_once 1 Up (codes "a") (Ok n) after → ⊥
+  pub other_calls_go_on : Takes {E = WorldEnd} sent_once (sent.Connect 1) (Ok (tt {0})) (record sent_once { trace = Took (sent.Connect 1) ∷ []; calls = 8 })

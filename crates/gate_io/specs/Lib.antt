@@ -7,7 +7,11 @@ pub mod Passing
 pub mod Events
 pub mod Given
 pub mod Nature
+pub mod Calls
+pub mod MemoryCalls
 pub mod MemoryWorld
+pub mod Sites
+pub mod MemorySite
 pub mod Reads
 pub mod Scripts
 pub mod Examples

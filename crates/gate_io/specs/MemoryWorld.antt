@@ -1,5 +1,5 @@
 -- What a world in memory is, as a plain record.
-use Rattle.std.specs.Prelude.{◌≡◌, ℕ, ◌+◌, ◌^◌, ◌-◌, ◌==◌, ◌&&◌, ◌⊎◌, min, Bool, true, false, IsTrue, List, [], ◌∷◌, ◌++◌, length, drop, Contains, slice_index_or, Option, None, Some, is_none, Result, Ok, Err}
+use Rattle.std.specs.Prelude.{◌≡◌, ℕ, ◌==◌, ◌&&◌, ◌⊎◌, min, Bool, true, false, IsTrue, List, [], ◌∷◌, ◌++◌, length, drop, slice_index_or, Option, None, Some, is_none, Result, Ok, Err}
 use Rattle.std.proofs.lemmas.Bool.{eqb-true}
 use Rattle.gate_io.specs.declared.ends.WorldEnd.{WorldEnd}
 use Rattle.gate_io.specs.declared.ends.WorldEnd.TheVariants.{Failed, OutOfMemory}
@@ -10,12 +10,14 @@ use Rattle.gate_io.specs.declared.event.What.TheVariants.{Stop}
 use Rattle.gate_io.specs.declared.passed.Passed.{Passed}
 use Rattle.gate_io.specs.declared.passed.Passed.TheVariants.{Asked, Gave, Took}
 use Rattle.gate_io.specs.declared.passed.Wants.{Wants}
+use Rattle.gate_io.specs.Calls.{risen, IsNext}
 use Rattle.gate_io.specs.Events.{Last, Follows, AreInOrder, nothing_given, last_of}
 use Rattle.gate_io.specs.Nature.{Nature}
 use Rattle.gate_io.specs.Passing.{front, happened}
 
 -- The seed, all that passed, the events that are left, how many bytes of a piece it takes at most (all where None), the
--- numbers from 1 of the calls that are to fail, how many calls counted so far, and how many calls of `next` failed.
+-- numbers from 1 of the calls that are to fail, how many calls counted so far, how many calls of `next` failed, the numbers
+-- from 1 of the calls of `send` that are refused memory, and how many calls of `send` counted so far.
 pub record MemoryWorld : Type 0 where
   pub seed : List ℕ
   pub trace : List Passed
@@ -24,6 +26,8 @@ pub record MemoryWorld : Type 0 where
   pub fails : List ℕ
   pub calls : ℕ
   pub faults : ℕ
+  pub refused : List ℕ
+  pub sends : ℕ
 
 -- the last event that it gave
 abbrev pub last_in : MemoryWorld → Last
@@ -68,17 +72,21 @@ nature_of w = record {
   fails_no_call = is_empty w.fails && (w.faults == 0);
 }
 
--- the number behind this one; a count stands still at the end of its type
-abbrev pub risen : ℕ → ℕ
-risen n = min (n + 1) (2 ^ 64 - 1)
-
 -- the next call is one of those that are to fail
 abbrev pub IsListed : MemoryWorld → Type 0
-IsListed w = Contains w.fails (risen w.calls)
+IsListed w = IsNext w.fails w.calls
+
+-- the next call of `send` is one of those that are refused memory
+abbrev pub IsRefused : MemoryWorld → Type 0
+IsRefused w = IsNext w.refused w.sends
 
 -- one more call
 abbrev pub counted : MemoryWorld → MemoryWorld
 counted w = record w { calls = risen w.calls }
+
+-- one more call of `send`
+abbrev pub counted_send : MemoryWorld → MemoryWorld
+counted_send w = record w { calls = risen w.calls; sends = risen w.sends }
 
 -- it gave its next event
 abbrev pub went_on : MemoryWorld → Wants → Event → MemoryWorld
@@ -87,6 +95,10 @@ went_on w wants event = record w { trace = w.trace ++ Asked wants ∷ Gave event
 -- it took what is noted in these steps
 abbrev pub took_more : MemoryWorld → List Passed → MemoryWorld
 took_more w steps = record w { trace = w.trace ++ steps; calls = risen w.calls }
+
+-- it took what is noted in these steps of a piece that it was sent
+abbrev pub sent_more : MemoryWorld → List Passed → MemoryWorld
+sent_more w steps = record w { trace = w.trace ++ steps; calls = risen w.calls; sends = risen w.sends }
 
 -- it failed
 abbrev pub failed_once : MemoryWorld → Wants → MemoryWorld
@@ -105,11 +117,16 @@ Answers old wants (Err OutOfMemory) new = new ≡ old
 abbrev pub Refuses : MemoryWorld → MemoryWorld → Type 0
 Refuses old new = (IsListed old × (new ≡ counted old)) ⊎ ((IsListed old → ⊥) × (new ≡ old))
 
--- What a call of `send` does: it is refused where its number is listed, and else takes as many bytes as it may.
+-- What a call of `send` does where it is refused: one that is listed, in either list, counts in both rows, and one that
+-- memory ran out in counts in none. Nothing else changes.
+abbrev pub RefusesPiece : MemoryWorld → MemoryWorld → Type 0
+RefusesPiece old new = ((IsListed old ⊎ IsRefused old) × (new ≡ counted_send old)) ⊎ ((IsListed old → ⊥) × (IsRefused old → ⊥) × (new ≡ old))
+
+-- What a call of `send` does: it is refused where its number is listed in either list, and else takes as many bytes as it may.
 abbrev pub Offers : {E : Type 0} → MemoryWorld → ℕ → Side → List ℕ → Result ℕ E → MemoryWorld → Type 0
 Offers old line side bytes (Ok n) new =
-    (IsListed old → ⊥) × (n ≡ most_of old.most (length bytes)) × (new ≡ took_more old (front line side bytes n))
-Offers old line side bytes (Err e) new = Refuses old new
+    (IsListed old → ⊥) × (IsRefused old → ⊥) × (n ≡ most_of old.most (length bytes)) × (new ≡ sent_more old (front line side bytes n))
+Offers old line side bytes (Err e) new = RefusesPiece old new
 
 -- What a call of `connect`, `close` or `log` does: it is refused where its number is listed, and else takes the thing.
 abbrev pub Takes : {T E : Type 0} → MemoryWorld → Sent → Result T E → MemoryWorld → Type 0

@@ -11,11 +11,14 @@ mod host_source;
 mod laws;
 mod mem_files;
 mod mem_sink;
+mod mem_site;
 mod mem_source;
 mod mem_world;
 mod order;
 mod passed;
+mod settings;
 mod sink;
+mod site;
 mod source;
 mod world;
 
@@ -31,11 +34,14 @@ pub use laws::{
 };
 pub use mem_files::{MemFiles, TextList};
 pub use mem_sink::MemSink;
+pub use mem_site::MemSite;
 pub use mem_source::MemSource;
 pub use mem_world::{MemWorld, SentList};
 pub use order::are_in_order;
 pub use passed::{Passed, Wants};
+pub use settings::{Settings, SiteEnd};
 pub use sink::{Sink, write_whole};
+pub use site::Site;
 pub use source::{Source, read_whole};
 pub use world::World;
 

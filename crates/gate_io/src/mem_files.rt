@@ -1,5 +1,5 @@
 // Files in memory.
-ghost use Rattle.std.specs.Prelude.{◌≡◌, ◌≤◌, ◌<◌, [], Some, None, IfOk};
+ghost use Rattle.std.specs.Prelude.{◌≡◌, ◌≤◌, ◌<◌, [], Some, None, IfOk, length};
 ghost use Rattle.gate_io.specs.Paths.{file_at};
 
 use crate::{FileEnd, Files};
@@ -61,6 +61,7 @@ impl MemFiles {
 
 impl Files for MemFiles {
     ghost use Rattle.std.specs.Prelude.{Some};
+    ghost use Rattle.gate_io.specs.MemoryCalls.{ReadsFile};
 
     ghost holds = { λ s. Some s.files };
 
@@ -68,7 +69,12 @@ impl Files for MemFiles {
 
     ghost faults = { λ s. s.faults };
 
-    fn read(&mut self, alloc: Global, path: &str, most: usize) -> Result<Octets, FileEnd> {
+    // The first clause says all. The others repeat those of the trait's that it does not show by itself.
+    fn read(&mut self, alloc: Global, path: &str, most: usize) -> Result<Octets, FileEnd>
+        ensures answer { ReadsFile self.old path.now most result self.new }
+        ensures bound { IfOk result (λ bytes. length bytes ≤ most) }
+        ensures faults { self.old.faults ≤ self.new.faults }
+    {
         let found = look_up(alloc, self.files.as_slice(), path.as_bytes(), most)?;
         self.paths.push(Text::of(alloc, path)?)?;
         self.calls = self.calls.saturating_add(1);

@@ -46,12 +46,18 @@ impl MemSink {
 
 impl Sink for MemSink {
     ghost use Rattle.std.specs.Prelude.{Some};
+    ghost use Rattle.std.specs.Prelude.{◌≤◌};
+    ghost use Rattle.gate_io.specs.MemoryCalls.{TakesPiece};
 
     ghost taken = { λ s. Some s.taken };
 
     ghost faults = { λ s. s.faults };
 
-    fn write(&mut self, piece: &[u8]) -> Result<usize, Failed> {
+    // The first clause says all.
+    fn write(&mut self, piece: &[u8]) -> Result<usize, Failed>
+        ensures answer { TakesPiece self.old piece.now result self.new }
+        ensures faults { self.old.faults ≤ self.new.faults }
+    {
         self.calls = self.calls.saturating_add(1);
         if self.fails.as_slice().contains(&self.calls)
             || self.taken.extend_from_slice(piece).is_err()

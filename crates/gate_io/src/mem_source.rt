@@ -1,5 +1,6 @@
 // A source in memory.
-ghost use Rattle.std.specs.Prelude.{◌≡◌, ◌-◌, ◌≤◌, [], length, take, drop, min};
+ghost use Rattle.std.specs.Prelude.{◌≡◌, ◌-◌, ◌≤◌, ◌↔◌, [], IsTrue, length, take, drop, min};
+ghost use Rattle.gate_io.specs.Calls.{IsNext};
 
 use crate::{Failed, Source};
 use gate_base::{CallNos, Octets};
@@ -39,18 +40,34 @@ impl MemSource {
             faults: 0,
         }
     }
+
+    /// Whether the next call is to fail.
+    fn is_listed(&self) -> bool
+        ensures { IsTrue result ↔ IsNext self.now.fails self.now.calls }
+    {
+        self.fails
+            .as_slice()
+            .contains(&self.calls.saturating_add(1))
+    }
 }
 
 impl Source for MemSource {
     ghost use Rattle.std.specs.Prelude.{Some};
+    ghost use Rattle.std.specs.Prelude.{◌≤◌};
+    ghost use Rattle.gate_io.specs.MemoryCalls.{FillsRoom};
 
     ghost left = { λ s. Some s.left };
 
     ghost faults = { λ s. s.faults };
 
-    fn read(&mut self, room: &mut [u8]) -> Result<usize, Failed> {
+    // The first clause says all.
+    fn read(&mut self, room: &mut [u8]) -> Result<usize, Failed>
+        ensures answer { FillsRoom self.old room.new result self.new }
+        ensures faults { self.old.faults ≤ self.new.faults }
+    {
+        let fails = self.is_listed();
         self.calls = self.calls.saturating_add(1);
-        if self.fails.as_slice().contains(&self.calls) {
+        if fails {
             self.faults = self.faults.saturating_add(1);
             return Err(Failed);
         }

@@ -1,10 +1,10 @@
 // A world in memory.
-ghost use Rattle.std.specs.Prelude.{◌≡◌, ◌≤◌, ◌∷◌, ◌++◌, ◌↔◌, [], Some, IfOk, OnErr, OnOk, IsTrue, length, drop};
+ghost use Rattle.std.specs.Prelude.{◌≡◌, ◌≤◌, ◌∷◌, ◌++◌, ◌↔◌, ◌⊎◌, [], Some, IfOk, OnErr, OnOk, IsTrue, length, drop};
 ghost use Rattle.gate_io.specs.declared.event.Sent.TheVariants.{Connect, Close, Log};
 ghost use Rattle.gate_io.specs.declared.passed.Passed.TheVariants.{Took};
 ghost use Rattle.gate_io.specs.Events.{AreInOrder, Follows, after_next, nothing_given};
 ghost use Rattle.gate_io.specs.Given.{ComesNext};
-ghost use Rattle.gate_io.specs.MemoryWorld.{Answers, IsListed, Offers, Takes, counted, failed_once, last_in, nature_of, next_of, took_more, went_on};
+ghost use Rattle.gate_io.specs.MemoryWorld.{Answers, IsListed, IsRefused, Offers, Takes, counted, counted_send, failed_once, last_in, nature_of, next_of, took_more, went_on};
 ghost use Rattle.gate_io.specs.Passing.{front, received, sent_in};
 
 use crate::order::is_stop_event;
@@ -19,7 +19,8 @@ pub type SentList = Members<Sent>;
 
 /// A world with stated events, behind which it gives Stop for ever, and of which the calls with the listed numbers, from
 /// 1, fail. All calls of `next`, `send`, `connect`, `close` and `log` count, in one row, but for those that memory ran out
-/// in. A listed call of `next` answers Failed, and a listed one of the others that memory ran out, and takes nothing.
+/// in. A listed call of `next` answers Failed, and a listed one of the others that memory ran out, and takes nothing. So does
+/// a call of `send` whose number is refused memory, where only the calls of `send` count.
 #[derive(Debug, Drop)]
 pub struct MemWorld {
     seed: [u8; 32],
@@ -31,6 +32,8 @@ pub struct MemWorld {
     fails: CallNos,
     calls: u64,
     faults: u64,
+    refused: CallNos,
+    sends: u64,
 }
 
 impl Model for MemWorld {
@@ -38,7 +41,7 @@ impl Model for MemWorld {
 
     ghost Value = { MemoryWorld };
 
-    ghost view = { λ w. record { seed = w.seed; trace = w.trace.items; left = w.left.items; most = w.most; fails = w.fails; calls = w.calls; faults = w.faults } };
+    ghost view = { λ w. record { seed = w.seed; trace = w.trace.items; left = w.left.items; most = w.most; fails = w.fails; calls = w.calls; faults = w.faults; refused = w.refused; sends = w.sends } };
 
     ghost invariant = { λ w. IsInStep (record { now = w.moment; stopped = w.stopped }) w.trace.items w.left.items };
 }
@@ -53,7 +56,7 @@ impl MemWorld {
         fails: CallNos,
     ) -> Self
         requires { AreInOrder nothing_given events.items }
-        ensures { result ≡ record { seed = seed; trace = []; left = events.items; most = most; fails = fails; calls = 0; faults = 0 } }
+        ensures { result ≡ record { seed = seed; trace = []; left = events.items; most = most; fails = fails; calls = 0; faults = 0; refused = []; sends = 0 } }
     {
         MemWorld {
             seed,
@@ -65,7 +68,17 @@ impl MemWorld {
             fails,
             calls: 0,
             faults: 0,
+            refused: Members::new(alloc),
+            sends: 0,
         }
+    }
+
+    /// Refuses memory to the calls of `send` with these numbers, which count from 1 and from the world's beginning, and to no
+    /// other that was named before.
+    pub fn refuse_memory(&mut self, sends: CallNos)
+        ensures { self.new ≡ record self.old { refused = sends } }
+    {
+        self.refused = sends;
     }
 
     /// All that passed.
@@ -189,6 +202,31 @@ impl MemWorld {
         Ok(())
     }
 
+    /// Whether the next call of `send` is refused memory.
+    fn is_refused(&self) -> bool
+        ensures { IsTrue result ↔ IsRefused self.now }
+    {
+        self.refused
+            .as_slice()
+            .contains(&self.sends.saturating_add(1))
+    }
+
+    /// Goes on where this call of `send` is listed nowhere, and else counts it.
+    fn admit_piece(&mut self) -> Result<(), OutOfMemory>
+        ensures ok { OnOk result (self.new ≡ self.old) }
+        ensures free { OnOk result (IsListed self.old → ⊥) }
+        ensures unrefused { OnOk result (IsRefused self.old → ⊥) }
+        ensures err { OnErr result (self.new ≡ counted_send self.old) }
+        ensures listed { OnErr result (IsListed self.old ⊎ IsRefused self.old) }
+    {
+        if self.is_listed() || self.is_refused() {
+            self.calls = self.calls.saturating_add(1);
+            self.sends = self.sends.saturating_add(1);
+            return Err(AllocError);
+        }
+        Ok(())
+    }
+
     /// Gives the next event, or fails where this call is listed.
     fn answer(&mut self, alloc: Global, wants: &Wants) -> Result<Event, WorldEnd>
         ensures answer { Answers self.old wants.now result self.new }
@@ -233,7 +271,7 @@ impl MemWorld {
         Ok(event)
     }
 
-    /// Takes as many bytes of a piece as it may, where this call is not listed.
+    /// Takes as many bytes of a piece as it may, where this call is listed nowhere.
     fn offer(
         &mut self,
         alloc: Global,
@@ -243,10 +281,11 @@ impl MemWorld {
     ) -> Result<usize, OutOfMemory>
         ensures { Offers self.old line side bytes.now result self.new }
     {
-        self.admit()?;
+        self.admit_piece()?;
         let n = self.most.unwrap_or(bytes.len()).min(bytes.len());
         note_front(alloc, &mut self.trace, line, side, bytes, n)?;
         self.calls = self.calls.saturating_add(1);
+        self.sends = self.sends.saturating_add(1);
         Ok(n)
     }
 

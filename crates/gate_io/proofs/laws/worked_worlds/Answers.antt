@@ -1,4 +1,4 @@
-use Rattle.std.proofs.Common.{ℕ, zero, suc, List, [], ◌∷◌, Contains, refl, inl, rules, lit<, lit≤, arith}
+use Rattle.std.proofs.Common.{ℕ, zero, suc, List, [], ◌∷◌, Contains, refl, inl, inr, rules, lit<, lit≤, arith}
 use Rattle.gate_io.proofs.laws.worked_worlds.Goals as goal
 
 abbrev first_and_third : List ℕ
@@ -11,6 +11,25 @@ not_second : Contains first_and_third 2 → ⊥
 not_second (zero, low, same) = cc
 not_second (suc zero, low, same) = cc
 not_second (suc (suc k), low, same) = absurd (omega (arith, low))
+
+abbrev no_number : List ℕ
+no_number = []
+
+none_refused : Contains no_number 1 → ⊥
+none_refused (k, low, same) = absurd (omega (arith, low))
+
+none_listed : {n : ℕ} → Contains no_number n → ⊥
+none_listed (k, low, same) = absurd (omega (arith, low))
+
+abbrev second_only : List ℕ
+second_only = 2 ∷ []
+
+second_refused : Contains second_only 2
+second_refused = (0, lit< tt, refl)
+
+not_first_refused : Contains second_only 1 → ⊥
+not_first_refused (zero, low, same) = cc
+not_first_refused (suc k, low, same) = absurd (omega (arith, low))
 
 pub returns-clause-order : goal.returns-clause-order
 returns-clause-order c = record {
@@ -34,10 +53,14 @@ returns-clause-calls c = record {
   next_gives_nothing = λ event after a. a.0 first;
   next_gives = (not_second, refl, record { rises = lit≤ tt; stays = λ stopped. cc; sized = tt }, refl);
   next_fails_not = λ after a. not_second a.0;
-  send_fails = inl (first, refl);
+  send_fails = inl (inl first, refl);
   send_takes_nothing = λ n after a. a.0 first;
-  send_takes_two = (not_second, refl, refl);
-  send_takes_no_more = λ after a. cc (a.1);
+  send_takes_two = (not_second, none_refused, refl, refl);
+  send_takes_no_more = λ after a. cc (a.2);
   connect_fails = inl (first, refl);
   connects = (not_second, refl);
+  first_send = (none_listed, not_first_refused, refl, refl);
+  second_send = inl (inr second_refused, refl);
+  second_send_takes_nothing = λ n after a. a.1 second_refused;
+  other_calls_go_on = (none_listed, refl);
 }
