@@ -15,6 +15,10 @@ use store_model::{Call, Reply, Shared};
 struct NoStores;
 
 impl Shared for NoStores {
+    ghost use Rattle.std.specs.Prelude.{false};
+
+    ghost measures = { false };
+
     ghost stores = { λ _. 1 };
 
     ghost performs = { λ _ _ _. Unit {0} };
@@ -23,9 +27,15 @@ impl Shared for NoStores {
         Err(AllocError)
     }
 
+    fn has_metrics(&self) -> bool {
+        false
+    }
+
     ghost nothing = { λ _. tt };
 
     ghost joined = { λ _ _ _ _ _ _ _. tt };
+
+    ghost not_built = { λ _ _ _ _. tt };
 }
 
 /// What happens on a line, by a text: it is opened, `+`; bytes of the client come, behind `>`, and of the server, behind `<`; they

@@ -1,0 +1,6 @@
+pub mod Places
+pub mod Views
+pub mod Rule
+pub mod Seats
+pub mod Steps
+pub mod Laws
