@@ -1,0 +1,31 @@
+-- What contexts end as, of which a part is lent to be written.
+use Rattle.std.specs.Prelude.{ℕ, Option, None, Some}
+use Rattle.std.specs.Borrow.{LendsIf, MutBor, Fml}
+use Rattle.contexts.specs.declared.parts.Own.{Own}
+use Rattle.contexts.specs.declared.parts.ExchangeView.{ExchangeView}
+use Rattle.contexts.specs.declared.parts.Contexts.{Contexts}
+use Rattle.contexts.specs.contracts.parts.Contexts as contexts
+use Rattle.contexts.specs.contracts.parts.Own as own
+use Rattle.contexts.specs.contracts.parts.ExchangeView as view
+use Rattle.contexts.specs.Reached.{no_changes, put, put_of}
+
+-- that context has for itself what is written
+abbrev pub own_put_of : Contexts → (vm e : ℕ) → Own → Contexts
+own_put_of h vm e w = put_of (record no_changes { own = Some w }) vm e h
+
+-- the same of the effective context
+abbrev pub own_put : Contexts → ℕ → Own → Contexts
+own_put h vm w = put (record no_changes { own = Some w }) vm h
+
+-- the exchange of the effective context has what is written
+abbrev pub exchange_put : Contexts → ℕ → ExchangeView → Contexts
+exchange_put h vm w = put (record no_changes { exchange = Some w }) vm h
+
+abbrev pub LendsOwnOf : MutBor Contexts → (vm e : ℕ) → Option (MutBor Own) → Fml
+LendsOwnOf h vm e r = LendsIf contexts.the_row own.the_row h r (own_put_of h.now vm e) h.now
+
+abbrev pub LendsOwn : MutBor Contexts → ℕ → Option (MutBor Own) → Fml
+LendsOwn h vm r = LendsIf contexts.the_row own.the_row h r (own_put h.now vm) h.now
+
+abbrev pub LendsExchange : MutBor Contexts → ℕ → Option (MutBor ExchangeView) → Fml
+LendsExchange h vm r = LendsIf contexts.the_row view.the_row h r (exchange_put h.now vm) h.now

@@ -1,0 +1,6 @@
+pub mod Properties
+pub mod RosterLending
+pub mod Keyed
+pub mod Reached
+pub mod Isolation
+pub mod Lending

@@ -1,0 +1,18 @@
+// The laws of what a host call sees and changes. The functions have nothing to do: their contracts are the laws.
+ghost use Rattle.contexts.specs.Isolation.{PutIsSeen, IsIsolated, AllElseStays, MapsAreShared};
+
+/// What was put is seen by the same context.
+pub fn put_is_seen()
+    ensures { PutIsSeen }
+{}
+
+/// Two hosts that look the same to a call do so afterwards.
+pub fn calls_are_isolated()
+    ensures { IsIsolated }
+{}
+
+/// All else stays as it was, and the contexts of an exchange share what it has.
+pub fn all_else_stays()
+    ensures stays { AllElseStays }
+    ensures shared { MapsAreShared }
+{}

@@ -1,0 +1,16 @@
+//! The contexts of all VMs of a worker, and what the effective one reaches.
+#![tactic(auto)]
+
+mod laws;
+mod limits;
+mod parts;
+mod reached;
+mod roster;
+
+pub use laws::{all_else_stays, calls_are_isolated, put_is_seen};
+pub use limits::{Configuration, Properties, ShortName};
+pub use parts::{
+    Context, Contexts, Effect, Exchange, ExchangeView, Maps, Own, Plugin, Stage, Tick, VmContexts,
+    What,
+};
+pub use roster::Roster;

@@ -1,0 +1,141 @@
+// What contexts are made of: plain data, which clauses see as records.
+
+use crate::{Configuration, Properties, Roster, ShortName};
+use gate_base::{ContextId, Level, LineNo, Members, Octets, VmNo};
+use header_maps::HeaderList;
+
+/// What a stage of a filter holds: the buffer of its direction.
+#[derive(Drop)]
+pub struct Stage {
+    /// The bytes held.
+    pub held: Octets,
+    /// Its body callback runs.
+    pub is_asked: bool,
+    /// The end of the body came with them.
+    pub has_end: bool,
+}
+
+/// What a context has for itself.
+#[derive(Drop)]
+pub struct Own {
+    /// Of the direction from the client.
+    pub request: Stage,
+    /// Of the direction from the upstream.
+    pub response: Stage,
+    pub properties: Properties,
+}
+
+/// When a root is to be called, and how often, in nanoseconds.
+#[derive(Clone, Copy)]
+pub struct Tick {
+    pub period: u64,
+    pub due: u64,
+}
+
+/// One context. A root is its own root and is of no exchange; a stream is of one.
+#[derive(Drop)]
+pub struct Context {
+    pub id: ContextId,
+    /// Its plug-in, by its place.
+    pub plugin: u16,
+    /// Its root's id.
+    pub root: ContextId,
+    /// Its exchange, by its place.
+    pub exchange: Option<usize>,
+    pub own: Own,
+    /// Of a root that set one.
+    pub tick: Option<Tick>,
+}
+
+/// The maps of an exchange, each from the arrival of its item on.
+#[derive(Drop)]
+pub struct Maps {
+    pub request: Option<HeaderList>,
+    pub request_trailers: Option<HeaderList>,
+    pub response: Option<HeaderList>,
+    pub response_trailers: Option<HeaderList>,
+}
+
+/// What the contexts of one exchange have in common.
+#[derive(Drop)]
+pub struct ExchangeView {
+    pub maps: Maps,
+    /// A local response was asked for in the callback that runs.
+    pub is_answering: bool,
+    /// It was answered.
+    pub is_answered: bool,
+    /// It has ended.
+    pub has_ended: bool,
+    /// Its response head went out.
+    pub is_head_out: bool,
+}
+
+/// An exchange, on its line.
+#[derive(Drop)]
+pub struct Exchange {
+    pub line: LineNo,
+    pub view: ExchangeView,
+}
+
+/// A plug-in, and its root context once that was made.
+#[derive(Drop)]
+pub struct Plugin {
+    pub name: ShortName,
+    pub configuration: Configuration,
+    pub vm: VmNo,
+    pub root: Option<ContextId>,
+}
+
+/// What a callback asks for, which comes when it has returned.
+#[derive(Drop)]
+pub enum What {
+    /// The stage of this direction passes on what it holds.
+    Continue {
+        is_response: bool,
+    },
+    /// Both connections of the exchange are closed.
+    Close,
+    /// A local response.
+    Answer {
+        status: u16,
+        fields: HeaderList,
+        body: Octets,
+    },
+}
+
+/// An effect, with the context that was effective.
+#[derive(Drop)]
+pub struct Effect {
+    pub context: ContextId,
+    pub what: What,
+}
+
+/// The contexts of one VM.
+#[derive(Drop)]
+pub struct VmContexts {
+    pub name: ShortName,
+    pub configuration: Configuration,
+    /// The id of the effective context; 0 before the first.
+    pub effective: ContextId,
+    /// The last id that was drawn; 0 before the first.
+    pub last: u32,
+    /// The ids of those whose done answered 0, which wait for `proxy_done`.
+    pub waiting: Roster<ContextId>,
+    pub contexts: Roster<Context>,
+}
+
+/// The contexts of all VMs of a worker, with what they stand on.
+#[derive(Drop)]
+pub struct Contexts {
+    /// The least level of log lines that are sent.
+    pub level: Level,
+    pub plugins: Members<Plugin>,
+    pub vms: Members<VmContexts>,
+    /// By their places; none where a place is free.
+    pub exchanges: Members<Option<Exchange>>,
+    /// Of the callback that runs, in the order of the calls.
+    pub effects: Members<Effect>,
+    /// The key of the random stream, and the number of the next word in it.
+    pub random_key: [u8; 32],
+    pub random_place: u64,
+}

@@ -1,0 +1,116 @@
+// What the effective context reaches, to be read and to be written.
+ghost use Rattle.std.specs.Prelude.{◌≡◌, ◌<◌, ◌==◌, length, option_copied, OnOk, OnErr, ◌++◌, ◌∷◌, []};
+ghost use Rattle.std.specs.List.{position, list_any};
+ghost use Rattle.std.specs.Option.{option_copied_mut};
+ghost use Rattle.std.specs.Borrow.{sem};
+ghost use Rattle.contexts.specs.Keyed.{found};
+ghost use Rattle.contexts.specs.Reached.{vm_in, exchange_of, seen, effective_of, context_in, context_no, view_in, put, no_changes, contains, level_no};
+
+use crate::{Context, Contexts, Effect, Exchange, ExchangeView, Own, VmContexts, What};
+use gate_base::{ContextId, Level, Members, OutOfMemory, VmNo};
+
+/// Where the context of an id stands.
+fn place_of(contexts: &[Context], id: ContextId) -> Option<usize>
+    ensures { result ≡ position (λ c. c.id == id) contexts.now }
+{
+    contexts.iter().position(|c| c.id == id)
+}
+
+/// The context of an id.
+fn context_at(contexts: &[Context], id: ContextId) -> Option<&Context>
+    ensures { option_copied result ≡ found context_no id contexts.now }
+{
+    contexts.iter().find(|c| c.id == id)
+}
+
+/// Whether there is a context of an id.
+fn has_id(contexts: &[Context], id: ContextId) -> bool
+    ensures { result ≡ list_any (λ c. c.id == id) contexts.now }
+{
+    contexts.iter().any(|c| c.id == id)
+}
+
+/// What the contexts of the exchange at a place have in common.
+fn view_at(exchanges: &[Option<Exchange>], place: Option<usize>) -> Option<&ExchangeView>
+    ensures { option_copied result ≡ view_in exchanges.now place }
+{
+    match place {
+        Some(n) => {
+            if n >= exchanges.len() {
+                return None;
+            }
+            match &exchanges[n] {
+                Some(x) => Some(&x.view),
+                None => None,
+            }
+        }
+        None => None,
+    }
+}
+
+impl Contexts {
+    /// The contexts of a VM.
+    fn vm(&self, vm: VmNo) -> &VmContexts
+        requires { vm < length self.now.vms }
+        ensures { result.now ≡ vm_in self.now vm }
+    {
+        self.vms.get(vm.get() as usize)
+    }
+
+    /// The id of the effective context of a VM.
+    pub fn effective(&self, vm: VmNo) -> ContextId
+        requires { vm < length self.now.vms }
+        ensures { result ≡ effective_of self.now vm }
+    {
+        self.vms.get(vm.get() as usize).effective
+    }
+
+    /// The effective context of a VM.
+    fn context(&self, vm: VmNo) -> Option<&Context>
+        requires { vm < length self.now.vms }
+        ensures { option_copied result ≡ context_in self.now vm (effective_of self.now vm) }
+    {
+        let v = self.vms.get(vm.get() as usize);
+        context_at(v.contexts.as_slice(), v.effective)
+    }
+
+    /// What the effective context has for itself.
+    pub fn own(&self, vm: VmNo) -> Option<&Own>
+        requires { vm < length self.now.vms }
+        ensures { option_copied result ≡ (seen self.now vm).reach.own }
+    {
+        match self.context(vm) {
+            Some(c) => Some(&c.own),
+            None => None,
+        }
+    }
+
+    /// What the exchange of the effective context has.
+    pub fn exchange(&self, vm: VmNo) -> Option<&ExchangeView>
+        requires { vm < length self.now.vms }
+        ensures { option_copied result ≡ (seen self.now vm).reach.exchange }
+    {
+        match self.context(vm) {
+            Some(c) => view_at(self.exchanges.as_slice(), c.exchange),
+            None => None,
+        }
+    }
+
+    /// Puts an effect of the effective context behind the others.
+    pub fn push_effect(&mut self, vm: VmNo, what: What) -> Result<(), OutOfMemory>
+        requires { vm < length self.old.vms }
+        ensures ok { OnOk result (self.new ≡ record self.old { effects = self.old.effects ++ (record { context = effective_of self.old vm; what = what }) ∷ [] }) }
+        ensures err { OnErr result (self.new ≡ self.old) }
+    {
+        let context = self.effective(vm);
+        self.effects.push(Effect { context, what })
+    }
+
+    /// Whether a VM has a context of this id.
+    pub fn has(&self, vm: VmNo, id: ContextId) -> bool
+        requires { vm < length self.now.vms }
+        ensures { result ≡ contains id (seen self.now vm).common.ids }
+    {
+        has_id(self.vm(vm).contexts.as_slice(), id)
+    }
+}
