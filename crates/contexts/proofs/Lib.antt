@@ -1,3 +1,4 @@
 pub mod Keyed
 pub mod Isolation
 pub mod Ids
+pub mod Places

@@ -1,5 +1,6 @@
 -- What contexts end as, of which a part is lent to be written.
-use Rattle.std.specs.Prelude.{ℕ, Option, None, Some}
+use Rattle.std.specs.Prelude.{ℕ, Option, None, Some, slice_set}
+use Rattle.std.specs.Option.{option_map}
 use Rattle.std.specs.Borrow.{LendsIf, MutBor, Fml}
 use Rattle.contexts.specs.declared.parts.Own.{Own}
 use Rattle.contexts.specs.declared.parts.ExchangeView.{ExchangeView}
@@ -7,7 +8,7 @@ use Rattle.contexts.specs.declared.parts.Contexts.{Contexts}
 use Rattle.contexts.specs.contracts.parts.Contexts as contexts
 use Rattle.contexts.specs.contracts.parts.Own as own
 use Rattle.contexts.specs.contracts.parts.ExchangeView as view
-use Rattle.contexts.specs.Reached.{no_changes, put, put_of}
+use Rattle.contexts.specs.Reached.{no_changes, put, put_of, exchange_at, with_view}
 
 -- that context has for itself what is written
 abbrev pub own_put_of : Contexts → (vm e : ℕ) → Own → Contexts
@@ -21,6 +22,10 @@ own_put h vm w = put (record no_changes { own = Some w }) vm h
 abbrev pub exchange_put : Contexts → ℕ → ExchangeView → Contexts
 exchange_put h vm w = put (record no_changes { exchange = Some w }) vm h
 
+-- the exchange at a place has what is written
+abbrev pub exchange_put_at : Contexts → (place : ℕ) → ExchangeView → Contexts
+exchange_put_at h place w = record h { exchanges = slice_set h.exchanges place (option_map (with_view w) (exchange_at h.exchanges place)) }
+
 abbrev pub LendsOwnOf : MutBor Contexts → (vm e : ℕ) → Option (MutBor Own) → Fml
 LendsOwnOf h vm e r = LendsIf contexts.the_row own.the_row h r (own_put_of h.now vm e) h.now
 
@@ -29,3 +34,6 @@ LendsOwn h vm r = LendsIf contexts.the_row own.the_row h r (own_put h.now vm) h.
 
 abbrev pub LendsExchange : MutBor Contexts → ℕ → Option (MutBor ExchangeView) → Fml
 LendsExchange h vm r = LendsIf contexts.the_row view.the_row h r (exchange_put h.now vm) h.now
+
+abbrev pub LendsExchangeAt : MutBor Contexts → (place : ℕ) → Option (MutBor ExchangeView) → Fml
+LendsExchangeAt h place r = LendsIf contexts.the_row view.the_row h r (exchange_put_at h.now place) h.now

@@ -4,7 +4,7 @@ ghost use Rattle.std.specs.List.{position, list_any};
 ghost use Rattle.std.specs.Option.{option_copied_mut};
 ghost use Rattle.std.specs.Borrow.{sem};
 ghost use Rattle.contexts.specs.Keyed.{found};
-ghost use Rattle.contexts.specs.Reached.{vm_in, exchange_of, seen, effective_of, context_in, context_no, view_in, put, no_changes, contains, level_no};
+ghost use Rattle.contexts.specs.Reached.{vm_in, exchange_of, seen, effective_of, context_in, context_no, view_at, seen_of, put, no_changes, contains, level_no};
 
 use crate::{Context, Contexts, Effect, Exchange, ExchangeView, Own, VmContexts, What};
 use gate_base::{ContextId, Level, Members, OutOfMemory, VmNo};
@@ -31,24 +31,21 @@ fn has_id(contexts: &[Context], id: ContextId) -> bool
 }
 
 /// What the contexts of the exchange at a place have in common.
-fn view_at(exchanges: &[Option<Exchange>], place: Option<usize>) -> Option<&ExchangeView>
-    ensures { option_copied result ≡ view_in exchanges.now place }
+fn view_at(exchanges: &[Option<Exchange>], place: usize) -> Option<&ExchangeView>
+    ensures { option_copied result ≡ view_at exchanges.now place }
 {
-    match place {
-        Some(n) => {
-            if n >= exchanges.len() {
-                return None;
-            }
-            match &exchanges[n] {
-                Some(x) => Some(&x.view),
-                None => None,
-            }
-        }
+    if place >= exchanges.len() {
+        return None;
+    }
+    match &exchanges[place] {
+        Some(x) => Some(&x.view),
         None => None,
     }
 }
 
 impl Contexts {
+    ghost use Rattle.contexts.specs.Lending.{LendsOwn, LendsOwnOf, LendsExchange, LendsExchangeAt};
+
     /// The contexts of a VM.
     fn vm(&self, vm: VmNo) -> &VmContexts
         requires { vm < length self.now.vms }
@@ -90,8 +87,8 @@ impl Contexts {
         requires { vm < length self.now.vms }
         ensures { option_copied result ≡ (seen self.now vm).reach.exchange }
     {
-        match self.context(vm) {
-            Some(c) => view_at(self.exchanges.as_slice(), c.exchange),
+        match self.exchange_place(vm) {
+            Some(place) => self.exchange_at(place),
             None => None,
         }
     }
@@ -112,5 +109,86 @@ impl Contexts {
         ensures { result ≡ contains id (seen self.now vm).common.ids }
     {
         has_id(self.vm(vm).contexts.as_slice(), id)
+    }
+
+    /// What a context has for itself.
+    pub fn own_of(&self, vm: VmNo, id: ContextId) -> Option<&Own>
+        requires { vm < length self.now.vms }
+        ensures { option_copied result ≡ (seen_of self.now vm id).reach.own }
+    {
+        match context_at(self.vm(vm).contexts.as_slice(), id) {
+            Some(c) => Some(&c.own),
+            None => None,
+        }
+    }
+
+    /// What a context has for itself, to be written.
+    pub fn own_of_mut(&mut self, vm: VmNo, id: ContextId) -> Option<&mut Own>
+        requires { vm < length self.old.vms }
+        ensures* lends { sem 𝓛 (LendsOwnOf self.entry vm id result) }
+        ensures value { option_copied_mut result ≡ (seen_of self.old vm id).reach.own }
+    {
+        let v = self.vms.get_mut(vm.get() as usize);
+        match place_of(v.contexts.as_slice(), id) {
+            Some(at) => {
+                let c = v.contexts.get_mut(at);
+                Some(&mut c.own)
+            }
+            None => None,
+        }
+    }
+
+    /// What the effective context has for itself, to be written.
+    pub fn own_mut(&mut self, vm: VmNo) -> Option<&mut Own>
+        requires { vm < length self.old.vms }
+        ensures* lends { sem 𝓛 (LendsOwn self.entry vm result) }
+        ensures value { option_copied_mut result ≡ (seen self.old vm).reach.own }
+    {
+        let id = self.effective(vm);
+        self.own_of_mut(vm, id)
+    }
+
+    /// The place of the effective context's exchange.
+    fn exchange_place(&self, vm: VmNo) -> Option<usize>
+        requires { vm < length self.now.vms }
+        ensures { result ≡ exchange_of (context_in self.now vm (effective_of self.now vm)) }
+    {
+        match self.context(vm) {
+            Some(c) => c.exchange,
+            None => None,
+        }
+    }
+
+    /// What the contexts of the exchange at a place have in common.
+    pub fn exchange_at(&self, place: usize) -> Option<&ExchangeView>
+        ensures { option_copied result ≡ view_at self.now.exchanges place }
+    {
+        view_at(self.exchanges.as_slice(), place)
+    }
+
+    /// What the contexts of the exchange at a place have in common, to be written.
+    pub fn exchange_at_mut(&mut self, place: usize) -> Option<&mut ExchangeView>
+        ensures* lends { sem 𝓛 (LendsExchangeAt self.entry place result) }
+        ensures value { option_copied_mut result ≡ view_at self.old.exchanges place }
+    {
+        if place >= self.exchanges.len() {
+            return None;
+        }
+        match self.exchanges.get_mut(place) {
+            Some(x) => Some(&mut x.view),
+            None => None,
+        }
+    }
+
+    /// What the exchange of the effective context has, to be written.
+    pub fn exchange_mut(&mut self, vm: VmNo) -> Option<&mut ExchangeView>
+        requires { vm < length self.old.vms }
+        ensures* lends { sem 𝓛 (LendsExchange self.entry vm result) }
+        ensures value { option_copied_mut result ≡ (seen self.old vm).reach.exchange }
+    {
+        match self.exchange_place(vm) {
+            Some(place) => self.exchange_at_mut(place),
+            None => None,
+        }
     }
 }
