@@ -4,3 +4,5 @@ pub mod Keyed
 pub mod Reached
 pub mod Isolation
 pub mod Lending
+pub mod Creating
+pub mod Stages

@@ -1,14 +1,17 @@
 //! The contexts of all VMs of a worker, and what the effective one reaches.
 #![tactic(auto)]
 
+mod creating;
 mod laws;
 mod limits;
 mod parts;
 mod reached;
 mod roster;
+mod stages;
 
+pub use creating::{ContextEnd, UnknownContext};
 pub use laws::{all_else_stays, calls_are_isolated, put_is_seen};
-pub use limits::{Configuration, Properties, ShortName};
+pub use limits::{Configuration, Properties, PropertyEnd, ShortName};
 pub use parts::{
     Context, Contexts, Effect, Exchange, ExchangeView, Maps, Own, Plugin, Stage, Tick, VmContexts,
     What,

@@ -1,8 +1,10 @@
 // Names, configurations and properties, each within its limit.
-ghost use Rattle.std.specs.Prelude.{◌≡◌, ◌≤◌, [], length, IfOk};
+ghost use Rattle.std.specs.Prelude.{◌≡◌, ◌≤◌, [], length, IfOk, option_copied};
+ghost use Rattle.contexts.specs.Properties.{is_at, property_of};
+ghost use Rattle.contexts.specs.declared.limits.PropertyEnd.TheVariants.{OutOfMemory};
 
 use gate_base::{Octets, OutOfMemory, Pairs};
-use std::alloc::Global;
+use std::alloc::{AllocError, Global};
 use std::marker::Model;
 
 /// The name of a VM or of a plug-in, at most 32 bytes. Clauses see the list of its bytes.
@@ -93,6 +95,30 @@ impl Model for Properties {
     ghost invariant = { λ p. AreProperties p.items };
 }
 
+/// Why a property is not set.
+#[derive(Clone, Copy, PartialEq, Eq)]
+pub enum PropertyEnd {
+    /// Past a limit: the path's or the value's bytes, or the number of properties.
+    PastLimit,
+    /// Memory ran out.
+    OutOfMemory,
+}
+
+impl From<AllocError> for PropertyEnd {
+    ghost from_gives = { λ _ e. e ≡ OutOfMemory };
+
+    fn from(_: AllocError) -> Self {
+        PropertyEnd::OutOfMemory
+    }
+}
+
+/// Whether a property is at a path.
+fn is_at(path: &[u8], property: &(Octets, Octets)) -> bool
+    ensures { result ≡ is_at path.now property.now }
+{
+    property.0.as_slice() == path
+}
+
 impl Properties {
     /// No properties. It takes no memory.
     pub fn new(alloc: Global) -> Self
@@ -100,6 +126,16 @@ impl Properties {
     {
         Properties {
             items: Pairs::new(alloc),
+        }
+    }
+
+    /// The value at a path.
+    pub fn get(&self, path: &[u8]) -> Option<&Octets>
+        ensures { option_copied result ≡ property_of path.now self.now }
+    {
+        match self.items.as_slice().iter().find(|p| is_at(path, p)) {
+            Some(p) => Some(&p.1),
+            None => None,
         }
     }
 }

@@ -1,5 +1,6 @@
 // What contexts are made of: plain data, which clauses see as records.
 
+use body_buffers::Body;
 use crate::{Configuration, Properties, Roster, ShortName};
 use gate_base::{ContextId, Level, LineNo, Members, Octets, VmNo};
 use header_maps::HeaderList;
@@ -8,7 +9,7 @@ use header_maps::HeaderList;
 #[derive(Drop)]
 pub struct Stage {
     /// The bytes held.
-    pub held: Octets,
+    pub held: Body,
     /// Its body callback runs.
     pub is_asked: bool,
     /// The end of the body came with them.
@@ -118,7 +119,7 @@ pub struct VmContexts {
     /// The id of the effective context; 0 before the first.
     pub effective: ContextId,
     /// The last id that was drawn; 0 before the first.
-    pub last: u32,
+    pub last: ContextId,
     /// The ids of those whose done answered 0, which wait for `proxy_done`.
     pub waiting: Roster<ContextId>,
     pub contexts: Roster<Context>,

@@ -62,6 +62,14 @@ impl Contexts {
         self.vms.get(vm.get() as usize).effective
     }
 
+    /// The context of an id.
+    pub(crate) fn context_of(&self, vm: VmNo, id: ContextId) -> Option<&Context>
+        requires { vm < length self.now.vms }
+        ensures { option_copied result ≡ context_in self.now vm id }
+    {
+        context_at(self.vm(vm).contexts.as_slice(), id)
+    }
+
     /// The effective context of a VM.
     fn context(&self, vm: VmNo) -> Option<&Context>
         requires { vm < length self.now.vms }

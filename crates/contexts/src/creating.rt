@@ -1,0 +1,194 @@
+// Contexts are made, wait, and are taken away.
+ghost use Rattle.std.specs.Prelude.{◌≡◌, ◌<◌, ◌↔◌, ◌&&◌, [], length, is_ok, is_none, Err, IfOk, OnOk, OnErr, IsTrue, ◌==◌};
+ghost use Rattle.std.specs.List.{list_any, position};
+ghost use Rattle.contexts.specs.Keyed.{removed};
+ghost use Rattle.contexts.specs.Reached.{vm_in, context_in, seen, contains, put, no_changes};
+ghost use Rattle.contexts.specs.Creating.{IsDrawnOut, next_id, no_stage, no_own, plugin_in, root_created, is_root, is_root_at, plugin_at, open_place, is_open_on, stream_created, awaited, done_with, deleted, refers_to, is_referred, itself, with_new, root_context, stream_context};
+ghost use Rattle.contexts.specs.declared.creating.ContextEnd.TheVariants as end;
+
+use crate::{Context, Contexts, Exchange, Own, Properties, Stage, VmContexts};
+use body_buffers::Body;
+use gate_base::{ContextId, LineNo, OutOfMemory, VmNo};
+use std::alloc::{AllocError, Global};
+
+/// Why a context is not made.
+#[derive(Clone, Copy, PartialEq, Eq)]
+pub enum ContextEnd {
+    /// The VM's greatest id, 4,294,967,295, was drawn.
+    NoIds,
+    /// Memory ran out.
+    OutOfMemory,
+}
+
+impl From<AllocError> for ContextEnd {
+    ghost use Rattle.contexts.specs.declared.creating.ContextEnd.TheVariants.{OutOfMemory};
+
+    ghost from_gives = { λ _ e. e ≡ OutOfMemory };
+
+    fn from(_: AllocError) -> Self {
+        ContextEnd::OutOfMemory
+    }
+}
+
+/// The VM has no such context, or it does not wait.
+#[derive(Clone, Copy, PartialEq, Eq)]
+pub struct UnknownContext;
+
+impl Stage {
+    /// Nothing is held.
+    pub fn new(alloc: Global) -> Self
+        ensures { result ≡ no_stage }
+    {
+        Stage {
+            held: Body::new(alloc),
+            is_asked: false,
+            has_end: false,
+        }
+    }
+}
+
+impl Own {
+    /// Of a context that is new.
+    pub fn new(alloc: Global) -> Self
+        ensures { result ≡ no_own }
+    {
+        Own {
+            request: Stage::new(alloc),
+            response: Stage::new(alloc),
+            properties: Properties::new(alloc),
+        }
+    }
+}
+
+/// A root context that is new.
+fn root_context(alloc: Global, id: ContextId, plugin: u16) -> Context
+    ensures { result ≡ root_context id plugin }
+{
+    Context {
+        id,
+        plugin,
+        root: id,
+        exchange: None,
+        own: Own::new(alloc),
+        tick: None,
+    }
+}
+
+/// A stream context that is new.
+fn stream_context(
+    alloc: Global,
+    id: ContextId,
+    plugin: u16,
+    root: ContextId,
+    exchange: Option<usize>,
+) -> Context
+    ensures { result ≡ stream_context id plugin root exchange }
+{
+    Context {
+        id,
+        plugin,
+        root,
+        exchange,
+        own: Own::new(alloc),
+        tick: None,
+    }
+}
+
+/// Whether an exchange is open on a line.
+fn is_open_on(line: LineNo, exchange: &Option<Exchange>) -> bool
+    ensures { result ≡ is_open_on line exchange.now }
+{
+    match exchange {
+        Some(x) => x.line == line && !x.view.has_ended,
+        None => false,
+    }
+}
+
+impl Contexts {
+    /// The id that a VM draws next; there is none where its greatest was drawn.
+    fn draw(&self, vm: VmNo) -> Result<ContextId, ContextEnd>
+        requires { vm < length self.now.vms }
+        ensures ok { IfOk result (λ id. id ≡ next_id self.now vm) }
+        ensures no_ids { (result ≡ Err end.NoIds) ↔ IsDrawnOut self.now vm }
+    {
+        let last = self.vms.get(vm.get() as usize).last.get();
+        if last == u32::MAX {
+            return Err(ContextEnd::NoIds);
+        }
+        Ok(ContextId::new(last + 1))
+    }
+
+    /// Where the exchange stands that is open on a line.
+    pub fn open_place(&self, line: LineNo) -> Option<usize>
+        ensures { result ≡ open_place line self.now.exchanges }
+    {
+        self.exchanges.as_slice().iter().position(|x| is_open_on(line, x))
+    }
+
+    /// Whether a context is there and is a root.
+    pub fn is_root(&self, vm: VmNo, id: ContextId) -> bool
+        requires { vm < length self.now.vms }
+        ensures { result ≡ is_root self.now vm id }
+    {
+        match self.context_of(vm, id) {
+            Some(c) => c.root == id && c.exchange.is_none(),
+            None => false,
+        }
+    }
+
+    /// The plug-in of a context.
+    fn plugin_of(&self, vm: VmNo, id: ContextId) -> u16
+        requires { vm < length self.now.vms }
+        ensures { result ≡ plugin_at (context_in self.now vm id) }
+    {
+        match self.context_of(vm, id) {
+            Some(c) => c.plugin,
+            None => 0,
+        }
+    }
+
+    /// Puts a new context at the end of those of a VM, under the id that was drawn for it.
+    fn add(&mut self, vm: VmNo, context: Context) -> Result<(), OutOfMemory>
+        requires { vm < length self.old.vms }
+        ensures ok { OnOk result (self.new ≡ with_new vm context self.old) }
+        ensures err { OnErr result (self.new ≡ self.old) }
+    {
+        let id = context.id;
+        let v = self.vms.get_mut(vm.get() as usize);
+        v.contexts.push(context)?;
+        v.last = id;
+        Ok(())
+    }
+
+    /// Makes the root context of a plug-in of the VM.
+    pub fn create_root(&mut self, alloc: Global, vm: VmNo, plugin: u16) -> Result<ContextId, ContextEnd>
+        requires vm { vm < length self.old.vms }
+        requires plugin { plugin < length self.old.plugins }
+        requires own { (plugin_in self.old plugin).vm ≡ vm }
+        ensures id { IfOk result (λ id. id ≡ next_id self.old vm) }
+        ensures ok { OnOk result (self.new ≡ root_created vm plugin self.old) }
+        ensures no_ids { (result ≡ Err end.NoIds) ↔ IsDrawnOut self.old vm }
+        ensures err { OnErr result (self.new ≡ self.old) }
+    {
+        let id = self.draw(vm)?;
+        self.add(vm, root_context(alloc, id, plugin))?;
+        self.plugins.get_mut(plugin as usize).root = Some(id);
+        Ok(id)
+    }
+
+    /// Makes a stream context of a root, in the exchange that is open on the line.
+    pub fn create_stream(&mut self, alloc: Global, vm: VmNo, root: ContextId, line: LineNo) -> Result<ContextId, ContextEnd>
+        requires vm { vm < length self.old.vms }
+        requires root { IsTrue (is_root self.old vm root) }
+        ensures id { IfOk result (λ id. id ≡ next_id self.old vm) }
+        ensures ok { OnOk result (self.new ≡ stream_created vm root line self.old) }
+        ensures no_ids { (result ≡ Err end.NoIds) ↔ IsDrawnOut self.old vm }
+        ensures err { OnErr result (self.new ≡ self.old) }
+    {
+        let id = self.draw(vm)?;
+        let exchange = self.open_place(line);
+        let plugin = self.plugin_of(vm, root);
+        self.add(vm, stream_context(alloc, id, plugin, root, exchange))?;
+        Ok(id)
+    }
+}
