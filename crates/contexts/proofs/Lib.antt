@@ -2,3 +2,4 @@ pub mod Keyed
 pub mod Isolation
 pub mod Ids
 pub mod Places
+pub mod Putting

@@ -1,22 +1,23 @@
 -- Members by their places, and changes of a part.
 use Rattle.std.proofs.Common.{◌≡◌, ◌<◌, ◌≤◌, ℕ, zero, suc, ◌+◌, ◌==◌, Bool, true, false, cond, List, [], ◌∷◌, ◌++◌, length, Option, None, Some, refl, sym, ap, ◌∙◌, subst, arith}
 use Rattle.std.specs.Prelude.{slice_get, slice_set, slice_index_or}
-use Rattle.std.specs.List.{position, position_or_len}
+use Rattle.std.specs.List.{position, position_or_len, remove}
 use Rattle.std.specs.Option.{option_map}
 use Rattle.std.proofs.lemmas.List.Folds.{find_at}
 use Rattle.std.proofs.lemmas.Bool.{ltb-false}
 use Rattle.std.proofs.lemmas.List.Quantifiers.{position-Some}
-use Rattle.contexts.specs.Keyed.{found, changed}
+use Rattle.contexts.specs.Keyed.{found, changed, removed}
 use Rattle.contexts.specs.declared.parts.Own.{Own}
 use Rattle.contexts.specs.declared.parts.ExchangeView.{ExchangeView}
+use Rattle.contexts.specs.declared.parts.Tick.{Tick}
 use Rattle.contexts.specs.declared.parts.Context.{Context}
 use Rattle.contexts.specs.declared.parts.Exchange.{Exchange}
 use Rattle.contexts.specs.declared.parts.VmContexts.{VmContexts}
 use Rattle.contexts.specs.declared.parts.Contexts.{Contexts}
-use Rattle.contexts.specs.Reached.{Changes, no_changes, vm_in, no_vm, context_no, context_in, exchange_of, effective_of, exchange_at, view_at, view_in, with_view, contexts_after, exchanges_by, exchanges_after, vm_after, put, put_of, with_own, reach_by, seen_of, seen}
+use Rattle.contexts.specs.Reached.{Changes, no_changes, vm_in, no_vm, context_no, context_in, exchange_of, effective_of, exchange_at, view_at, view_in, with_view, contexts_after, exchanges_by, exchanges_after, vm_after, put, put_of, with_own, with_tick, reach_by, seen_of, seen}
 use Rattle.contexts.specs.Lending.{own_put_of, exchange_put, exchange_put_at}
 
-none_is : {A : Type 0} {a : A} → None ≡ Some a → ⊥
+pub none_is : {A : Type 0} {a : A} → None ≡ Some a → ⊥
 none_is same = cc
 
 module _ {A : Type 0} (number : A → ℕ) (k : ℕ) (d : A) where
@@ -38,16 +39,66 @@ module _ {A : Type 0} (number : A → ℕ) (k : ℕ) (d : A) where
   pub changed_at : (f : A → A) (i : ℕ) (xs : List A) → position (λ x. number x == k) xs ≡ Some i → changed number k f xs ≡ slice_set xs i (f (slice_index_or xs i d))
   changed_at f i xs is = let h = position-Some (λ x. number x == k) xs i d is in first_changed f i xs h.0 h.1 h.2
 
+lt_false : (b : Bool) (n : ℕ) → cond b (Some n) None ≡ None → b ≡ false
+lt_false true n is = cc
+lt_false false n is = refl
+
+beyond : {A : Type 0} (xs : List A) (i : ℕ) → length xs ≤ i → slice_get xs i ≡ None
+beyond [] i h = refl
+beyond (x ∷ xs) zero h = absurd (omega (arith, h))
+beyond (x ∷ xs) (suc i) h = beyond xs i (omega (arith, h))
+
+-- ---- members that are taken out, or are not there
+
+module _ {A : Type 0} (number : A → ℕ) (k : ℕ) where
+  first_removed : (d : A) (i : ℕ) (xs : List A) → i < length xs → (number (slice_index_or xs i d) == k) ≡ true → ((j : ℕ) → j < i → (number (slice_index_or xs j d) == k) ≡ false) → removed number k xs ≡ remove xs i
+  first_removed d i [] within is before = absurd (omega (arith, within))
+  first_removed d zero (x ∷ xs) within is before = ap (λ b. cond b xs (x ∷ removed number k xs)) is
+  first_removed d (suc i) (x ∷ xs) within is before =
+      ap (λ b. cond b xs (x ∷ removed number k xs)) (before 0 (omega arith)) ∙ ap (λ ys. x ∷ ys) (first_removed d i xs (omega (arith, within)) is (λ j less. before (suc j) (omega (arith, less))))
+
+  removed_by : (i : ℕ) (xs : List A) → position (λ x. number x == k) xs ≡ Some i → removed number k xs ≡ remove xs i
+  removed_by i [] is = absurd (none_is is)
+  removed_by i (x ∷ xs) is = let h = position-Some (λ y. number y == k) (x ∷ xs) i x is in first_removed x i (x ∷ xs) h.0 h.1 h.2
+
+  not_found : (xs : List A) → position (λ x. number x == k) xs ≡ None → found number k xs ≡ None
+  not_found xs is = let p : A → Bool = λ x. number x == k in find_at p xs ∙ beyond xs (position_or_len p xs) (ltb-false _ _ (lt_false _ _ is))
+
+  same_at : (f : A → A) (b : Bool) (x : A) (xs : List A) → cond b (Some x) (found number k xs) ≡ None → (found number k xs ≡ None → changed number k f xs ≡ xs) → cond b (f x ∷ xs) (x ∷ changed number k f xs) ≡ x ∷ xs
+  same_at f true x xs is ih = absurd (none_is (sym is))
+  same_at f false x xs is ih = ap (λ ys. x ∷ ys) (ih is)
+
+  unchanged : (f : A → A) (xs : List A) → found number k xs ≡ None → changed number k f xs ≡ xs
+  unchanged f [] is = refl
+  unchanged f (x ∷ xs) is = same_at f (number x == k) x xs is (unchanged f xs)
+
+  left_at : (b : Bool) (x : A) (xs : List A) → cond b (Some x) (found number k xs) ≡ None → (found number k xs ≡ None → removed number k xs ≡ xs) → cond b xs (x ∷ removed number k xs) ≡ x ∷ xs
+  left_at true x xs is ih = absurd (none_is (sym is))
+  left_at false x xs is ih = ap (λ ys. x ∷ ys) (ih is)
+
+  unremoved : (xs : List A) → found number k xs ≡ None → removed number k xs ≡ xs
+  unremoved [] is = refl
+  unremoved (x ∷ xs) is = left_at (number x == k) x xs is (unremoved xs)
+
+  pub removed_at : (i : ℕ) (xs ys : List A) → position (λ x. number x == k) xs ≡ Some i → ys ≡ remove xs i → ys ≡ removed number k xs
+  removed_at i xs ys is out = out ∙ sym (removed_by i xs is)
+
+  pub removed_none : (xs : List A) → position (λ x. number x == k) xs ≡ None → xs ≡ removed number k xs
+  removed_none xs is = sym (unremoved xs (not_found xs is))
+
+  pub changed_none : (f : A → A) (xs : List A) → position (λ x. number x == k) xs ≡ None → changed number k f xs ≡ xs
+  changed_none f xs is = unchanged f xs (not_found xs is)
+
 -- where nothing of the exchange is changed, no exchange is
 no_exchange : (o : Option ℕ) (xs : List (Option Exchange)) (s : Own) → exchanges_by (record no_changes { own = Some s }) o xs ≡ xs
 no_exchange None xs s = refl
 no_exchange (Some n) xs s = refl
 
-none_of : (o : Option Context) (xs : List (Option Exchange)) (s : Own) → exchanges_after (record no_changes { own = Some s }) o xs ≡ xs
+pub none_of : (o : Option Context) (xs : List (Option Exchange)) (s : Own) → exchanges_after (record no_changes { own = Some s }) o xs ≡ xs
 none_of None xs s = refl
 none_of (Some c) xs s = no_exchange c.exchange xs s
 
-nothing_behind : {A : Type 0} (xs : List A) → xs ++ [] ≡ xs
+pub nothing_behind : {A : Type 0} (xs : List A) → xs ++ [] ≡ xs
 nothing_behind [] = refl
 nothing_behind (x ∷ xs) = ap (λ ys. x ∷ ys) (nothing_behind xs)
 
@@ -61,15 +112,6 @@ pub set_same : {A : Type 0} (xs : List A) (i : ℕ) (d : A) → i < length xs �
 set_same [] i d h = absurd (omega (arith, h))
 set_same (x ∷ xs) zero d h = refl
 set_same (x ∷ xs) (suc i) d h = ap (λ ys. x ∷ ys) (set_same xs i d (omega (arith, h)))
-
-lt_false : (b : Bool) (n : ℕ) → cond b (Some n) None ≡ None → b ≡ false
-lt_false true n is = cc
-lt_false false n is = refl
-
-beyond : {A : Type 0} (xs : List A) (i : ℕ) → length xs ≤ i → slice_get xs i ≡ None
-beyond [] i h = refl
-beyond (x ∷ xs) zero h = absurd (omega (arith, h))
-beyond (x ∷ xs) (suc i) h = beyond xs i (omega (arith, h))
 
 -- ---- what a context has for itself: the VM v1 stands at the place n, and the context c1 at the place i in it
 
@@ -137,3 +179,45 @@ module _ (h : Contexts) (vm n : ℕ) (within : vm < length h.vms) (is : exchange
 
   pub exchange_put_same : exchange_put_at h n ≡ exchange_put h vm
   exchange_put_same = sym (λ j z. put_exchange z j)
+
+-- ---- the tick of a root
+
+quiet_exchange : (o : Option ℕ) (xs : List (Option Exchange)) (t : Option Tick) → exchanges_by (record no_changes { tick = Some t }) o xs ≡ xs
+quiet_exchange None xs t = refl
+quiet_exchange (Some n) xs t = refl
+
+quiet_exchanges : (o : Option Context) (xs : List (Option Exchange)) (t : Option Tick) → exchanges_after (record no_changes { tick = Some t }) o xs ≡ xs
+quiet_exchanges None xs t = refl
+quiet_exchanges (Some c) xs t = quiet_exchange c.exchange xs t
+
+pub from_some : {A : Type 0} {a b : A} → Some a ≡ Some b → a ≡ b
+from_some same = cc
+
+module _ (h : Contexts) (vm n r : ℕ) (same : n ≡ vm) (v1 : VmContexts) (within : vm < length h.vms) (v_is : v1 ≡ slice_index_or h.vms n v1) (rooted : (seen h vm).reach.root ≡ Some r) (t : Option Tick) where
+  contexts_by_root : (o : Option Context) (v : VmContexts) (cs : List Context) → (reach_by h v o).root ≡ Some r → contexts_after (record no_changes { tick = Some t }) v.effective o cs ≡ changed context_no r (with_tick t) cs
+  contexts_by_root None v cs is = absurd (none_is is)
+  contexts_by_root (Some c) v cs is = ap (λ k. changed context_no k (with_tick t) cs) (from_some is)
+
+  put_tick : put (record no_changes { tick = Some t }) vm h ≡ record h { vms = slice_set h.vms vm (record (vm_in h vm) { contexts = changed context_no r (with_tick t) (vm_in h vm).contexts }) }
+  put_tick =
+      let v = vm_in h vm in
+      let o = context_in h vm v.effective in
+      (λ j. record h { vms = slice_set h.vms vm (record v { contexts = contexts_by_root o v v.contexts rooted j }); exchanges = quiet_exchanges o h.exchanges t j; effects = nothing_behind h.effects j })
+
+  v_found : v1 ≡ vm_in h vm
+  v_found = vm_found h vm 0 n 0 same v1 within v_is
+
+  put_there : record h { vms = slice_set h.vms n (record v1 { contexts = changed context_no r (with_tick t) v1.contexts }) } ≡ put (record no_changes { tick = Some t }) vm h
+  put_there =
+      (λ j. record h { vms = slice_set h.vms (same j) (record (v_found j) { contexts = changed context_no r (with_tick t) (v_found j).contexts }) })
+      ∙ sym put_tick
+
+  pub tick_is : (i : ℕ) (c1 : Context) → position (λ (c : Context). c.id == r) v1.contexts ≡ Some i → c1 ≡ slice_index_or v1.contexts i c1 →
+      record h { vms = slice_set h.vms n (record v1 { contexts = slice_set v1.contexts i (record c1 { tick = t }) }) } ≡ put (record no_changes { tick = Some t }) vm h
+  tick_is i c1 at c_is =
+      let now : changed context_no r (with_tick t) v1.contexts ≡ slice_set v1.contexts i (record c1 { tick = t }) = changed_at context_no r c1 (with_tick t) i v1.contexts at ∙ ap (λ (c : Context). slice_set v1.contexts i (record c { tick = t })) (sym c_is) in
+      (λ j. record h { vms = slice_set h.vms n (record v1 { contexts = sym now j }) }) ∙ put_there
+
+  pub tick_gone : position (λ (c : Context). c.id == r) v1.contexts ≡ None → record h { vms = slice_set h.vms n v1 } ≡ put (record no_changes { tick = Some t }) vm h
+  tick_gone at =
+      (λ j. record h { vms = slice_set h.vms n (record v1 { contexts = sym (changed_none context_no r (with_tick t) v1.contexts at) j }) }) ∙ put_there

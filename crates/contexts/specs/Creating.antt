@@ -153,9 +153,12 @@ done_with vm id h = put_of (record no_changes { waiting = Some (removed itself i
 abbrev pub without_id : ℕ → VmContexts → VmContexts
 without_id id v = record v { waiting = removed itself id v.waiting; contexts = removed context_no id v.contexts }
 
+abbrev pub without_context : (vm id : ℕ) → Contexts → Contexts
+without_context vm id h = record h { vms = slice_set h.vms vm (without_id id (vm_in h vm)) }
+
 -- DELETE a context
 abbrev pub deleted : (vm id : ℕ) → Contexts → Contexts
-deleted vm id h = freed_of (exchange_of (context_in h vm id)) (record h { vms = slice_set h.vms vm (without_id id (vm_in h vm)) })
+deleted vm id h = freed_of (exchange_of (context_in h vm id)) (without_context vm id h)
 
 -- a context put behind those of a VM, under the id that was drawn for it
 abbrev pub with_new : ℕ → Context → Contexts → Contexts

@@ -6,3 +6,4 @@ pub mod Isolation
 pub mod Lending
 pub mod Creating
 pub mod Stages
+pub mod Making

@@ -4,17 +4,8 @@ use Rattle.contexts.specs.declared.parts.Stage.{Stage}
 use Rattle.contexts.specs.declared.parts.Own.{Own}
 use Rattle.contexts.specs.declared.parts.Contexts.{Contexts}
 use Rattle.contexts.specs.Reached.{seen_of}
-use Rattle.contexts.specs.Lending.{own_put_of}
+use Rattle.contexts.specs.Lending.{own_put_of, stage_in, with_stage}
 use Rattle.contexts.specs.Creating.{no_stage}
-
--- the stage of a direction
-abbrev pub stage_in : Bool → Own → Stage
-stage_in false o = o.request
-stage_in true o = o.response
-
-abbrev pub with_stage : Bool → Stage → Own → Own
-with_stage false t o = record o { request = t }
-with_stage true t o = record o { response = t }
 
 abbrev pub own_at : Contexts → (vm e : ℕ) → Option Own
 own_at h vm e = (seen_of h vm e).reach.own

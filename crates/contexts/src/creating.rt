@@ -2,11 +2,12 @@
 ghost use Rattle.std.specs.Prelude.{◌≡◌, ◌<◌, ◌↔◌, ◌&&◌, [], length, is_ok, is_none, Err, IfOk, OnOk, OnErr, IsTrue, ◌==◌};
 ghost use Rattle.std.specs.List.{list_any, position};
 ghost use Rattle.contexts.specs.Keyed.{removed};
-ghost use Rattle.contexts.specs.Reached.{vm_in, context_in, seen, contains, put, no_changes};
-ghost use Rattle.contexts.specs.Creating.{IsDrawnOut, next_id, no_stage, no_own, plugin_in, root_created, is_root, is_root_at, plugin_at, open_place, is_open_on, stream_created, awaited, done_with, deleted, refers_to, is_referred, itself, with_new, root_context, stream_context};
+ghost use Rattle.contexts.specs.Reached.{vm_in, context_in, context_no, exchange_of, seen, contains, put, no_changes};
+ghost use Rattle.contexts.specs.Creating.{IsDrawnOut, next_id, no_stage, no_own, plugin_in, root_created, is_root, is_root_at, plugin_at, open_place, is_open_on, stream_created, awaited, done_with, deleted, refers_to, is_referred, itself, with_new, without_context, root_context, stream_context};
 ghost use Rattle.contexts.specs.declared.creating.ContextEnd.TheVariants as end;
 
-use crate::{Context, Contexts, Exchange, Own, Properties, Stage, VmContexts};
+use crate::reached::place_of;
+use crate::{Context, Contexts, Exchange, Own, Properties, Roster, Stage};
 use body_buffers::Body;
 use gate_base::{ContextId, LineNo, OutOfMemory, VmNo};
 use std::alloc::{AllocError, Global};
@@ -104,6 +105,31 @@ fn is_open_on(line: LineNo, exchange: &Option<Exchange>) -> bool
     }
 }
 
+/// Where an id stands.
+fn id_place(ids: &[ContextId], id: ContextId) -> Option<usize>
+    ensures { result ≡ position (λ other. itself other == id) ids.now }
+{
+    ids.iter().position(|other| *other == id)
+}
+
+/// Takes the first of these ids out.
+fn remove_id(ids: &mut Roster<ContextId>, id: ContextId)
+    ensures { ids.new ≡ removed itself id ids.old }
+{
+    if let Some(at) = id_place(ids.as_slice(), id) {
+        ids.remove(at);
+    }
+}
+
+/// Takes the first context of an id out.
+fn remove_context(contexts: &mut Roster<Context>, id: ContextId)
+    ensures { contexts.new ≡ removed context_no id contexts.old }
+{
+    if let Some(at) = place_of(contexts.as_slice(), id) {
+        contexts.remove(at);
+    }
+}
+
 impl Contexts {
     /// The id that a VM draws next; there is none where its greatest was drawn.
     fn draw(&self, vm: VmNo) -> Result<ContextId, ContextEnd>
@@ -190,5 +216,90 @@ impl Contexts {
         let plugin = self.plugin_of(vm, root);
         self.add(vm, stream_context(alloc, id, plugin, root, exchange))?;
         Ok(id)
+    }
+
+    /// Makes a context of a VM the effective one.
+    pub fn set_effective(&mut self, vm: VmNo, id: ContextId) -> Result<(), UnknownContext>
+        requires { vm < length self.old.vms }
+        ensures ok { OnOk result (self.new ≡ put (record no_changes { effective = Some id }) vm self.old) }
+        ensures known { is_ok result ≡ contains id (seen self.old vm).common.ids }
+        ensures err { OnErr result (self.new ≡ self.old) }
+    {
+        if !self.has(vm, id) {
+            return Err(UnknownContext);
+        }
+        self.vms.get_mut(vm.get() as usize).effective = id;
+        Ok(())
+    }
+
+    /// A context waits for `proxy_done` from here on.
+    pub fn wait_for_done(&mut self, vm: VmNo, id: ContextId) -> Result<(), OutOfMemory>
+        requires { vm < length self.old.vms }
+        ensures ok { OnOk result (self.new ≡ awaited vm id self.old) }
+        ensures err { OnErr result (self.new ≡ self.old) }
+    {
+        self.vms.get_mut(vm.get() as usize).waiting.push(id)
+    }
+
+    /// Whether a context waits for `proxy_done`.
+    pub fn waits(&self, vm: VmNo, id: ContextId) -> bool
+        requires { vm < length self.now.vms }
+        ensures { result ≡ contains id (vm_in self.now vm).waiting }
+    {
+        self.vm(vm).waiting.as_slice().iter().any(|w| *w == id)
+    }
+
+    /// A context waits no longer.
+    pub fn done(&mut self, vm: VmNo, id: ContextId) -> Result<(), UnknownContext>
+        requires { vm < length self.old.vms }
+        ensures ok { OnOk result (self.new ≡ done_with vm id self.old) }
+        ensures known { is_ok result ≡ (contains id (seen self.old vm).common.ids && contains id (vm_in self.old vm).waiting) }
+        ensures err { OnErr result (self.new ≡ self.old) }
+    {
+        if !self.has(vm, id) || !self.waits(vm, id) {
+            return Err(UnknownContext);
+        }
+        let v = self.vms.get_mut(vm.get() as usize);
+        remove_id(&mut v.waiting, id);
+        Ok(())
+    }
+
+    /// The place of a context's exchange.
+    fn exchange_place_of(&self, vm: VmNo, id: ContextId) -> Option<usize>
+        requires { vm < length self.now.vms }
+        ensures { result ≡ exchange_of (context_in self.now vm id) }
+    {
+        match self.context_of(vm, id) {
+            Some(c) => c.exchange,
+            None => None,
+        }
+    }
+
+    /// Takes a context out of those of its VM and of those that wait.
+    fn remove(&mut self, vm: VmNo, id: ContextId)
+        requires { vm < length self.old.vms }
+        ensures { self.new ≡ without_context vm id self.old }
+    {
+        let v = self.vms.get_mut(vm.get() as usize);
+        remove_id(&mut v.waiting, id);
+        remove_context(&mut v.contexts, id);
+    }
+
+    /// Deletes a context. What an exchange that has ended holds goes with the last of its contexts.
+    pub fn delete(&mut self, vm: VmNo, id: ContextId) -> Result<(), UnknownContext>
+        requires { vm < length self.old.vms }
+        ensures ok { OnOk result (self.new ≡ deleted vm id self.old) }
+        ensures known { is_ok result ≡ contains id (seen self.old vm).common.ids }
+        ensures err { OnErr result (self.new ≡ self.old) }
+    {
+        if !self.has(vm, id) {
+            return Err(UnknownContext);
+        }
+        let place = self.exchange_place_of(vm, id);
+        self.remove(vm, id);
+        if let Some(place) = place {
+            self.free(place);
+        }
+        Ok(())
     }
 }

@@ -2,8 +2,10 @@
 #![tactic(auto)]
 
 mod creating;
+mod exchanges;
 mod laws;
 mod limits;
+mod making;
 mod parts;
 mod reached;
 mod roster;

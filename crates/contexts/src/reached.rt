@@ -6,11 +6,11 @@ ghost use Rattle.std.specs.Borrow.{sem};
 ghost use Rattle.contexts.specs.Keyed.{found};
 ghost use Rattle.contexts.specs.Reached.{vm_in, exchange_of, seen, effective_of, context_in, context_no, view_at, seen_of, put, no_changes, contains, level_no};
 
-use crate::{Context, Contexts, Effect, Exchange, ExchangeView, Own, VmContexts, What};
+use crate::{Context, Contexts, Effect, Exchange, ExchangeView, Own, Tick, VmContexts, What};
 use gate_base::{ContextId, Level, Members, OutOfMemory, VmNo};
 
 /// Where the context of an id stands.
-fn place_of(contexts: &[Context], id: ContextId) -> Option<usize>
+pub(crate) fn place_of(contexts: &[Context], id: ContextId) -> Option<usize>
     ensures { result ≡ position (λ c. c.id == id) contexts.now }
 {
     contexts.iter().position(|c| c.id == id)
@@ -47,7 +47,7 @@ impl Contexts {
     ghost use Rattle.contexts.specs.Lending.{LendsOwn, LendsOwnOf, LendsExchange, LendsExchangeAt};
 
     /// The contexts of a VM.
-    fn vm(&self, vm: VmNo) -> &VmContexts
+    pub(crate) fn vm(&self, vm: VmNo) -> &VmContexts
         requires { vm < length self.now.vms }
         ensures { result.now ≡ vm_in self.now vm }
     {
@@ -198,5 +198,50 @@ impl Contexts {
             Some(place) => self.exchange_at_mut(place),
             None => None,
         }
+    }
+
+    /// Sets the tick of the effective context's root.
+    pub fn set_tick(&mut self, vm: VmNo, tick: Option<Tick>)
+        requires { vm < length self.old.vms }
+        ensures { self.new ≡ put (record no_changes { tick = Some tick }) vm self.old }
+    {
+        let Some(root) = self.root(vm) else { return };
+        let v = self.vms.get_mut(vm.get() as usize);
+        if let Some(at) = place_of(v.contexts.as_slice(), root) {
+            v.contexts.get_mut(at).tick = tick;
+        }
+    }
+
+    /// The root of the effective context.
+    pub fn root(&self, vm: VmNo) -> Option<ContextId>
+        requires { vm < length self.now.vms }
+        ensures { result ≡ (seen self.now vm).reach.root }
+    {
+        match self.context(vm) {
+            Some(c) => Some(c.root),
+            None => None,
+        }
+    }
+
+    /// The number of the least level of which lines are sent.
+    pub fn level_number(&self) -> u8
+        ensures { result ≡ level_no self.now.level }
+    {
+        match self.level {
+            Level::Trace => 0,
+            Level::Debug => 1,
+            Level::Info => 2,
+            Level::Warn => 3,
+            Level::Error => 4,
+            Level::Critical => 5,
+        }
+    }
+
+    /// So many words of the random stream are used.
+    pub fn set_random_place(&mut self, vm: VmNo, place: u64)
+        requires { vm < length self.old.vms }
+        ensures { self.new ≡ put (record no_changes { random_place = Some place }) vm self.old }
+    {
+        self.random_place = place;
     }
 }
