@@ -3,3 +3,5 @@ pub mod Isolation
 pub mod Ids
 pub mod Places
 pub mod Putting
+pub mod Short
+pub mod Unmarking

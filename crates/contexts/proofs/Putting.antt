@@ -29,7 +29,8 @@ own_put_same h vm e o within is =
     let v = vm_in h vm in
     (λ j. record h {
       vms = slice_set h.vms vm (record v { contexts = own_same e o v.contexts (context_in h vm e) refl h v is j });
-      exchanges = none_of (context_in h vm e) h.exchanges o j; effects = nothing_behind h.effects j;
+      exchanges = none_of (context_in h vm e) h.exchanges o j;
+      effects = nothing_behind h.effects j;
     })
     ∙ (λ j. record h { vms = set_same h.vms vm no_vm within j })
 

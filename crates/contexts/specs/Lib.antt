@@ -7,3 +7,4 @@ pub mod Lending
 pub mod Creating
 pub mod Stages
 pub mod Making
+pub mod Effects

@@ -148,7 +148,10 @@ impl Contexts {
     pub fn open_place(&self, line: LineNo) -> Option<usize>
         ensures { result ≡ open_place line self.now.exchanges }
     {
-        self.exchanges.as_slice().iter().position(|x| is_open_on(line, x))
+        self.exchanges
+            .as_slice()
+            .iter()
+            .position(|x| is_open_on(line, x))
     }
 
     /// Whether a context is there and is a root.
@@ -187,7 +190,12 @@ impl Contexts {
     }
 
     /// Makes the root context of a plug-in of the VM.
-    pub fn create_root(&mut self, alloc: Global, vm: VmNo, plugin: u16) -> Result<ContextId, ContextEnd>
+    pub fn create_root(
+        &mut self,
+        alloc: Global,
+        vm: VmNo,
+        plugin: u16,
+    ) -> Result<ContextId, ContextEnd>
         requires vm { vm < length self.old.vms }
         requires plugin { plugin < length self.old.plugins }
         requires own { (plugin_in self.old plugin).vm ≡ vm }
@@ -203,7 +211,13 @@ impl Contexts {
     }
 
     /// Makes a stream context of a root, in the exchange that is open on the line.
-    pub fn create_stream(&mut self, alloc: Global, vm: VmNo, root: ContextId, line: LineNo) -> Result<ContextId, ContextEnd>
+    pub fn create_stream(
+        &mut self,
+        alloc: Global,
+        vm: VmNo,
+        root: ContextId,
+        line: LineNo,
+    ) -> Result<ContextId, ContextEnd>
         requires vm { vm < length self.old.vms }
         requires root { IsTrue (is_root self.old vm root) }
         ensures id { IfOk result (λ id. id ≡ next_id self.old vm) }

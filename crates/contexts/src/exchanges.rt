@@ -1,11 +1,12 @@
 // Exchanges are opened and ended, and the effects of a callback are taken out.
-ghost use Rattle.std.specs.Prelude.{◌≡◌, ◌<◌, ◌&&◌, [], length, is_none, not, IfOk, OnOk, OnErr, Some};
+ghost use Rattle.std.specs.Prelude.{◌≡◌, ◌<◌, ◌&&◌, [], length, is_none, not, map, IfOk, OnOk, OnErr, Some};
 ghost use Rattle.std.specs.List.{list_any, position};
 ghost use Rattle.header_maps.specs.Headers.{Headers};
 ghost use Rattle.contexts.specs.Reached.{exchange_at};
+ghost use Rattle.contexts.specs.Effects.{unmarked_at, without_effects};
 ghost use Rattle.contexts.specs.Creating.{new_exchange, placed_at, place_or, opened, refers_to, is_referred, has_ended, freed, freed_of, ended};
 
-use crate::{Context, Contexts, Exchange, ExchangeView, Maps, VmContexts};
+use crate::{Context, Contexts, Effect, Exchange, ExchangeView, Maps, VmContexts};
 use gate_base::{LineNo, Members, OutOfMemory};
 use header_maps::HeaderList;
 use std::alloc::Global;
@@ -61,6 +62,24 @@ fn is_referred(place: usize, vms: &[VmContexts]) -> bool
     vms.iter().any(|v| is_any_of(place, v.contexts.as_slice()))
 }
 
+/// Drops the mark of a local response that was asked for.
+fn unmark_at(exchange: &mut Option<Exchange>)
+    ensures { exchange.new ≡ unmarked_at exchange.old }
+{
+    if let Some(x) = exchange {
+        x.view.is_answering = false;
+    }
+}
+
+/// Drops the marks of all local responses that were asked for.
+fn unmark(exchanges: &mut Members<Option<Exchange>>)
+    ensures { exchanges.new ≡ map unmarked_at exchanges.old }
+{
+    for place in 0..exchanges.len() {
+        unmark_at(exchanges.get_mut(place));
+    }
+}
+
 impl Contexts {
     /// Opens an exchange on a line, and gives its place.
     pub fn open_exchange(&mut self, line: LineNo, request: HeaderList) -> Result<usize, OutOfMemory>
@@ -103,5 +122,14 @@ impl Contexts {
             x.has_ended = true;
         }
         self.free(place);
+    }
+
+    /// Takes out what the callback asked for, in the order of the calls, with its marks.
+    pub fn take_effects(&mut self, alloc: Global) -> Members<Effect>
+        ensures effects { result ≡ self.old.effects }
+        ensures left { self.new ≡ without_effects self.old }
+    {
+        unmark(&mut self.exchanges);
+        std::mem::replace(&mut self.effects, Members::new(alloc))
     }
 }

@@ -1,11 +1,19 @@
 // Names, configurations and properties, each within its limit.
-ghost use Rattle.std.specs.Prelude.{◌≡◌, ◌≤◌, [], length, IfOk, option_copied};
-ghost use Rattle.contexts.specs.Properties.{is_at, property_of};
+ghost use Rattle.std.specs.Prelude.{◌≡◌, ◌≤◌, ◌↔◌, [], length, Err, IfOk, OnOk, OnErr, option_copied};
+ghost use Rattle.std.specs.List.{position};
+ghost use Rattle.contexts.specs.Properties.{is_at, property_of, property_set, IsPastLimit};
+ghost use Rattle.contexts.specs.declared.limits.PropertyEnd.TheVariants as end;
 ghost use Rattle.contexts.specs.declared.limits.PropertyEnd.TheVariants.{OutOfMemory};
 
 use gate_base::{Octets, OutOfMemory, Pairs};
 use std::alloc::{AllocError, Global};
 use std::marker::Model;
+
+/// How many properties a context may have.
+const PROPERTY_LIMIT: usize = 64;
+
+/// How many bytes a path or a value may have.
+const PROPERTY_BYTES: usize = 4096;
 
 /// The name of a VM or of a plug-in, at most 32 bytes. Clauses see the list of its bytes.
 #[derive(Drop)]
@@ -119,6 +127,21 @@ fn is_at(path: &[u8], property: &(Octets, Octets)) -> bool
     property.0.as_slice() == path
 }
 
+/// Where the property of a path stands.
+fn property_place(properties: &[(Octets, Octets)], path: &[u8]) -> Option<usize>
+    ensures { result ≡ position (is_at path.now) properties.now }
+{
+    properties.iter().position(|p| is_at(path, p))
+}
+
+/// A property, copied.
+fn copied(alloc: Global, path: &[u8], value: &[u8]) -> Result<(Octets, Octets), OutOfMemory>
+    ensures { IfOk result (λ p. p ≡ (path.now, value.now)) }
+{
+    let path = Octets::from_slice(alloc, path)?;
+    Ok((path, Octets::from_slice(alloc, value)?))
+}
+
 impl Properties {
     /// No properties. It takes no memory.
     pub fn new(alloc: Global) -> Self
@@ -137,5 +160,26 @@ impl Properties {
             Some(p) => Some(&p.1),
             None => None,
         }
+    }
+
+    /// Puts a value at a path, in place of the one that is there or behind the others.
+    pub fn set(&mut self, alloc: Global, path: &[u8], value: &[u8]) -> Result<(), PropertyEnd>
+        ensures ok { OnOk result (self.new ≡ property_set path.now value.now self.old) }
+        ensures past_limit { (result ≡ Err end.PastLimit) ↔ IsPastLimit path.now value.now self.old }
+        ensures err { OnErr result (self.new ≡ self.old) }
+    {
+        if path.len() > PROPERTY_BYTES || value.len() > PROPERTY_BYTES {
+            return Err(PropertyEnd::PastLimit);
+        }
+        match property_place(self.items.as_slice(), path) {
+            Some(at) => *self.items.get_mut(at) = copied(alloc, path, value)?,
+            None => {
+                if self.items.len() >= PROPERTY_LIMIT {
+                    return Err(PropertyEnd::PastLimit);
+                }
+                self.items.push(copied(alloc, path, value)?)?;
+            }
+        }
+        Ok(())
     }
 }

@@ -1,7 +1,7 @@
 // What contexts are made of: plain data, which clauses see as records.
 
-use body_buffers::Body;
 use crate::{Configuration, Properties, Roster, ShortName};
+use body_buffers::Body;
 use gate_base::{ContextId, Level, LineNo, Members, Octets, VmNo};
 use header_maps::HeaderList;
 

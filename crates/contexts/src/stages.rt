@@ -56,7 +56,11 @@ impl Own {
     pub fn stage(&self, response: bool) -> &Stage
         ensures { result.now ≡ stage_in response self.now }
     {
-        if response { &self.response } else { &self.request }
+        if response {
+            &self.response
+        } else {
+            &self.request
+        }
     }
 
     /// The stage of a direction, to be written.

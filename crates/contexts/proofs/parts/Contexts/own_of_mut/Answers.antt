@@ -6,9 +6,10 @@ use Rattle.contexts.proofs.parts.Contexts.own_of_mut.Goals as goal
 
 pub returns-in-Some : goal.returns-in-Some
 returns-in-Some c =
-    let at = subst (λ (xs : List Context). position (λ (k : Context). k.id == c.args.id) xs ≡ Some c.in-Some.at) c.as_slice.ensures (sym c.place_of.ensures ∙ c.in-Some.is) in
-    ((λ j. inl (c.c-1.given, λ z. own_is c.args.self.now c.args.vm c.args.id c.get.result c.in-Some.at c.get.ensures.number c.get_mut-v.result.now c.requires c.get_mut-v.ensures.value c.get_mut-c.result.now at c.get_mut-c.ensures.value z j)),
-    record { lends = tt; value = own_seen c.args.self.now c.args.vm c.args.id c.get.result c.in-Some.at c.get.ensures.number c.get_mut-v.result.now c.requires c.get_mut-v.ensures.value c.get_mut-c.result.now at c.get_mut-c.ensures.value })
+    let at = subst (λ (xs : List Context). position (λ (k : Context). k.id == c.args.id) xs ≡ Some c.in-Some.at) c.as_slice.ensures (sym c.place_of.ensures ∙ c.in-Some.is) in (
+      (λ j. inl (c.c-1.given, λ z. own_is c.args.self.now c.args.vm c.args.id c.get.result c.in-Some.at c.get.ensures.number c.get_mut-v.result.now c.requires c.get_mut-v.ensures.value c.get_mut-c.result.now at c.get_mut-c.ensures.value z j)),
+      record { lends = tt; value = own_seen c.args.self.now c.args.vm c.args.id c.get.result c.in-Some.at c.get.ensures.number c.get_mut-v.result.now c.requires c.get_mut-v.ensures.value c.get_mut-c.result.now at c.get_mut-c.ensures.value },
+    )
 
 pub returns-in-None : goal.returns-in-None
 returns-in-None c =

@@ -1,0 +1,16 @@
+-- What a callback asked for is taken out behind it.
+use Rattle.std.specs.Prelude.{Bool, false, List, [], map, Option, None, Some}
+use Rattle.std.specs.Option.{option_map}
+use Rattle.contexts.specs.declared.parts.Exchange.{Exchange}
+use Rattle.contexts.specs.declared.parts.Contexts.{Contexts}
+
+abbrev pub unmarked : Exchange → Exchange
+unmarked x = record x { view = record x.view { is_answering = false } }
+
+abbrev pub unmarked_at : Option Exchange → Option Exchange
+unmarked_at None = None
+unmarked_at (Some x) = Some (unmarked x)
+
+-- the contexts without the effects of the callback, and without the marks of their local responses
+abbrev pub without_effects : Contexts → Contexts
+without_effects h = record h { effects = []; exchanges = map unmarked_at h.exchanges }
