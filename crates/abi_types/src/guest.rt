@@ -1,6 +1,6 @@
 // An instance, as host calls use it.
 
-ghost use Rattle.std.specs.Prelude.{◌≡◌, ◌<◌, ◌^◌, ◌↔◌, true, false, length, IfOk, IfSome, IfNone, OnErr};
+ghost use Rattle.std.specs.Prelude.{◌≡◌, ◌≤◌, true, false, length, IfOk, IfSome, IfNone, OnErr};
 ghost use Rattle.wasm_syntax.specs.Memory.{bytes_at};
 ghost use Rattle.abi_types.specs.GuestAt.{GuestAt, is_range, wrote, IsOutside, allocating, Allocates, RestsAfter, StillWaits, Keeps};
 
@@ -52,9 +52,10 @@ pub trait Guest {
     /// A call waits for the host, and its allocator may be run on top.
     ghost rests: { Self → Type 0 };
 
-    /// How many bytes its memory has: none where it has no memory.
+    /// How many bytes its memory has: at most 256 pages, and none where it has no memory.
     fn size(&self) -> u64
-        ensures { result ≡ length (at self.now).config.store.memory };
+        ensures size { result ≡ length (at self.now).config.store.memory }
+        ensures bound { length (at self.now).config.store.memory ≤ 16777216 };
 
     /// The bytes of a range. Outside comes exactly where the range is not inside; one of no bytes always is.
     fn read(&self, alloc: Global, place: u32, len: u32) -> Result<Octets, GuestEnd>

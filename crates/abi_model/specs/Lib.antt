@@ -1,0 +1,6 @@
+pub mod Asking
+pub mod Calls
+pub mod Isolation
+pub mod Rows
+pub mod Table
+pub mod Writing
