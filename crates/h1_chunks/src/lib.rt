@@ -9,6 +9,3 @@ mod section;
 mod size;
 
 pub use reader::{ChunkReader, ChunkStep};
-
-#[cfg(test)]
-mod tests;

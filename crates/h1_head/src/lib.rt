@@ -23,8 +23,3 @@ pub use read::read_head;
 pub use write::{
     pseudo_of, push_field, push_fields, push_request_line, request_bytes, write_request,
 };
-
-#[cfg(test)]
-mod table;
-#[cfg(test)]
-mod tests;

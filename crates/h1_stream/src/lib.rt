@@ -7,6 +7,3 @@ mod reader;
 mod unread;
 
 pub use reader::{MessageReader, Step};
-
-#[cfg(test)]
-mod tests;

@@ -13,6 +13,3 @@ pub use laws::{
     responses_read_back, round_examples, trailers_read_back, written_lines_read_back,
 };
 pub use write::write_item;
-
-#[cfg(test)]
-mod tests;

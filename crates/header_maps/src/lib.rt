@@ -16,6 +16,3 @@ pub use laws::{
     set_keeps_given, status_read_back, worked_examples,
 };
 pub use list::HeaderList;
-
-#[cfg(test)]
-mod tests;

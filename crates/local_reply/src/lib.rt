@@ -13,6 +13,3 @@ pub use laws::{
     framing_examples, head_is_wire, moments_have_texts, reply_is_wire, worked_examples,
 };
 pub use reply::local;
-
-#[cfg(test)]
-mod tests;

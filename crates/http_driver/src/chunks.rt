@@ -1,0 +1,120 @@
+//! Chunked bodies: what a reader answers of a text.
+
+use gate_base::{Octets, OutOfMemory};
+use h1_chunks::{ChunkReader, ChunkStep};
+use rows::from_text;
+use std::alloc::Global;
+
+/// Puts fields at the end, each behind a blank.
+fn push_fields(out: &mut Octets, fields: &[(Octets, Octets)]) -> Result<(), OutOfMemory> {
+    for (name, value) in fields {
+        out.push(b' ')?;
+        out.extend_from_slice(name.as_slice())?;
+        out.push(b'=')?;
+        out.extend_from_slice(value.as_slice())?;
+    }
+    Ok(())
+}
+
+/// Puts an answer at the end, its data in brackets or its trailers behind `end`, and gives how many bytes it used.
+fn push_step(alloc: Global, out: &mut Octets, step: &ChunkStep) -> Result<usize, OutOfMemory> {
+    match step {
+        ChunkStep::Data { bytes, used } => {
+            out.push(b'[')?;
+            out.extend_from_slice(bytes.as_slice())?;
+            out.push(b']')?;
+            Ok(*used)
+        }
+        ChunkStep::End { trailers, used } => {
+            out.extend_from_slice(b"end")?;
+            push_fields(out, trailers.as_slice())?;
+            Ok(*used)
+        }
+        ChunkStep::NotYet => {
+            out.extend_from_slice(b"not yet")?;
+            Ok(0)
+        }
+        ChunkStep::Refused { number } => {
+            let text = format!(in alloc; "{number}")?;
+            out.extend_from_slice(text.as_str().as_bytes())?;
+            Ok(0)
+        }
+    }
+}
+
+/// Puts all answers to a text at the end, up to one that uses nothing, and gives how many bytes they used.
+fn push_answers(alloc: Global, out: &mut Octets, text: &[u8]) -> Result<usize, OutOfMemory> {
+    let mut reader = ChunkReader::new();
+    let mut rest = text;
+    for _ in 0..=text.len() {
+        let step = reader.next(alloc, rest)?;
+        match rest.get(push_step(alloc, out, &step)?..) {
+            Some(more) if more.len() < rest.len() => rest = more,
+            Some(_) | None => break,
+        }
+    }
+    Ok(text.len().saturating_sub(rest.len()))
+}
+
+/// `chunks TEXT`: all answers.
+pub fn answered(alloc: Global, words: &str) -> Result<Octets, OutOfMemory> {
+    let text = from_text(alloc, words)?;
+    let mut out = Octets::new(alloc);
+    push_answers(alloc, &mut out, text.as_slice())?;
+    Ok(out)
+}
+
+/// `chunks-used TEXT`: all answers, and how many bytes they used.
+pub fn used(alloc: Global, words: &str) -> Result<Octets, OutOfMemory> {
+    let text = from_text(alloc, words)?;
+    let mut out = Octets::new(alloc);
+    let used = push_answers(alloc, &mut out, text.as_slice())?;
+    let behind = format!(in alloc; ", used {used}")?;
+    out.extend_from_slice(behind.as_str().as_bytes())?;
+    Ok(out)
+}
+
+/// How many bytes of data an answer has, and how many bytes it used.
+fn size_of(step: &ChunkStep) -> (usize, usize) {
+    match step {
+        ChunkStep::Data { bytes, used } => (bytes.len(), *used),
+        ChunkStep::End { used, .. } => (0, *used),
+        ChunkStep::NotYet | ChunkStep::Refused { .. } => (0, 0),
+    }
+}
+
+/// `chunks-sizes TEXT`: how many bytes of data each answer has, and how many it used.
+pub fn sizes(alloc: Global, words: &str) -> Result<Octets, OutOfMemory> {
+    let text = from_text(alloc, words)?;
+    let mut out = Octets::new(alloc);
+    let mut reader = ChunkReader::new();
+    let mut rest = text.as_slice();
+    for _ in 0..8 {
+        let step = reader.next(alloc, rest)?;
+        let (size, used) = size_of(&step);
+        let told = format!(in alloc; "{size}/{used} ")?;
+        out.extend_from_slice(told.as_str().as_bytes())?;
+        rest = rest.get(used..).unwrap_or(&[]);
+    }
+    Ok(out)
+}
+
+/// `chunks-by-byte TEXT`: all answers where the text comes byte by byte, and `?` behind one that does not use all that is held.
+pub fn by_byte(alloc: Global, words: &str) -> Result<Octets, OutOfMemory> {
+    let text = from_text(alloc, words)?;
+    let mut out = Octets::new(alloc);
+    let mut reader = ChunkReader::new();
+    let mut held = Octets::new(alloc);
+    for byte in text.as_slice() {
+        held.push(*byte)?;
+        let step = reader.next(alloc, held.as_slice())?;
+        if matches!(&step, ChunkStep::NotYet) {
+            continue;
+        }
+        if push_step(alloc, &mut out, &step)? != held.len() {
+            out.push(b'?')?;
+        }
+        held.clear();
+    }
+    Ok(out)
+}
