@@ -207,38 +207,40 @@ fn the_gate_is_passed_inside_each_turn(rt: HostRuntime) -> Result<(), Fail> {
     Ok(())
 }
 
+/// A call that the number refuses memory.
+fn refused(alloc: Global) -> Call {
+    Call::Register {
+        name: Octets::new(alloc),
+        root: ContextId::new(1),
+    }
+}
+
+/// A Get of `key`.
+fn get_key(alloc: Global) -> Result<Call, OutOfMemory> {
+    Ok(Call::Get {
+        key: Octets::from_slice(alloc, b"key")?,
+    })
+}
+
+/// Whether it is `key` with the number 0.
+fn is_key(reply: &Reply) -> bool {
+    matches!(reply, Reply::Value { value, number: 0 } if value.as_slice() == b"key".as_slice())
+}
+
 #[test]
 fn a_call_refused_memory_is_not_in_the_history(rt: HostRuntime) -> Result<(), Fail> {
     let alloc = rt.alloc();
     let (table, mut first) = opened(alloc)?;
-    let refused = Call::Register {
-        name: Octets::new(alloc),
-        root: ContextId::new(1),
-    };
-    assert!(rt;
-        table
-            .with_turn(&rt, alloc, &mut first, &refused, &NoGate)
-            .is_err()
-    );
-    let key = Octets::from_slice(alloc, b"key")?;
-    match table.with_turn(&rt, alloc, &mut first, &Call::Get { key }, &NoGate)? {
-        Reply::Value { value, number } => {
-            assert_eq!(rt; value.as_slice(), b"key".as_slice());
-            assert_eq!(rt; number, 0);
-        }
-        Reply::Absent
-        | Reply::Done { .. }
-        | Reply::CasMismatch
-        | Reply::Full
-        | Reply::Id { .. }
-        | Reply::Item { .. }
-        | Reply::Empty
-        | Reply::Owed { .. }
-        | Reply::NoneOwed => return Err("a value")?,
-    }
+    let call = refused(alloc);
+    let is_refused = table
+        .with_turn(&rt, alloc, &mut first, &call, &NoGate)
+        .is_err();
+    let call = get_key(alloc)?;
+    let reply = table.with_turn(&rt, alloc, &mut first, &call, &NoGate)?;
+    let is_given = is_key(&reply);
     let (value, count) = table.close(first);
-    assert_eq!(rt; value.vm().get(), 3);
-    assert_eq!(rt; count, 1);
+    let is_three = value.vm().get() == 3;
+    assert!(rt; is_refused && is_given && is_three && count == 1);
     Ok(())
 }
 
