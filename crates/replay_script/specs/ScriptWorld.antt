@@ -27,7 +27,7 @@ zero_seed =
 
 -- the world in memory that gives the same events, takes all of each piece and fails no call
 abbrev pub in_memory : Playing → MemoryWorld
-in_memory w = record { seed = zero_seed; trace = w.trace; left = w.left; most = None; fails = []; calls = 0; faults = 0 }
+in_memory w = record { seed = zero_seed; trace = w.trace; left = w.left; most = None; fails = []; calls = 0; faults = 0; refused = []; sends = 0 }
 
 -- what never changes is what never changes of that world
 abbrev pub nature : Playing → Nature
