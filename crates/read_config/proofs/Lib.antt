@@ -1,0 +1,10 @@
+pub mod Mapped
+pub mod Named
+pub mod Places
+pub mod Steps
+pub mod Fits
+pub mod Filters
+pub mod Stepping
+pub mod Texts
+pub mod Later
+pub mod Numbers

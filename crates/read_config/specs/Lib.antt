@@ -1,0 +1,7 @@
+pub mod Words
+pub mod Address
+pub mod Names
+pub mod Rows
+pub mod Judge
+pub mod Whole
+pub mod Examples

@@ -1,0 +1,226 @@
+// The keys of each table: a row for each, in the order in which they are judged.
+ghost use Rattle.std.specs.Prelude.{◌≡◌, map};
+ghost use Rattle.read_config.specs.Rows.{gateway_keys, vm_keys, plugin_keys, route_keys, top_keys, row_of};
+
+/// What a key's value may be.
+#[derive(Clone, Copy, Debug)]
+pub enum Kind {
+    /// A number within bounds.
+    Number { least: u64, most: u64 },
+    /// A text of so many bytes.
+    Text { least: usize, most: usize },
+    /// Four numbers with dots, a colon and a port.
+    Address,
+    /// The word of a log level.
+    Level,
+    /// `open` or `closed`.
+    OpenOrClosed,
+    /// A name that no VM has yet.
+    NewVm,
+    /// A name that no plug-in has yet.
+    NewPlugin,
+    /// The name of a VM.
+    SomeVm,
+    /// A path that the router takes beside those of the routes before it.
+    Path,
+    /// A list of names of plug-ins.
+    Filters,
+    /// Tables, which are judged key by key.
+    Tables,
+}
+
+/// What a key is where it is missing.
+#[derive(Clone, Copy, Debug)]
+pub enum Absent {
+    /// It may not be missing.
+    Refused,
+    /// This number.
+    Number { number: u64 },
+    /// This text.
+    Text { text: &'static str },
+    /// A list without names, or no tables.
+    NoNames,
+}
+
+/// A key of a table.
+#[derive(Clone, Copy, Debug)]
+pub struct Key {
+    /// The key itself.
+    pub name: &'static str,
+    /// What its value may be.
+    pub kind: Kind,
+    /// What it is where it is missing.
+    pub absent: Absent,
+}
+
+static GATEWAY_KEYS: [Key; 5] = [
+    Key {
+        name: "listen",
+        kind: Kind::Address,
+        absent: Absent::Text {
+            text: "127.0.0.1:8080",
+        },
+    },
+    Key {
+        name: "upstream",
+        kind: Kind::Address,
+        absent: Absent::Text {
+            text: "127.0.0.1:9000",
+        },
+    },
+    Key {
+        name: "workers",
+        kind: Kind::Number { least: 1, most: 8 },
+        absent: Absent::Number { number: 1 },
+    },
+    Key {
+        name: "deadline_ms",
+        kind: Kind::Number {
+            least: 0,
+            most: 3_600_000,
+        },
+        absent: Absent::Number { number: 0 },
+    },
+    Key {
+        name: "log_level",
+        kind: Kind::Level,
+        absent: Absent::Text { text: "info" },
+    },
+];
+
+static VM_KEYS: [Key; 5] = [
+    Key {
+        name: "name",
+        kind: Kind::NewVm,
+        absent: Absent::Refused,
+    },
+    Key {
+        name: "module",
+        kind: Kind::Text {
+            least: 1,
+            most: 4096,
+        },
+        absent: Absent::Refused,
+    },
+    Key {
+        name: "configuration",
+        kind: Kind::Text {
+            least: 0,
+            most: 65536,
+        },
+        absent: Absent::Text { text: "" },
+    },
+    Key {
+        name: "fuel",
+        kind: Kind::Number {
+            least: 1,
+            most: 1_000_000_000_000,
+        },
+        absent: Absent::Number { number: 10_000_000 },
+    },
+    Key {
+        name: "pages",
+        kind: Kind::Number {
+            least: 1,
+            most: 256,
+        },
+        absent: Absent::Number { number: 128 },
+    },
+];
+
+static PLUGIN_KEYS: [Key; 4] = [
+    Key {
+        name: "name",
+        kind: Kind::NewPlugin,
+        absent: Absent::Refused,
+    },
+    Key {
+        name: "vm",
+        kind: Kind::SomeVm,
+        absent: Absent::Refused,
+    },
+    Key {
+        name: "configuration",
+        kind: Kind::Text {
+            least: 0,
+            most: 65536,
+        },
+        absent: Absent::Text { text: "" },
+    },
+    Key {
+        name: "fail",
+        kind: Kind::OpenOrClosed,
+        absent: Absent::Text { text: "closed" },
+    },
+];
+
+static ROUTE_KEYS: [Key; 2] = [
+    Key {
+        name: "path",
+        kind: Kind::Path,
+        absent: Absent::Refused,
+    },
+    Key {
+        name: "filters",
+        kind: Kind::Filters,
+        absent: Absent::NoNames,
+    },
+];
+
+static TOP_KEYS: [Key; 4] = [
+    Key {
+        name: "gateway",
+        kind: Kind::Tables,
+        absent: Absent::NoNames,
+    },
+    Key {
+        name: "vm",
+        kind: Kind::Tables,
+        absent: Absent::NoNames,
+    },
+    Key {
+        name: "plugin",
+        kind: Kind::Tables,
+        absent: Absent::NoNames,
+    },
+    Key {
+        name: "route",
+        kind: Kind::Tables,
+        absent: Absent::NoNames,
+    },
+];
+
+/// The keys of `gateway`.
+pub(crate) fn gateway_keys() -> &'static [Key]
+    ensures { map row_of result.now ≡ gateway_keys }
+{
+    GATEWAY_KEYS.as_slice()
+}
+
+/// The keys of a VM.
+pub(crate) fn vm_keys() -> &'static [Key]
+    ensures { map row_of result.now ≡ vm_keys }
+{
+    VM_KEYS.as_slice()
+}
+
+/// The keys of a plug-in.
+pub(crate) fn plugin_keys() -> &'static [Key]
+    ensures { map row_of result.now ≡ plugin_keys }
+{
+    PLUGIN_KEYS.as_slice()
+}
+
+/// The keys of a route.
+pub(crate) fn route_keys() -> &'static [Key]
+    ensures { map row_of result.now ≡ route_keys }
+{
+    ROUTE_KEYS.as_slice()
+}
+
+/// The tables at the top.
+pub(crate) fn top_keys() -> &'static [Key]
+    ensures { map row_of result.now ≡ top_keys }
+{
+    TOP_KEYS.as_slice()
+}
