@@ -1,0 +1,12 @@
+//! Pairs of names and values as bytes: the form in which a guest gets a whole map, and gives one.
+#![tactic(auto)]
+
+mod end;
+mod laws;
+mod reading;
+mod writing;
+
+pub use end::PairsEnd;
+pub use laws::{pairs_are_read_back, worked_pairs};
+pub use reading::read_pairs;
+pub use writing::{write_pairs, write_slice};
