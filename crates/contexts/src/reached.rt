@@ -6,7 +6,7 @@ ghost use Rattle.std.specs.Borrow.{sem};
 ghost use Rattle.contexts.specs.Keyed.{found};
 ghost use Rattle.contexts.specs.Reached.{vm_in, exchange_of, seen, effective_of, context_in, context_no, view_at, seen_of, put, no_changes, contains, level_no};
 
-use crate::{Context, Contexts, Effect, Exchange, ExchangeView, Own, Tick, VmContexts, What};
+use crate::{Context, Contexts, Effect, Exchange, ExchangeView, Own, Plugin, Tick, VmContexts, What};
 use gate_base::{ContextId, Level, Members, OutOfMemory, VmNo};
 
 /// Where the context of an id stands.
@@ -47,11 +47,22 @@ impl Contexts {
     ghost use Rattle.contexts.specs.Lending.{LendsOwn, LendsOwnOf, LendsExchange, LendsExchangeAt};
 
     /// The contexts of a VM.
-    pub(crate) fn vm(&self, vm: VmNo) -> &VmContexts
+    pub fn vm(&self, vm: VmNo) -> &VmContexts
         requires { vm < length self.now.vms }
         ensures { result.now ≡ vm_in self.now vm }
     {
         self.vms.get(vm.get() as usize)
+    }
+
+    /// The plug-in of the effective context.
+    pub fn plugin(&self, vm: VmNo) -> Option<&Plugin>
+        requires { vm < length self.now.vms }
+        ensures { option_copied result ≡ (seen self.now vm).reach.plugin }
+    {
+        match self.context(vm) {
+            Some(c) => self.plugins.as_slice().get(c.plugin as usize),
+            None => None,
+        }
     }
 
     /// The id of the effective context of a VM.
