@@ -1,0 +1,4 @@
+pub mod Allowed
+pub mod Heard
+pub mod LogLine
+pub mod Sites

@@ -1,0 +1,201 @@
+// A line, with its connections.
+ghost use Rattle.std.specs.Prelude.{◌≡◌, ◌≤◌, ◌↔◌, length, IsTrue, IfOk, IfSome, Contains};
+ghost use Rattle.gate_io.specs.Events.{wanted};
+ghost use Rattle.gate_live.specs.Allowed.{IsAllowed, HoldsBack};
+
+use crate::peer::{Heard, Peer};
+use crate::room::Room;
+use crate::upstream::Upstream;
+use gate_base::{LineNo, Octets, OutOfMemory};
+use gate_io::{Side, Wants, What};
+use std::alloc::Global;
+
+/// A line: the client's connection, and that to the upstream server.
+#[derive(Drop)]
+pub struct Line {
+    pub number: LineNo,
+    pub down: Option<Peer>,
+    pub up: Option<Upstream>,
+    /// The upstream connection could not be begun.
+    pub refused: bool,
+}
+
+/// Whether bytes of a side of a line are wanted.
+fn is_wanted(wants: &Wants, line: LineNo, side: Side) -> bool
+    ensures { IsTrue result ↔ Contains (wanted wants.now side) line }
+{
+    match side {
+        Side::Down => wants.down.as_slice().contains(&line),
+        Side::Up => wants.up.as_slice().contains(&line),
+    }
+}
+
+/// What a read of a side gave, as an event.
+fn told(
+    alloc: Global,
+    wants: &Wants,
+    line: LineNo,
+    side: Side,
+    peer: &mut Peer,
+    room: &mut Room,
+) -> Result<Option<What>, OutOfMemory>
+    requires { Contains (wanted wants.now side) line }
+    ensures { IfOk result (λ told. IfSome told (IsAllowed wants.now)) }
+{
+    match peer.read(room) {
+        Heard::Bytes(n) => {
+            let bytes = Octets::from_slice(alloc, &room.bytes[..n])?;
+            Ok(Some(What::Bytes { line, side, bytes }))
+        }
+        Heard::End => Ok(Some(What::End { line, side })),
+        Heard::Lost => Ok(Some(What::Gone { line, side })),
+        Heard::Nothing => Ok(None),
+    }
+}
+
+/// What is heard from the client of a line. Nothing is read from it while so much waits for the server.
+fn heard_down(
+    alloc: Global,
+    wants: &Wants,
+    line: LineNo,
+    peer: &mut Peer,
+    is_full: bool,
+    room: &mut Room,
+) -> Result<Option<What>, OutOfMemory>
+    ensures allowed { IfOk result (λ told. IfSome told (IsAllowed wants.now)) }
+    ensures held { IfOk result (λ told. IfSome told (HoldsBack is_full)) }
+{
+    let side = Side::Down;
+    if peer.is_broken() {
+        return Ok(Some(What::Gone { line, side }));
+    }
+    if !is_full && peer.is_readable() && is_wanted(wants, line, side) {
+        return told(alloc, wants, line, side, peer, room);
+    }
+    if peer.has_room_again() {
+        return Ok(Some(What::Room { line, side }));
+    }
+    Ok(None)
+}
+
+/// What is heard from the upstream server of a line. A broken connection is read to its end first, where that is wanted.
+fn heard_up(
+    alloc: Global,
+    wants: &Wants,
+    line: LineNo,
+    peer: &mut Peer,
+    room: &mut Room,
+) -> Result<Option<What>, OutOfMemory>
+    ensures { IfOk result (λ told. IfSome told (IsAllowed wants.now)) }
+{
+    let side = Side::Up;
+    if peer.is_refused() {
+        return Ok(Some(What::Refused { line }));
+    }
+    if peer.is_broken() && peer.is_ended() {
+        return Ok(Some(What::Gone { line, side }));
+    }
+    if peer.is_readable() && is_wanted(wants, line, side) {
+        return told(alloc, wants, line, side, peer, room);
+    }
+    Ok(None)
+}
+
+/// Whether a connection is to be let go behind this event.
+fn ends(told: &Option<What>) -> bool {
+    matches!(told, Some(What::Gone { .. } | What::Refused { .. }))
+}
+
+impl Line {
+    /// What is heard on the line.
+    pub fn heard(
+        &mut self,
+        alloc: Global,
+        wants: &Wants,
+        room: &mut Room,
+    ) -> Result<Option<What>, OutOfMemory>
+        ensures { IfOk result (λ told. IfSome told (IsAllowed wants.now)) }
+    {
+        if self.refused {
+            self.refused = false;
+            return Ok(Some(What::Refused { line: self.number }));
+        }
+        if let Some(told) = self.heard_down(alloc, wants, room)? {
+            return Ok(Some(told));
+        }
+        self.heard_up(alloc, wants, room)
+    }
+
+    /// What is heard from the client, where it is there. One that is gone is let go.
+    fn heard_down(
+        &mut self,
+        alloc: Global,
+        wants: &Wants,
+        room: &mut Room,
+    ) -> Result<Option<What>, OutOfMemory>
+        ensures { IfOk result (λ told. IfSome told (IsAllowed wants.now)) }
+    {
+        let is_full = self.is_full();
+        let Some(peer) = &mut self.down else {
+            return Ok(None);
+        };
+        let told = heard_down(alloc, wants, self.number, peer, is_full, room)?;
+        if ends(&told) {
+            self.down = None;
+        }
+        Ok(told)
+    }
+
+    /// What is heard from the upstream server, where it is there. One that is gone is let go.
+    fn heard_up(
+        &mut self,
+        alloc: Global,
+        wants: &Wants,
+        room: &mut Room,
+    ) -> Result<Option<What>, OutOfMemory>
+        ensures { IfOk result (λ told. IfSome told (IsAllowed wants.now)) }
+    {
+        let Some(up) = &mut self.up else {
+            return Ok(None);
+        };
+        up.flush();
+        let told = heard_up(alloc, wants, self.number, &mut up.peer, room)?;
+        if ends(&told) {
+            self.up = None;
+        }
+        Ok(told)
+    }
+
+    /// Whether so much waits for the server that no more of the request is to be read.
+    fn is_full(&self) -> bool {
+        match &self.up {
+            Some(up) => up.is_full(),
+            None => false,
+        }
+    }
+
+    /// Offers bytes to the client. Those for one that is not there are dropped.
+    pub fn send_down(&mut self, bytes: &[u8]) -> usize
+        ensures { result ≤ length bytes.now }
+    {
+        match &mut self.down {
+            Some(peer) => peer.write(bytes),
+            None => bytes.len(),
+        }
+    }
+
+    /// Sends bytes to the server, which takes them whole. Those for one that is not there are dropped.
+    pub fn send_up(&mut self, alloc: Global, bytes: &[u8]) -> Result<usize, OutOfMemory>
+        ensures { IfOk result (λ n. n ≡ length bytes.now) }
+    {
+        match &mut self.up {
+            Some(up) => up.send(alloc, bytes),
+            None => Ok(bytes.len()),
+        }
+    }
+
+    /// Whether no connection is left, and nothing is to be told of one.
+    pub fn is_over(&self) -> bool {
+        self.down.is_none() && self.up.is_none() && !self.refused
+    }
+}

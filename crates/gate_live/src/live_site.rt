@@ -1,0 +1,216 @@
+// The outside over sockets.
+ghost use Rattle.std.specs.Prelude.{◌≡◌, ◌≤◌, length, IfOk};
+ghost use Rattle.gate_live.specs.Sites.{AreUntouched, IsUntouched};
+
+use crate::LiveWorld;
+use crate::origin::{Acceptor, Neighbor, Origin, join_queue};
+use crate::sockets::{ORIGIN, Sockets};
+use gate_io::{Settings, Site, SiteEnd};
+use mio::net::TcpListener;
+use mio::{Interest, Poll, Waker};
+use std::alloc::Global;
+use std::io;
+use std::net::{Net, SocketAddr};
+use std::random::RandomSource;
+use std::sync::atomic::AtomicU64;
+use std::sync::{Arc, Wait};
+use std::time::Clock;
+
+/// The outside over sockets. It tells nothing of content, but keeps the worlds that it was given back.
+#[derive(Drop)]
+pub struct LiveSite<R> {
+    rt: R,
+    returned: Vec<LiveWorld<R>>,
+    out: usize,
+    faults: u64,
+}
+
+/// Why a site is not started where a call of the system failed.
+fn end_of(e: io::Error) -> SiteEnd {
+    match e.kind() {
+        io::ErrorKind::OutOfMemory => SiteEnd::OutOfMemory,
+        _ => SiteEnd::Failed,
+    }
+}
+
+impl<R> LiveSite<R> {
+    /// The sockets that this handle of the runtime reaches.
+    pub fn new(alloc: Global, rt: R) -> Self {
+        LiveSite {
+            rt,
+            returned: Vec::new(alloc),
+            out: 0,
+            faults: 0,
+        }
+    }
+}
+
+/// The address that a text spells.
+fn address_of(text: &str) -> Result<SocketAddr, SiteEnd> {
+    text.parse::<SocketAddr>().map_err(|_| SiteEnd::Failed)
+}
+
+/// The seed of a world, from the system's random bytes.
+fn seed_of<R: RandomSource>(rt: &R) -> Result<[u8; 32], SiteEnd> {
+    let mut seed = [0; 32];
+    match rt.fill_bytes(&mut seed) {
+        Ok(()) => Ok(seed),
+        Err(_) => Err(SiteEnd::Failed),
+    }
+}
+
+/// A world over a poll, whose lines come from an origin that it watches.
+fn world_of<R: RandomSource + Clone + Drop>(
+    alloc: Global,
+    rt: &R,
+    poll: Poll,
+    origin: Origin,
+    upstream: SocketAddr,
+) -> Result<LiveWorld<R>, SiteEnd>
+    ensures { IfOk result (λ w. IsUntouched w) }
+{
+    let seed = seed_of(rt)?;
+    let sockets = Sockets::new(alloc, poll, origin, upstream)?;
+    let rt = rt.clone()?;
+    Ok(LiveWorld::new(rt, seed, sockets))
+}
+
+/// A poll with its waker.
+fn waking_poll<R: Net>(rt: &R) -> Result<(Poll, Waker), SiteEnd> {
+    let poll = Poll::new(rt).map_err(end_of)?;
+    let waker = Waker::new(poll.registry(), ORIGIN).map_err(end_of)?;
+    Ok((poll, waker))
+}
+
+/// A poll that watches a listener at this address.
+fn listening_poll<R: Net>(rt: &R, listen: SocketAddr) -> Result<(Poll, TcpListener), SiteEnd> {
+    let poll = Poll::new(rt).map_err(end_of)?;
+    let mut listener = TcpListener::bind(rt, listen).map_err(end_of)?;
+    poll.registry()
+        .register(&mut listener, ORIGIN, Interest::READABLE)
+        .map_err(end_of)?;
+    Ok((poll, listener))
+}
+
+/// A world to which lines are handed over, and the queue to it.
+fn other_world<R: Net + RandomSource + Clone + Drop>(
+    alloc: Global,
+    rt: &R,
+    upstream: SocketAddr,
+    ended: &Arc<AtomicU64>,
+) -> Result<(Neighbor, LiveWorld<R>), SiteEnd>
+    ensures { IfOk result (λ w. IsUntouched w.1) }
+{
+    let (poll, waker) = waking_poll(rt)?;
+    let (neighbor, mailbox) = join_queue(alloc, waker, Arc::try_clone(ended)?)?;
+    let world = world_of(alloc, rt, poll, Origin::Mailbox(mailbox), upstream)?;
+    Ok((neighbor, world))
+}
+
+/// The worlds of workers 2 and up, to which lines are handed over.
+fn other_worlds<R: Net + RandomSource + Clone + Drop>(
+    alloc: Global,
+    rt: &R,
+    count: u8,
+    upstream: SocketAddr,
+    ended: &Arc<AtomicU64>,
+    others: &mut Vec<Neighbor>,
+) -> Result<Vec<LiveWorld<R>>, SiteEnd>
+    ensures untouched { IfOk result (λ worlds. AreUntouched worlds.items) }
+    ensures count { IfOk result (λ worlds. length worlds.items ≡ count) }
+{
+    let mut worlds = Vec::new(alloc);
+    for _ in 0..count {
+        let (neighbor, world) = other_world(alloc, rt, upstream, ended)?;
+        others.push(neighbor)?;
+        worlds.push(world)?;
+    }
+    Ok(worlds)
+}
+
+/// The world of worker 1, which listens, and hands lines over to the others.
+fn first_world<R: Net + RandomSource + Clone + Drop>(
+    alloc: Global,
+    rt: &R,
+    settings: &Settings,
+    upstream: SocketAddr,
+    others: Vec<Neighbor>,
+    ended: Arc<AtomicU64>,
+) -> Result<LiveWorld<R>, SiteEnd>
+    ensures { IfOk result (λ w. IsUntouched w) }
+{
+    let listen = address_of(settings.listen.as_str())?;
+    let (poll, listener) = listening_poll(rt, listen)?;
+    let most = settings.stop_after.unwrap_or(u32::MAX);
+    let origin = Origin::Listener(Acceptor::new(listener, most, others, ended));
+    world_of(alloc, rt, poll, origin, upstream)
+}
+
+/// Listens, and makes a world for each worker.
+fn worlds_of<R: Net + RandomSource + Clone + Drop>(
+    alloc: Global,
+    rt: &R,
+    settings: &Settings,
+) -> Result<Vec<LiveWorld<R>>, SiteEnd>
+    ensures untouched { IfOk result (λ worlds. AreUntouched worlds.items) }
+    ensures count { IfOk result (λ worlds. length worlds.items ≡ settings.now.workers) }
+{
+    if settings.workers == 0 {
+        return Err(SiteEnd::Failed);
+    }
+    let count = settings.workers - 1;
+    let upstream = address_of(settings.upstream.as_str())?;
+    let ended = Arc::new(alloc, AtomicU64::new(0))?;
+    let mut others = Vec::new(alloc);
+    let mut worlds = other_worlds(alloc, rt, count, upstream, &ended, &mut others)?;
+    let first = first_world(alloc, rt, settings, upstream, others, ended)?;
+    worlds.insert(0, first)?;
+    Ok(worlds)
+}
+
+impl<R: Net + Clock + Wait + RandomSource + Eprint + Clone + Send + Drop> Site for LiveSite<R> {
+    type W = LiveWorld<R>;
+
+    ghost use Rattle.std.specs.Prelude.{◌≡◌, ◌≤◌, None, length, All, IfOk, OnErr};
+    ghost use Rattle.gate_io.specs.Sites.{IsFresh};
+    ghost use Rattle.gate_io.specs.Told.{Rose};
+    ghost use Rattle.gate_live.specs.Sites.{AreUntouched};
+
+    ghost started = { λ _. None };
+
+    ghost seeds = { λ _. None };
+
+    ghost returned = { λ s. s.returned.items };
+
+    ghost out = { λ s. s.out };
+
+    ghost faults = { λ s. s.faults };
+
+    fn start(&mut self, alloc: Global, settings: &Settings) -> Result<Vec<LiveWorld<R>>, SiteEnd>
+        ensures count { IfOk result (λ worlds. length worlds.items ≡ settings.now.workers) }
+        ensures untouched { IfOk result (λ worlds. AreUntouched worlds.items) }
+        ensures fresh { IfOk result (λ worlds. All (λ w. IsFresh None (record { now = w.now; stopped = w.stopped }) w.faults) worlds.items) }
+        ensures out { IfOk result (λ worlds. self.new.out ≡ length worlds.items) }
+        ensures none_out { OnErr result (self.new.out ≡ self.old.out) }
+        ensures returned { self.new.returned.items ≡ self.old.returned.items }
+        ensures faults { self.old.faults ≤ self.new.faults }
+        ensures failed { result ≡ Err SiteEnd.Failed → Rose self.old.faults self.new.faults }
+    {
+        let answer = worlds_of(alloc, &self.rt, settings);
+        match &answer {
+            Ok(worlds) => self.out = worlds.len(),
+            Err(SiteEnd::Failed) => self.faults = self.faults.saturating_add(1),
+            Err(SiteEnd::OutOfMemory) => {}
+        }
+        answer
+    }
+
+    fn give_back(&mut self, worlds: Vec<LiveWorld<R>>)
+        ensures returned { self.new.returned.items ≡ worlds.items }
+        ensures out { self.new.out ≡ 0 }
+        ensures faults { self.new.faults ≡ self.old.faults }
+    {
+        self.returned = worlds;
+        self.out = 0;
+    }
+}

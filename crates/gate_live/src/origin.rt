@@ -1,0 +1,229 @@
+// Where a worker's lines come from.
+ghost use Rattle.std.specs.Prelude.{◌≡◌};
+ghost use Rattle.std.specs.Arc.{arc_value};
+
+use gate_base::{LineNo, OutOfMemory};
+use handoff::{Giver, Handoff, HasLine, Taker};
+use mio::Waker;
+use mio::net::{TcpListener, TcpStream};
+use std::alloc::Global;
+use std::io;
+use std::sync::atomic::{AtomicU64, Ordering};
+use std::sync::{Arc, Wait};
+
+/// A line that was accepted.
+#[derive(Drop)]
+pub struct Guest {
+    pub number: LineNo,
+    pub stream: TcpStream,
+}
+
+impl HasLine for Guest {
+    ghost line = { λ guest. guest.number };
+}
+
+/// The queue to another worker.
+#[derive(Drop)]
+pub struct Neighbor {
+    queue: Arc<Handoff<Guest>>,
+    giver: Giver<Guest>,
+    waker: Waker,
+    ghost same: { giver.queue ≡ arc_value queue },
+}
+
+/// The queue from the worker that accepts.
+#[derive(Drop)]
+pub struct Mailbox {
+    queue: Arc<Handoff<Guest>>,
+    taker: Taker<Guest>,
+    /// A line may be there to take.
+    ready: bool,
+    /// Not 0 once no line is offered any more.
+    ended: Arc<AtomicU64>,
+    /// All lines were taken that are ever offered.
+    empty: bool,
+    ghost same: { taker.queue ≡ arc_value queue },
+}
+
+/// The listening socket, from which lines go to all workers in turn.
+#[derive(Drop)]
+pub struct Acceptor {
+    listener: TcpListener,
+    ready: bool,
+    /// How many lines were accepted.
+    accepted: u32,
+    /// How many are to be accepted.
+    most: u32,
+    others: Vec<Neighbor>,
+    /// Not 0 once no line is offered any more.
+    ended: Arc<AtomicU64>,
+}
+
+/// Where a worker's lines come from.
+#[derive(Drop)]
+pub enum Origin {
+    Listener(Acceptor),
+    Mailbox(Mailbox),
+}
+
+/// A queue from the worker that accepts to another one, which this waker wakes.
+pub fn join_queue(
+    alloc: Global,
+    waker: Waker,
+    ended: Arc<AtomicU64>,
+) -> Result<(Neighbor, Mailbox), OutOfMemory> {
+    let (queue, giver, taker) = Handoff::new(alloc)?;
+    let queue = Arc::new(alloc, queue)?;
+    let theirs = Arc::try_clone(&queue)?;
+    Ok((
+        Neighbor {
+            queue,
+            giver,
+            waker,
+        },
+        Mailbox {
+            queue: theirs,
+            taker,
+            ready: true,
+            ended,
+            empty: false,
+        },
+    ))
+}
+
+impl Neighbor {
+    /// Hands a line over. One that there is no room for is closed.
+    fn hand<R: Wait>(&mut self, rt: &R, guest: Guest) {
+        if self.queue.offer(rt, &mut self.giver, guest).is_ok() {
+            let _ = self.waker.wake();
+        }
+    }
+}
+
+impl Mailbox {
+    /// A line that was handed over.
+    fn take<R: Wait>(&mut self, rt: &R) -> Option<Guest> {
+        if !self.ready {
+            return None;
+        }
+        // Read first: where it is set, nothing comes behind what the queue holds.
+        let ended = self.ended.load(Ordering::SeqCst) != 0;
+        let guest = self.queue.take(rt, &mut self.taker);
+        if guest.is_none() {
+            self.ready = false;
+            self.empty = ended;
+        }
+        guest
+    }
+}
+
+impl Acceptor {
+    /// Accepts at a listener so many lines, for this worker and the others.
+    pub fn new(
+        listener: TcpListener,
+        most: u32,
+        others: Vec<Neighbor>,
+        ended: Arc<AtomicU64>,
+    ) -> Self {
+        Acceptor {
+            listener,
+            ready: true,
+            accepted: 0,
+            most,
+            others,
+            ended,
+        }
+    }
+
+    /// Whether all lines were accepted.
+    fn is_done(&self) -> bool {
+        self.accepted >= self.most
+    }
+
+    /// Tells the other workers that no line comes any more.
+    fn end(&self) {
+        self.ended.store(1, Ordering::SeqCst);
+        for other in &self.others {
+            let _ = other.waker.wake();
+        }
+    }
+
+    /// The next line of this worker. Those of others that came before it are handed over.
+    fn accept<R: Wait>(&mut self, rt: &R) -> Option<Guest> {
+        for _ in 0..u32::MAX {
+            if !self.ready || self.is_done() {
+                return None;
+            }
+            match self.listener.accept() {
+                Ok((stream, _)) => {
+                    if let Some(guest) = self.place(rt, stream) {
+                        return Some(guest);
+                    }
+                }
+                Err(e) if e.kind() == io::ErrorKind::ConnectionAborted => {}
+                Err(_) => self.ready = false,
+            }
+        }
+        None
+    }
+
+    /// Numbers a line, and hands it over where it is another worker's.
+    fn place<R: Wait>(&mut self, rt: &R, stream: TcpStream) -> Option<Guest> {
+        self.accepted = self.accepted.saturating_add(1);
+        let number = LineNo::new(self.accepted)?;
+        let guest = Guest { number, stream };
+        let place = (number.get() as usize - 1) % (self.others.len().saturating_add(1));
+        let own = place == 0;
+        let own = if own {
+            Some(guest)
+        } else {
+            self.others[place - 1].hand(rt, guest);
+            None
+        };
+        if self.is_done() {
+            self.end();
+        }
+        own
+    }
+}
+
+impl Origin {
+    /// The next line.
+    pub fn next<R: Wait>(&mut self, rt: &R) -> Option<Guest> {
+        match self {
+            Origin::Listener(acceptor) => acceptor.accept(rt),
+            Origin::Mailbox(mailbox) => mailbox.take(rt),
+        }
+    }
+
+    /// There may be a line.
+    pub fn note(&mut self) {
+        match self {
+            Origin::Listener(acceptor) => acceptor.ready = true,
+            Origin::Mailbox(mailbox) => mailbox.ready = true,
+        }
+    }
+
+    /// A descriptor came free.
+    pub fn note_free(&mut self) {
+        if let Origin::Listener(acceptor) = self {
+            acceptor.ready = true;
+        }
+    }
+
+    /// No line is accepted any more, and the other workers are told so.
+    pub fn end(&mut self) {
+        if let Origin::Listener(acceptor) = self {
+            acceptor.most = 0;
+            acceptor.end();
+        }
+    }
+
+    /// Whether no line comes any more.
+    pub fn is_done(&self) -> bool {
+        match self {
+            Origin::Listener(acceptor) => acceptor.is_done(),
+            Origin::Mailbox(mailbox) => mailbox.empty,
+        }
+    }
+}

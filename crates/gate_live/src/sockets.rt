@@ -1,0 +1,417 @@
+// The sockets of one worker.
+ghost use Rattle.std.specs.Prelude.{◌≡◌, ◌<◌, ◌≤◌, length, vec_len, IfOk, IfSome};
+ghost use Rattle.gate_live.specs.Allowed.{IsAllowed};
+
+use crate::line::Line;
+use crate::lingering::{LINGER, Lingering, MOST_LEFT, MOST_LINGERING};
+use crate::origin::{Guest, Origin};
+use crate::peer::Peer;
+use crate::room::Room;
+use crate::upstream::Upstream;
+use crate::waiting::Waiting;
+use gate_base::{LineNo, OutOfMemory};
+use gate_io::{Side, Wants, What, WorldEnd};
+use mio::event::Event as Readiness;
+use mio::net::TcpStream;
+use mio::{Events, Poll, Registry, Token};
+use std::alloc::Global;
+use std::net::{Net, SocketAddr};
+use std::sync::Wait;
+use std::time::{Clock, Duration};
+
+/// The token of what lines come from. Those of lines begin at 2.
+pub const ORIGIN: Token = Token(0);
+
+/// The tokens of closed connections to servers begin here, above those of all lines.
+const CLOSED: usize = 1_099_511_627_776;
+
+/// So many events are given before the system is asked what else there is.
+const TURNS: u32 = 64;
+
+/// The sockets of one worker.
+#[derive(Drop)]
+pub struct Sockets {
+    poll: Poll,
+    events: Events,
+    origin: Origin,
+    upstream: SocketAddr,
+    lines: Vec<Line>,
+    lingering: Vec<Lingering>,
+    room: Room,
+    /// The place of the line that is heard next.
+    next: usize,
+    /// How many events are given before the system is asked again.
+    turns: u32,
+    /// How many connections to servers lingered so far, modulo 2^32.
+    closed: u32,
+}
+
+/// The token of a side of a line.
+fn token_of(line: LineNo, side: Side) -> Token {
+    let low = match side {
+        Side::Down => 0,
+        Side::Up => 1,
+    };
+    Token(line.get() as usize * 2 + low)
+}
+
+/// The side of a token.
+fn side_of(token: Token) -> Side {
+    if token.0 % 2 == 0 {
+        Side::Down
+    } else {
+        Side::Up
+    }
+}
+
+/// The moment, in nanoseconds since 1970.
+pub fn moment<R: Clock>(rt: &R) -> Result<u64, WorldEnd> {
+    match rt.since_1970() {
+        Ok(since) => Ok(u64::try_from(since.as_nanos()).unwrap_or(u64::MAX)),
+        Err(_) => Err(WorldEnd::Failed),
+    }
+}
+
+/// The place of a line.
+fn place_of(lines: &[Line], number: LineNo) -> Option<usize>
+    ensures { IfSome result (λ i. i < length lines.now) }
+{
+    lines.iter().position(|line| line.number == number)
+}
+
+impl Sockets {
+    /// The sockets over a poll, with lines from an origin that it watches, which send to this upstream server.
+    pub fn new(
+        alloc: Global,
+        poll: Poll,
+        origin: Origin,
+        upstream: SocketAddr,
+    ) -> Result<Sockets, OutOfMemory> {
+        Ok(Sockets {
+            poll,
+            events: Events::with_capacity(alloc, 256)?,
+            origin,
+            upstream,
+            lines: Vec::new(alloc),
+            lingering: Vec::new(alloc),
+            room: Room::new(alloc)?,
+            next: 0,
+            turns: 0,
+            closed: 0,
+        })
+    }
+
+    /// Waits until something happens that the worker wants or has to know.
+    pub fn wait<R: Clock + Wait>(
+        &mut self,
+        alloc: Global,
+        rt: &R,
+        wants: &Wants,
+    ) -> Result<What, WorldEnd>
+        ensures { IfOk result (IsAllowed wants.now) }
+    {
+        if self.turns == 0 {
+            self.look(rt, Some(Duration::ZERO))?;
+        }
+        // No run waits so often.
+        for _ in 0..u64::MAX {
+            if let Some(what) = self.heard(alloc, rt, wants)? {
+                self.turns = self.turns.saturating_sub(1);
+                return Ok(what);
+            }
+            if self.is_done() {
+                return Ok(What::Stop);
+            }
+            if self.look_until(rt, wants.due)? {
+                return Ok(What::Clock);
+            }
+        }
+        Err(WorldEnd::Failed)
+    }
+
+    /// Whether nothing more comes.
+    fn is_done(&self) -> bool {
+        self.origin.is_done() && self.lines.is_empty() && self.lingering.is_empty()
+    }
+
+    /// Waits for the system, at most until this moment. True where it has come.
+    fn look_until<R: Clock>(&mut self, rt: &R, due: Option<u64>) -> Result<bool, WorldEnd> {
+        let until = self.lingering.first().map(|client| client.until);
+        let first = match (due, until) {
+            (Some(a), Some(b)) => Some(a.min(b)),
+            (a, None) => a,
+            (None, b) => b,
+        };
+        let Some(first) = first else {
+            self.look(rt, None)?;
+            return Ok(false);
+        };
+        let now = moment(rt)?;
+        self.drop_lingering(now);
+        if let Some(due) = due {
+            if due <= now {
+                return Ok(true);
+            }
+        }
+        self.look(rt, Some(Duration::from_nanos(first.saturating_sub(now))))?;
+        Ok(false)
+    }
+
+    /// Lets those go that lingered for long enough.
+    fn drop_lingering(&mut self, now: u64) {
+        self.lingering.retain(|client| now < client.until);
+    }
+
+    /// Asks the system what is ready.
+    fn look<R: Clock>(&mut self, _rt: &R, timeout: Option<Duration>) -> Result<(), WorldEnd> {
+        self.turns = TURNS;
+        if self.poll.poll(&mut self.events, timeout).is_err() {
+            return Err(WorldEnd::Failed);
+        }
+        for event in &self.events {
+            if event.token() == ORIGIN {
+                self.origin.note();
+            } else {
+                note(&mut self.lines, &mut self.lingering, event);
+            }
+        }
+        self.drain();
+        Ok(())
+    }
+
+    /// Goes on with what lingers, and lets that go which is over.
+    fn drain(&mut self) {
+        let room = &mut self.room;
+        self.lingering.retain_mut(|closed| closed.goes_on(room));
+    }
+
+    /// What is heard next, from one line after the other.
+    fn heard<R: Wait>(
+        &mut self,
+        alloc: Global,
+        rt: &R,
+        wants: &Wants,
+    ) -> Result<Option<What>, OutOfMemory>
+        ensures { IfOk result (λ told. IfSome told (IsAllowed wants.now)) }
+    {
+        if let Some(line) = self.arrive(rt) {
+            return Ok(Some(What::Opened { line }));
+        }
+        let count = self.lines.len();
+        for _ in 0..count {
+            if let Some(what) = self.heard_next(alloc, wants)? {
+                return Ok(Some(what));
+            }
+        }
+        Ok(None)
+    }
+
+    /// What is heard of the next line.
+    fn heard_next(&mut self, alloc: Global, wants: &Wants) -> Result<Option<What>, OutOfMemory>
+        ensures { IfOk result (λ told. IfSome told (IsAllowed wants.now)) }
+    {
+        if self.next >= self.lines.len() {
+            self.next = 0;
+        }
+        let at = self.next;
+        if at >= self.lines.len() {
+            return Ok(None);
+        }
+        self.next = at + 1;
+        let told = self.lines[at].heard(alloc, wants, &mut self.room)?;
+        self.forget(at);
+        Ok(told)
+    }
+
+    /// The number of a line that comes. One that can't be kept is closed.
+    fn arrive<R: Wait>(&mut self, rt: &R) -> Option<LineNo> {
+        for _ in 0..u32::MAX {
+            let Guest { number, stream } = self.origin.next(rt)?;
+            if self.begin(number, stream) {
+                return Some(number);
+            }
+        }
+        None
+    }
+
+    /// Keeps a line. False says that it was closed.
+    fn begin(&mut self, number: LineNo, stream: TcpStream) -> bool {
+        let token = token_of(number, Side::Down);
+        let Ok(down) = Peer::new(stream, self.poll.registry(), token, false) else {
+            return false;
+        };
+        let line = Line {
+            number,
+            down: Some(down),
+            up: None,
+            refused: false,
+        };
+        self.lines.push(line).is_ok()
+    }
+
+    /// Begins the upstream connection of a line.
+    pub fn connect<R: Net>(&mut self, alloc: Global, rt: &R, number: LineNo) {
+        if let Some(at) = place_of(&self.lines, number) {
+            let peer = connected(rt, self.poll.registry(), self.upstream, number);
+            let line = &mut self.lines[at];
+            line.refused = peer.is_none();
+            line.up = peer.map(|peer| Upstream::new(alloc, peer));
+        }
+    }
+
+    /// Offers bytes to a peer. Those for a peer that is not there are dropped, and a server takes them whole.
+    pub fn send(
+        &mut self,
+        alloc: Global,
+        number: LineNo,
+        side: Side,
+        bytes: &[u8],
+    ) -> Result<usize, OutOfMemory>
+        ensures bound { IfOk result (λ n. n ≤ length bytes.now) }
+        ensures whole { side ≡ Side.Up → IfOk result (λ n. n ≡ length bytes.now) }
+    {
+        let Some(at) = place_of(&self.lines, number) else {
+            return Ok(bytes.len());
+        };
+        match side {
+            Side::Down => Ok(self.lines[at].send_down(bytes)),
+            Side::Up => self.lines[at].send_up(alloc, bytes),
+        }
+    }
+
+    /// Lets a line go of which no connection is left: one whose client is gone is not closed by the worker.
+    fn forget(&mut self, at: usize) {
+        if at < self.lines.len() && self.lines[at].is_over() {
+            let line = self.lines.remove(at);
+            drop(line);
+            // A descriptor came free.
+            self.origin.note_free();
+        }
+    }
+
+    /// Closes a connection, of which nothing more is told. What waits for it is sent on.
+    pub fn close<R: Clock>(&mut self, alloc: Global, rt: &R, number: LineNo, side: Side) {
+        let Some(at) = place_of(&self.lines, number) else {
+            return;
+        };
+        match side {
+            Side::Down => self.close_down(alloc, rt, at),
+            Side::Up => self.close_up(rt, at),
+        }
+    }
+
+    /// Closes the connection to the client of the line at a place, and forgets the line.
+    fn close_down<R: Clock>(&mut self, alloc: Global, rt: &R, at: usize)
+        requires { at < vec_len self.old.lines }
+    {
+        let Line {
+            number,
+            down,
+            up: _,
+            refused: _,
+        } = self.lines.remove(at);
+        if let Some(peer) = down {
+            if !peer.is_ended() && !peer.is_broken() {
+                peer.finish();
+                self.linger(rt, token_of(number, Side::Down), peer, Waiting::new(alloc));
+            }
+        }
+        // A descriptor came free.
+        self.origin.note_free();
+    }
+
+    /// Closes the connection to the server of the line at a place.
+    fn close_up<R: Clock>(&mut self, rt: &R, at: usize)
+        requires { at < vec_len self.old.lines }
+    {
+        let line = &mut self.lines[at];
+        line.refused = false;
+        let up = line.up.take();
+        if let Some(Upstream { peer, waiting }) = up {
+            if !waiting.is_empty() && waiting.len() <= MOST_LEFT && !peer.is_broken() {
+                self.send_on(rt, peer, waiting);
+            }
+        }
+        self.forget(at);
+    }
+
+    /// Sends on what waits for a server whose connection is closed, under a token of its own.
+    fn send_on<R: Clock>(&mut self, rt: &R, peer: Peer, waiting: Waiting) {
+        let token = Token(CLOSED + self.closed as usize);
+        self.closed = self.closed.wrapping_add(1);
+        let mut peer = peer;
+        if peer.move_to(self.poll.registry(), token) {
+            self.linger(rt, token, peer, waiting);
+        }
+    }
+
+    /// Lets a connection linger. Where too many do, the first of them is dropped.
+    fn linger<R: Clock>(&mut self, rt: &R, token: Token, peer: Peer, waiting: Waiting) {
+        let Ok(now) = moment(rt) else {
+            return;
+        };
+        let mut closed = Lingering {
+            token,
+            peer,
+            waiting,
+            until: now.saturating_add(LINGER),
+        };
+        if closed.goes_on(&mut self.room) {
+            if self.lingering.len() >= MOST_LINGERING {
+                self.lingering.remove(0);
+            }
+            let _ = self.lingering.push(closed);
+        }
+    }
+
+    /// No line comes any more, and the other workers are told so.
+    pub fn end(&mut self) {
+        self.origin.end();
+    }
+}
+
+/// Keeps what the system told of a connection.
+fn note(lines: &mut [Line], lingering: &mut [Lingering], event: &Readiness) {
+    let token = event.token();
+    let side = side_of(token);
+    for line in lines.iter_mut() {
+        if token_of(line.number, side) == token {
+            match side {
+                Side::Down => note_down(line, event),
+                Side::Up => note_up(line, event),
+            }
+            return;
+        }
+    }
+    for closed in lingering.iter_mut() {
+        if closed.token == token {
+            closed.peer.note(event);
+            return;
+        }
+    }
+}
+
+/// Keeps what the system told of the connection to a client.
+fn note_down(line: &mut Line, event: &Readiness) {
+    if let Some(peer) = &mut line.down {
+        peer.note(event);
+    }
+}
+
+/// Keeps what the system told of the connection to a server.
+fn note_up(line: &mut Line, event: &Readiness) {
+    if let Some(up) = &mut line.up {
+        up.note(event);
+    }
+}
+
+/// An upstream connection that is begun.
+fn connected<R: Net>(
+    rt: &R,
+    registry: &Registry,
+    upstream: SocketAddr,
+    number: LineNo,
+) -> Option<Peer> {
+    let stream = TcpStream::connect(rt, upstream).ok()?;
+    Peer::new(stream, registry, token_of(number, Side::Up), true).ok()
+}
