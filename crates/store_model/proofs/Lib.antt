@@ -7,3 +7,4 @@ pub mod May
 pub mod StoreLimits
 pub mod Refusals
 pub mod Bounds
+pub mod Metrics

@@ -5,6 +5,7 @@ pub mod Store
 pub mod Parts
 pub mod History
 pub mod Metrics
+pub mod MetricNames
 pub mod Made
 pub mod Replies
 pub mod MetricReplies
@@ -17,3 +18,5 @@ pub mod Bounds
 pub mod KeyLaws
 pub mod QueueLaws
 pub mod StoreLaws
+pub mod MetricRows
+pub mod MetricLaws

@@ -1,5 +1,5 @@
 -- The metrics of one VM name, as all workers see them, and what a worker's ask makes of them.
-use Rattle.std.specs.Prelude.{ℕ, zero, suc, ◌+◌, ◌-◌, ◌%◌, ◌^◌, ◌&&◌, Bool, true, false, List, [], ◌∷◌, ◌++◌, length, replicate, sum_by, position, slice_get, slice_index_or, slice_set, Option, Some, None, nat_lt, if◌then◌else◌, ℤ, pos, negsuc}
+use Rattle.std.specs.Prelude.{ℕ, zero, suc, ◌+◌, ◌-◌, ◌%◌, ◌^◌, ◌&&◌, Bool, true, false, List, [], ◌∷◌, ◌++◌, length, replicate, sum_by, position, is_some, slice_get, slice_index_or, slice_set, Option, Some, None, nat_lt, if◌then◌else◌, ℤ, pos, negsuc}
 use Rattle.std.specs.Int.{w64, cast_unsigned}
 use Rattle.std.specs.Str.{bytes_eq}
 use Rattle.store_model.specs.declared.metric.Share.{Share}
@@ -44,6 +44,9 @@ is_named kind name m = is_kind kind m.kind && bytes_eq name m.name
 abbrev pub no_metric : Metric
 no_metric = new_metric Counter []
 
+abbrev pub metric_in : List Metric → ℕ → Metric
+metric_in ms k = slice_index_or ms k no_metric
+
 -- the metrics after an ask, and the reply
 pub record MetricAnswer : Type 0 where
   pub metrics : List Metric
@@ -51,18 +54,18 @@ pub record MetricAnswer : Type 0 where
 
 -- Define: the place from 1 of the metric that there is, or of a new one; from here on the worker knows this id.
 abbrev pub defined : List Metric → ℕ → MetricKind → List ℕ → Option ℕ → MetricAnswer
-defined ms who kind name (Some k) = record { metrics = slice_set ms k (known_to who (slice_index_or ms k no_metric)); reply = Id (k + 1) }
+defined ms who kind name (Some k) = record { metrics = slice_set ms k (known_to who (metric_in ms k)); reply = Id (k + 1) }
 defined ms who kind name None =
     if nat_lt (length ms) MOST_METRICS then record { metrics = ms ++ known_to who (new_metric kind name) ∷ []; reply = Id (length ms + 1) } else record { metrics = ms; reply = Full }
 
--- the metric of an id, where this worker knows it
-abbrev pub where_known : ℕ → Option Metric → Option Metric
-where_known who (Some m) = if (share_of m who).knows then Some m else None
-where_known who None = None
+-- the place of the metric of an id, where this worker knows it
+abbrev pub where_known : ℕ → ℕ → Option Metric → Option ℕ
+where_known who k (Some m) = if (share_of m who).knows then Some k else None
+where_known who k None = None
 
-abbrev pub known_metric : List Metric → ℕ → ℕ → Option Metric
-known_metric ms who zero = None
-known_metric ms who (suc k) = where_known who (slice_get ms k)
+abbrev pub known_place : List Metric → ℕ → ℕ → Option ℕ
+known_place ms who zero = None
+known_place ms who (suc k) = where_known who k (slice_get ms k)
 
 -- so much more on a counter's word, up to 2^64 - 1
 abbrev pub raised : ℕ → ℕ → ℕ
@@ -103,23 +106,29 @@ word_reply kind word (Put id value) = put_reply kind word value
 word_reply kind word _ = Unknown
 
 -- Add and Put change the caller's own word of a metric that it knows.
-abbrev pub counted : List Metric → ℕ → ℕ → MetricAsk → Option Metric → MetricAnswer
-counted ms who id ask (Some m) =
+abbrev pub counted : List Metric → ℕ → MetricAsk → Option ℕ → MetricAnswer
+counted ms who ask (Some k) =
+    let m = metric_in ms k in
     let word = (share_of m who).word in
-    record { metrics = slice_set ms (id - 1) (with_word m who (word_after m.kind word ask)); reply = word_reply m.kind word ask }
-counted ms who id ask None = record { metrics = ms; reply = Unknown }
+    record { metrics = slice_set ms k (with_word m who (word_after m.kind word ask)); reply = word_reply m.kind word ask }
+counted ms who ask None = record { metrics = ms; reply = Unknown }
 
 -- Sum: of all workers' words, modulo 2^64
 abbrev pub total : Metric → ℕ
 total m = sum_by (λ s. s.word) m.shares % 2 ^ 64
 
-abbrev pub sum_reply : Option Metric → MetricReply
-sum_reply (Some m) = Total (total m)
-sum_reply None = Unknown
+abbrev pub sum_reply : List Metric → Option ℕ → MetricReply
+sum_reply ms (Some k) = Total (total (metric_in ms k))
+sum_reply ms None = Unknown
 
 -- What a worker's ask makes of the metrics of a VM name.
 abbrev pub applied_ask : List Metric → ℕ → MetricAsk → MetricAnswer
 applied_ask ms who (Define kind name) = defined ms who kind name (position (is_named kind name) ms)
-applied_ask ms who (Add id by) = counted ms who id (Add id by) (known_metric ms who id)
-applied_ask ms who (Put id value) = counted ms who id (Put id value) (known_metric ms who id)
-applied_ask ms who (Sum id) = record { metrics = ms; reply = sum_reply (known_metric ms who id) }
+applied_ask ms who (Add id by) = counted ms who (Add id by) (known_place ms who id)
+applied_ask ms who (Put id value) = counted ms who (Put id value) (known_place ms who id)
+applied_ask ms who (Sum id) = record { metrics = ms; reply = sum_reply ms (known_place ms who id) }
+
+-- Add, Put and Sum take no memory, nor does a Define of a metric that is there.
+abbrev pub ask_takes_no_memory : MetricAsk → List Metric → Bool
+ask_takes_no_memory (Define kind name) ms = is_some (position (is_named kind name) ms)
+ask_takes_no_memory _ ms = true

@@ -14,6 +14,14 @@ ghost use Rattle.store_model.specs.Rows.{compare_and_set, set_of_no_key, empty_v
 ghost use Rattle.store_model.specs.Sequential.{Stores, Performs, played, store_at};
 ghost use Rattle.store_model.specs.Store.{Store, Answer, applied};
 ghost use Rattle.store_model.specs.StoreLaws.{IsInLimits, IsRefusal, MayBeFull, PassesLimit, name_of};
+ghost use Rattle.store_model.specs.MetricLaws.{AskEntry, IsRefusedAsk, as_metric_reply, names_of, rise_in_all, word_of};
+ghost use Rattle.store_model.specs.MetricNames.{define_after, define_reply, defining, definition_in};
+ghost use Rattle.store_model.specs.MetricRows.{counter_and_gauge, counters_end, gauges_wrap, sixty_four_metrics, unknown_ids};
+ghost use Rattle.store_model.specs.Metrics.{applied_ask};
+ghost use Rattle.store_model.specs.declared.metric.Metric.{Metric};
+ghost use Rattle.store_model.specs.declared.metric.MetricAsk.{MetricAsk};
+ghost use Rattle.store_model.specs.declared.metric.MetricKind.{MetricKind};
+ghost use Rattle.store_model.specs.declared.metric.MetricKind.TheVariants.{Counter};
 ghost use Rattle.store_model.specs.declared.call.Call.{Call};
 ghost use Rattle.store_model.specs.declared.entry.Entry.{Entry};
 
@@ -115,4 +123,30 @@ pub fn ids_are_stable()
     ensures resolved { (s : Store) (h : List Entry) (who later id : ℕ) (name : List ℕ) → (applied s who (Call.Resolve name)).reply ≡ Reply.Id id →
         (applied (value_from store_acts s h) later (Call.Resolve name)).reply ≡ Reply.Id id }
     ensures named { (s : Store) (h : List Entry) (id : ℕ) (name : List ℕ) → name_of s.queues id ≡ Some name → name_of (value_from store_acts s h).queues id ≡ Some name }
+{}
+
+/// Worked examples: the answers to some asks of metrics, and each of their bounds from both sides.
+pub fn worked_metrics()
+    ensures counter_and_gauge { counter_and_gauge }
+    ensures unknown_ids { unknown_ids }
+    ensures sixty_four_metrics { sixty_four_metrics }
+    ensures counters_end { counters_end }
+    ensures gauges_wrap { gauges_wrap }
+{}
+
+/// A Define is answered as the names answer the call that defines this kind and name, and leaves the names that such a call leaves.
+pub fn definitions_are_calls()
+    ensures { (ms : List Metric) (who : ℕ) (kind : MetricKind) (name : List ℕ) →
+        ((applied_ask ms who (MetricAsk.Define kind name)).reply ≡ as_metric_reply (define_reply (names_of ms) (definition_in (defining kind name))))
+        × (names_of (applied_ask ms who (MetricAsk.Define kind name)).metrics ≡ define_after (names_of ms) (definition_in (defining kind name))) }
+{}
+
+/// A worker's word of a counter is the sum of all that its Adds and Puts that were done came to.
+pub fn counters_are_sums()
+    ensures { (id : ℕ) (asks : List AskEntry) → word_of Counter id asks ≡ rise_in_all id asks }
+{}
+
+/// An ask that is answered Unknown, BadKind or Full changes nothing.
+pub fn refused_asks_change_nothing()
+    ensures { (ms : List Metric) (who : ℕ) (ask : MetricAsk) → IsRefusedAsk (applied_ask ms who ask).reply → (applied_ask ms who ask).metrics ≡ ms }
 {}

@@ -10,6 +10,13 @@ pub enum MetricKind {
     Gauge,
 }
 
+/// What a metric is: a kind and a name.
+#[derive(Debug, Drop)]
+pub struct MetricName {
+    pub kind: MetricKind,
+    pub name: Octets,
+}
+
 /// What one worker has of a metric.
 #[derive(Clone, Copy, Debug, PartialEq, Eq)]
 pub struct Share {
