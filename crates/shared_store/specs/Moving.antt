@@ -1,5 +1,5 @@
 -- What calls on the shared stores come to, over a worker's seats.
-use Rattle.std.proofs.Common.{◌≡◌, ◌==◌, ℕ, zero, suc, ◌<◌, List, [], ◌∷◌, ◌++◌, map, length, set, refl, ap, sym, subst, ◌∙◌, arith, append_assoc}
+use Rattle.std.proofs.Common.{◌≡◌, ◌==◌, false, ℕ, zero, suc, ◌<◌, List, [], ◌∷◌, ◌++◌, map, length, set, refl, ap, sym, subst, ◌∙◌, arith, append_assoc}
 use Rattle.std.specs.List.{filter}
 use Rattle.std.proofs.lemmas.List.{append-nil}
 use Rattle.std.proofs.lemmas.List.Elements.{filter-append}
@@ -8,7 +8,9 @@ use mathlib.Core.Option.{some, some-injective}
 use lib.ListN.{get_elem?}
 use Rattle.store_model.specs.declared.entry.Entry.{Entry}
 use Rattle.store_model.specs.History.{entry, own, IsLegal}
-use Rattle.store_model.specs.Made.{Made, MadeCall, called, measured, calls_among, entries_on}
+use Rattle.store_model.specs.Made.{Made, MadeCall, called, measured, made_ask, calls_among, entries_on}
+use Rattle.store_model.specs.declared.metric.MetricAsk.{MetricAsk}
+use Rattle.store_model.specs.declared.metric.MetricReply.TheVariants.{NotBuilt}
 use Rattle.turn_table.specs.Seats.{Seated, IsSameSeat}
 use Rattle.turn_table.proofs.Prefixes.{prefix_self, prefix_trans}
 use Rattle.turn_table.proofs.Places.{at_below}
@@ -71,6 +73,10 @@ goes_further vm u v w a b p q = let n : v.number ≡ u.number = ap (λ (s : Seat
 -- where nothing is called, the seats may stay as they are
 pub seats_nothing : (s : List Seated) → SeatsGoOn s [] s
 seats_nothing s = record { as_many = refl; each = λ k v w p q. subst (λ x. GoesOn k v x []) (some-injective v w (sym p ∙ q)) (goes_nowhere k v) }
+
+-- the same where metrics were asked for, and there are none
+pub seats_unmeasured : (s : List Seated) (vm : ℕ) (ask : MetricAsk) → false ≡ false → SeatsGoOn s (made_ask vm ask NotBuilt ∷ []) s
+seats_unmeasured s vm ask same = record { as_many = refl; each = λ k v w p q. subst (λ x. GoesOn k v x []) (some-injective v w (sym p ∙ q)) (goes_nowhere k v) }
 
 -- calls, and then others, are those calls and the others
 pub seats_joined : (s t u : List Seated) (a b : List Made) → SeatsGoOn s a t → SeatsGoOn t b u → SeatsGoOn s (a ++ b) u

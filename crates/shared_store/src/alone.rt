@@ -1,4 +1,4 @@
-// The stores of workers that take turns in one thread.
+// The stores and metrics of workers that take turns in one thread.
 ghost use Rattle.std.specs.Prelude.{◌≡◌, ◌<◌, ◌≤◌, ◌/◌, length, IfOk};
 ghost use Rattle.store_model.specs.QueueLaws.{items_of};
 ghost use Rattle.store_model.specs.Queues.{item_count_of};
@@ -6,17 +6,17 @@ ghost use Rattle.store_model.specs.Sequential.{store_at};
 ghost use Rattle.shared_store.specs.Fresh.{fresh_metrics, fresh_stores};
 
 use crate::Store;
-use crate::metrics::Metrics;
 use gate_base::{OutOfMemory, QueueId, VmNo, WorkerNo};
+use shared_metrics::Metrics;
 use shared_queues::OctetsList;
 use std::alloc::Global;
 use std::marker::Model;
-use store_model::{Call, Reply, Shared};
+use store_model::{Call, MetricAsk, MetricReply, Reply, Shared};
 
 #[cfg(test)]
 mod tests;
 
-/// One store per VM name, and the worker whose calls they take. Clauses see `Stores` of `store_model`.
+/// One store and the metrics of each VM name, and the worker whose calls and asks they take. Clauses see `Stores` of `store_model`.
 #[derive(Drop)]
 pub struct Alone {
     who: WorkerNo,
@@ -25,15 +25,18 @@ pub struct Alone {
 }
 
 impl Model for Alone {
+    ghost use Rattle.std.specs.Prelude.{◌≡◌, length};
     ghost use Rattle.store_model.specs.Sequential.{Stores};
 
     ghost Value = { Stores };
 
     ghost view = { λ s. record { who = s.who; stores = s.stores.items; metrics = s.metrics.items } };
+
+    ghost invariant = { λ s. length s.metrics.items ≡ length s.stores.items };
 }
 
 impl Alone {
-    /// So many empty stores, and worker 1.
+    /// So many empty stores with no metrics, and worker 1.
     #[tactic(auto, using(crate::specs::Fresh::fresh_rules))]
     pub fn new(alloc: Global, vms: u8) -> Result<Self, OutOfMemory>
         requires { vms ≤ 16 }
@@ -54,7 +57,7 @@ impl Alone {
         })
     }
 
-    /// Makes the next calls under this worker's number. It takes no memory.
+    /// Makes the next calls and asks under this worker's number. It takes no memory.
     pub fn as_worker(&mut self, who: WorkerNo)
         ensures { self.new ≡ record self.old { who = who } }
     {
@@ -99,6 +102,15 @@ impl Shared for Alone {
 
     fn has_metrics(&self) -> bool {
         true
+    }
+
+    fn metric(
+        &mut self,
+        alloc: Global,
+        vm: VmNo,
+        ask: &MetricAsk,
+    ) -> Result<MetricReply, OutOfMemory> {
+        self.metrics[vm.get() as usize].apply(alloc, self.who, ask)
     }
 
     ghost nothing = { performs_nothing };

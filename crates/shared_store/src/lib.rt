@@ -7,7 +7,6 @@ mod asks;
 mod closed;
 mod law;
 mod lists;
-mod metrics;
 mod seats;
 mod store;
 mod tables;

@@ -85,10 +85,10 @@ impl<'a, R: Wait, G: Gate> StoreSeat<'a, R, G> {
 
 impl<'a, R: Wait, G: Gate> Shared for StoreSeat<'a, R, G> {
     ghost use Rattle.std.specs.Prelude.{length};
-    ghost use Rattle.std.specs.Prelude.{true};
-    ghost use Rattle.shared_store.specs.Moving.{SeatsGoOn, seats_nothing, seats_joined};
+    ghost use Rattle.std.specs.Prelude.{false};
+    ghost use Rattle.shared_store.specs.Moving.{SeatsGoOn, seats_nothing, seats_joined, seats_unmeasured};
 
-    ghost measures = { true };
+    ghost measures = { false };
 
     ghost stores = { length };
 
@@ -99,12 +99,12 @@ impl<'a, R: Wait, G: Gate> Shared for StoreSeat<'a, R, G> {
     }
 
     fn has_metrics(&self) -> bool {
-        true
+        false
     }
 
     ghost nothing = { seats_nothing };
 
     ghost joined = { seats_joined };
 
-    ghost not_built = { λ s vm ask none. Prim.cc };
+    ghost not_built = { seats_unmeasured };
 }
