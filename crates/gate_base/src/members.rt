@@ -99,33 +99,3 @@ impl<M> Members<M> {
         self.items.as_slice()
     }
 }
-
-#[cfg(test)]
-mod tests {
-    use super::*;
-    use std::test::Fail;
-
-    #[test]
-    fn members_are_kept_in_order(rt: HostRuntime) -> Result<(), Fail> {
-        let alloc = rt.alloc();
-        let mut lines: LineList = Members::new(alloc);
-        assert!(rt; lines.is_empty());
-        for n in [3u32, 1, 2] {
-            lines.push(LineNo::new(n).ok_or("a line")?)?;
-        }
-        assert_eq!(rt; lines.len(), 3);
-        assert_eq!(rt; lines.get(0).get(), 3);
-        assert_eq!(rt; lines.pop().map(|l| l.get()), Some(2));
-        assert_eq!(rt; lines.as_slice().len(), 2);
-        let mut pairs: Pairs = Members::new(alloc);
-        pairs.push((
-            Octets::from_slice(alloc, b"a")?,
-            Octets::from_slice(alloc, b"b")?,
-        ))?;
-        assert_eq!(rt; pairs.len(), 1);
-        assert_eq!(rt; pairs.get(0).1.as_slice(), b"b".as_slice());
-        assert!(rt; pairs.pop().is_some());
-        assert!(rt; pairs.pop().is_none());
-        Ok(())
-    }
-}

@@ -186,28 +186,3 @@ impl QueueId {
         self.number
     }
 }
-
-#[cfg(test)]
-mod tests {
-    use super::*;
-
-    #[test]
-    fn numbers_have_their_ranges(rt: HostRuntime) {
-        // Each type's bounds, from both sides.
-        assert_eq!(rt; WorkerNo::new(0), None);
-        assert_eq!(rt; WorkerNo::new(1).map(|w| w.get()), Some(1));
-        assert_eq!(rt; WorkerNo::new(8).map(|w| w.get()), Some(8));
-        assert_eq!(rt; WorkerNo::new(9), None);
-        assert_eq!(rt; VmNo::new(0).map(|v| v.get()), Some(0));
-        assert_eq!(rt; VmNo::new(15).map(|v| v.get()), Some(15));
-        assert_eq!(rt; VmNo::new(16), None);
-        assert_eq!(rt; LineNo::new(0), None);
-        assert_eq!(rt; LineNo::new(1).map(|l| l.get()), Some(1));
-        assert_eq!(rt;
-            LineNo::new(4_294_967_295).map(|l| l.get()),
-            Some(4_294_967_295)
-        );
-        assert_eq!(rt; ContextId::new(7).get(), 7);
-        assert_eq!(rt; QueueId::new(16_777_217).get(), 16_777_217);
-    }
-}

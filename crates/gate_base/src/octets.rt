@@ -104,28 +104,3 @@ impl Octets {
         Octets::from_slice(alloc, self.bytes.as_slice())
     }
 }
-
-#[cfg(test)]
-mod tests {
-    use super::*;
-    use std::test::Fail;
-
-    #[test]
-    fn bytes_are_kept_in_order(rt: HostRuntime) -> Result<(), Fail> {
-        let alloc = rt.alloc();
-        let mut bytes = Octets::from_slice(alloc, b"ab")?;
-        bytes.push(b'c')?;
-        bytes.extend_from_slice(b"de")?;
-        assert_eq!(rt; bytes.as_slice(), b"abcde".as_slice());
-        assert_eq!(rt; bytes.len(), 5);
-        let copy = bytes.copy(alloc)?;
-        bytes.clear();
-        assert!(rt; bytes.is_empty());
-        assert_eq!(rt;
-            Octets::from_vec(copy.into_vec()).as_slice(),
-            b"abcde".as_slice()
-        );
-        assert!(rt; Octets::new(alloc).is_empty());
-        Ok(())
-    }
-}

@@ -43,17 +43,3 @@ impl Text {
         Text::of(alloc, self.text.as_str())
     }
 }
-
-#[cfg(test)]
-mod tests {
-    use super::*;
-    use std::test::Fail;
-
-    #[test]
-    fn text_is_kept(rt: HostRuntime) -> Result<(), Fail> {
-        let text = Text::of(rt.alloc(), "wasmgate \u{e9}")?;
-        assert_eq!(rt; text.as_str(), "wasmgate \u{e9}");
-        assert_eq!(rt; text.copy(rt.alloc())?.as_str(), "wasmgate \u{e9}");
-        Ok(())
-    }
-}

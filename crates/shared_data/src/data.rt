@@ -13,18 +13,15 @@ use std::collections::BTreeMap;
 use std::marker::Model;
 use store_model::{Call, MOST_BYTES, MOST_NUMBER, Reply, Used};
 
-#[cfg(test)]
-mod tests;
-
 /// What is kept under a key.
-#[derive(Debug, Drop)]
+#[derive(Drop)]
 struct Kept {
     value: Octets,
     number: u32,
 }
 
 /// What is found under a key: its number, and how many bytes its value has.
-#[derive(Clone, Copy, Debug)]
+#[derive(Clone, Copy)]
 struct Found {
     number: u32,
     value_len: u64,

@@ -14,9 +14,6 @@ use std::collections::{BTreeMap, VecDeque};
 use std::marker::Model;
 use store_model::{Call, MOST_BYTES, MOST_ITEMS, Reply, Used};
 
-#[cfg(test)]
-mod tests;
-
 /// A list of pieces of bytes.
 pub type OctetsList = Members<Octets>;
 

@@ -39,30 +39,3 @@ impl Used {
         self.names <= MOST_NAMES - other.names && self.bytes <= MOST_BYTES - other.bytes
     }
 }
-
-#[cfg(test)]
-mod tests {
-    use super::*;
-
-    #[test]
-    fn two_parts_fit_up_to_the_limits(rt: HostRuntime) {
-        let rows = [
-            (1, 65_535, 0, 0, true),
-            (1, 65_536, 0, 0, false),
-            (0, 0, 1, 67_108_863, true),
-            (0, 0, 1, 67_108_864, false),
-            (65_536, 0, 67_108_864, 0, true),
-        ];
-        for (names, other_names, bytes, other_bytes, want) in rows.iter() {
-            let part = Used {
-                names: *names,
-                bytes: *bytes,
-            };
-            let other = Used {
-                names: u64::min(*other_names, MOST_NAMES),
-                bytes: u64::min(*other_bytes, MOST_BYTES),
-            };
-            assert_eq!(rt; part.fits_beside(other), *want);
-        }
-    }
-}
