@@ -1,0 +1,87 @@
+-- The calls on streams, and the local response. What they ask for comes after the callback has returned.
+use Rattle.std.specs.Prelude.{ℕ, ◌==◌, ◌||◌, Bool, true, nat_lt, List, [], ◌∷◌, length, Option, None, Some, Result, Ok, Err, if◌then◌else◌}
+use Rattle.body_buffers.specs.Bodies.{body_limit}
+use Rattle.header_maps.specs.Headers.{Headers}
+use Rattle.header_maps.specs.Faults.{set_fault}
+use Rattle.header_maps.specs.Operations.{all_set}
+use Rattle.header_maps.specs.Pairs.{Pair}
+use Rattle.header_maps.specs.declared.kind.ListKind.TheVariants.{Plain}
+use Rattle.pair_codec.specs.Reading.{pairs_in}
+use Rattle.contexts.specs.declared.parts.ExchangeView.{ExchangeView}
+use Rattle.contexts.specs.declared.parts.What.{What}
+use Rattle.contexts.specs.declared.parts.What.TheVariants as what
+use Rattle.contexts.specs.declared.parts.Contexts.{Contexts}
+use Rattle.contexts.specs.Reached.{Seen, Changes, no_changes, seen, put}
+use Rattle.abi_model.specs.Calls.{Made, Own, answers, changing}
+use Rattle.abi_model.specs.Table.{arg}
+use Rattle.abi_maps.specs.Maps.{unless}
+
+-- one more effect of the effective context
+abbrev pub effect_of : What → Seen → Changes
+effect_of w s = record no_changes { effects = record { context = s.common.effective; what = w } ∷ [] }
+
+abbrev pub on_stream : ℕ → What → Seen → Option ExchangeView → Made
+on_stream n w s None = answers 2
+on_stream n w s (Some v) = if nat_lt 1 n then answers 12 else changing (effect_of w s)
+
+-- the streams 0 and 1 are the request and the response; 2 and 3 are of TCP connections
+abbrev pub continuing : ℕ → Seen → Made
+continuing n s = if nat_lt 3 n then answers 2 else on_stream n (what.Continue (n == 1)) s s.reach.exchange
+
+abbrev pub closing : ℕ → Seen → Made
+closing n s = if nat_lt 3 n then answers 2 else on_stream n what.Close s s.reach.exchange
+
+-- ---- a local response
+
+-- an answer was asked for or given, or it is too late for one
+abbrev pub is_too_late : ExchangeView → Bool
+is_too_late v = v.is_answering || (v.is_answered || (v.has_ended || v.is_head_out))
+
+abbrev pub no_fields : Headers
+no_fields = record { kind = Plain; pairs = [] }
+
+abbrev pub fields_by : Option (List Pair) → Result Headers ℕ
+fields_by None = Err 4
+fields_by (Some pairs) = unless (set_fault Plain pairs) (all_set Plain pairs)
+
+-- the fields, none of which is a pseudo-header, or the status why there are none
+abbrev pub fields_from : List ℕ → Result Headers ℕ
+fields_from bytes = fields_by (pairs_in bytes)
+
+-- the effect, and the mark that an answer was asked for
+abbrev pub answer_changes : (status : ℕ) → Headers → List ℕ → ExchangeView → Seen → Changes
+answer_changes status fields body v s = record (effect_of (what.Answer status fields body) s) { exchange = Some (record v { is_answering = true }) }
+
+-- the same of the contexts, where there is an exchange
+abbrev pub asked_by : (status : ℕ) → Headers → List ℕ → Option ExchangeView → (vm : ℕ) → Contexts → Contexts
+asked_by status fields body None vm h = put (effect_of (what.Answer status fields body) (seen h vm)) vm h
+asked_by status fields body (Some v) vm h = put (answer_changes status fields body v (seen h vm)) vm h
+
+abbrev pub asked_with : (status : ℕ) → Headers → List ℕ → (vm : ℕ) → Contexts → Contexts
+asked_with status fields body vm h = asked_by status fields body (seen h vm).reach.exchange vm h
+
+abbrev pub answering_with : (status : ℕ) → List ℕ → Result Headers ℕ → ExchangeView → Seen → Made
+answering_with status body (Err n) v s = answers n
+answering_with status body (Ok fields) v s =
+    if nat_lt body_limit (length body) then answers 10
+    else changing (answer_changes status fields body v s)
+
+abbrev pub answering_in : (status : ℕ) → (body headers : List ℕ) → Option ExchangeView → Seen → Made
+answering_in status body headers None s = answers 2
+answering_in status body headers (Some v) s = if is_too_late v then answers 2 else answering_with status body (fields_from headers) v s
+
+abbrev pub answering : (status : ℕ) → (body headers : List ℕ) → Seen → Made
+answering status body headers s =
+    if nat_lt status 200 || nat_lt 599 status then answers 2 else answering_in status body headers s.reach.exchange s
+
+-- ---- the calls
+
+abbrev pub own_continue_stream : Own
+own_continue_stream args inputs s = continuing (arg args 0) s
+
+abbrev pub own_close_stream : Own
+own_close_stream args inputs s = closing (arg args 0) s
+
+-- the first bytes, its details, are not used
+abbrev pub own_send_local_response : Own
+own_send_local_response args inputs s = answering (arg args 0) inputs.second inputs.third s

@@ -1,0 +1,412 @@
+// The calls on buffers.
+ghost use Rattle.std.specs.Prelude.{◌≡◌, ◌≤◌, ◌<◌, ◌^◌, ◌+◌, ◌++◌, length, IfOk, IfSome, OnOk, OnErr, option_copied};
+ghost use Rattle.abi_types.specs.GuestAt.{Keeps, StillWaits};
+ghost use Rattle.contexts.specs.Reached.{seen, put};
+ghost use Rattle.abi_model.specs.Calls.{does, told, Ends, RestsAfterCall, AreShort};
+ghost use Rattle.abi_model.specs.Table.{Are, row_of};
+ghost use Rattle.abi_model.specs.declared.table.HostCall.TheVariants as call;
+ghost use Rattle.body_buffers.specs.Bodies.{spliced as spliced_of, body_limit};
+ghost use Rattle.std.specs.Option.{option_map};
+ghost use Rattle.abi_maps.specs.Buffers.{staged as staged_of, body_at as body_at_of, configuration_at as configuration_at_of, held_at, has_end_at, part_read, no_longer, length_of, getting_bytes, getting_status, held_after, setting_bytes, own_get_buffer_bytes, own_get_buffer_status, own_set_buffer_bytes};
+
+use crate::reached::{plugin, vm_configuration};
+use abi_model::{
+    Gives, HostCall, HostEnd, Inputs, LocalCall, Outcome, Param, answer, call_row, given,
+    local_call,
+};
+use abi_types::Guest;
+use body_buffers::Body;
+use contexts::{Contexts, Stage};
+use gate_base::{Octets, OutOfMemory, VmNo};
+use std::alloc::{AllocError, Global};
+
+/// How many bytes a buffer may have.
+const BODY_LIMIT: usize = 1_048_576;
+
+/// The bytes of a stage, where its buffer is there.
+fn staged(stage: &Stage) -> Option<&Body>
+    ensures { option_copied result ≡ staged_of stage.now }
+{
+    if stage.is_there() {
+        Some(&stage.held)
+    } else {
+        None
+    }
+}
+
+/// The stage's buffer of a number, 0 or 1, where it is there.
+fn body_at(contexts: &Contexts, vm: VmNo, number: u64) -> Option<&Body>
+    requires { vm < length contexts.now.vms }
+    ensures { option_copied result ≡ body_at_of number (seen contexts.now vm).reach.own }
+{
+    let Some(own) = contexts.own(vm) else {
+        return None;
+    };
+    if number == 0 {
+        staged(&own.request)
+    } else {
+        staged(&own.response)
+    }
+}
+
+/// The configuration of a number, where it is there.
+fn configuration_at(contexts: &Contexts, vm: VmNo, number: u64) -> Option<&[u8]>
+    requires { vm < length contexts.now.vms }
+    ensures bytes { option_copied result ≡ configuration_at_of number (seen contexts.now vm).reach }
+    ensures short { IfSome result (λ held. length held.now ≤ 65536) }
+{
+    match number {
+        6 => match contexts.own(vm) {
+            Some(_) => Some(vm_configuration(contexts, vm)),
+            None => None,
+        },
+        7 => match plugin(contexts, vm) {
+            Some(p) => Some(p.configuration.as_slice()),
+            None => None,
+        },
+        _ => None,
+    }
+}
+
+/// Whether the end of the body came with what the buffer of a number holds.
+fn has_end(contexts: &Contexts, vm: VmNo, number: u64) -> bool
+    requires { vm < length contexts.now.vms }
+    ensures { result ≡ has_end_at number (seen contexts.now vm).reach }
+{
+    match (number, contexts.own(vm)) {
+        (0, Some(own)) => own.request.has_end,
+        (1, Some(own)) => own.response.has_end,
+        _ => false,
+    }
+}
+
+/// A part of a body.
+fn read_body(alloc: Global, body: &Body, start: u64, most: u64) -> Result<Outcome, OutOfMemory>
+    ensures made { IfOk result (λ o. o ≡ part_read start most body.now) }
+    ensures short { IfOk result (λ o. AreShort o.gives) }
+{
+    let _len = body.len();
+    let start = start as usize;
+    if start > body.len() {
+        return Ok(answer(2));
+    }
+    let bytes = body.read(alloc, start, most as usize)?;
+    prove!(bytes.len() <= BODY_LIMIT);
+    Ok(given(Gives::Bytes { bytes }))
+}
+
+/// A part of a configuration.
+fn read_slice(alloc: Global, held: &[u8], start: u64, most: u64) -> Result<Outcome, OutOfMemory>
+    requires { most < 2 ^ 32 }
+    ensures made { IfOk result (λ o. o ≡ part_read start most held.now) }
+    ensures short { IfOk result (λ o. AreShort o.gives) }
+{
+    let start = start as usize;
+    if start > held.len() {
+        return Ok(answer(2));
+    }
+    let many = (most as usize).min(held.len() - start);
+    let bytes = Octets::from_slice(alloc, &held[start..start + many])?;
+    Ok(given(Gives::Bytes { bytes }))
+}
+
+/// A part of a buffer.
+fn get_bytes(
+    alloc: Global,
+    contexts: &Contexts,
+    vm: VmNo,
+    number: u64,
+    start: u64,
+    most: u64,
+) -> Result<Outcome, OutOfMemory>
+    requires vm { vm < length contexts.now.vms }
+    requires most { most < 2 ^ 32 }
+    ensures made { IfOk result (λ o. o ≡ getting_bytes number start most (seen contexts.now vm)) }
+    ensures short { IfOk result (λ o. AreShort o.gives) }
+{
+    if number > 8 {
+        return Ok(answer(2));
+    }
+    if number > 1 {
+        return match configuration_at(contexts, vm, number) {
+            Some(held) => read_slice(alloc, held, start, most),
+            None => Ok(answer(1)),
+        };
+    }
+    match body_at(contexts, vm, number) {
+        Some(body) => read_body(alloc, body, start, most),
+        None => Ok(answer(1)),
+    }
+}
+
+/// How many bytes the buffer of a number holds, where it is there.
+fn size_of(contexts: &Contexts, vm: VmNo, number: u64) -> Option<u32>
+    requires { vm < length contexts.now.vms }
+    ensures { result ≡ option_map length_of (held_at number (seen contexts.now vm).reach) }
+{
+    if number > 1 {
+        match configuration_at(contexts, vm, number) {
+            Some(held) => Some(held.len() as u32),
+            None => None,
+        }
+    } else {
+        match body_at(contexts, vm, number) {
+            Some(body) => Some(body.len() as u32),
+            None => None,
+        }
+    }
+}
+
+/// The size of a buffer, and whether the end is with it.
+fn get_status(contexts: &Contexts, vm: VmNo, number: u64) -> Outcome
+    requires vm { vm < length contexts.now.vms }
+    ensures made { result ≡ getting_status number (seen contexts.now vm) }
+    ensures short { AreShort result.gives }
+{
+    if number > 8 {
+        return answer(2);
+    }
+    match size_of(contexts, vm, number) {
+        None => answer(1),
+        Some(first) => given(Gives::Numbers {
+            first,
+            second: has_end(contexts, vm, number) as u32,
+        }),
+    }
+}
+
+/// Puts a piece at the end of a body that has room for it.
+fn put_behind(body: &mut Body, piece: &[u8]) -> Result<(), OutOfMemory>
+    requires { length body.old + length piece.now ≤ body_limit }
+    ensures { OnOk result (body.new ≡ body.old ++ piece.now) }
+{
+    match body.push(piece) {
+        Ok(()) => Ok(()),
+        Err(_) => Err(AllocError),
+    }
+}
+
+/// Pieces as one body; they have no more bytes than one may have.
+fn joined(alloc: Global, front: &[u8], bytes: &[u8], back: &[u8]) -> Result<Body, OutOfMemory>
+    requires { length front.now + length bytes.now + length back.now ≤ body_limit }
+    ensures { IfOk result (λ b. b ≡ front.now ++ (bytes.now ++ back.now)) }
+{
+    let mut body = Body::new(alloc);
+    put_behind(&mut body, front)?;
+    put_behind(&mut body, bytes)?;
+    put_behind(&mut body, back)?;
+    Ok(body)
+}
+
+/// What a body becomes, or the status why it does not.
+fn spliced(
+    alloc: Global,
+    body: &Body,
+    start: u64,
+    size: u64,
+    bytes: &[u8],
+) -> Result<Result<Body, u32>, OutOfMemory>
+    ensures { IfOk result (λ r. r ≡ no_longer (spliced_of body.now start size bytes.now)) }
+{
+    let from = (start as usize).min(body.len());
+    let cut = (size as usize).min(body.len() - from);
+    if bytes.len() > BODY_LIMIT - (body.len() - cut) {
+        return Ok(Err(10));
+    }
+    let front = body.read(alloc, 0, from)?;
+    let back = body.read(alloc, from + cut, body.len())?;
+    Ok(Ok(joined(alloc, front.as_slice(), bytes, back.as_slice())?))
+}
+
+/// What a buffer becomes, or the status why it does not.
+fn held_with(
+    alloc: Global,
+    contexts: &Contexts,
+    vm: VmNo,
+    number: u64,
+    start: u64,
+    size: u64,
+    bytes: &[u8],
+) -> Result<Result<Body, u32>, OutOfMemory>
+    requires { vm < length contexts.now.vms }
+    ensures { IfOk result (λ r. r ≡ held_after number start size bytes.now (seen contexts.now vm).reach) }
+{
+    if number > 8 || number == 6 || number == 7 {
+        return Ok(Err(2));
+    }
+    if number > 1 {
+        return Ok(Err(1));
+    }
+    match body_at(contexts, vm, number) {
+        Some(body) => spliced(alloc, body, start, size, bytes),
+        None => Ok(Err(1)),
+    }
+}
+
+/// Puts bytes in place of some of a buffer.
+fn set_bytes(
+    alloc: Global,
+    contexts: &mut Contexts,
+    vm: VmNo,
+    number: u64,
+    start: u64,
+    size: u64,
+    bytes: &[u8],
+) -> Result<Outcome, OutOfMemory>
+    requires { vm < length contexts.old.vms }
+    ensures made { IfOk result (λ o. o ≡ told (setting_bytes number start size bytes.now (seen contexts.old vm))) }
+    ensures short { IfOk result (λ o. AreShort o.gives) }
+    ensures changes { IfOk result (λ _. contexts.new ≡ put (setting_bytes number start size bytes.now (seen contexts.old vm)).changes vm contexts.old) }
+    ensures err { OnErr result (contexts.new ≡ contexts.old) }
+{
+    match held_with(alloc, contexts, vm, number, start, size, bytes)? {
+        Err(status) => Ok(answer(status)),
+        Ok(held) => {
+            if let Some(own) = contexts.own_mut(vm) {
+                if number == 0 {
+                    own.request.held = held;
+                } else {
+                    own.response.held = held;
+                }
+            }
+            Ok(answer(0))
+        }
+    }
+}
+
+/// Gives a part of a buffer.
+struct GetBufferBytes;
+
+impl LocalCall for GetBufferBytes {
+    ghost params = { λ _. row_of call.GetBufferBytes };
+
+    ghost own = { λ _. own_get_buffer_bytes };
+
+    fn parameters(&self) -> &'static [Param] {
+        call_row(HostCall::GetBufferBytes)
+    }
+
+    fn make(
+        &self,
+        alloc: Global,
+        contexts: &mut Contexts,
+        vm: VmNo,
+        args: &[u64],
+        inputs: &Inputs,
+    ) -> Result<Outcome, OutOfMemory> {
+        let outcome = get_bytes(alloc, contexts, vm, args[0], args[1], args[2])?;
+        Ok(outcome)
+    }
+}
+
+/// Gives the bytes of a buffer from `start` on, at most `max` of them. 2: no such buffer, or `start` is past its end; 1: it is
+/// not there.
+pub fn proxy_get_buffer_bytes<G: Guest>(
+    alloc: Global,
+    guest: &mut G,
+    contexts: &mut Contexts,
+    vm: VmNo,
+    args: &[u64],
+) -> HostEnd
+    requires rests { G.rests guest.old }
+    requires vm { vm < length contexts.old.vms }
+    requires args { Are (row_of call.GetBufferBytes) 0 args.now }
+    ensures ends { Ends (does 6 (row_of call.GetBufferBytes) own_get_buffer_bytes args.now (G.at guest.old) (seen contexts.old vm)) vm contexts.old result (G.at guest.new) contexts.new }
+    ensures rests { RestsAfterCall result (StillWaits (G.rests guest.new) (G.at guest.old) (G.at guest.new)) }
+    ensures keeps { Keeps (G.at guest.old) (G.at guest.new) }
+{
+    local_call(alloc, &GetBufferBytes, 6, guest, contexts, vm, args)
+}
+
+/// Gives the size of a buffer.
+struct GetBufferStatus;
+
+impl LocalCall for GetBufferStatus {
+    ghost params = { λ _. row_of call.GetBufferStatus };
+
+    ghost own = { λ _. own_get_buffer_status };
+
+    fn parameters(&self) -> &'static [Param] {
+        call_row(HostCall::GetBufferStatus)
+    }
+
+    fn make(
+        &self,
+        alloc: Global,
+        contexts: &mut Contexts,
+        vm: VmNo,
+        args: &[u64],
+        inputs: &Inputs,
+    ) -> Result<Outcome, OutOfMemory> {
+        Ok(get_status(contexts, vm, args[0]))
+    }
+}
+
+/// Gives the size of a buffer, and 1 where the end of the body is with it, else 0. 2: no such buffer; 1: it is not there.
+pub fn proxy_get_buffer_status<G: Guest>(
+    alloc: Global,
+    guest: &mut G,
+    contexts: &mut Contexts,
+    vm: VmNo,
+    args: &[u64],
+) -> HostEnd
+    requires rests { G.rests guest.old }
+    requires vm { vm < length contexts.old.vms }
+    requires args { Are (row_of call.GetBufferStatus) 0 args.now }
+    ensures ends { Ends (does 6 (row_of call.GetBufferStatus) own_get_buffer_status args.now (G.at guest.old) (seen contexts.old vm)) vm contexts.old result (G.at guest.new) contexts.new }
+    ensures rests { RestsAfterCall result (StillWaits (G.rests guest.new) (G.at guest.old) (G.at guest.new)) }
+    ensures keeps { Keeps (G.at guest.old) (G.at guest.new) }
+{
+    local_call(alloc, &GetBufferStatus, 6, guest, contexts, vm, args)
+}
+
+/// Puts bytes in place of some of a buffer.
+struct SetBufferBytes;
+
+impl LocalCall for SetBufferBytes {
+    ghost params = { λ _. row_of call.SetBufferBytes };
+
+    ghost own = { λ _. own_set_buffer_bytes };
+
+    fn parameters(&self) -> &'static [Param] {
+        call_row(HostCall::SetBufferBytes)
+    }
+
+    fn make(
+        &self,
+        alloc: Global,
+        contexts: &mut Contexts,
+        vm: VmNo,
+        args: &[u64],
+        inputs: &Inputs,
+    ) -> Result<Outcome, OutOfMemory> {
+        set_bytes(
+            alloc,
+            contexts,
+            vm,
+            args[0],
+            args[1],
+            args[2],
+            inputs.first.as_slice(),
+        )
+    }
+}
+
+/// Puts bytes in place of `size` bytes of a buffer from `start` on. 2: no such buffer, or one that is read alone; 1: it is not
+/// there; 10: it would have more than 1,048,576 bytes.
+pub fn proxy_set_buffer_bytes<G: Guest>(
+    alloc: Global,
+    guest: &mut G,
+    contexts: &mut Contexts,
+    vm: VmNo,
+    args: &[u64],
+) -> HostEnd
+    requires rests { G.rests guest.old }
+    requires vm { vm < length contexts.old.vms }
+    requires args { Are (row_of call.SetBufferBytes) 0 args.now }
+    ensures ends { Ends (does 6 (row_of call.SetBufferBytes) own_set_buffer_bytes args.now (G.at guest.old) (seen contexts.old vm)) vm contexts.old result (G.at guest.new) contexts.new }
+    ensures rests { RestsAfterCall result (StillWaits (G.rests guest.new) (G.at guest.old) (G.at guest.new)) }
+    ensures keeps { Keeps (G.at guest.old) (G.at guest.new) }
+{
+    local_call(alloc, &SetBufferBytes, 6, guest, contexts, vm, args)
+}

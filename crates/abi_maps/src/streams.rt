@@ -1,0 +1,291 @@
+// The calls on streams, and the local response.
+ghost use Rattle.std.specs.Prelude.{◌≡◌, ◌≤◌, ◌<◌, length, true, Some, IfOk, OnOk, OnErr};
+ghost use Rattle.abi_types.specs.GuestAt.{Keeps, StillWaits};
+ghost use Rattle.contexts.specs.Reached.{seen, put};
+ghost use Rattle.abi_model.specs.Calls.{does, told, Ends, RestsAfterCall, AreShort};
+ghost use Rattle.abi_model.specs.Table.{Are, row_of};
+ghost use Rattle.abi_model.specs.declared.table.HostCall.TheVariants as call;
+ghost use Rattle.std.specs.List.{list_all};
+ghost use Rattle.header_maps.specs.Kept.{byte_limit, is_short};
+ghost use Rattle.abi_maps.specs.Streams.{is_too_late as is_too_late_of, fields_by, fields_from as fields_from_of, asked_with, continuing, closing, answering, own_continue_stream, own_close_stream, own_send_local_response};
+
+use abi_model::{
+    HostCall, HostEnd, Inputs, LocalCall, Outcome, Param, answer, call_row, local_call,
+};
+use abi_types::Guest;
+use contexts::{Contexts, ExchangeView, What};
+use gate_base::{Octets, OutOfMemory, Pairs, VmNo};
+use header_maps::{HeaderEnd, HeaderList, ListKind};
+use pair_codec::{PairsEnd, read_pairs};
+use std::alloc::{AllocError, Global};
+
+/// How many bytes the body of a local response may have.
+const BODY_LIMIT: usize = 1_048_576;
+
+/// Asks that a stream goes on.
+fn continue_stream(contexts: &mut Contexts, vm: VmNo, stream: u64) -> Result<Outcome, OutOfMemory>
+    requires { vm < length contexts.old.vms }
+    ensures made { IfOk result (λ o. o ≡ told (continuing stream (seen contexts.old vm))) }
+    ensures short { IfOk result (λ o. AreShort o.gives) }
+    ensures changes { IfOk result (λ _. contexts.new ≡ put (continuing stream (seen contexts.old vm)).changes vm contexts.old) }
+    ensures err { OnErr result (contexts.new ≡ contexts.old) }
+{
+    if stream > 3 || contexts.exchange(vm).is_none() {
+        return Ok(answer(2));
+    }
+    if stream > 1 {
+        return Ok(answer(12));
+    }
+    contexts.push_effect(
+        vm,
+        What::Continue {
+            is_response: stream == 1,
+        },
+    )?;
+    Ok(answer(0))
+}
+
+/// Asks that both connections are closed.
+fn close_stream(contexts: &mut Contexts, vm: VmNo, stream: u64) -> Result<Outcome, OutOfMemory>
+    requires { vm < length contexts.old.vms }
+    ensures made { IfOk result (λ o. o ≡ told (closing stream (seen contexts.old vm))) }
+    ensures short { IfOk result (λ o. AreShort o.gives) }
+    ensures changes { IfOk result (λ _. contexts.new ≡ put (closing stream (seen contexts.old vm)).changes vm contexts.old) }
+    ensures err { OnErr result (contexts.new ≡ contexts.old) }
+{
+    if stream > 3 || contexts.exchange(vm).is_none() {
+        return Ok(answer(2));
+    }
+    if stream > 1 {
+        return Ok(answer(12));
+    }
+    contexts.push_effect(vm, What::Close)?;
+    Ok(answer(0))
+}
+
+/// The fields of pairs, or the status why there are none.
+fn fields_of(alloc: Global, pairs: &Pairs) -> Result<Result<HeaderList, u32>, OutOfMemory>
+    requires { list_all is_short pairs.now ≡ true }
+    ensures { IfOk result (λ r. r ≡ fields_by (Some pairs.now)) }
+{
+    match HeaderList::of(alloc, ListKind::Plain, pairs) {
+        Ok(list) => Ok(Ok(list)),
+        Err(HeaderEnd::BadName | HeaderEnd::BadValue) => Ok(Err(2)),
+        Err(HeaderEnd::TooMany) => Ok(Err(10)),
+        Err(HeaderEnd::OutOfMemory) => Err(AllocError),
+    }
+}
+
+/// The fields of a serialised form, or the status why there are none.
+fn fields_from(alloc: Global, bytes: &[u8]) -> Result<Result<HeaderList, u32>, OutOfMemory>
+    requires { length bytes.now ≤ byte_limit }
+    ensures { IfOk result (λ r. r ≡ fields_from_of bytes.now) }
+{
+    match read_pairs(alloc, bytes) {
+        Err(PairsEnd::NotPairs) => Ok(Err(4)),
+        Err(PairsEnd::OutOfMemory) => Err(AllocError),
+        Ok(pairs) => fields_of(alloc, &pairs),
+    }
+}
+
+/// Whether an answer was asked for or given, or it is too late for one.
+fn is_too_late(exchange: &ExchangeView) -> bool
+    ensures { result ≡ is_too_late_of exchange.now }
+{
+    exchange.is_answering || exchange.is_answered || exchange.has_ended || exchange.is_head_out
+}
+
+/// Asks for an answer.
+fn answer_with(
+    contexts: &mut Contexts,
+    vm: VmNo,
+    status: u16,
+    fields: HeaderList,
+    body: Octets,
+) -> Result<(), OutOfMemory>
+    requires { vm < length contexts.old.vms }
+    ensures ok { OnOk result (contexts.new ≡ asked_with status fields body vm contexts.old) }
+    ensures err { OnErr result (contexts.new ≡ contexts.old) }
+{
+    contexts.push_effect(
+        vm,
+        What::Answer {
+            status,
+            fields,
+            body,
+        },
+    )?;
+    if let Some(exchange) = contexts.exchange_mut(vm) {
+        exchange.is_answering = true;
+    }
+    Ok(())
+}
+
+/// Asks for a local response.
+fn send_response(
+    alloc: Global,
+    contexts: &mut Contexts,
+    vm: VmNo,
+    status: u64,
+    body: &[u8],
+    headers: &[u8],
+) -> Result<Outcome, OutOfMemory>
+    requires vm { vm < length contexts.old.vms }
+    requires headers { length headers.now ≤ byte_limit }
+    ensures made { IfOk result (λ o. o ≡ told (answering status body.now headers.now (seen contexts.old vm))) }
+    ensures short { IfOk result (λ o. AreShort o.gives) }
+    ensures changes { IfOk result (λ _. contexts.new ≡ put (answering status body.now headers.now (seen contexts.old vm)).changes vm contexts.old) }
+    ensures err { OnErr result (contexts.new ≡ contexts.old) }
+{
+    if !(200..=599).contains(&status) {
+        return Ok(answer(2));
+    }
+    match contexts.exchange(vm) {
+        None => return Ok(answer(2)),
+        Some(exchange) => {
+            if is_too_late(exchange) {
+                return Ok(answer(2));
+            }
+        }
+    }
+    let fields = match fields_from(alloc, headers)? {
+        Ok(fields) => fields,
+        Err(n) => return Ok(answer(n)),
+    };
+    if body.len() > BODY_LIMIT {
+        return Ok(answer(10));
+    }
+    let body = Octets::from_slice(alloc, body)?;
+    answer_with(contexts, vm, status as u16, fields, body)?;
+    Ok(answer(0))
+}
+
+/// Lets a stream go on.
+struct ContinueStream;
+
+impl LocalCall for ContinueStream {
+    ghost params = { λ _. row_of call.ContinueStream };
+
+    ghost own = { λ _. own_continue_stream };
+
+    fn parameters(&self) -> &'static [Param] {
+        call_row(HostCall::ContinueStream)
+    }
+
+    fn make(
+        &self,
+        alloc: Global,
+        contexts: &mut Contexts,
+        vm: VmNo,
+        args: &[u64],
+        inputs: &Inputs,
+    ) -> Result<Outcome, OutOfMemory> {
+        continue_stream(contexts, vm, args[0])
+    }
+}
+
+/// Lets a stream go on when the callback has returned. 2: no such stream, or no stream context; 12: a stream of TCP.
+pub fn proxy_continue_stream<G: Guest>(
+    alloc: Global,
+    guest: &mut G,
+    contexts: &mut Contexts,
+    vm: VmNo,
+    args: &[u64],
+) -> HostEnd
+    requires rests { G.rests guest.old }
+    requires vm { vm < length contexts.old.vms }
+    requires args { Are (row_of call.ContinueStream) 0 args.now }
+    ensures ends { Ends (does 6 (row_of call.ContinueStream) own_continue_stream args.now (G.at guest.old) (seen contexts.old vm)) vm contexts.old result (G.at guest.new) contexts.new }
+    ensures rests { RestsAfterCall result (StillWaits (G.rests guest.new) (G.at guest.old) (G.at guest.new)) }
+    ensures keeps { Keeps (G.at guest.old) (G.at guest.new) }
+{
+    local_call(alloc, &ContinueStream, 6, guest, contexts, vm, args)
+}
+
+/// Closes the connections.
+struct CloseStream;
+
+impl LocalCall for CloseStream {
+    ghost params = { λ _. row_of call.CloseStream };
+
+    ghost own = { λ _. own_close_stream };
+
+    fn parameters(&self) -> &'static [Param] {
+        call_row(HostCall::CloseStream)
+    }
+
+    fn make(
+        &self,
+        alloc: Global,
+        contexts: &mut Contexts,
+        vm: VmNo,
+        args: &[u64],
+        inputs: &Inputs,
+    ) -> Result<Outcome, OutOfMemory> {
+        close_stream(contexts, vm, args[0])
+    }
+}
+
+/// Closes both connections when the callback has returned. Its statuses are those of continuing.
+pub fn proxy_close_stream<G: Guest>(
+    alloc: Global,
+    guest: &mut G,
+    contexts: &mut Contexts,
+    vm: VmNo,
+    args: &[u64],
+) -> HostEnd
+    requires rests { G.rests guest.old }
+    requires vm { vm < length contexts.old.vms }
+    requires args { Are (row_of call.CloseStream) 0 args.now }
+    ensures ends { Ends (does 6 (row_of call.CloseStream) own_close_stream args.now (G.at guest.old) (seen contexts.old vm)) vm contexts.old result (G.at guest.new) contexts.new }
+    ensures rests { RestsAfterCall result (StillWaits (G.rests guest.new) (G.at guest.old) (G.at guest.new)) }
+    ensures keeps { Keeps (G.at guest.old) (G.at guest.new) }
+{
+    local_call(alloc, &CloseStream, 6, guest, contexts, vm, args)
+}
+
+/// Answers the exchange.
+struct SendLocalResponse;
+
+impl LocalCall for SendLocalResponse {
+    ghost params = { λ _. row_of call.SendLocalResponse };
+
+    ghost own = { λ _. own_send_local_response };
+
+    fn parameters(&self) -> &'static [Param] {
+        call_row(HostCall::SendLocalResponse)
+    }
+
+    fn make(
+        &self,
+        alloc: Global,
+        contexts: &mut Contexts,
+        vm: VmNo,
+        args: &[u64],
+        inputs: &Inputs,
+    ) -> Result<Outcome, OutOfMemory> {
+        let body = inputs.second.as_slice();
+        let headers = inputs.third.as_slice();
+        send_response(alloc, contexts, vm, args[0], body, headers)
+    }
+}
+
+/// Answers the exchange when the callback has returned. 2: the status is not one from 200 to 599, it is no stream context, or its
+/// exchange was answered, has ended or has its response head out; 4: the fields are no pairs; 2: a name, each of a pseudo-header
+/// included, or a value is bad; 10: too many fields, or the body has more than 1,048,576 bytes.
+pub fn proxy_send_local_response<G: Guest>(
+    alloc: Global,
+    guest: &mut G,
+    contexts: &mut Contexts,
+    vm: VmNo,
+    args: &[u64],
+) -> HostEnd
+    requires rests { G.rests guest.old }
+    requires vm { vm < length contexts.old.vms }
+    requires args { Are (row_of call.SendLocalResponse) 0 args.now }
+    ensures ends { Ends (does 6 (row_of call.SendLocalResponse) own_send_local_response args.now (G.at guest.old) (seen contexts.old vm)) vm contexts.old result (G.at guest.new) contexts.new }
+    ensures rests { RestsAfterCall result (StillWaits (G.rests guest.new) (G.at guest.old) (G.at guest.new)) }
+    ensures keeps { Keeps (G.at guest.old) (G.at guest.new) }
+{
+    local_call(alloc, &SendLocalResponse, 6, guest, contexts, vm, args)
+}
