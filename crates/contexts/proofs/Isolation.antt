@@ -1,5 +1,5 @@
 -- The laws of what a call sees and changes.
-use Rattle.std.proofs.Common.{◌≡◌, ◌<◌, ℕ, zero, suc, ◌==◌, Bool, true, false, cond, List, [], ◌∷◌, ◌++◌, length, map, Option, None, Some, refl, sym, ap, ◌∙◌, subst, length-set, get_or-set_same, get_or-set_other}
+use Rattle.std.proofs.Common.{◌≡◌, ◌<◌, ℕ, zero, suc, List, [], ◌∷◌, length, map, Option, None, Some, refl, sym, ap, ◌∙◌, length-set, get_or-set_same, get_or-set_other}
 use Rattle.std.specs.Prelude.{slice_get, slice_set, slice_index_or}
 use Rattle.std.specs.Option.{option_map}
 use Rattle.contexts.specs.declared.parts.Own.{Own}
@@ -9,10 +9,10 @@ use Rattle.contexts.specs.declared.parts.ExchangeView.{ExchangeView}
 use Rattle.contexts.specs.declared.parts.Exchange.{Exchange}
 use Rattle.contexts.specs.declared.parts.VmContexts.{VmContexts}
 use Rattle.contexts.specs.declared.parts.Contexts.{Contexts}
-use Rattle.contexts.specs.Keyed.{found, changed}
-use Rattle.contexts.specs.Reached.{Common, Reach, Seen, Changes, common_of, reach_by, seen_of, no_vm, vm_in, context_no, context_in, exchange_at, view_at, view_in, viewed_by, tick_in, with_own, with_tick, with_view, or_old, changed_by, contexts_after, exchanges_by, exchanges_after, vm_after, put_of, fitted, seen_after}
-use Rattle.contexts.specs.Isolation.{PutIsSeen, IsIsolated, Stays, AllElseStays, MapsAreShared}
-use Rattle.contexts.proofs.Keyed.{at_number, found_changed, found_same, found_other, kept, kept_found}
+use Rattle.contexts.specs.Keyed.{found}
+use Rattle.contexts.specs.Reached.{Reach, Changes, common_of, reach_by, seen_of, no_vm, vm_in, context_no, context_in, exchange_at, view_at, view_in, viewed_by, tick_in, with_own, with_tick, with_view, or_old, changed_by, contexts_after, exchanges_by, exchanges_after, vm_after, put_of, fitted, seen_after}
+use Rattle.contexts.specs.Isolation.{PutIsSeen, IsIsolated, AllElseStays, MapsAreShared}
+use Rattle.contexts.proofs.Keyed.{found_same, found_other, kept, kept_found}
 
 -- ---- a change that there may be
 

@@ -1,5 +1,5 @@
 -- Members by their places, and changes of a part.
-use Rattle.std.proofs.Common.{◌≡◌, ◌<◌, ◌≤◌, ℕ, zero, suc, ◌+◌, ◌==◌, Bool, true, false, cond, List, [], ◌∷◌, ◌++◌, length, Option, None, Some, refl, sym, ap, ◌∙◌, subst, arith}
+use Rattle.std.proofs.Common.{◌≡◌, ◌<◌, ◌≤◌, ℕ, zero, suc, ◌==◌, Bool, true, false, cond, List, [], ◌∷◌, ◌++◌, length, Option, None, Some, refl, sym, ap, ◌∙◌, arith}
 use Rattle.std.specs.Prelude.{slice_get, slice_set, slice_index_or}
 use Rattle.std.specs.List.{position, position_or_len, remove}
 use Rattle.std.specs.Option.{option_map}
@@ -14,7 +14,7 @@ use Rattle.contexts.specs.declared.parts.Context.{Context}
 use Rattle.contexts.specs.declared.parts.Exchange.{Exchange}
 use Rattle.contexts.specs.declared.parts.VmContexts.{VmContexts}
 use Rattle.contexts.specs.declared.parts.Contexts.{Contexts}
-use Rattle.contexts.specs.Reached.{Changes, no_changes, vm_in, no_vm, context_no, context_in, exchange_of, effective_of, exchange_at, view_at, view_in, with_view, contexts_after, exchanges_by, exchanges_after, vm_after, put, put_of, with_own, with_tick, reach_by, seen_of, seen}
+use Rattle.contexts.specs.Reached.{no_changes, vm_in, no_vm, context_no, context_in, exchange_of, effective_of, exchange_at, view_at, view_in, with_view, contexts_after, exchanges_by, exchanges_after, vm_after, put, with_own, with_tick, reach_by, seen_of, seen}
 use Rattle.contexts.specs.Lending.{own_put_of, exchange_put, exchange_put_at}
 
 pub none_is : {A : Type 0} {a : A} → None ≡ Some a → ⊥

@@ -1,5 +1,5 @@
 -- To put back what a context has for itself changes nothing.
-use Rattle.std.proofs.Common.{◌≡◌, ◌<◌, ℕ, ◌==◌, Bool, true, false, cond, List, [], ◌∷◌, ◌++◌, length, Option, None, Some, Result, Ok, Err, refl, sym, ap, ◌∙◌}
+use Rattle.std.proofs.Common.{◌≡◌, ◌<◌, ℕ, ◌==◌, Bool, true, false, cond, List, [], ◌∷◌, length, Option, None, Some, Result, Ok, Err, refl, sym, ap, ◌∙◌}
 use Rattle.std.specs.Prelude.{slice_set, OnErr}
 use Rattle.contexts.specs.Keyed.{found, changed}
 use Rattle.contexts.specs.declared.parts.Stage.{Stage}
@@ -7,7 +7,7 @@ use Rattle.contexts.specs.declared.parts.Own.{Own}
 use Rattle.contexts.specs.declared.parts.Context.{Context}
 use Rattle.contexts.specs.declared.parts.VmContexts.{VmContexts}
 use Rattle.contexts.specs.declared.parts.Contexts.{Contexts}
-use Rattle.contexts.specs.Reached.{no_changes, vm_in, no_vm, context_no, context_in, with_own, reach_by, seen_of, contexts_after, exchanges_after}
+use Rattle.contexts.specs.Reached.{no_changes, vm_in, no_vm, context_no, context_in, with_own, reach_by, seen_of, contexts_after}
 use Rattle.contexts.specs.Lending.{own_put_of, stage_in, with_stage}
 use Rattle.contexts.proofs.Places.{set_same, none_of, nothing_behind, none_is, from_some}
 

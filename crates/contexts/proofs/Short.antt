@@ -1,5 +1,5 @@
 -- Properties stay within their limits.
-use Rattle.std.proofs.Common.{◌≡◌, ◌<◌, ◌≤◌, ℕ, zero, suc, ◌+◌, List, [], ◌∷◌, ◌++◌, length, refl, sym, ap, subst, length-set, arith}
+use Rattle.std.proofs.Common.{◌≡◌, ◌<◌, ◌≤◌, ℕ, zero, suc, List, [], ◌∷◌, ◌++◌, length, refl, sym, ap, subst, length-set, arith}
 use Rattle.std.specs.Prelude.{slice_set}
 use Rattle.contexts.specs.Properties.{Property, AreShort, AreProperties}
 

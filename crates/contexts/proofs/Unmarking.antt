@@ -1,9 +1,8 @@
 -- The members of a list changed one by one, from the front.
-use Rattle.std.proofs.Common.{◌≡◌, ◌<◌, ◌≤◌, ℕ, zero, suc, ◌+◌, List, [], ◌∷◌, length, map, Option, None, Some, refl, sym, ap, ◌∙◌, arith}
+use Rattle.std.proofs.Common.{◌≡◌, ◌<◌, ℕ, zero, suc, ◌+◌, List, [], ◌∷◌, length, map, Option, refl, sym, ap, ◌∙◌, arith}
 use Rattle.std.specs.Prelude.{slice_set, slice_index_or}
 use Rattle.contexts.specs.declared.parts.Exchange.{Exchange}
-use Rattle.contexts.specs.declared.parts.Contexts.{Contexts}
-use Rattle.contexts.specs.Effects.{unmarked_at, without_effects}
+use Rattle.contexts.specs.Effects.{unmarked_at}
 
 -- the first so many are changed
 abbrev pub unmarked_to : ℕ → List (Option Exchange) → List (Option Exchange)

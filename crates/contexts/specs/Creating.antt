@@ -1,5 +1,5 @@
 -- Contexts that are made, and that are taken away.
-use Rattle.std.specs.Prelude.{◌≡◌, ℕ, ◌+◌, ◌==◌, ◌&&◌, Bool, true, false, not, cond, List, [], ◌∷◌, ◌++◌, map, Option, None, Some, is_none, slice_set, slice_index_or, if◌then◌else◌}
+use Rattle.std.specs.Prelude.{◌≡◌, ℕ, ◌+◌, ◌==◌, ◌&&◌, Bool, true, false, not, List, [], ◌∷◌, ◌++◌, Option, None, Some, is_none, slice_set, slice_index_or, if◌then◌else◌}
 use Rattle.std.specs.List.{list_any, position}
 use Rattle.std.specs.Option.{option_map}
 use Rattle.header_maps.specs.Headers.{Headers}
@@ -13,7 +13,7 @@ use Rattle.contexts.specs.declared.parts.Exchange.{Exchange}
 use Rattle.contexts.specs.declared.parts.Plugin.{Plugin}
 use Rattle.contexts.specs.declared.parts.VmContexts.{VmContexts}
 use Rattle.contexts.specs.declared.parts.Contexts.{Contexts}
-use Rattle.contexts.specs.Reached.{Changes, no_changes, vm_in, context_in, context_no, exchange_at, exchange_of, put_of, contains}
+use Rattle.contexts.specs.Reached.{no_changes, vm_in, context_in, context_no, exchange_at, exchange_of, put_of}
 
 -- ---- ids
 

@@ -1,6 +1,5 @@
 -- What a callback asked for is taken out behind it.
-use Rattle.std.specs.Prelude.{Bool, false, List, [], map, Option, None, Some}
-use Rattle.std.specs.Option.{option_map}
+use Rattle.std.specs.Prelude.{false, [], map, Option, None, Some}
 use Rattle.contexts.specs.declared.parts.Exchange.{Exchange}
 use Rattle.contexts.specs.declared.parts.Contexts.{Contexts}
 

@@ -1,5 +1,5 @@
 -- The laws of what a call sees and changes.
-use Rattle.std.specs.Prelude.{◌≡◌, ◌<◌, ℕ, Option, Some, length}
+use Rattle.std.specs.Prelude.{◌≡◌, ◌<◌, ℕ, Some, length}
 use Rattle.std.specs.Option.{option_map}
 use Rattle.contexts.specs.declared.parts.Context.{Context}
 use Rattle.contexts.specs.declared.parts.Exchange.{Exchange}

@@ -1,5 +1,5 @@
 -- What contexts end as, of which a part is lent to be written.
-use Rattle.std.specs.Prelude.{ℕ, Bool, true, false, Option, None, Some, slice_set}
+use Rattle.std.specs.Prelude.{ℕ, Bool, true, false, Option, Some, slice_set}
 use Rattle.std.specs.Option.{option_map}
 use Rattle.std.specs.Borrow.{Lends, LendsIf, MutBor, Fml}
 use Rattle.contexts.specs.declared.parts.Stage.{Stage}

@@ -1,5 +1,5 @@
 -- What a context has set under paths, and the limits of it.
-use Rattle.std.specs.Prelude.{◌≡◌, ◌<◌, ◌≤◌, ◌⊎◌, ℕ, Bool, List, [], ◌∷◌, ◌++◌, length, bytes_eq, Option, None, Some, slice_set}
+use Rattle.std.specs.Prelude.{◌<◌, ◌≤◌, ◌⊎◌, ℕ, Bool, List, [], ◌∷◌, ◌++◌, length, bytes_eq, Option, None, Some, slice_set}
 use Rattle.std.specs.List.{find, position}
 use Rattle.std.specs.Option.{option_map}
 

@@ -1,11 +1,10 @@
 -- What a host call may see of a worker's contexts, and what they are when it has changed some of that.
-use Rattle.std.specs.Prelude.{ℕ, ◌==◌, Bool, true, false, cond, List, [], ◌∷◌, ◌++◌, map, Option, None, Some, slice_get, slice_set, slice_index_or}
+use Rattle.std.specs.Prelude.{ℕ, ◌==◌, Bool, List, [], ◌++◌, map, Option, None, Some, slice_get, slice_set, slice_index_or}
 use Rattle.std.specs.Option.{option_map}
 use Rattle.std.specs.List.{list_any}
 use Rattle.contexts.specs.Keyed.{found, changed}
 use Rattle.gate_base.specs.declared.level.Level.{Level}
 use Rattle.gate_base.specs.declared.level.Level.TheVariants as levels
-use Rattle.contexts.specs.declared.parts.Stage.{Stage}
 use Rattle.contexts.specs.declared.parts.Own.{Own}
 use Rattle.contexts.specs.declared.parts.Tick.{Tick}
 use Rattle.contexts.specs.declared.parts.Context.{Context}

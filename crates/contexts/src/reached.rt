@@ -6,7 +6,9 @@ ghost use Rattle.std.specs.Borrow.{sem};
 ghost use Rattle.contexts.specs.Keyed.{found};
 ghost use Rattle.contexts.specs.Reached.{vm_in, exchange_of, seen, effective_of, context_in, context_no, view_at, seen_of, put, no_changes, contains, level_no};
 
-use crate::{Context, Contexts, Effect, Exchange, ExchangeView, Own, Plugin, Tick, VmContexts, What};
+use crate::{
+    Context, Contexts, Effect, Exchange, ExchangeView, Own, Plugin, Tick, VmContexts, What,
+};
 use gate_base::{ContextId, Level, Members, OutOfMemory, VmNo};
 
 /// Where the context of an id stands.

@@ -1,4 +1,4 @@
-use Rattle.std.proofs.Common.{◌≡◌, ◌==◌, ℕ, List, Some, None, sym, ◌∙◌, subst}
+use Rattle.std.proofs.Common.{◌≡◌, ◌==◌, List, Some, None, sym, ◌∙◌, subst}
 use Rattle.std.specs.List.{position}
 use Rattle.contexts.specs.declared.parts.Context.{Context}
 use Rattle.contexts.specs.Reached.{context_no}

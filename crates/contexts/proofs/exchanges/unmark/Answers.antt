@@ -1,4 +1,4 @@
-use Rattle.std.proofs.Common.{◌≡◌, ◌<◌, length, ap, ◌∙◌, arith}
+use Rattle.std.proofs.Common.{length, ap, ◌∙◌, arith}
 use Rattle.contexts.proofs.Unmarking.{unmarked_to, unmarked_all, length-unmarked, next_step}
 use Rattle.contexts.proofs.exchanges.unmark.Goals as goal
 

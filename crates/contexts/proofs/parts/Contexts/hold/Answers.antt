@@ -1,4 +1,4 @@
-use Rattle.std.proofs.Common.{◌≡◌, refl, ap, sym, ◌∙◌}
+use Rattle.std.proofs.Common.{refl, ap, sym, ◌∙◌}
 use Rattle.std.specs.Option.{option_copied_mut}
 use Rattle.contexts.proofs.Putting.{stage_put_same, err_then}
 use Rattle.contexts.proofs.parts.Contexts.hold.Goals as goal

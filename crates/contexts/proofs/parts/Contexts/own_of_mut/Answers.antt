@@ -1,4 +1,4 @@
-use Rattle.std.proofs.Common.{◌≡◌, ◌==◌, ℕ, List, Option, Some, None, inl, inr, sym, ◌∙◌, subst}
+use Rattle.std.proofs.Common.{◌≡◌, ◌==◌, List, Some, None, inl, inr, sym, ◌∙◌, subst}
 use Rattle.std.specs.List.{position}
 use Rattle.contexts.specs.declared.parts.Context.{Context}
 use Rattle.contexts.proofs.Places.{own_is, own_seen, none_seen, vms_kept}

@@ -1,0 +1,18 @@
+// One filter of an exchange in one direction.
+use crate::{Held, Item};
+use gate_base::{ContextId, VmNo};
+use queue::Queue;
+
+/// One filter of an exchange in one direction. The bytes that it holds are its buffer in its context.
+#[derive(Drop)]
+pub struct Stage {
+    pub vm: VmNo,
+    pub context: ContextId,
+    /// Of the direction from the upstream.
+    pub response: bool,
+    /// Not asked about yet.
+    pub waiting: Queue<Item>,
+    pub held: Held,
+    /// It passes everything unasked.
+    pub passes: bool,
+}
