@@ -1,2 +1,4 @@
 pub mod Sizes
 pub mod Releasing
+pub mod Weights
+pub mod Picks

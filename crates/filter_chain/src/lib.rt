@@ -3,8 +3,10 @@
 
 mod chain;
 mod item;
+mod laws;
 mod stage;
 
 pub use chain::Chain;
 pub use item::{Ask, AskKind, Asking, Held, Item, Passed};
+pub use laws::asking_comes_to_an_end;
 pub use stage::Stage;
