@@ -1,6 +1,5 @@
 // A list of members of one type, proved once for all of them.
 ghost use Rattle.std.specs.Prelude.{◌≡◌, [], ◌∷◌, ◌++◌, ◌<◌, ◌↔◌, length, OnOk, OnErr, IfNone, IfSome, IsTrue, slice_index_or};
-
 ghost use Rattle.std.specs.Borrow.{sem};
 
 use crate::{LineNo, Octets, OutOfMemory};

@@ -37,10 +37,13 @@ pub stays : (ended : Bool) (due : Due) (t p : List ℕ) → whole_lines p ≡ []
 stays ended due t p none_there lt (e, d, s, h) =
     let all : length (t ++ p) ≡ length t + length p = length-append t p in
     let lt' : length (t ++ p) < 65536 = omega (arith, all, lt) in
-    let same : whole_lines (t ++ p) ≡ whole_lines t = lines_behind t p none_there in
-    (e, d, ap empty_len same ∙ s,
+    let same : whole_lines (t ++ p) ≡ whole_lines t = lines_behind t p none_there in (
+      e,
+      d,
+      ap empty_len same ∙ s,
       small_cut (t ++ p) lt' ∙ ap (cut_of (length (t ++ p))) same
-      ∙ cut_more (length t) (length (t ++ p)) (whole_lines t) lt' (sym (small_cut t (omega (arith, lt))) ∙ h))
+          ∙ cut_more (length t) (length (t ++ p)) (whole_lines t) lt' (sym (small_cut t (omega (arith, lt))) ∙ h),
+    )
 
 spelled : (asked : Option (List ℕ)) (t : List ℕ) → skipped t ≡ 0 → head_cut t ≡ unfinished → SpellsHead asked t not_yet
 spelled None t s h =
@@ -59,7 +62,7 @@ pub halts : (r : Reading) → IsQuiet true r.ended r.due r.unread → Halts r re
 halts r (e, d, s, h) = record {
   next = subst (λ (b : Bool). IsNext b r.asked r.due r.unread (none rest)) (sym e)
       (subst (λ (due : Due). IsNext false r.asked due r.unread (none rest)) (sym d)
-          (inl (record { step = stop rest; there = (not_yet, spelled r.asked r.unread s h, ap stop (still r.asked r.unread)); is = refl })));
+      (inl (record { step = stop rest; there = (not_yet, spelled r.asked r.unread s h, ap stop (still r.asked r.unread)); is = refl })));
   is = ap (λ (t : List ℕ). record r { unread = t }) (sym (ap (λ (due : Due). unread_at due r.unread) d ∙ ap (λ (n : ℕ). drop n r.unread) s));
 }
 

@@ -81,7 +81,6 @@ impl Model for MessageReader {
     ghost Value = { Reading };
 
     ghost use Rattle.h1_stream.specs.Seen.{asked_of, seen_due};
-
     ghost use Rattle.h1_stream.specs.Quiet.{IsQuiet};
 
     ghost view = { λ r. record { asked = asked_of r.kind; ended = r.ended; due = seen_due r.due; unread = r.text } };

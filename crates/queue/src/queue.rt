@@ -67,11 +67,7 @@ impl<M> Queue<M> {
     }
 
     /// The members of two queues come behind, all of them or none. Where there is no room, the second keeps its own.
-    pub fn append_both(
-        &mut self,
-        first: Queue<M>,
-        second: &mut Queue<M>,
-    ) -> Result<(), OutOfMemory>
+    pub fn append_both(&mut self, first: Queue<M>, second: &mut Queue<M>) -> Result<(), OutOfMemory>
     where
         M: Drop,
         ensures ok { OnOk result (self.new ≡ self.old ++ (first ++ second.old)) }

@@ -10,5 +10,5 @@ pub returns-then-self-clause-ok : goal.returns-then-self-clause-ok
 returns-then-self-clause-ok c =
     let r = c.self.inside in
     subst (λ (x : Reading). Halts x rest x) c.self.view_is
-        (halts (record { asked = asked_of r.kind; ended = r.ended; due = seen_due r.due; unread = r.text })
-            (subst (λ (q : Bool). IsQuiet q r.ended (seen_due r.due) r.text) c.if-self.true c.self.invariant))
+    (halts (record { asked = asked_of r.kind; ended = r.ended; due = seen_due r.due; unread = r.text })
+    (subst (λ (q : Bool). IsQuiet q r.ended (seen_due r.due) r.text) c.if-self.true c.self.invariant))
