@@ -1,0 +1,115 @@
+-- One more VM that holds its module, or that has none.
+use Rattle.std.proofs.Common.{◌≡◌, ◌⊎◌, inl, inr, ℕ, zero, suc, ◌+◌, ◌<◌, ◌≤◌, List, [], ◌∷◌, ◌++◌, map, length, get_or, take, drop, Option, None, Some, Ok, Err, refl, ap, sym, subst, ◌∙◌, arith}
+use Rattle.gate_io.specs.Told.{Gains, GainsFront, gains_more, gains_then_front, gains_front_of_more}
+use Rattle.wasm_syntax.specs.declared.module.Module.{Module}
+use Rattle.gate_config.specs.declared.entries.VmEntry.{VmEntry}
+use Rattle.gate_config.specs.Given.{Given, holding}
+use Rattle.gate_io.specs.Paths.{told_at}
+use Rattle.read_config.specs.Whole.{Judged, config_of}
+use Rattle.config_files.specs.declared.reading.LoadEnd.{LoadEnd}
+use Rattle.config_files.specs.declared.reading.LoadEnd.TheVariants.{Config as NoConfig, Module as NoModule, FileFault, OutOfMemory}
+use Rattle.config_files.specs.Loading.{Told, IsCode, HoldsCode, AllHold, Holding, IsBad, IsBadAt, IsBadIn, IsNotLoaded, ReadsInOrder, modules_of, module_at, paths_of}
+
+pub module_same : (files : Told) (n : ℕ) (old held : List VmEntry) → Holding files n old held → module_at n held ≡ module_at n old
+module_same files zero old held h = ap (module_at 0) h
+module_same files (suc n) [] held h = absurd h
+module_same files (suc n) (v ∷ vs) [] h = absurd h
+module_same files (suc n) (v ∷ vs) (w ∷ ws) h = module_same files n vs ws h.1
+
+pub same_length : (files : Told) (n : ℕ) (old held : List VmEntry) → Holding files n old held → length held ≡ length old
+same_length files zero old held h = ap length h
+same_length files (suc n) [] held h = absurd h
+same_length files (suc n) (v ∷ vs) [] h = absurd h
+same_length files (suc n) (v ∷ vs) (w ∷ ws) h = ap suc (same_length files n vs ws h.1)
+
+pub one_more : (files : Told) (n : ℕ) (old held : List VmEntry) (m : Module) → Holding files n old held → n < length old → IsCode files (module_at n old) m → Holding files (suc n) old (holding n m held)
+one_more files n [] held m h low f = absurd (omega arith)
+one_more files zero (v ∷ vs) held m h low f =
+    subst (λ (x : List VmEntry). Holding files 1 (v ∷ vs) (holding 0 m x)) (sym h) (record { code = m; file = f; is = refl }, refl)
+one_more files (suc n) (v ∷ vs) [] m h low f = absurd h
+one_more files (suc n) (v ∷ vs) (w ∷ ws) m h low f = (h.0, one_more files n vs ws m h.1 (omega arith) f)
+
+pub all_held : (files : Told) (old held : List VmEntry) → Holding files (length old) old held → AllHold files old held
+all_held files [] held h = h
+all_held files (v ∷ vs) [] h = absurd h
+all_held files (v ∷ vs) (w ∷ ws) h = (h.0, all_held files vs ws h.1)
+
+first_bad : (files : Told) (v : VmEntry) (vs : List VmEntry) (e : LoadEnd) → IsBad files v e → IsBadIn files (v ∷ vs) e
+first_bad files v vs (NoModule name fault) h = inl h
+first_bad files v vs (NoConfig number key) h = h
+first_bad files v vs FileFault h = tt
+first_bad files v vs OutOfMemory h = tt
+
+later_bad : (files : Told) (v w : VmEntry) (vs : List VmEntry) (e : LoadEnd) → HoldsCode files v w → IsBadIn files vs e → IsBadIn files (v ∷ vs) e
+later_bad files v w vs (NoModule name fault) c h = inr (c.code, c.file, h)
+later_bad files v w vs (NoConfig number key) c h = h
+later_bad files v w vs FileFault c h = tt
+later_bad files v w vs OutOfMemory c h = tt
+
+pub bad_in : (files : Told) (n : ℕ) (old held : List VmEntry) (e : LoadEnd) → Holding files n old held → IsBadAt files n held e → IsBadIn files old e
+bad_in files zero [] held e h b = absurd (subst (λ (x : List VmEntry). IsBadAt files 0 x e) h b)
+bad_in files zero (v ∷ vs) held e h b = first_bad files v vs e (subst (λ (x : List VmEntry). IsBadAt files 0 x e) h b)
+bad_in files (suc n) [] held e h b = absurd h
+bad_in files (suc n) (v ∷ vs) [] e h b = absurd h
+bad_in files (suc n) (v ∷ vs) (w ∷ ws) e h b = later_bad files v w vs e h.0 (bad_in files n vs ws e h.1 b)
+
+-- ---- the paths
+
+modules_more : (n : ℕ) (vms : List VmEntry) → n < length vms → modules_of (take (suc n) vms) ≡ modules_of (take n vms) ++ module_at n vms ∷ []
+modules_more n [] low = absurd (omega arith)
+modules_more zero (v ∷ vs) low = refl
+modules_more (suc n) (v ∷ vs) low = ap (λ (l : List (List ℕ)). v.«module» ∷ l) (modules_more n vs (omega arith))
+
+modules_cut : (n : ℕ) (vms : List VmEntry) → modules_of vms ≡ modules_of (take n vms) ++ modules_of (drop n vms)
+modules_cut zero vms = refl
+modules_cut (suc n) [] = refl
+modules_cut (suc n) (v ∷ vs) = ap (λ (l : List (List ℕ)). v.«module» ∷ l) (modules_cut n vs)
+
+pub read_more : (n : ℕ) (vms : List VmEntry) (a b c : Option (List (List ℕ))) → n < length vms → Gains a (modules_of (take n vms)) b → Gains b (module_at n vms ∷ []) c → Gains a (modules_of (take (suc n) vms)) c
+read_more n vms a b c low first next = rw (modules_more n vms low) (gains_more a (modules_of (take n vms)) b (module_at n vms ∷ []) c first next)
+
+pub read_front : (n : ℕ) (vms : List VmEntry) (a b c : Option (List (List ℕ))) → n < length vms → Gains a (modules_of (take n vms)) b → GainsFront b (module_at n vms ∷ []) c → GainsFront a (modules_of vms) c
+read_front n vms a b c low first next =
+    let here = gains_then_front a (modules_of (take n vms)) b (module_at n vms ∷ []) c first next in
+    let part : GainsFront a (modules_of (take (suc n) vms)) c = subst (λ (l : List (List ℕ)). GainsFront a l c) (sym (modules_more n vms low)) here in
+    subst (λ (l : List (List ℕ)). GainsFront a l c) (sym (modules_cut (suc n) vms)) (gains_front_of_more a (modules_of (take (suc n) vms)) (modules_of (drop (suc n) vms)) c part)
+
+pub module_is : (n : ℕ) (vms : List VmEntry) (d : VmEntry) → n < length vms → module_at n vms ≡ (get_or vms n d).«module»
+module_is n [] d low = absurd (omega arith)
+module_is zero (v ∷ vs) d low = refl
+module_is (suc n) (v ∷ vs) d low = module_is n vs d (omega arith)
+
+pub bad_at : (files : Told) (n : ℕ) (vms : List VmEntry) (d : VmEntry) (e : LoadEnd) → n < length vms → IsBad files (get_or vms n d) e → IsBadAt files n vms e
+bad_at files n [] d e low h = absurd (omega arith)
+bad_at files zero (v ∷ vs) d e low h = h
+bad_at files (suc n) (v ∷ vs) d e low h = bad_at files n vs d e (omega arith) h
+
+pub modules_held : (files : Told) (old held : List VmEntry) → AllHold files old held → modules_of held ≡ modules_of old
+modules_held files [] held h = ap modules_of h
+modules_held files (v ∷ vs) [] h = absurd h
+modules_held files (v ∷ vs) (w ∷ ws) h =
+    ap (λ (x : VmEntry). x.«module» ∷ modules_of ws) h.0.is ∙ ap (λ (l : List (List ℕ)). v.«module» ∷ l) (modules_held files vs ws h.1)
+
+-- all but the VMs is as it was, over two steps
+pub others_same : (a b c : Given) (x : List VmEntry) → c ≡ record b { vms = x } → b ≡ record a { vms = b.vms } → c ≡ record a { vms = c.vms }
+others_same a b c x second first =
+    second ∙ ap (λ (y : Given). record y { vms = x }) first ∙ ap (λ (l : List VmEntry). record a { vms = l }) (sym (ap (λ (y : Given). y.vms) second))
+
+-- ---- the whole
+
+front_any : (path : List ℕ) (old new : Option (List (List ℕ))) (judged : Judged) → GainsFront old (path ∷ []) new → GainsFront old (paths_of path judged) new
+front_any path old new (Ok said) h = gains_front_of_more old (path ∷ []) (modules_of said.vms) new h
+front_any path old new (Err refusal) h = h
+
+by_told : (files : Told) (path : List ℕ) (old new : Option (List (List ℕ))) (o : Option (List ℕ)) → told_at files path ≡ o → GainsFront old (path ∷ []) new → ReadsInOrder files path old new
+by_told files path old new None e h = record { judged = Err (1, []); told = λ text t. absurd (let bad : None ≡ Some text = sym e ∙ t in cc); gained = h }
+by_told files path old new (Some bytes) e h = record { judged = config_of bytes; told = λ text t. ap config_of (let same : Some bytes ≡ Some text = sym e ∙ t in cc); gained = front_any path old new (config_of bytes) h }
+
+pub first_read : (files : Told) (path : List ℕ) (old new : Option (List (List ℕ))) → GainsFront old (path ∷ []) new → ReadsInOrder files path old new
+first_read files path old new h = by_told files path old new (told_at files path) refl h
+
+pub not_loaded : (files : Told) (text : List ℕ) (said : Given) (e : LoadEnd) → config_of text ≡ Ok said → IsBadIn files said.vms e → IsNotLoaded files text e
+not_loaded files text said (NoModule name fault) read h = record { said = said; read = read; first = h }
+not_loaded files text said (NoConfig number key) read h = absurd h
+not_loaded files text said FileFault read h = tt
+not_loaded files text said OutOfMemory read h = tt

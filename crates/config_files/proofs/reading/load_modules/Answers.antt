@@ -1,0 +1,63 @@
+use Rattle.std.proofs.Common.{◌≡◌, ◌<◌, ◌≤◌, List, ℕ, suc, ◌+◌, [], ◌∷◌, take, length, refl, ap, sym, subst, ◌∙◌, arith, add-one}
+use Rattle.std.proofs.lemmas.List.{take_all}
+use Rattle.gate_config.specs.declared.entries.VmEntry.{VmEntry}
+use Rattle.gate_config.specs.Given.{Given, given}
+use Rattle.gate_io.specs.Told.{Gains, GainsFront, gains_nothing}
+use Rattle.config_files.specs.Loading.{Told, Holding, HoldsAt, IsBadAt, IsCode, modules_of}
+use Rattle.config_files.proofs.Steps.{all_held, bad_in, module_same, one_more, others_same, read_front, read_more, same_length}
+use Rattle.config_files.proofs.reading.load_modules.Goals as goal
+
+pub loop-place-init : goal.loop-place-init
+loop-place-init g c = (refl, refl, gains_nothing (g.F.Files.paths c.args.files.now), refl, omega arith)
+
+pub load_vm-requires : goal.load_vm-requires
+load_vm-requires g c =
+    let held = c.loop-place.invariant.0 in
+    omega (arith, same_length (g.F.Files.holds c.args.files.now) c.loop-place.place c.args.config.now.vms c.loop-place.config.vms held, c.len-place-end.ensures, c.loop-place-test.true)
+
+pub loop-place-preserved : goal.loop-place-preserved
+loop-place-preserved g c =
+    let files = g.F.Files.holds c.args.files.now in
+    let n = c.loop-place.place in
+    let old = c.args.config.now.vms in
+    let now = c.loop-place.config in
+    let inv = c.loop-place.invariant in
+    let low : n < length old = omega (arith, c.len-place-end.ensures, c.loop-place-test.true) in
+    let here = subst (λ (t : Told). HoldsAt t n (given now) (given c.load_vm.new.config)) inv.3 c.in-Ok.ensures.held in
+    let more = one_more files n old now.vms here.code inv.0 low (subst (λ (p : List ℕ). IsCode files p here.code) (module_same files n old now.vms inv.0) here.file) in
+    let one = subst (λ (p : List ℕ). Gains (g.F.Files.paths c.loop-place.files) (p ∷ []) (g.F.Files.paths c.load_vm.new.files)) (module_same files n old now.vms inv.0) c.in-Ok.ensures.one in
+    let vms = ap (λ (x : Given). x.vms) here.is in (
+      rw add-one (subst (λ (l : List VmEntry). Holding files (suc n) old l) (sym vms) more),
+      others_same (given c.args.config.now) (given now) (given c.load_vm.new.config) _ here.is inv.1,
+      rw add-one (read_more n old (g.F.Files.paths c.args.files.now) (g.F.Files.paths c.loop-place.files) (g.F.Files.paths c.load_vm.new.files) low inv.2 one),
+      c.load_vm.ensures.holds ∙ inv.3,
+      omega (arith, inv.4, c.load_vm.ensures.faults),
+    )
+
+pub returns-clause-held : goal.returns-clause-held
+returns-clause-held g c =
+    let old = c.args.config.now.vms in
+    let all : c.loop-place.place ≡ length old = omega (arith, c.len-place-end.ensures, c.loop-place-test.false) in
+    all_held (g.F.Files.holds c.args.files.now) old c.loop-place.config.vms (subst (λ (n : ℕ). Holding (g.F.Files.holds c.args.files.now) n old c.loop-place.config.vms) all c.loop-place.invariant.0)
+
+pub returns-clause-all_read : goal.returns-clause-all_read
+returns-clause-all_read g c =
+    let old = c.args.config.now.vms in
+    let past : length old ≤ c.loop-place.place = omega (arith, c.len-place-end.ensures, c.loop-place-test.false) in
+    subst (λ (l : List VmEntry). Gains (g.F.Files.paths c.args.files.now) (modules_of l) (g.F.Files.paths c.loop-place.files)) (take_all c.loop-place.place old past) c.loop-place.invariant.2
+
+pub returns-in-Err-clause-refused : goal.returns-in-Err-clause-refused
+returns-in-Err-clause-refused g c =
+    let inv = c.loop-place.invariant in
+    let now = c.loop-place.config.vms in
+    bad_in (g.F.Files.holds c.args.files.now) c.loop-place.place c.args.config.now.vms now c.in-Err.end inv.0 (subst (λ (t : Told). IsBadAt t c.loop-place.place now c.in-Err.end) inv.3 c.in-Err.ensures.refused)
+
+pub returns-in-Err-clause-front : goal.returns-in-Err-clause-front
+returns-in-Err-clause-front g c =
+    let files = g.F.Files.holds c.args.files.now in
+    let n = c.loop-place.place in
+    let old = c.args.config.now.vms in
+    let inv = c.loop-place.invariant in
+    let low : n < length old = omega (arith, c.len-place-end.ensures, c.loop-place-test.true) in
+    let front = subst (λ (p : List ℕ). GainsFront (g.F.Files.paths c.loop-place.files) (p ∷ []) (g.F.Files.paths c.load_vm.new.files)) (module_same files n old c.loop-place.config.vms inv.0) c.in-Err.ensures.front in
+    read_front n old (g.F.Files.paths c.args.files.now) (g.F.Files.paths c.loop-place.files) (g.F.Files.paths c.load_vm.new.files) low inv.2 front

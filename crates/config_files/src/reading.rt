@@ -1,0 +1,248 @@
+// A configuration and its modules from files.
+ghost use Rattle.std.specs.Prelude.{◌≡◌, ◌≢◌, ◌≤◌, ◌<◌, ◌∷◌, [], Some, Ok, Err, ℕ, List, IfOk, IfErr, OnOk, OnErr, length};
+ghost use Rattle.gate_config.specs.Given.{given};
+ghost use Rattle.gate_io.specs.Paths.{told_at};
+ghost use Rattle.gate_io.specs.Told.{Gains, GainsFront, Rose};
+ghost use Rattle.read_config.specs.Whole.{config_of};
+ghost use Rattle.config_files.specs.Modules.{IsModule};
+ghost use Rattle.config_files.specs.Loading.{AllHold, HoldsAt, IsBad, IsBadAt, IsBadIn, IsCode, IsLoaded, IsModuleEnd, IsNoCode, IsNoCodeOf, IsNoConfig, IsNotLoaded, ReadsInOrder, module_at, modules_of, refusal_of};
+
+use crate::modules::{ModuleEnd, ModuleFault, read_code};
+use gate_base::{Octets, Text, VmNo};
+use gate_config::{Config, VmEntry};
+use gate_io::{FileEnd, Files};
+use read_config::{ConfigEnd, read_config};
+use std::alloc::Global;
+use wasm_syntax::ValidModule;
+
+/// How many bytes a configuration has at most: 1 MiB.
+const MAX_CONFIG: usize = 1048576;
+
+/// How many bytes a module has at most: 4 MiB.
+const MAX_MODULE: usize = 4194304;
+
+/// Why nothing was loaded: the first of these that stands.
+#[derive(Debug, Drop)]
+pub enum LoadEnd {
+    /// The configuration is refused, with this number at this key.
+    Config { number: u8, key: Text },
+    /// The file of the VM of this name is no module that it can run.
+    Module { vm: Text, fault: ModuleFault },
+    /// A read failed.
+    FileFault,
+    /// Memory ran out.
+    OutOfMemory,
+}
+
+/// Why no module was read from a file.
+#[derive(Clone, Copy, Debug)]
+enum CodeEnd {
+    /// The file is no module that a VM can run.
+    Refused { fault: ModuleFault },
+    /// The read failed.
+    FileFault,
+    /// Memory ran out.
+    OutOfMemory,
+}
+
+/// The configuration of the file of a path, each VM of which holds the module of its own file. The files are read one by one, the
+/// configuration's first, then the modules' in the order of the VMs, and none behind a refusal.
+pub fn load<F: Files>(alloc: Global, path: &str, files: &mut F) -> Result<Config, LoadEnd>
+    ensures loaded { IfOk result (λ c. (text : List ℕ) → told_at (F.holds files.old) path.now ≡ Some text → IsLoaded (F.holds files.old) text (given c)) }
+    ensures refused { IfErr result (λ e. (text : List ℕ) → told_at (F.holds files.old) path.now ≡ Some text → IsNotLoaded (F.holds files.old) text e) }
+    ensures all_read { IfOk result (λ c. Gains (F.paths files.old) (path.now ∷ modules_of c.vms) (F.paths files.new)) }
+    ensures paths { ReadsInOrder (F.holds files.old) path.now (F.paths files.old) (F.paths files.new) }
+    ensures holds { F.holds files.new ≡ F.holds files.old }
+    ensures faults { F.faults files.old ≤ F.faults files.new }
+    ensures fault { result ≡ Err LoadEnd.FileFault → Rose (F.faults files.old) (F.faults files.new) }
+{
+    let mut config = match read_text(alloc, path, files) {
+        Ok(config) => config,
+        Err(end) => return Err(end),
+    };
+    match load_modules(alloc, &mut config, files) {
+        Ok(()) => Ok(config),
+        Err(end) => Err(end),
+    }
+}
+
+/// The configuration of the file of a path, without modules.
+fn read_text<F: Files>(alloc: Global, path: &str, files: &mut F) -> Result<Config, LoadEnd>
+    ensures read { IfOk result (λ c. (text : List ℕ) → told_at (F.holds files.old) path.now ≡ Some text → config_of text ≡ Ok (given c)) }
+    ensures refused { IfErr result (λ e. (text : List ℕ) → told_at (F.holds files.old) path.now ≡ Some text → IsNoConfig text e) }
+    ensures one { OnOk result (Gains (F.paths files.old) (path.now ∷ []) (F.paths files.new)) }
+    ensures front { OnErr result (GainsFront (F.paths files.old) (path.now ∷ []) (F.paths files.new)) }
+    ensures holds { F.holds files.new ≡ F.holds files.old }
+    ensures faults { F.faults files.old ≤ F.faults files.new }
+    ensures fault { result ≡ Err LoadEnd.FileFault → Rose (F.faults files.old) (F.faults files.new) }
+{
+    match read_file(alloc, path, MAX_CONFIG, files) {
+        Ok(text) => config_in(alloc, text.as_slice()),
+        Err(FileEnd::Failed) => Err(LoadEnd::FileFault),
+        Err(FileEnd::TooLong) => Err(too_long(alloc)),
+        Err(FileEnd::OutOfMemory) => Err(LoadEnd::OutOfMemory),
+    }
+}
+
+/// The refusal of a configuration that is too long.
+fn too_long(alloc: Global) -> LoadEnd
+    ensures refusal { (text : List ℕ) → 1048576 < length text → IsNoConfig text result }
+    ensures no_fault { result ≢ LoadEnd.FileFault }
+{
+    match Text::of(alloc, "-") {
+        Ok(key) => LoadEnd::Config { number: 7, key },
+        Err(_) => LoadEnd::OutOfMemory,
+    }
+}
+
+/// The configuration of a text.
+fn config_in(alloc: Global, text: &[u8]) -> Result<Config, LoadEnd>
+    ensures read { IfOk result (λ c. config_of text.now ≡ Ok (given c)) }
+    ensures refused { IfErr result (IsNoConfig text.now) }
+    ensures no_fault { result ≢ Err LoadEnd.FileFault }
+{
+    match read_config(alloc, text) {
+        Ok(config) => Ok(config),
+        Err(end) => Err(refusal_of(end)),
+    }
+}
+
+/// The same refusal.
+fn refusal_of(end: ConfigEnd) -> LoadEnd
+    ensures { result ≡ refusal_of end }
+{
+    match end {
+        ConfigEnd::Refused { number, key } => LoadEnd::Config { number, key },
+        ConfigEnd::OutOfMemory => LoadEnd::OutOfMemory,
+    }
+}
+
+/// Gives each VM the module of its file, in their order.
+fn load_modules<F: Files>(alloc: Global, config: &mut Config, files: &mut F) -> Result<(), LoadEnd>
+    ensures held { OnOk result (AllHold (F.holds files.old) config.old.vms config.new.vms) }
+    ensures others { OnOk result (given config.new ≡ record (given config.old) { vms = config.new.vms }) }
+    ensures refused { IfErr result (IsBadIn (F.holds files.old) config.old.vms) }
+    ensures all_read { OnOk result (Gains (F.paths files.old) (modules_of config.old.vms) (F.paths files.new)) }
+    ensures front { OnErr result (GainsFront (F.paths files.old) (modules_of config.old.vms) (F.paths files.new)) }
+    ensures holds { F.holds files.new ≡ F.holds files.old }
+    ensures faults { F.faults files.old ≤ F.faults files.new }
+    ensures fault { result ≡ Err LoadEnd.FileFault → Rose (F.faults files.old) (F.faults files.new) }
+{
+    for place in 0..config.vms.len() {
+        match load_vm(alloc, place, config, files) {
+            Ok(()) => (),
+            Err(end) => return Err(end),
+        }
+    }
+    Ok(())
+}
+
+/// Gives the VM of a place the module of its file.
+fn load_vm<F: Files>(
+    alloc: Global,
+    place: usize,
+    config: &mut Config,
+    files: &mut F,
+) -> Result<(), LoadEnd>
+    requires { place < length config.old.vms }
+    ensures held { OnOk result (HoldsAt (F.holds files.old) place (given config.old) (given config.new)) }
+    ensures refused { IfErr result (IsBadAt (F.holds files.old) place config.old.vms) }
+    ensures one { OnOk result (Gains (F.paths files.old) (module_at place config.old.vms ∷ []) (F.paths files.new)) }
+    ensures front { OnErr result (GainsFront (F.paths files.old) (module_at place config.old.vms ∷ []) (F.paths files.new)) }
+    ensures holds { F.holds files.new ≡ F.holds files.old }
+    ensures faults { F.faults files.old ≤ F.faults files.new }
+    ensures fault { result ≡ Err LoadEnd.FileFault → Rose (F.faults files.old) (F.faults files.new) }
+{
+    let Some(vm) = VmNo::new(place as u8) else {
+        unreachable!()
+    };
+    match vm_code(alloc, config.vms.get(place), files) {
+        Ok(code) => {
+            config.hold(vm, code);
+            Ok(())
+        }
+        Err(end) => Err(end),
+    }
+}
+
+/// The module of a VM's file.
+fn vm_code<F: Files>(alloc: Global, vm: &VmEntry, files: &mut F) -> Result<ValidModule, LoadEnd>
+    ensures code { IfOk result (IsCode (F.holds files.old) vm.now.«module») }
+    ensures refused { IfErr result (IsBad (F.holds files.old) vm.now) }
+    ensures one { OnOk result (Gains (F.paths files.old) (vm.now.«module» ∷ []) (F.paths files.new)) }
+    ensures front { OnErr result (GainsFront (F.paths files.old) (vm.now.«module» ∷ []) (F.paths files.new)) }
+    ensures holds { F.holds files.new ≡ F.holds files.old }
+    ensures faults { F.faults files.old ≤ F.faults files.new }
+    ensures fault { result ≡ Err LoadEnd.FileFault → Rose (F.faults files.old) (F.faults files.new) }
+{
+    match code_at(alloc, vm.module.as_str(), files) {
+        Ok(code) => Ok(code),
+        Err(CodeEnd::Refused { fault }) => Err(bad_module(alloc, vm, fault)),
+        Err(CodeEnd::FileFault) => Err(LoadEnd::FileFault),
+        Err(CodeEnd::OutOfMemory) => Err(LoadEnd::OutOfMemory),
+    }
+}
+
+/// The refusal of a VM's module.
+fn bad_module(alloc: Global, vm: &VmEntry, fault: ModuleFault) -> LoadEnd
+    ensures { IsModuleEnd vm.now.name fault result }
+{
+    match vm.name.copy(alloc) {
+        Ok(vm) => LoadEnd::Module { vm, fault },
+        Err(_) => LoadEnd::OutOfMemory,
+    }
+}
+
+/// The module of the file of a path.
+fn code_at<F: Files>(alloc: Global, path: &str, files: &mut F) -> Result<ValidModule, CodeEnd>
+    ensures code { IfOk result (IsCode (F.holds files.old) path.now) }
+    ensures refused { IfErr result (IsNoCode (F.holds files.old) path.now) }
+    ensures one { OnOk result (Gains (F.paths files.old) (path.now ∷ []) (F.paths files.new)) }
+    ensures front { OnErr result (GainsFront (F.paths files.old) (path.now ∷ []) (F.paths files.new)) }
+    ensures holds { F.holds files.new ≡ F.holds files.old }
+    ensures faults { F.faults files.old ≤ F.faults files.new }
+    ensures fault { result ≡ Err CodeEnd.FileFault → Rose (F.faults files.old) (F.faults files.new) }
+{
+    match read_file(alloc, path, MAX_MODULE, files) {
+        Ok(bytes) => code_in(alloc, bytes.as_slice()),
+        Err(FileEnd::Failed) => Err(CodeEnd::FileFault),
+        Err(FileEnd::TooLong) => Err(CodeEnd::Refused {
+            fault: ModuleFault::Unread {
+                number: 9,
+                place: 0,
+            },
+        }),
+        Err(FileEnd::OutOfMemory) => Err(CodeEnd::OutOfMemory),
+    }
+}
+
+/// The module of these bytes.
+fn code_in(alloc: Global, bytes: &[u8]) -> Result<ValidModule, CodeEnd>
+    ensures code { IfOk result (IsModule bytes.now) }
+    ensures refused { IfErr result (IsNoCodeOf bytes.now) }
+{
+    match read_code(alloc, bytes) {
+        Ok(code) => Ok(code),
+        Err(ModuleEnd::Refused { fault }) => Err(CodeEnd::Refused { fault }),
+        Err(ModuleEnd::OutOfMemory) => Err(CodeEnd::OutOfMemory),
+    }
+}
+
+/// The bytes of the file of a path.
+fn read_file<F: Files>(
+    alloc: Global,
+    path: &str,
+    most: usize,
+    files: &mut F,
+) -> Result<Octets, FileEnd>
+    requires { most ≤ 67108864 }
+    ensures told { IfOk result (λ bytes. (text : List ℕ) → told_at (F.holds files.old) path.now ≡ Some text → bytes ≡ text) }
+    ensures long { result ≡ Err FileEnd.TooLong → (text : List ℕ) → told_at (F.holds files.old) path.now ≡ Some text → most < length text }
+    ensures one { OnOk result (Gains (F.paths files.old) (path.now ∷ []) (F.paths files.new)) }
+    ensures front { OnErr result (GainsFront (F.paths files.old) (path.now ∷ []) (F.paths files.new)) }
+    ensures holds { F.holds files.new ≡ F.holds files.old }
+    ensures faults { F.faults files.old ≤ F.faults files.new }
+    ensures failed { result ≡ Err FileEnd.Failed → Rose (F.faults files.old) (F.faults files.new) }
+{
+    files.read(alloc, path, most)
+}
