@@ -5,3 +5,4 @@ pub mod Places
 pub mod Putting
 pub mod Short
 pub mod Unmarking
+pub mod Holding

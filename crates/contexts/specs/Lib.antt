@@ -8,3 +8,4 @@ pub mod Creating
 pub mod Stages
 pub mod Making
 pub mod Effects
+pub mod Holding

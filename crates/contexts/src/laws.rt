@@ -1,5 +1,6 @@
 // The laws of what a host call sees and changes. The functions have nothing to do: their contracts are the laws.
 ghost use Rattle.contexts.specs.Isolation.{PutIsSeen, IsIsolated, AllElseStays, MapsAreShared};
+ghost use Rattle.contexts.specs.Holding.{HoldsItsOwn};
 
 /// What was put is seen by the same context.
 pub fn put_is_seen()
@@ -16,3 +17,9 @@ pub fn all_else_stays()
     ensures stays { AllElseStays }
     ensures shared { MapsAreShared }
 {}
+
+/// A stage holds what it is given, and every other stage what it held.
+pub fn stages_hold_their_own()
+    ensures { HoldsItsOwn }
+{
+}

@@ -2,3 +2,4 @@ pub mod Sizes
 pub mod Releasing
 pub mod Weights
 pub mod Picks
+pub mod Flows

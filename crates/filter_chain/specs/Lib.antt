@@ -1,3 +1,4 @@
 pub mod Items
 pub mod Chains
 pub mod Costs
+pub mod Flow
