@@ -127,7 +127,7 @@ pauses_keep b k stages s is =
     let c : Contexts = answered b s.vm s.context s.response in
     ap (flow c) (sym (set_own stages k s is.at))
     ∙ flow_set b c stages k s s is.at (ap (λ (l : List ℕ). l ++ joined s.waiting) (holds_its_own.answered_here b s.vm s.context s.response is.there))
-      (same_set b c s k stages (λ t other. holds_its_own.others returned b s.vm s.context s.response t.vm t.context t.response is.there.0 other) is.alone)
+    (same_set b c s k stages (λ t other. holds_its_own.others returned b s.vm s.context s.response t.vm t.context t.response is.there.0 other) is.alone)
 
 -- ---- CONTINUE: what the stage held is at the next one, behind what that has, or it has left
 onto_cons : (t : ℕ) (items : List Item) (x : Stage) (changed : List Stage) (o : Option Stage) (c : Contexts)
@@ -147,7 +147,7 @@ goes_next b c items (x ∷ r ∷ back) zero s t is keeps same =
     let here : x ≡ s = (cc) in
     let there : joined items ++ kept c t ≡ kept b x = keeps ∙ ap (kept b) (sym here) in
     let more : kept c (with_more items r) ≡ kept b r ++ joined items
-             = ap (λ (l : List ℕ). bytes_at c r ++ l) (joined_more r.waiting items) ∙ (sym (append_assoc (bytes_at c r) (joined r.waiting) (joined items)) ∙ ap (λ (l : List ℕ). l ++ joined items) same.0) in
+    = ap (λ (l : List ℕ). bytes_at c r ++ l) (joined_more r.waiting items) ∙ (sym (append_assoc (bytes_at c r) (joined r.waiting) (joined items)) ∙ ap (λ (l : List ℕ). l ++ joined items) same.0) in
     (λ i. (flow_all b c back same.1 i ++ more i) ++ kept c t)
     ∙ (ap (λ (l : List ℕ). l ++ kept c t) (sym (append_assoc (flow b back) (kept b r) (joined items)))
     ∙ (append_assoc (flow b back ++ kept b r) (joined items) (kept c t) ∙ ap (λ (l : List ℕ). (flow b back ++ kept b r) ++ l) there))
@@ -157,13 +157,13 @@ goes_next b c items (x ∷ xs) (suc k) s t is keeps same =
 handed_keeps : (b c : Contexts) (n : ℕ) (items : List Item) (stages : List Stage) (k : ℕ) (t : Stage) (o : Option Stage)
     → joined (left_in (onto (suc k) items (slice_set stages k t) o).0) ++ flow c (onto (suc k) items (slice_set stages k t) o).1 ≡ flow b stages
     → joined (left_in (unless_over b c (handed b n items (suc k) stages (slice_set stages k t) o)).0)
-      ++ flow (unless_over b c (handed b n items (suc k) stages (slice_set stages k t) o)).2 (unless_over b c (handed b n items (suc k) stages (slice_set stages k t) o)).1 ≡ flow b stages
+    ++ flow (unless_over b c (handed b n items (suc k) stages (slice_set stages k t) o)).2 (unless_over b c (handed b n items (suc k) stages (slice_set stages k t) o)).1 ≡ flow b stages
 handed_keeps b c n items stages k t None keeps = keeps
 handed_keeps b c n items stages k t (Some r) keeps = by_room (accepts b n (Some r)) refl
   where
     by_room : (f : Bool) → accepts b n (Some r) ≡ f
         → joined (left_in (unless_over b c (handed b n items (suc k) stages (slice_set stages k t) (Some r))).0)
-          ++ flow (unless_over b c (handed b n items (suc k) stages (slice_set stages k t) (Some r))).2 (unless_over b c (handed b n items (suc k) stages (slice_set stages k t) (Some r))).1 ≡ flow b stages
+        ++ flow (unless_over b c (handed b n items (suc k) stages (slice_set stages k t) (Some r))).2 (unless_over b c (handed b n items (suc k) stages (slice_set stages k t) (Some r))).1 ≡ flow b stages
     by_room true is = rw is keeps
     by_room false is = rw is
 

@@ -28,15 +28,15 @@ picks xs (suc i) k s within is at = by_pick (λ less same. picks xs i k s less s
     by_pick earlier false it =
         let one : suc i - 1 ≡ i = omega arith in
         let less : suffix_len (λ (t : Stage). not (may_be_picked t)) (take (suc i) xs) ≡ 1 + suffix_len (λ (t : Stage). not (may_be_picked t)) (take (suc i - 1) xs)
-                 = ready_less xs (suc i) s (omega arith) within it in
+        = ready_less xs (suc i) s (omega arith) within it in
         let here : suffix_len (λ (t : Stage). not (may_be_picked t)) (take (suc i - 1) xs) ≡ suffix_len (λ (t : Stage). not (may_be_picked t)) (take i xs)
-                 = ap (λ (j : ℕ). suffix_len (λ (t : Stage). not (may_be_picked t)) (take j xs)) one in
+        = ap (λ (j : ℕ). suffix_len (λ (t : Stage). not (may_be_picked t)) (take j xs)) one in
         earlier (omega arith) (omega arith)
 
 pub ready_picks : (xs : List Stage) (k : ℕ) (s : Stage) → ready xs ≡ suc k → slice_get xs k ≡ Some s → may_be_picked s ≡ true
 ready_picks xs k s is at =
     let all : suffix_len (λ (t : Stage). not (may_be_picked t)) (take (length xs) xs) ≡ suffix_len (λ (t : Stage). not (may_be_picked t)) xs
-            = ap (suffix_len (λ (t : Stage). not (may_be_picked t))) (take_all (length xs) xs (omega arith)) in
+    = ap (suffix_len (λ (t : Stage). not (may_be_picked t))) (take_all (length xs) xs (omega arith)) in
     picks xs (length xs) k s (omega arith) (omega arith) at
 
 free_of : (a b : Bool) → (a && b) ≡ true → b ≡ true
@@ -55,6 +55,7 @@ asked_falls b stages = by_ready (ready stages) refl
     by_stage k is None at = tt
     by_stage k is (Some s) at =
         falls_at stages k s (ask_item b k s s.waiting) at (asks_fall b k s s.waiting refl (free_of (is_any s.waiting) (is_free s.held) (ready_picks stages k s is at)))
+
     by_ready : (n : ℕ) → ready stages ≡ n → Falls stages (asked_at b stages n)
     by_ready zero is = tt
     by_ready (suc k) is = by_stage k is (slice_get stages k) refl

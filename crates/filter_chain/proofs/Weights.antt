@@ -72,7 +72,7 @@ passes_on items (x ∷ n ∷ back) zero s t is less =
     let r : ℕ = length (n ∷ back) in
     let e : stage_cost r t + costs (r + r) items ≤ stage_cost r x = subst (λ (y : Stage). stage_cost r t + costs (r + r) items ≤ stage_cost r y) (sym here) (less r) in
     let m : costs (2 + (length back + length back)) (n.waiting ++ items) ≡ costs (2 + (length back + length back)) n.waiting + costs (2 + (length back + length back)) items
-          = costs_more (2 + (length back + length back)) n.waiting items in
+    = costs_more (2 + (length back + length back)) n.waiting items in
     let l : costs (2 + (length back + length back)) items ≤ costs (r + r) items = costs_less (2 + (length back + length back)) (r + r) items (omega arith) in
     omega arith
 passes_on items (x ∷ xs) (suc k) s t is less =
@@ -135,7 +135,7 @@ more_cost items [] u n is = absurd (cc)
 more_cost items (x ∷ xs) zero n is =
     let here : x ≡ n = (cc) in
     let m : costs (2 + (length xs + length xs)) (x.waiting ++ items) ≡ costs (2 + (length xs + length xs)) x.waiting + costs (2 + (length xs + length xs)) items
-          = costs_more (2 + (length xs + length xs)) x.waiting items in
+    = costs_more (2 + (length xs + length xs)) x.waiting items in
     let l : costs (2 + (length xs + length xs)) items ≤ costs (length (x ∷ xs) + length (x ∷ xs)) items = costs_less (2 + (length xs + length xs)) (length (x ∷ xs) + length (x ∷ xs)) items (omega arith) in
     subst (λ (y : Stage). chain_cost (with_more items y ∷ xs) ≤ chain_cost (x ∷ xs) + costs (length (x ∷ xs) + length (x ∷ xs)) items) here (omega arith)
 more_cost items (x ∷ xs) (suc u) n is =
@@ -163,7 +163,7 @@ passes_far items (x ∷ xs) zero zero s new far is less = elim far [ ]
 passes_far items (x ∷ xs) zero (suc u) s new far is less =
     let here : x ≡ s = (cc) in
     let e : stage_cost (length xs) new + costs (length xs + length xs) items ≤ stage_cost (length xs) x
-          = subst (λ (y : Stage). stage_cost (length xs) new + costs (length xs + length xs) items ≤ stage_cost (length xs) y) (sym here) (less (length xs)) in
+    = subst (λ (y : Stage). stage_cost (length xs) new + costs (length xs + length xs) items ≤ stage_cost (length xs) y) (sym here) (less (length xs)) in
     let m = onto_cost items xs u (slice_get xs u) refl in
     let l = onto_length items xs u (slice_get xs u) in
     rw (onto_behind items new xs u (slice_get xs u), l) (omega arith)

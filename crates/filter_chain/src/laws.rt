@@ -7,11 +7,9 @@ pub fn asking_comes_to_an_end()
     ensures asking { AskingFalls }
     ensures going_on { GoingOnAddsNothing }
     ensures stages { StagesStay }
-{
-}
+{}
 
 /// The bytes that left a chain, and those that are in it, are those that were in it and that came, in order.
 pub fn what_passes_is_what_came()
     ensures { WhatPassesIsWhatCame }
-{
-}
+{}
