@@ -1,0 +1,3 @@
+pub mod Summing
+pub mod Learning
+pub mod Closing
