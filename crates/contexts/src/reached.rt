@@ -97,10 +97,7 @@ impl Contexts {
         requires { vm < length self.now.vms }
         ensures { option_copied result ≡ (seen self.now vm).reach.own }
     {
-        match self.context(vm) {
-            Some(c) => Some(&c.own),
-            None => None,
-        }
+        self.own_of(vm, self.effective(vm))
     }
 
     /// What the exchange of the effective context has.
