@@ -1,0 +1,4 @@
+pub mod Named
+pub mod Once
+pub mod Pieces
+pub mod Words

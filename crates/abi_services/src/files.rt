@@ -1,0 +1,270 @@
+// `fd_write` of WASI.
+ghost use Rattle.std.specs.Prelude.{◌≡◌, ◌≤◌, ◌<◌, ◌+◌, ◌*◌, ◌^◌, ◌++◌, length, true, false, IfOk, IfSome, IfNone, OnOk, OnErr, slice_index};
+ghost use Rattle.wasm_syntax.specs.Memory.{bytes_at};
+ghost use Rattle.abi_types.specs.GuestAt.{Keeps, StillWaits};
+ghost use Rattle.contexts.specs.Reached.{seen};
+ghost use Rattle.abi_model.specs.Calls.{CallEnds, RestsAfterCall, AreShort};
+ghost use Rattle.abi_model.specs.Table.{Are, arg, wasi_row_of};
+ghost use Rattle.abi_model.specs.Writing.{LogEnds};
+ghost use Rattle.abi_model.specs.declared.table.WasiCall.TheVariants as call;
+ghost use Rattle.abi_services.specs.Files.{word_in as word_of, word_at as word_at_of, pieces_inside, are_inside, pieces, file_written, text_written, IsText, fd_writes};
+
+use crate::logging::level_at;
+use abi_memory::{is_within, take_bytes};
+use abi_model::{
+    Gives, HostEnd, Inputs, Outcome, Param, WasiCall, WritingCall, answer, given, wasi_call_row,
+    writing_call,
+};
+use abi_types::Guest;
+use contexts::Contexts;
+use gate_base::{Octets, OutOfMemory, VmNo};
+use gate_io::{Sent, SentList};
+use std::alloc::{AllocError, Global};
+
+/// How many bytes a call may write.
+const TEXT_LIMIT: usize = 65_536;
+
+/// A byte of some, and 0 where there are fewer.
+fn byte_at(bytes: &[u8], at: usize) -> u32
+    ensures byte { result ≡ slice_index bytes.now at }
+    ensures small { result < 256 }
+{
+    match bytes.get(at) {
+        Some(b) => *b as u32,
+        None => 0,
+    }
+}
+
+/// The number of four bytes, the lowest first.
+fn word_in(bytes: &[u8]) -> u32
+    ensures { result ≡ word_of bytes.now }
+{
+    let low = byte_at(bytes, 0) + 256 * byte_at(bytes, 1);
+    let high = byte_at(bytes, 2) + 256 * byte_at(bytes, 3);
+    low + 65_536 * high
+}
+
+/// The number that stands at a place of a guest's memory.
+fn word_at<G: Guest>(alloc: Global, guest: &G, at: u32) -> Result<u32, OutOfMemory>
+    ensures { IfOk result (λ n. n ≡ word_at_of (G.at guest.now).config.store.memory at) }
+{
+    match take_bytes(alloc, guest, at, 4) {
+        Ok(bytes) => Ok(word_in(bytes.as_slice())),
+        Err(_) => Err(AllocError),
+    }
+}
+
+/// A piece: where it begins, and how many bytes it has.
+#[derive(Clone, Copy)]
+struct Piece {
+    at: u32,
+    len: u32,
+}
+
+/// The piece of the entry at a place.
+fn piece_at<G: Guest>(alloc: Global, guest: &G, at: u32) -> Result<Piece, OutOfMemory>
+    requires { at + 4 < 2 ^ 32 }
+    ensures at { IfOk result (λ p. p.at ≡ word_at_of (G.at guest.now).config.store.memory at) }
+    ensures len { IfOk result (λ p. p.len ≡ word_at_of (G.at guest.now).config.store.memory (at + 4)) }
+{
+    let begins = word_at(alloc, guest, at)?;
+    let len = word_at(alloc, guest, at + 4)?;
+    Ok(Piece { at: begins, len })
+}
+
+/// Puts the bytes of a piece at the end.
+fn put_piece<G: Guest>(
+    alloc: Global,
+    guest: &G,
+    text: &mut Octets,
+    piece: &Piece,
+) -> Result<(), OutOfMemory>
+    ensures { OnOk result (text.new ≡ text.old ++ bytes_at (G.at guest.now).config.store.memory piece.now.at piece.now.len) }
+{
+    match take_bytes(alloc, guest, piece.at, piece.len) {
+        Ok(bytes) => text.extend_from_slice(bytes.as_slice()),
+        Err(_) => Err(AllocError),
+    }
+}
+
+/// How many bytes so many pieces have together; none where a piece is outside.
+fn size_of_pieces<G: Guest>(
+    alloc: Global,
+    guest: &G,
+    at: u32,
+    count: u32,
+) -> Result<Option<u64>, OutOfMemory>
+    requires { at + 8 * count ≤ 16777216 }
+    ensures none { IfOk result (λ o. IfNone o (pieces_inside (G.at guest.now).config.store.memory at count ≡ false)) }
+    ensures some { IfOk result (λ o. IfSome o (λ n. (pieces_inside (G.at guest.now).config.store.memory at count ≡ true) × (n ≡ length (pieces (G.at guest.now).config.store.memory at count)))) }
+{
+    let most = guest.size();
+    let mut total: u64 = 0;
+    for k in 0..count {
+        let piece = piece_at(alloc, guest, at + 8 * k)?;
+        if !is_within(guest, piece.at as u64, piece.len as u64) {
+            return Ok(None);
+        }
+        prove!(piece.len as u64 <= most);
+        total += piece.len as u64;
+    }
+    Ok(Some(total))
+}
+
+/// So many pieces joined.
+fn join_pieces<G: Guest>(
+    alloc: Global,
+    guest: &G,
+    at: u32,
+    count: u32,
+) -> Result<Octets, OutOfMemory>
+    requires { at + 8 * count ≤ 16777216 }
+    ensures { IfOk result (λ text. text ≡ pieces (G.at guest.now).config.store.memory at count) }
+{
+    let mut text = Octets::new(alloc);
+    for k in 0..count {
+        let piece = piece_at(alloc, guest, at + 8 * k)?;
+        put_piece(alloc, guest, &mut text, &piece)?;
+    }
+    Ok(text)
+}
+
+/// The pieces joined, where they have no more bytes than a call may write.
+fn text_of<G: Guest>(
+    alloc: Global,
+    guest: &G,
+    at: u32,
+    count: u32,
+    size: u64,
+) -> Result<Option<Octets>, OutOfMemory>
+    requires range { at + 8 * count ≤ 16777216 }
+    requires size { size ≡ length (pieces (G.at guest.now).config.store.memory at count) }
+    ensures { IfOk result (λ text. IsText (pieces (G.at guest.now).config.store.memory at count) text) }
+{
+    if size > TEXT_LIMIT as u64 {
+        return Ok(None);
+    }
+    let text = join_pieces(alloc, guest, at, count)?;
+    Ok(Some(text))
+}
+
+/// Writes a text to the log as that of a file.
+fn write_text(
+    alloc: Global,
+    contexts: &Contexts,
+    vm: VmNo,
+    logs: &mut SentList,
+    fd: u64,
+    text: &Octets,
+) -> Result<Outcome, OutOfMemory>
+    requires vm { vm < length contexts.now.vms }
+    ensures made { IfOk result (λ o. o ≡ (file_written fd text.now (seen contexts.now vm)).outcome) }
+    ensures short { IfOk result (λ o. AreShort o.gives) }
+    ensures lines { IfOk result (λ _. logs.new ≡ logs.old ++ (file_written fd text.now (seen contexts.now vm)).lines) }
+    ensures err { OnErr result (logs.new ≡ logs.old) }
+{
+    let _ = vm;
+    if fd != 1 && fd != 2 {
+        return Ok(answer(8));
+    }
+    if text.len() > TEXT_LIMIT {
+        return Ok(answer(28));
+    }
+    let number = if fd == 1 { 2 } else { 4 };
+    if number >= contexts.level_number() as u64 {
+        let level = level_at(number);
+        let text = text.copy(alloc)?;
+        logs.push(Sent::Log { level, text })?;
+    }
+    Ok(given(Gives::Number {
+        number: text.len() as u32,
+    }))
+}
+
+/// Writes to a file: the pieces joined, or that they have too many bytes.
+#[derive(Drop)]
+struct FdWrite {
+    alloc: Global,
+    text: Option<Octets>,
+}
+
+impl WritingCall for FdWrite {
+    ghost params = { λ _. wasi_row_of call.FdWrite };
+
+    ghost own = { λ c args inputs s. text_written (arg args 0) c.text s };
+
+    fn parameters(&self) -> &'static [Param] {
+        wasi_call_row(WasiCall::FdWrite)
+    }
+
+    fn make(
+        &self,
+        contexts: &Contexts,
+        vm: VmNo,
+        logs: &mut SentList,
+        args: &[u64],
+        _inputs: Inputs,
+    ) -> Result<Outcome, OutOfMemory> {
+        match &self.text {
+            Some(text) => write_text(self.alloc, contexts, vm, logs, args[0], text),
+            None => {
+                if args[0] != 1 && args[0] != 2 {
+                    return Ok(answer(8));
+                }
+                Ok(answer(28))
+            }
+        }
+    }
+}
+
+/// What a call of these entries writes; none where one of them or a piece is outside.
+fn take_text<G: Guest>(
+    alloc: Global,
+    guest: &G,
+    at: u64,
+    count: u64,
+) -> Result<Option<FdWrite>, OutOfMemory>
+    requires at { at < 2 ^ 32 }
+    requires count { count < 2 ^ 32 }
+    ensures none { IfOk result (λ o. IfNone o (are_inside (G.at guest.now).config.store.memory at count ≡ false)) }
+    ensures some { IfOk result (λ o. IfSome o (λ c. (are_inside (G.at guest.now).config.store.memory at count ≡ true) × IsText (pieces (G.at guest.now).config.store.memory at count) c.text)) }
+{
+    let _most = guest.size();
+    if count == 0 {
+        let text = Some(Octets::new(alloc));
+        return Ok(Some(FdWrite { alloc, text }));
+    }
+    if !is_within(guest, at, 8 * count) {
+        return Ok(None);
+    }
+    let Some(size) = size_of_pieces(alloc, guest, at as u32, count as u32)? else {
+        return Ok(None);
+    };
+    let text = text_of(alloc, guest, at as u32, count as u32, size)?;
+    Ok(Some(FdWrite { alloc, text }))
+}
+
+/// Writes pieces of a guest's memory to the log, joined: those of the file 1 at the level info, those of 2 at error; gives how many
+/// bytes they are. 21: an entry, a piece or the result's place is outside; 8: another file; 28: more than 65,536 bytes.
+pub fn wasi_fd_write<G: Guest>(
+    alloc: Global,
+    guest: &mut G,
+    contexts: &Contexts,
+    vm: VmNo,
+    logs: &mut SentList,
+    args: &[u64],
+) -> HostEnd
+    requires rests { G.rests guest.old }
+    requires vm { vm < length contexts.now.vms }
+    requires args { Are (wasi_row_of call.FdWrite) 0 args.now }
+    ensures ends { CallEnds (fd_writes args.now (G.at guest.old) (seen contexts.now vm)).called result (G.at guest.new) }
+    ensures lines { LogEnds (fd_writes args.now (G.at guest.old) (seen contexts.now vm)).lines result logs.old logs.new }
+    ensures rests { RestsAfterCall result (StillWaits (G.rests guest.new) (G.at guest.old) (G.at guest.new)) }
+    ensures keeps { Keeps (G.at guest.old) (G.at guest.new) }
+{
+    match take_text(alloc, guest, args[1], args[2]) {
+        Err(_) => HostEnd::OutOfMemory,
+        Ok(None) => HostEnd::Status { status: 21 },
+        Ok(Some(call)) => writing_call(alloc, &call, 21, guest, contexts, vm, logs, args),
+    }
+}
