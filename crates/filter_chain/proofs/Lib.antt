@@ -3,3 +3,4 @@ pub mod Releasing
 pub mod Weights
 pub mod Picks
 pub mod Flows
+pub mod Examples

@@ -8,5 +8,5 @@ mod stage;
 
 pub use chain::Chain;
 pub use item::{Ask, AskKind, Asking, Held, Item, Passed};
-pub use laws::{asking_comes_to_an_end, what_passes_is_what_came};
+pub use laws::{asking_comes_to_an_end, what_passes_is_what_came, worked_chains};
 pub use stage::Stage;
