@@ -1,10 +1,10 @@
 -- Words over histories of asks.
-use Rattle.std.specs.Prelude.{slice_get}
+use Rattle.std.specs.Prelude.{◌%◌, map, slice_get, sum, sum_by}
 use Rattle.std.proofs.Common.{◌≡◌, ◌≢◌, ℕ, zero, suc, ◌+◌, ◌-◌, ◌==◌, ◌<◌, ◌≤◌, Bool, true, false, cond, nat_lt, All, List, [], ◌∷◌, ◌++◌, length, position, replicate, Option, Some, None, refl, ap, sym, subst, ◌∙◌, arith, set, get_or, get_or-set_same, get_or-set_other, length-set, eq-eqb, ne_eqb, ⊎_elim, ℤ, pos, negsuc}
 use mathlib.Core.Logic.{dite}
 use native.Mathlib.Decide.{ℕ_discrete}
-use Rattle.store_model.specs.MetricLaws.{AskEntry, asks_by, id_of, is_done, rise_of, word_done, word_from}
-use Rattle.store_model.specs.Metrics.{MetricAnswer, applied_ask, counted, defined, is_named, known_place, known_to, metric_in, new_metric, no_metric, no_share, raise_reply, raised, share_of, sum_reply, where_known, with_share, with_word, word_added, word_after, word_put, word_reply}
+use Rattle.store_model.specs.MetricLaws.{AskEntry, asks_by, id_of, is_done, rise_of, totals_of, word_done, word_from, workers}
+use Rattle.store_model.specs.Metrics.{MetricAnswer, applied_ask, counted, defined, is_named, known_place, known_to, metric_in, new_metric, no_metric, no_share, raise_reply, raised, share_of, sum_reply, total, where_known, with_share, with_word, word_added, word_after, word_put, word_reply}
 use Rattle.store_model.specs.declared.metric.Metric.{Metric}
 use Rattle.store_model.specs.declared.metric.Share.{Share}
 use Rattle.store_model.specs.declared.metric.MetricAsk.{MetricAsk}
@@ -253,3 +253,70 @@ pub words_asked : (asks : List AskEntry) (k who : ℕ) → 1 ≤ who → All (λ
     → word_at (metrics_after [] asks) k who ≡ word_from (metric_in (metrics_after [] asks) k).kind (k + 1) 0 (asks_by who asks)
 words_asked asks k who low each answered inside =
     words_from [] asks k who (metric_in (metrics_after [] asks) k).kind low each answered refl ∙ ap (λ w. word_from (metric_in (metrics_after [] asks) k).kind (k + 1) w (asks_by who asks)) (no_words k who)
+
+-- ---- the totals
+-- each metric has eight shares
+set_eight : (ms : List Metric) (j k : ℕ) (m : Metric) → length m.shares ≡ 8 → length (metric_in ms k).shares ≡ 8 → length (metric_in (set ms j m) k).shares ≡ 8
+set_eight [] j k m new old = old
+set_eight (x ∷ ms) zero zero m new old = new
+set_eight (x ∷ ms) zero (suc k) m new old = old
+set_eight (x ∷ ms) (suc j) zero m new old = old
+set_eight (x ∷ ms) (suc j) (suc k) m new old = set_eight ms j k m new old
+
+push_eight : (ms : List Metric) (k : ℕ) (m : Metric) → length m.shares ≡ 8 → length (metric_in ms k).shares ≡ 8 → length (metric_in (ms ++ m ∷ []) k).shares ≡ 8
+push_eight [] zero m new old = new
+push_eight [] (suc k) m new old = old
+push_eight (x ∷ ms) zero m new old = old
+push_eight (x ∷ ms) (suc k) m new old = push_eight ms k m new old
+
+abbrev HaveEight : List Metric → Type 0
+HaveEight ms = (k : ℕ) → length (metric_in ms k).shares ≡ 8
+
+share_eight : (m : Metric) (who : ℕ) (s : Share) → length m.shares ≡ 8 → length (with_share m who s).shares ≡ 8
+share_eight m who s e = length-set m.shares (who - 1) s ∙ e
+
+count_eight : (ms : List Metric) (by : ℕ) (asked : MetricAsk) (o : Option ℕ) → HaveEight ms → HaveEight (counted ms by asked o).metrics
+count_eight ms by asked (Some j) all = λ k.
+    let m = metric_in ms j in let word = word_after m.kind (share_of m by).word asked in
+    set_eight ms j k (with_word m by word) (share_eight m by (record (share_of m by) { word = word }) (all j)) (all k)
+count_eight ms by asked None all = all
+
+ask_eight : (ms : List Metric) (by : ℕ) (asked : MetricAsk) → HaveEight ms → HaveEight (applied_ask ms by asked).metrics
+ask_eight ms by (Define kind name) all = define (position (is_named kind name) ms)
+  where
+    push : (b : Bool) → HaveEight (answers ms by kind name b).metrics
+    push true k = push_eight ms k (known_to by (new_metric kind name)) (share_eight (new_metric kind name) by (record (share_of (new_metric kind name) by) { knows = true }) refl) (all k)
+    push false k = all k
+
+    define : (o : Option ℕ) → HaveEight (defined ms by kind name o).metrics
+    define (Some j) = λ k. set_eight ms j k (known_to by (metric_in ms j)) (share_eight (metric_in ms j) by (record (share_of (metric_in ms j) by) { knows = true }) (all j)) (all k)
+    define None = push (nat_lt (length ms) MOST_METRICS)
+ask_eight ms by (Add id amount) all = count_eight ms by (Add id amount) (known_place ms by id) all
+ask_eight ms by (Put id value) all = count_eight ms by (Put id value) (known_place ms by id) all
+ask_eight ms by (Sum id) all = all
+
+asks_eight : (ms : List Metric) (asks : List AskEntry) → HaveEight ms → HaveEight (metrics_after ms asks)
+asks_eight ms [] all = all
+asks_eight ms (a ∷ later) all = asks_eight (applied_ask ms a.who a.ask).metrics later (ask_eight ms a.who a.ask all)
+
+-- the sum of eight shares, worker by worker
+eight_words : (l : List Share) → length l ≡ 8 → sum_by (λ s. s.word) l ≡ sum (map (λ who. (get_or l (who - 1) no_share).word) workers)
+eight_words (a ∷ b ∷ c ∷ d ∷ e ∷ f ∷ g ∷ h ∷ []) is = refl
+eight_words [] is = absurd (omega arith)
+eight_words (a ∷ []) is = absurd (omega arith)
+eight_words (a ∷ b ∷ []) is = absurd (omega arith)
+eight_words (a ∷ b ∷ c ∷ []) is = absurd (omega arith)
+eight_words (a ∷ b ∷ c ∷ d ∷ []) is = absurd (omega arith)
+eight_words (a ∷ b ∷ c ∷ d ∷ e ∷ []) is = absurd (omega arith)
+eight_words (a ∷ b ∷ c ∷ d ∷ e ∷ f ∷ []) is = absurd (omega arith)
+eight_words (a ∷ b ∷ c ∷ d ∷ e ∷ f ∷ g ∷ []) is = absurd (omega arith)
+eight_words (a ∷ b ∷ c ∷ d ∷ e ∷ f ∷ g ∷ h ∷ i ∷ l) is = absurd (omega arith)
+
+pub totals_asked : (asks : List AskEntry) (k : ℕ) → All (λ (a : AskEntry). 1 ≤ a.who) asks → AreAnswered [] asks → k < length (metrics_after [] asks)
+    → total (metric_in (metrics_after [] asks) k) ≡ totals_of (metric_in (metrics_after [] asks) k).kind (k + 1) asks
+totals_asked asks k each answered inside =
+    let m = metric_in (metrics_after [] asks) k in
+    let word : (who : ℕ) → 1 ≤ who → word_at (metrics_after [] asks) k who ≡ word_from m.kind (k + 1) 0 (asks_by who asks) = λ who low. words_asked asks k who low each answered inside in
+    let same : sum (map (λ who. word_at (metrics_after [] asks) k who) workers) ≡ sum (map (λ who. word_from m.kind (k + 1) 0 (asks_by who asks)) workers) =
+    λ i. sum (word 1 (omega arith) i ∷ word 2 (omega arith) i ∷ word 3 (omega arith) i ∷ word 4 (omega arith) i ∷ word 5 (omega arith) i ∷ word 6 (omega arith) i ∷ word 7 (omega arith) i ∷ word 8 (omega arith) i ∷ []) in
+    ap (λ n. n % 18446744073709551616) (eight_words m.shares (asks_eight [] asks (λ j. refl) k) ∙ same)
