@@ -1,0 +1,22 @@
+-- How a check ends, by what was loaded and printed.
+use Rattle.std.proofs.Common.{◌≡◌, ℕ, List, Result, Option, Ok, Err, subst}
+use Rattle.gate_io.specs.Told.{gains_nothing}
+use Rattle.config_files.specs.Loading.{Told}
+use Rattle.config_files.specs.declared.reading.LoadEnd.{LoadEnd}
+use Rattle.gate_config.specs.Given.{Given}
+use Rattle.check_config.specs.Check.{IsChecked, IsOf, IsPrinted, counts_line}
+use Rattle.check_config.specs.declared.checking.CheckEnd.{CheckEnd}
+use Rattle.check_config.specs.declared.checking.CheckEnd.TheVariants.{NotLoaded, OutFault, OutOfMemory}
+
+pub printed_checked : (files : Told) (path : List ℕ) (g : Given) (r : Result (Unit {0}) CheckEnd) (old new : Option (List ℕ)) → IsOf files path g → IsPrinted (counts_line g) r old new → IsChecked files path r old new
+printed_checked files path g (Ok u) old new is h = (g, is, h)
+printed_checked files path g (Err OutFault) old new is h = (g, is, h)
+printed_checked files path g (Err OutOfMemory) old new is h = h
+printed_checked files path g (Err (NotLoaded e)) old new is h = absurd h
+
+pub no_file_fault : (line : List ℕ) (r : Result (Unit {0}) CheckEnd) (e : LoadEnd) (old new : Option (List ℕ)) → IsPrinted line r old new → r ≡ Err (NotLoaded e) → ⊥
+no_file_fault line r e old new h is = subst (λ (x : Result (Unit {0}) CheckEnd). IsPrinted line x old new) is h
+
+-- the same line, otherwise written
+pub printed_as : (a b : List ℕ) (r : Result (Unit {0}) CheckEnd) (old new : Option (List ℕ)) → a ≡ b → IsPrinted a r old new → IsPrinted b r old new
+printed_as a b r old new e h = subst (λ (l : List ℕ). IsPrinted l r old new) e h

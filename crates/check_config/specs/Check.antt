@@ -1,0 +1,36 @@
+-- What `check` prints of a configuration, and how it ends.
+use Rattle.std.specs.Prelude.{◌≡◌, ℕ, List, [], ◌∷◌, ◌++◌, length, codes, decimal, Option, Some, Result, Ok, Err}
+use Rattle.gate_io.specs.Told.{Gains, GainsFront}
+use Rattle.gate_io.specs.Paths.{told_at}
+use Rattle.config_files.specs.Loading.{Told, IsLoaded, IsNotLoaded}
+use Rattle.gate_config.specs.Given.{Given}
+use Rattle.check_config.specs.declared.checking.CheckEnd.{CheckEnd}
+use Rattle.check_config.specs.declared.checking.CheckEnd.TheVariants.{NotLoaded, OutFault, OutOfMemory}
+
+-- a word with its blanks, and a number
+abbrev pub count : List ℕ → ℕ → List ℕ
+count word n = word ++ decimal n
+
+-- the line of a configuration: how many workers, VMs, plug-ins and routes it has
+abbrev pub counts_line : Given → List ℕ
+counts_line g =
+    ((((codes "ok" ++ count (codes " workers ") g.workers) ++ count (codes " vms ") (length g.vms)) ++ count (codes " plugins ") (length g.plugins)) ++ count (codes " routes ") (length g.routes)) ++ codes "\n"
+
+-- the configuration of this file, with the modules of its VMs, where the files tell it
+abbrev pub IsOf : Told → List ℕ → Given → Type 0
+IsOf files path g = (text : List ℕ) → told_at files path ≡ Some text → IsLoaded files text g
+
+-- HOW A CHECK ENDS: the line of the configuration is printed, or a front of it where the output failed; else nothing is printed, and
+-- the end tells the first refusal
+abbrev pub IsChecked : Told → List ℕ → Result (Unit {0}) CheckEnd → (old new : Option (List ℕ)) → Type 0
+IsChecked files path (Ok u) old new = (g : Given) × IsOf files path g × Gains old (counts_line g) new
+IsChecked files path (Err OutFault) old new = (g : Given) × IsOf files path g × GainsFront old (counts_line g) new
+IsChecked files path (Err (NotLoaded e)) old new = ((text : List ℕ) → told_at files path ≡ Some text → IsNotLoaded files text e) × Gains old [] new
+IsChecked files path (Err OutOfMemory) old new = Gains old [] new
+
+-- a line is printed, or a front of it, or there was no memory for it
+abbrev pub IsPrinted : List ℕ → Result (Unit {0}) CheckEnd → (old new : Option (List ℕ)) → Type 0
+IsPrinted line (Ok u) old new = Gains old line new
+IsPrinted line (Err OutFault) old new = GainsFront old line new
+IsPrinted line (Err OutOfMemory) old new = Gains old [] new
+IsPrinted line (Err (NotLoaded e)) old new = ⊥
