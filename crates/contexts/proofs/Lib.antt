@@ -6,3 +6,4 @@ pub mod Putting
 pub mod Short
 pub mod Unmarking
 pub mod Holding
+pub mod Lifetimes

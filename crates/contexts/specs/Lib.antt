@@ -9,3 +9,4 @@ pub mod Stages
 pub mod Making
 pub mod Effects
 pub mod Holding
+pub mod CreatingLaws

@@ -1,5 +1,6 @@
 // The laws of what a host call sees and changes. The functions have nothing to do: their contracts are the laws.
 ghost use Rattle.contexts.specs.Isolation.{PutIsSeen, IsIsolated, AllElseStays, MapsAreShared};
+ghost use Rattle.contexts.specs.CreatingLaws.{CreatesOne, DeletesOne, EndsOne};
 ghost use Rattle.contexts.specs.Holding.{HoldsItsOwn};
 
 /// What was put is seen by the same context.
@@ -21,5 +22,13 @@ pub fn all_else_stays()
 /// A stage holds what it is given, and every other stage what it held.
 pub fn stages_hold_their_own()
     ensures { HoldsItsOwn }
+{
+}
+
+/// A context that is made or deleted, and an exchange that ends, change nothing else.
+pub fn lives_are_apart()
+    ensures creates { CreatesOne }
+    ensures deletes { DeletesOne }
+    ensures ends { EndsOne }
 {
 }
