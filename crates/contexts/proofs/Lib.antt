@@ -7,3 +7,4 @@ pub mod Short
 pub mod Unmarking
 pub mod Holding
 pub mod Lifetimes
+pub mod Examples

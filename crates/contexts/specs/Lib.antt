@@ -10,3 +10,4 @@ pub mod Making
 pub mod Effects
 pub mod Holding
 pub mod CreatingLaws
+pub mod Examples

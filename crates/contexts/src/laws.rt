@@ -1,6 +1,7 @@
 // The laws of what a host call sees and changes. The functions have nothing to do: their contracts are the laws.
 ghost use Rattle.contexts.specs.Isolation.{PutIsSeen, IsIsolated, AllElseStays, MapsAreShared};
 ghost use Rattle.contexts.specs.CreatingLaws.{CreatesOne, DeletesOne, EndsOne};
+ghost use Rattle.contexts.specs.Examples.{ContextExamples};
 ghost use Rattle.contexts.specs.Holding.{HoldsItsOwn};
 
 /// What was put is seen by the same context.
@@ -30,5 +31,11 @@ pub fn lives_are_apart()
     ensures creates { CreatesOne }
     ensures deletes { DeletesOne }
     ensures ends { EndsOne }
+{
+}
+
+/// Two VMs with their contexts on two lines, worked.
+pub fn worked_contexts()
+    ensures { ContextExamples }
 {
 }
