@@ -1,10 +1,10 @@
 -- Words over histories of asks.
 use Rattle.std.specs.Prelude.{◌%◌, map, slice_get, sum, sum_by}
-use Rattle.std.proofs.Common.{◌≡◌, ◌≢◌, ℕ, zero, suc, ◌+◌, ◌-◌, ◌==◌, ◌<◌, ◌≤◌, Bool, true, false, cond, nat_lt, All, List, [], ◌∷◌, ◌++◌, length, position, replicate, Option, Some, None, refl, ap, sym, subst, ◌∙◌, arith, set, get_or, get_or-set_same, get_or-set_other, length-set, eq-eqb, ne_eqb, ⊎_elim, ℤ, pos, negsuc}
+use Rattle.std.proofs.Common.{◌≡◌, ◌≢◌, ℕ, zero, suc, ◌+◌, ◌-◌, ◌==◌, ◌<◌, ◌≤◌, Bool, true, false, cond, nat_lt, All, List, [], ◌∷◌, ◌++◌, length, position, replicate, Option, Some, None, refl, ap, sym, subst, ◌∙◌, arith, set, get_or, get_or-set_same, get_or-set_other, length-set, eq-eqb, ne_eqb, pos, negsuc}
 use mathlib.Core.Logic.{dite}
 use native.Mathlib.Decide.{ℕ_discrete}
-use Rattle.store_model.specs.MetricLaws.{AskEntry, asks_by, id_of, is_done, rise_of, totals_of, word_done, word_from, workers}
-use Rattle.store_model.specs.Metrics.{MetricAnswer, applied_ask, counted, defined, is_named, known_place, known_to, metric_in, new_metric, no_metric, no_share, raise_reply, raised, share_of, sum_reply, total, where_known, with_share, with_word, word_added, word_after, word_put, word_reply}
+use Rattle.store_model.specs.MetricLaws.{AskEntry, asks_by, id_of, is_done, totals_of, word_done, word_from, workers}
+use Rattle.store_model.specs.Metrics.{MetricAnswer, applied_ask, counted, defined, is_named, known_place, known_to, metric_in, new_metric, no_metric, no_share, share_of, sum_reply, total, where_known, with_share, with_word, word_after, word_reply}
 use Rattle.store_model.specs.declared.metric.Metric.{Metric}
 use Rattle.store_model.specs.declared.metric.Share.{Share}
 use Rattle.store_model.specs.declared.metric.MetricAsk.{MetricAsk}
@@ -12,7 +12,7 @@ use Rattle.store_model.specs.declared.metric.MetricAsk.TheVariants.{Define, Add,
 use Rattle.store_model.specs.declared.metric.MetricKind.{MetricKind}
 use Rattle.store_model.specs.declared.metric.MetricKind.TheVariants.{Counter, Gauge}
 use Rattle.store_model.specs.declared.metric.MetricReply.{MetricReply}
-use Rattle.store_model.specs.declared.metric.MetricReply.TheVariants.{Unknown, BadKind, Full, Id, Done, Total}
+use Rattle.store_model.specs.declared.metric.MetricReply.TheVariants.{Full, Id, Done}
 use Rattle.store_model.specs.declared.used.TheConstants.{MOST_METRICS}
 use Rattle.metric_laws.specs.Histories.{AreAnswered, metrics_after, word_at}
 

@@ -1,7 +1,7 @@
 -- A definition that was answered with an id is known.
-use Rattle.std.proofs.Common.{◌≡◌, ◌≢◌, ℕ, ◌-◌, List, [], ◌∷◌, ◌++◌, set, map, refl, ap, sym, subst, ◌∙◌, Option, Some, None}
+use Rattle.std.proofs.Common.{◌≡◌, ℕ, ◌-◌, List, [], ◌∷◌, ◌++◌, set, map, refl, ap, sym, ◌∙◌, Some}
 use Rattle.store_model.specs.History.{entry, own}
-use Rattle.store_model.specs.MetricNames.{IsIdGiven, IsNamesReply, definition_in, defining, metric_name, names_acts}
+use Rattle.store_model.specs.MetricNames.{definition_in, defining, metric_name, names_acts}
 use Rattle.store_model.specs.declared.call.Call.{Call}
 use Rattle.store_model.specs.declared.call.Reply.{Reply}
 use Rattle.store_model.specs.declared.call.Reply.TheVariants.{Absent, Value, Done, CasMismatch, Full, Id, Item, Empty, Owed, NoneOwed}

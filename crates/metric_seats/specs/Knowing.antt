@@ -1,6 +1,6 @@
 -- What a worker knows of metrics: the ids that it got from definitions of its own, in whichever of its lives, and their kinds.
 use Rattle.std.specs.Prelude.{ℕ, zero, suc, ◌-◌, List, [], ◌∷◌, replicate, Option, Some, None, slice_index_or, slice_set}
-use Rattle.store_model.specs.MetricNames.{definition_in, defining}
+use Rattle.store_model.specs.MetricNames.{definition_in}
 use Rattle.store_model.specs.declared.call.Call.{Call}
 use Rattle.store_model.specs.declared.call.Call.TheVariants.{Register}
 use Rattle.store_model.specs.declared.call.Reply.{Reply}

@@ -1,7 +1,7 @@
 -- Asks from a place, one after the other.
 use Rattle.std.specs.Prelude.{◌≡◌, ℕ, ◌==◌, List, [], ◌∷◌, ◌++◌, refl}
 use Rattle.std.specs.List.{filter}
-use Rattle.std.proofs.Common.{ap, sym, subst, ◌∙◌, append_assoc}
+use Rattle.std.proofs.Common.{ap, sym, ◌∙◌}
 use Rattle.std.proofs.lemmas.List.{append-nil}
 use Rattle.turn_table.proofs.Prefixes.{prefix_self, prefix_trans}
 use Rattle.store_model.specs.History.{own}

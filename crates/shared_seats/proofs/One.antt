@@ -1,5 +1,5 @@
 -- One ask from one place.
-use Rattle.std.proofs.Common.{Result, Ok, Err, IfOk, ◌≡◌, ◌≢◌, ◌==◌, ℕ, List, [], ◌∷◌, ◌++◌, cond, length, map, set, refl, ap, sym, subst, ◌∙◌, ⊎_elim, length-set, eq-eqb, ne_eqb}
+use Rattle.std.proofs.Common.{Result, Ok, Err, IfOk, ◌≡◌, ◌≢◌, ℕ, List, [], ◌∷◌, cond, map, set, refl, ap, sym, subst, ◌∙◌, ⊎_elim, length-set, eq-eqb, ne_eqb}
 use Rattle.std.specs.Prelude.{OnErr}
 use lib.Seq.{map-set}
 use mathlib.Core.Option.{some, some-injective}

@@ -1,4 +1,4 @@
-use Rattle.std.proofs.Common.{ap, set, ◌-◌, ◌∙◌, ◌≡◌, Some}
+use Rattle.std.proofs.Common.{ap, set, ◌-◌, ◌∙◌, Some}
 use Rattle.metric_seats.proofs.Learning.{learns, learns_nothing, one_still}
 use Rattle.metric_seats.proofs.table.MetricTable.define.Goals as goal
 

@@ -1,4 +1,4 @@
-use Rattle.std.proofs.Common.{rules, arith, ◌≡◌, refl, subst, sym, ◌∙◌}
+use Rattle.std.proofs.Common.{rules, arith, ◌≡◌, refl, subst}
 use Rattle.metric_seats.specs.Places.{Metered, Summed}
 use Rattle.store_model.specs.declared.metric.MetricReply.TheVariants.{Total}
 use Rattle.metric_table.specs.Seats.{Looked}

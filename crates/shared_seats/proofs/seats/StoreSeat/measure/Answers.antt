@@ -1,6 +1,4 @@
-use Rattle.std.proofs.Common.{◌<◌, length, length-set, sym, subst, ap, ◌∙◌, arith}
-use mathlib.Core.Option.{some}
-use lib.ListN.{get_elem?}
+use Rattle.std.proofs.Common.{◌<◌, length, length-set, ap, ◌∙◌, arith}
 use Rattle.atomic_table.proofs.Lists.{at_index}
 use Rattle.metric_seats.specs.Places.{Asked, PlaceStays}
 use Rattle.shared_seats.specs.Seats.{SeatsOf}
