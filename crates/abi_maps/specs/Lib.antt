@@ -1,3 +1,4 @@
 pub mod Buffers
+pub mod Examples
 pub mod Maps
 pub mod Streams

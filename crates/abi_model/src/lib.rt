@@ -11,7 +11,7 @@ mod writing;
 
 pub use asking::{AskingCall, asking_call};
 pub use ends::{Gives, HostEnd, Outcome, answer, given};
-pub use laws::host_calls_are_isolated;
+pub use laws::{host_calls_are_isolated, ranges_come_first, worked_rows};
 pub use local::{LocalCall, local_call};
 pub use opening::Inputs;
 pub use table::{

@@ -1,4 +1,5 @@
 pub mod Data
+pub mod Examples
 pub mod Files
 pub mod Local
 pub mod Logging

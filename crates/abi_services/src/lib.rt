@@ -3,6 +3,7 @@
 
 mod data;
 mod files;
+mod laws;
 mod local;
 mod logging;
 mod metrics;
@@ -12,6 +13,7 @@ mod wasi;
 
 pub use data::{proxy_get_shared_data, proxy_set_shared_data};
 pub use files::wasi_fd_write;
+pub use laws::worked_services;
 pub use local::{
     proxy_done, proxy_get_current_time_nanoseconds, proxy_get_log_level,
     proxy_set_effective_context, proxy_set_tick_period_milliseconds,
