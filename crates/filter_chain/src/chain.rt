@@ -385,6 +385,13 @@ impl Chain {
         self.ready() > 0
     }
 
+    /// The stages.
+    pub fn as_slice(&self) -> &[Stage]
+        ensures { result.now ≡ self.now }
+    {
+        self.stages.as_slice()
+    }
+
     /// How many stages there are.
     pub fn len(&self) -> usize
         ensures { result ≡ length self.now }

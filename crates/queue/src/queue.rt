@@ -1,5 +1,5 @@
 // A list whose members are put behind and taken in front.
-ghost use Rattle.std.specs.Prelude.{◌≡◌, [], ◌∷◌, ◌++◌, ◌<◌, ◌≤◌, ◌↔◌, length, OnOk, OnErr, IfOk, IsTrue, MatchOption, Some, slice_get, insert, remove};
+ghost use Rattle.std.specs.Prelude.{◌≡◌, [], ◌∷◌, ◌++◌, ◌<◌, ◌≤◌, ◌↔◌, length, OnOk, OnErr, IfOk, IsTrue, MatchOption, Some, slice_get, slice_set, insert, remove};
 
 use gate_base::{Members, OutOfMemory};
 use std::alloc::{AllocError, Global};
@@ -113,6 +113,16 @@ impl<M> Queue<M> {
     {
         self.items.insert(at, member)?;
         Ok(())
+    }
+
+    /// Puts a member in the place of another.
+    pub fn set(&mut self, at: usize, member: M)
+    where
+        M: Drop,
+        requires { at < length self.old }
+        ensures { self.new ≡ slice_set self.old at member }
+    {
+        self.items[at] = member;
     }
 
     /// How many members there are.
