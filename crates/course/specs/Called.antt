@@ -1,0 +1,14 @@
+-- The end of a callback: what it wrote into the log, what all machines are then, and what the contexts are.
+use Rattle.std.specs.Prelude.{List}
+use Rattle.contexts.specs.declared.parts.Contexts.{Contexts}
+use Rattle.gate_io.specs.declared.event.Sent.{Sent}
+use Rattle.course.specs.declared.host.CallEnd.{CallEnd}
+
+pub record Called (H : Type 0) : Type 0 where
+  pub end : CallEnd
+  pub lines : List Sent
+  pub host : H
+  pub contexts : Contexts
+
+abbrev pub called_back : {H : Type 0} → CallEnd → List Sent → H → Contexts → Called H
+called_back end lines host contexts = record { end = end; lines = lines; host = host; contexts = contexts }
