@@ -1,11 +1,5 @@
-pub mod State
 pub mod Heads
-pub mod Moves
-pub mod Turns
-pub mod Between
-pub mod Cuts
-pub mod Seen
-pub mod Laws
-pub mod CutLaws
-pub mod Examples
-pub mod CutExamples
+pub mod Maps
+pub mod Leaving
+pub mod Answering
+pub mod Passing

@@ -1,18 +1,21 @@
-//! One line: the requests of its client go up one after another, and the response to each comes down.
+//! One exchange: a request of a client and its response, which pass the chains of the filters of a route.
 #![tactic(auto)]
 
+mod answering;
 mod heads;
-mod laws;
-mod line;
-mod reply;
-mod request;
-mod response;
-mod sending;
-mod turn;
+mod leaving;
+mod maps;
+mod passing;
+mod types;
+mod writing;
 
-pub use laws::{
-    cuts_are_alike, few_moves, lines_rest, one_outcome, turns_are_item_turns, turns_in_order,
-    worked_cuts, worked_turns,
+pub use answering::answer;
+pub use heads::{is_bare, is_due, is_final, path_route, request_of, response_of};
+pub use leaving::send;
+pub use maps::{
+    fields_map, mark, pair_count, put_request, put_request_trailers, put_response,
+    put_response_trailers,
 };
-pub use line::Line;
-pub use turn::Happening;
+pub use passing::{act, close, die, expire, pass_on, put_in, refuse, resume};
+pub use types::{Exchange, Filter, Hub, Request, Response};
+pub use writing::interim_bytes;

@@ -1,0 +1,82 @@
+-- What leaves the chains of an exchange, and what is sent then.
+use Rattle.std.specs.Prelude.{ℕ, Bool, true, false, not, ◌&&◌, List, [], ◌∷◌, ◌++◌, Option, None, Some, nat_le, if◌then◌else◌}
+use Rattle.filter_chain.specs.declared.stage.Stage.{Stage}
+use Rattle.filter_chain.specs.declared.item.Item.{Item}
+use Rattle.filter_chain.specs.declared.item.Item.TheVariants.{Head, Piece, Trailers}
+use Rattle.gate_io.specs.declared.event.Sent.{Sent}
+use Rattle.gate_io.specs.declared.event.Sent.TheVariants.{Connect, Bytes}
+use Rattle.gate_io.specs.declared.event.Side.{Side}
+use Rattle.gate_io.specs.declared.event.Side.TheVariants.{Down, Up}
+use Rattle.http1_model.specs.Framing.{Framing, head_wire, piece_wire, trailer_wire}
+use Rattle.http1_model.specs.Unread.{new_reading}
+use Rattle.exchange.specs.declared.types.Exchange.{Exchange}
+use Rattle.exchange.specs.declared.types.Hub.{Hub}
+use Rattle.exchange.specs.Heads.{sent_head, up_tail, down_tail, up_framing, down_framing, asked_by, is_head, status_in, is_by_close, may_stay}
+use Rattle.exchange.specs.Maps.{request_map, response_map, request_trailers, response_trailers}
+
+-- bytes for a side, if there are any
+abbrev pub sending : ℕ → Side → List ℕ → List Sent
+sending number side [] = []
+sending number side (b ∷ bytes) = Bytes number side (b ∷ bytes) ∷ []
+
+-- this is sent behind what was sent
+abbrev pub sends : List Sent → Hub → Hub
+sends more hub = record hub { sent = hub.sent ++ more }
+
+-- ---- what leaves the chain of the request goes up
+
+abbrev pub goes_up : Exchange → Framing
+goes_up x = up_framing x.filters_requests x.asked
+
+-- with the head a connection is opened, over which the response comes
+abbrev pub up : ℕ → Item → Exchange → Hub → Exchange × Hub
+up n (Head end) x hub = (
+  record x { reader = Some (new_reading (Some (asked_by (request_map x.place hub.contexts)))); is_head_up = is_head (request_map x.place hub.contexts) },
+  sends (Connect n ∷ sending n Up (head_wire (goes_up x) (sent_head (request_map x.place hub.contexts) (up_tail x.asked.minor)))) hub,
+)
+up n (Piece bytes end) x hub = (x, sends (sending n Up (piece_wire (goes_up x) bytes end)) hub)
+up n Trailers x hub = (x, sends (sending n Up (trailer_wire (goes_up x) (request_trailers x.place hub.contexts).pairs)) hub)
+
+-- ---- what leaves the chain of the response goes down
+
+-- the framing of the response, once its head went out
+abbrev pub out_framing : Exchange → Framing
+out_framing x = down_framing x.filters_responses x.asked x.told x.out
+
+-- the line stays open behind it
+abbrev pub stays_behind : Exchange → Framing → Bool
+stays_behind x framing = (may_stay x.asked && not x.closes) && not (is_by_close framing)
+
+abbrev pub with_out : Option ℕ → Exchange → Exchange
+with_out status x = record x { out = status }
+
+-- The head settles how the response is framed, and whether the line stays open. The end of the exchange is due where the response is whole.
+abbrev pub head_down : ℕ → Bool → Exchange → Hub → Exchange × Hub
+head_down n end x hub = (
+  record x { is_head_out = true; stays = stays_behind x (out_framing x); has_ended = end },
+  sends (sending n Down (head_wire (out_framing x) (sent_head (response_map x.place hub.contexts)
+      (down_tail (stays_behind x (out_framing x)) hub.moment (response_map x.place hub.contexts))))) hub,
+)
+
+abbrev pub down : ℕ → Item → Exchange → Hub → Exchange × Hub
+down n (Head end) x hub = head_down n end (with_out (status_in (response_map x.place hub.contexts)) x) hub
+down n (Piece bytes end) x hub = (record x { has_ended = end }, sends (sending n Down (piece_wire (out_framing x) bytes end)) hub)
+down n Trailers x hub = (record x { has_ended = true }, sends (sending n Down (trailer_wire (out_framing x) (response_trailers x.place hub.contexts).pairs)) hub)
+
+-- ---- one item after another, unless the exchange has ended
+
+abbrev pub leaves : Bool → ℕ → Item → Exchange × Hub → Exchange × Hub
+leaves false n item (x, hub) = if x.has_ended then (x, hub) else up n item x hub
+leaves true n item (x, hub) = if x.has_ended then (x, hub) else down n item x hub
+
+abbrev pub left : Bool → ℕ → List Item → Exchange × Hub → Exchange × Hub
+left response n [] xh = xh
+left response n (item ∷ items) xh = left response n items (leaves response n item xh)
+
+-- the head of the response is due at a moment, and was neither read nor answered for
+abbrev pub is_due_at : ℕ → Option ℕ → Exchange → Bool
+is_due_at now None x = false
+is_due_at now (Some due) x = ((nat_le due now && not x.is_headed) && not x.is_answered) && not x.has_ended
+
+abbrev pub is_due : ℕ → Exchange → Bool
+is_due now x = is_due_at now x.due x

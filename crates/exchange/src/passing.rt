@@ -1,0 +1,403 @@
+// What becomes of an exchange.
+ghost use Rattle.std.specs.Prelude.{◌≡◌, true, false, not, [], ◌∷◌, ◌++◌, ◌<◌, length, OnOk, IfOk, ℕ, Some, slice_get, position, ◌==◌, ◌&&◌};
+ghost use Rattle.std.specs.List.{list_any};
+ghost use Rattle.filter_chain.specs.Chains.{put, continued, let_through};
+ghost use Rattle.exchange.specs.declared.types.Hub.{Hub};
+ghost use Rattle.exchange.specs.Answering.{with_held};
+ghost use Rattle.exchange.specs.Passing.{chain_of, with_chain, passed_on, went, put_went, puts, puts_all, goes_on, gives_way, put_in, stage_of, resumes, resumes_at, closed, pauses, acts, has_stage_of, is_there, fails_closed, opens_at, opens, opens_response, opens_all, dies, refused, expires};
+
+use crate::answering::{answer_fixed, answer_plainly, cut_off, go_down, shut};
+use crate::heads::{is_due, passes_filters, shuts};
+use crate::leaving::leave_all;
+use crate::types::{Exchange, Filter, Hub};
+use filter_chain::{Chain, Item, Passed, Stage};
+use gate_base::{ContextId, LineNo, OutOfMemory, VmNo};
+use queue::Queue;
+use std::alloc::Global;
+
+/// The chain of a direction.
+fn chain(response: bool, x: &Exchange) -> &Chain
+    ensures { result.now ≡ chain_of response x.now }
+{
+    if response { &x.response } else { &x.request }
+}
+
+/// What comes of passing items on.
+pub fn pass_on(
+    alloc: Global,
+    response: bool,
+    n: LineNo,
+    passed: Passed,
+    x: &mut Exchange,
+    hub: &mut Hub,
+) -> Result<(), OutOfMemory>
+    ensures { OnOk result (passed_on response n passed x.old hub.old ≡ (x.new, hub.new)) }
+{
+    if response {
+        return go_down(alloc, n, passed, x, hub);
+    }
+    match passed {
+        Passed::Over => answer_plainly(alloc, n, true, 413, x, hub),
+        Passed::Left { items } => leave_all(alloc, false, n, items, x, hub),
+    }
+}
+
+/// An item comes to a chain.
+fn put_one(
+    alloc: Global,
+    response: bool,
+    n: LineNo,
+    item: Item,
+    x: &mut Exchange,
+    hub: &mut Hub,
+) -> Result<(), OutOfMemory>
+    ensures { OnOk result (puts response n item (x.old, hub.old) ≡ (x.new, hub.new)) }
+{
+    if x.has_ended {
+        return Ok(());
+    }
+    let passed = if response {
+        x.response.put(alloc, &hub.contexts, item)?
+    } else {
+        x.request.put(alloc, &hub.contexts, item)?
+    };
+    pass_on(alloc, response, n, passed, x, hub)
+}
+
+/// Items come to a chain, one after another.
+fn put_all(
+    alloc: Global,
+    response: bool,
+    n: LineNo,
+    items: Queue<Item>,
+    x: &mut Exchange,
+    hub: &mut Hub,
+) -> Result<(), OutOfMemory>
+    ensures { OnOk result (puts_all response n items (x.old, hub.old) ≡ (x.new, hub.new)) }
+{
+    let mut rest = items;
+    while let Some(item) = rest.pop_first() {
+        put_one(alloc, response, n, item, x, hub)?;
+    }
+    Ok(())
+}
+
+/// What was read comes to a chain, unless the exchange was answered.
+pub fn put_in(
+    alloc: Global,
+    response: bool,
+    items: Queue<Item>,
+    n: LineNo,
+    x: &mut Exchange,
+    hub: &mut Hub,
+) -> Result<(), OutOfMemory>
+    ensures { OnOk result (put_in response items n x.old hub.old ≡ (x.new, hub.new)) }
+{
+    if x.is_answered {
+        return Ok(());
+    }
+    put_all(alloc, response, n, items, x, hub)
+}
+
+/// What a stage of the request holds goes on.
+fn go_on_request(
+    alloc: Global,
+    n: LineNo,
+    k: usize,
+    x: &mut Exchange,
+    hub: &mut Hub,
+) -> Result<(), OutOfMemory>
+    ensures { OnOk result (goes_on false n k x.old hub.old ≡ (x.new, hub.new)) }
+{
+    if x.has_ended || k >= x.request.len() {
+        return Ok(());
+    }
+    let passed = x.request.release(alloc, &mut hub.contexts, k)?;
+    pass_on(alloc, false, n, passed, x, hub)
+}
+
+/// What a stage of the response holds goes on.
+fn go_on_response(
+    alloc: Global,
+    n: LineNo,
+    k: usize,
+    x: &mut Exchange,
+    hub: &mut Hub,
+) -> Result<(), OutOfMemory>
+    ensures { OnOk result (goes_on true n k x.old hub.old ≡ (x.new, hub.new)) }
+{
+    if x.has_ended || k >= x.response.len() {
+        return Ok(());
+    }
+    let passed = x.response.release(alloc, &mut hub.contexts, k)?;
+    go_down(alloc, n, passed, x, hub)
+}
+
+/// What a stage holds goes on.
+fn go_on(
+    alloc: Global,
+    response: bool,
+    n: LineNo,
+    k: usize,
+    x: &mut Exchange,
+    hub: &mut Hub,
+) -> Result<(), OutOfMemory>
+    ensures { OnOk result (goes_on response n k x.old hub.old ≡ (x.new, hub.new)) }
+{
+    if response {
+        go_on_response(alloc, n, k, x, hub)
+    } else {
+        go_on_request(alloc, n, k, x, hub)
+    }
+}
+
+/// A stage of the request is let through.
+fn give_way_request(
+    alloc: Global,
+    n: LineNo,
+    k: usize,
+    x: &mut Exchange,
+    hub: &mut Hub,
+) -> Result<(), OutOfMemory>
+    ensures { OnOk result (gives_way false n k x.old hub.old ≡ (x.new, hub.new)) }
+{
+    if x.has_ended || k >= x.request.len() {
+        return Ok(());
+    }
+    let passed = x.request.let_through(alloc, &mut hub.contexts, k)?;
+    pass_on(alloc, false, n, passed, x, hub)
+}
+
+/// A stage of the response is let through.
+fn give_way_response(
+    alloc: Global,
+    n: LineNo,
+    k: usize,
+    x: &mut Exchange,
+    hub: &mut Hub,
+) -> Result<(), OutOfMemory>
+    ensures { OnOk result (gives_way true n k x.old hub.old ≡ (x.new, hub.new)) }
+{
+    if x.has_ended || k >= x.response.len() {
+        return Ok(());
+    }
+    let passed = x.response.let_through(alloc, &mut hub.contexts, k)?;
+    go_down(alloc, n, passed, x, hub)
+}
+
+/// A stage is let through.
+fn give_way(
+    alloc: Global,
+    response: bool,
+    n: LineNo,
+    k: usize,
+    x: &mut Exchange,
+    hub: &mut Hub,
+) -> Result<(), OutOfMemory>
+    ensures { OnOk result (gives_way response n k x.old hub.old ≡ (x.new, hub.new)) }
+{
+    if response {
+        give_way_response(alloc, n, k, x, hub)
+    } else {
+        give_way_request(alloc, n, k, x, hub)
+    }
+}
+
+/// Where the stage of a context of a VM stands.
+fn place_of(stages: &[Stage], vm: VmNo, context: ContextId) -> Option<usize>
+    ensures { result ≡ stage_of vm context stages.now }
+{
+    stages
+        .iter()
+        .position(|s| s.vm == vm && s.context == context)
+}
+
+/// The stage of a context goes on.
+pub fn resume(
+    alloc: Global,
+    vm: VmNo,
+    context: ContextId,
+    response: bool,
+    n: LineNo,
+    x: &mut Exchange,
+    hub: &mut Hub,
+) -> Result<(), OutOfMemory>
+    ensures { OnOk result (resumes vm context response n x.old hub.old ≡ (x.new, hub.new)) }
+{
+    match place_of(chain(response, x).as_slice(), vm, context) {
+        None => Ok(()),
+        Some(k) => go_on(alloc, response, n, k, x, hub),
+    }
+}
+
+/// Both connections are closed.
+pub fn close(x: &mut Exchange)
+    ensures { (n : ℕ) (hub : Hub) → closed n x.old hub ≡ (x.new, hub) }
+{
+    if !x.has_ended {
+        cut_off(x);
+    }
+}
+
+/// The body callback of a stage has returned.
+fn pause(response: bool, k: usize, x: &Exchange, hub: &mut Hub)
+    ensures { hub.new ≡ pauses response k x.now hub.old }
+{
+    let stages = chain(response, x);
+    if k < stages.len() {
+        stages.pause(&mut hub.contexts, k);
+    }
+}
+
+/// The action of a callback of a stage is put in force.
+pub fn act(
+    alloc: Global,
+    response: bool,
+    k: usize,
+    value: u32,
+    n: LineNo,
+    x: &mut Exchange,
+    hub: &mut Hub,
+) -> Result<(), OutOfMemory>
+    ensures { OnOk result (acts response k value n x.old hub.old ≡ (x.new, hub.new)) }
+{
+    pause(response, k, x, hub);
+    if value == 0 {
+        return go_on(alloc, response, n, k, x, hub);
+    }
+    Ok(())
+}
+
+/// Whether there is a stage of a context of a VM.
+fn has_stage_of(stages: &[Stage], vm: VmNo, context: ContextId) -> bool
+    ensures { result ≡ has_stage_of vm context stages.now }
+{
+    stages.iter().any(|s| s.vm == vm && s.context == context)
+}
+
+/// Whether the exchange has a stage of a filter, or will have one.
+fn is_there(x: &Exchange, f: Filter) -> bool
+    ensures { result ≡ is_there x.now f }
+{
+    (has_stage_of(x.request.as_slice(), f.vm, f.context)
+        || has_stage_of(x.response.as_slice(), f.vm, f.context))
+        || (!x.is_entered && !x.is_answered)
+}
+
+/// Whether a filter of a VM is there that lets nothing pass once its VM is dead.
+fn fails_closed(x: &Exchange, vm: VmNo) -> bool
+    ensures { result ≡ fails_closed vm x.now }
+{
+    x.filters
+        .as_slice()
+        .iter()
+        .any(|f| (f.vm == vm && !f.fails_open) && is_there(x, *f))
+}
+
+/// The stage at a place is let through, where it is of that VM.
+fn open_at(
+    alloc: Global,
+    response: bool,
+    vm: VmNo,
+    n: LineNo,
+    k: usize,
+    x: &mut Exchange,
+    hub: &mut Hub,
+) -> Result<(), OutOfMemory>
+    ensures { OnOk result (opens_at response vm n k (slice_get (chain_of response x.old) k) x.old hub.old ≡ (x.new, hub.new)) }
+{
+    match chain(response, x).stage_at(k) {
+        Some((machine, _)) => {
+            if machine == vm {
+                return give_way(alloc, response, n, k, x, hub);
+            }
+            Ok(())
+        }
+        None => Ok(()),
+    }
+}
+
+/// The stages of a VM among the first so many are let through.
+fn open_some(
+    alloc: Global,
+    response: bool,
+    vm: VmNo,
+    n: LineNo,
+    count: usize,
+    x: &mut Exchange,
+    hub: &mut Hub,
+) -> Result<(), OutOfMemory>
+    ensures { OnOk result (opens response vm n count (x.old, hub.old) ≡ (x.new, hub.new)) }
+{
+    let mut k = count;
+    while k > 0 {
+        k -= 1;
+        open_at(alloc, response, vm, n, k, x, hub)?;
+    }
+    Ok(())
+}
+
+/// All stages of a VM are let through, those of the request first.
+fn open_all(
+    alloc: Global,
+    vm: VmNo,
+    n: LineNo,
+    x: &mut Exchange,
+    hub: &mut Hub,
+) -> Result<(), OutOfMemory>
+    ensures { OnOk result (opens_all vm n x.old hub.old ≡ (x.new, hub.new)) }
+{
+    let requests = x.request.len();
+    open_some(alloc, false, vm, n, requests, x, hub)?;
+    let responses = x.response.len();
+    open_some(alloc, true, vm, n, responses, x, hub)
+}
+
+/// A VM died.
+pub fn die(
+    alloc: Global,
+    vm: VmNo,
+    n: LineNo,
+    x: &mut Exchange,
+    hub: &mut Hub,
+) -> Result<(), OutOfMemory>
+    ensures { OnOk result (dies vm n x.old hub.old ≡ (x.new, hub.new)) }
+{
+    if x.has_ended {
+        return Ok(());
+    }
+    if fails_closed(x, vm) {
+        return answer_fixed(alloc, n, 503, x, hub);
+    }
+    open_all(alloc, vm, n, x, hub)
+}
+
+/// What was read is refused, no route takes it, or a VM of its route is dead.
+pub fn refuse(
+    alloc: Global,
+    status: u16,
+    n: LineNo,
+    x: &mut Exchange,
+    hub: &mut Hub,
+) -> Result<(), OutOfMemory>
+    ensures { OnOk result (refused status n x.old hub.old ≡ (x.new, hub.new)) }
+{
+    if x.has_ended || x.is_answered {
+        return Ok(());
+    }
+    if passes_filters(status) {
+        return answer_plainly(alloc, n, shuts(status), status, x, hub);
+    }
+    shut(shuts(status), x);
+    answer_fixed(alloc, n, status, x, hub)
+}
+
+/// The head of the response may be due.
+pub fn expire(alloc: Global, n: LineNo, x: &mut Exchange, hub: &mut Hub) -> Result<(), OutOfMemory>
+    ensures { OnOk result (expires n x.old hub.old ≡ (x.new, hub.new)) }
+{
+    if is_due(hub.moment, x) {
+        return answer_plainly(alloc, n, false, 504, x, hub);
+    }
+    Ok(())
+}

@@ -1,0 +1,164 @@
+// Heads and trailers on their way out, written from the maps.
+ghost use Rattle.std.specs.Prelude.{◌≡◌, ◌++◌, ◌∷◌, [], codes, IfOk, OnOk};
+ghost use Rattle.http1_model.specs.ChunkWire.{body_end};
+ghost use Rattle.http1_model.specs.Framing.{no_body, framing_line, response_line, start_lines, head_wire, trailer_wire};
+ghost use Rattle.http1_model.specs.LocalReply.{date_line, close_line};
+ghost use Rattle.http1_model.specs.Wire.{version_text, field_line, field_lines, sent_fields, via_of, close_field, request_line};
+ghost use Rattle.h1_write.specs.Seen.{seen_framing};
+ghost use Rattle.exchange.specs.Heads.{sent_head, up_tail, down_tail, date_fields, close_fields};
+
+use gate_base::{Octets, OutOfMemory};
+use h1_head::{pseudo_of, push_field, push_fields};
+use h1_write::Framing;
+use header_maps::{HeaderList, ListKind};
+use itoa::Buffer;
+use local_reply::{has_date, moment_text};
+use std::alloc::Global;
+
+/// Puts the request line and `host` at the end (RFC 9112 section 3).
+fn push_request_start(out: &mut Octets, fields: &HeaderList) -> Result<(), OutOfMemory>
+    ensures { OnOk result (out.new ≡ out.old ++ start_lines (sent_head fields.now []) ListKind.Request) }
+{
+    out.extend_from_slice(pseudo_of(fields, b":method"))?;
+    out.extend_from_slice(b" ")?;
+    out.extend_from_slice(pseudo_of(fields, b":path"))?;
+    out.extend_from_slice(b" HTTP/1.1\r\n")?;
+    push_field(out, b"host", pseudo_of(fields, b":authority"))
+}
+
+/// Puts the status line at the end; its reason is empty (RFC 9112 section 4).
+fn push_response_start(out: &mut Octets, fields: &HeaderList) -> Result<(), OutOfMemory>
+    ensures { OnOk result (out.new ≡ out.old ++ response_line fields.now) }
+{
+    out.extend_from_slice(b"HTTP/1.1 ")?;
+    out.extend_from_slice(pseudo_of(fields, b":status"))?;
+    out.extend_from_slice(b" ")?;
+    out.extend_from_slice(b"\r\n")
+}
+
+/// Puts what stands in front of the fields at the end.
+fn push_start(out: &mut Octets, fields: &HeaderList) -> Result<(), OutOfMemory>
+    ensures { OnOk result (out.new ≡ out.old ++ start_lines (sent_head fields.now []) fields.now.kind) }
+{
+    match fields.kind() {
+        ListKind::Request => push_request_start(out, fields),
+        ListKind::Response | ListKind::Interim => push_response_start(out, fields),
+        ListKind::Plain => Ok(()),
+    }
+}
+
+/// Puts the field that tells the framing at the end, where one does (RFC 9112 section 6).
+fn push_framing(out: &mut Octets, framing: Framing) -> Result<(), OutOfMemory>
+    ensures { OnOk result (out.new ≡ out.old ++ framing_line (seen_framing framing)) }
+{
+    match framing {
+        Framing::Nothing | Framing::UntilClose => Ok(()),
+        Framing::Length(length) => {
+            let mut digits = Buffer::new();
+            push_field(out, b"content-length", digits.format(length).as_bytes())
+        }
+        Framing::Chunked => push_field(out, b"transfer-encoding", b"chunked"),
+    }
+}
+
+/// The version that was received, and the gateway's name.
+fn via_value(minor: u8) -> &'static [u8]
+    ensures { result.now ≡ version_text minor ++ codes " wasmgate" }
+{
+    if minor == 0 {
+        b"1.0 wasmgate"
+    } else {
+        b"1.1 wasmgate"
+    }
+}
+
+/// The bytes of the head of a request on its way up, which was received with this minor version.
+pub(crate) fn request_bytes(
+    alloc: Global,
+    fields: &HeaderList,
+    framing: Framing,
+    minor: u8,
+) -> Result<Octets, OutOfMemory>
+    ensures { IfOk result (λ bytes. bytes ≡ head_wire (seen_framing framing) (sent_head fields.now (up_tail minor))) }
+{
+    let mut out = Octets::new(alloc);
+    push_start(&mut out, fields)?;
+    push_fields(&mut out, fields.as_slice())?;
+    push_framing(&mut out, framing)?;
+    push_field(&mut out, b"via", via_value(minor))?;
+    push_field(&mut out, b"connection", b"close")?;
+    out.extend_from_slice(b"\r\n")?;
+    Ok(out)
+}
+
+/// Puts the moment at the end, where no date goes out among the fields.
+fn push_date(out: &mut Octets, fields: &HeaderList, now: u64) -> Result<(), OutOfMemory>
+    ensures { OnOk result (out.new ≡ out.old ++ field_lines (date_fields (sent_fields fields.now.pairs) now)) }
+{
+    if has_date(fields.as_slice()) {
+        return Ok(());
+    }
+    push_field(out, b"date", &moment_text(now))
+}
+
+/// Puts `connection: close` at the end, where the line does not stay open.
+fn push_close(out: &mut Octets, stays: bool) -> Result<(), OutOfMemory>
+    ensures { OnOk result (out.new ≡ out.old ++ field_lines (close_fields stays)) }
+{
+    if stays {
+        return Ok(());
+    }
+    push_field(out, b"connection", b"close")
+}
+
+/// The bytes of the head of a response on its way down.
+#[tactic(auto, using(crate::proofs::Lengths::lines_join))]
+pub(crate) fn response_bytes(
+    alloc: Global,
+    fields: &HeaderList,
+    framing: Framing,
+    stays: bool,
+    now: u64,
+) -> Result<Octets, OutOfMemory>
+    ensures { IfOk result (λ bytes. bytes ≡ head_wire (seen_framing framing) (sent_head fields.now (down_tail stays now fields.now))) }
+{
+    let mut out = Octets::new(alloc);
+    push_start(&mut out, fields)?;
+    push_fields(&mut out, fields.as_slice())?;
+    push_framing(&mut out, framing)?;
+    push_date(&mut out, fields, now)?;
+    push_close(&mut out, stays)?;
+    out.extend_from_slice(b"\r\n")?;
+    Ok(out)
+}
+
+/// The bytes of an interim head, which says nothing of a body.
+pub fn interim_bytes(alloc: Global, fields: &HeaderList) -> Result<Octets, OutOfMemory>
+    ensures { IfOk result (λ bytes. bytes ≡ head_wire no_body (sent_head fields.now [])) }
+{
+    let mut out = Octets::new(alloc);
+    push_start(&mut out, fields)?;
+    push_fields(&mut out, fields.as_slice())?;
+    out.extend_from_slice(b"\r\n")?;
+    Ok(out)
+}
+
+/// The bytes of trailers of a message that is framed so.
+pub(crate) fn trailer_bytes(
+    alloc: Global,
+    fields: &HeaderList,
+    framing: Framing,
+) -> Result<Octets, OutOfMemory>
+    ensures { IfOk result (λ bytes. bytes ≡ trailer_wire (seen_framing framing) fields.now.pairs) }
+{
+    let mut out = Octets::new(alloc);
+    match framing {
+        Framing::Nothing | Framing::Length(_) | Framing::UntilClose => Ok(out),
+        Framing::Chunked => {
+            out.extend_from_slice(b"0\r\n")?;
+            push_fields(&mut out, fields.as_slice())?;
+            out.extend_from_slice(b"\r\n")?;
+            Ok(out)
+        }
+    }
+}
