@@ -1,0 +1,10 @@
+pub mod Closing
+pub mod Allocating
+pub mod Serving
+pub mod Finding
+pub mod Linked
+pub mod RoleTies
+pub mod Running
+pub mod FirstVm
+pub mod Calling
+pub mod Dispatched

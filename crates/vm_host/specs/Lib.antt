@@ -1,0 +1,13 @@
+pub mod HostStates
+pub mod Seeing
+pub mod Numbers
+pub mod Roles
+pub mod Fits
+pub mod Targets
+pub mod RoleTypes
+pub mod Dispatching
+pub mod Calling
+pub mod Codes
+pub mod Vms
+pub mod Slots
+pub mod Examples

@@ -1,0 +1,48 @@
+-- The functions that a program has for the gateway, with their types.
+use Rattle.std.specs.Prelude.{◌≡◌, ℕ, List, [], ◌∷◌, map, length, take, Option, None, Some, slice_index_or}
+use Rattle.std.specs.Option.{option_or}
+use Rattle.wasm_syntax.specs.declared.types.Value.{Value}
+use Rattle.wasm_syntax.specs.declared.types.Value.TheVariants.{I32}
+use Rattle.wasm_syntax.specs.declared.types.FunctionType.{FunctionType}
+use Rattle.wasm_syntax.specs.declared.module.Export.{Export}
+use Rattle.wasm_syntax.specs.Reduction.{Program}
+use Rattle.wasm_machine.specs.Holds.{HasType}
+use Rattle.wasm_machine.specs.Machines.{Takes}
+use Rattle.proxy_links.specs.Judging.{types_in}
+use Rattle.vm_host.specs.declared.roles.Role.{Role}
+use Rattle.vm_host.specs.declared.roles.Role.TheVariants as role
+use Rattle.vm_host.specs.Roles.{role_name, role_row, place_of, all_roles}
+use Rattle.vm_host.specs.Fits.{exported, role_results}
+
+-- the function of each role, in the order of the roles
+abbrev pub functions_for : List Export → List (Option ℕ)
+functions_for exports = map (λ r. exported (role_name r) exports) all_roles
+
+abbrev pub function_for : List (Option ℕ) → Role → Option ℕ
+function_for functions r = slice_index_or functions (place_of r) None
+
+-- the one that allocates
+abbrev pub allocator_in : List (Option ℕ) → Option ℕ
+allocator_in functions = option_or (function_for functions role.MemoryAllocate) (function_for functions role.Malloc)
+
+-- the one that begins, behind the module's start function
+abbrev pub beginner_in : List (Option ℕ) → Option ℕ
+beginner_in functions = option_or (function_for functions role.Initialize) (function_for functions role.Start)
+
+-- the function is of the role's type
+pub record HasRole (p : Program) (r : Role) (f : ℕ) : Type 0 where
+  pub type : FunctionType
+  pub has : HasType p f type
+  pub takes : type.parameters ≡ types_in (role_row r)
+  pub gives : type.results ≡ role_results r
+
+abbrev pub AreFunctions : Program → List (Option ℕ) → Type 0
+AreFunctions p functions = (r : Role) (f : ℕ) → function_for functions r ≡ Some f → HasRole p r f
+
+-- as many numbers as it takes
+abbrev pub numbers_for : Role → ℕ → ℕ → ℕ → List Value
+numbers_for r context first second = take (length (role_row r)) (I32 context ∷ I32 first ∷ I32 second ∷ [])
+
+abbrev pub TakesNothing : Program → Option ℕ → Type 0
+TakesNothing p None = Unit {0}
+TakesNothing p (Some f) = Takes p f []

@@ -1,0 +1,490 @@
+//! The machine of a VM.
+
+ghost use Rattle.std.specs.Prelude.{◌≡◌, ◌≤◌, ◌<◌, [], ◌∷◌, length, take, None, Some, IfOk, IfSome, unwrap_or};
+ghost use Rattle.std.specs.Option.{option_or};
+ghost use Rattle.wasm_store.specs.Linking.{link_fault};
+ghost use Rattle.proxy_links.specs.Judging.{judged_of, target_of};
+ghost use Rattle.wasm_machine.specs.Machines.{Takes};
+ghost use Rattle.store_model.specs.Program.{Ends};
+ghost use Rattle.vm_host.specs.Fits.{fit_fault};
+ghost use Rattle.vm_host.specs.HostStates.{host_state};
+ghost use Rattle.vm_host.specs.Roles.{role_row as row_of};
+ghost use Rattle.vm_host.specs.RoleTypes.{functions_for, function_for, allocator_in, beginner_in, numbers_for, HasRole, TakesNothing};
+ghost use Rattle.vm_host.specs.Targets.{targets_of, closings_of, closing_of as closing_for, import_target as target_for};
+ghost use Rattle.vm_host.specs.Vms.{ran, number_of, first_vm, running, running_if, beginning, calling_role, made_effective, IsFirst, IsOutline};
+
+use crate::calls::{RunEnd, run};
+use crate::dispatch::Dispatcher;
+use crate::ended::Ended;
+use crate::fitting::exported;
+use crate::machine_guest::MachineGuest;
+use crate::roles::{ROLES, Role, role_name, role_place, role_row};
+use abi_model::WasiCall;
+use abi_types::Closing;
+use contexts::Contexts;
+use gate_base::{ContextId, Members, OutOfMemory, VmNo};
+use gate_io::SentList;
+use proxy_links::{ProxyLinks, Target, target_named};
+use std::alloc::{AllocError, Global};
+use std::marker::Model;
+use store_model::Shared;
+use wasm_machine::Machine;
+use wasm_store::Instance;
+use wasm_syntax::{Export, Import, Module, ValidModule, Value};
+
+/// The machine of a VM that lives. Clauses see its guest as host calls do, what its imports stand for, the functions that
+/// it exports by their roles, the start function, and the fuel of each run.
+#[derive(Drop)]
+pub struct Vm {
+    guest: MachineGuest,
+    calls: Dispatcher,
+    functions: Members<Option<u32>>,
+    start: Option<u32>,
+    budget: u64,
+}
+
+impl Model for Vm {
+    ghost use Rattle.vm_host.specs.Vms.{VmAt, IsVm};
+    ghost use Rattle.vm_host.specs.Seeing.{guest_at};
+    ghost use Rattle.std.specs.Coded.{codes};
+    ghost use Rattle.vm_host.specs.Codes.{nested_code, thread_code};
+
+    ghost Value = { VmAt };
+
+    ghost coded = { Prim.hlevel (codes, nested_code, thread_code) };
+
+    ghost view = { λ a. record { guest = guest_at a.guest; calls = a.calls; functions = a.functions; start = a.start; budget = a.budget } };
+
+    ghost invariant = { λ a. IsVm a.guest a.calls a.functions a.start };
+}
+
+/// What has become of a VM.
+#[derive(Drop)]
+pub struct Ran {
+    /// How its last run ended.
+    pub end: Ended,
+    /// The VM, where it lives.
+    pub vm: Option<Vm>,
+}
+
+impl Numbers {
+    /// The three, as values.
+    fn values(self) -> [Value; 3]
+        ensures { result ≡ Value.I32 self.context ∷ Value.I32 self.first ∷ Value.I32 self.second ∷ [] }
+    {
+        [
+            Value::I32(self.context),
+            Value::I32(self.first),
+            Value::I32(self.second),
+        ]
+    }
+}
+
+/// As many of three values as a role takes.
+fn first_of(all: &[Value; 3], role: Role) -> &[Value]
+    ensures { result.now ≡ take (length (row_of role)) all.now }
+{
+    &all[..role_row(role).len()]
+}
+
+/// What two names stand for, where they are linked.
+fn target_or(home: &[u8], name: &[u8]) -> Target
+    ensures { result ≡ unwrap_or (target_of home.now name.now) Target.OtherProxy }
+{
+    match target_named(home, name) {
+        Some(target) => target,
+        None => Target::OtherProxy,
+    }
+}
+
+/// What a callback is given: its context, and two numbers more.
+#[derive(Clone, Copy)]
+pub struct Numbers {
+    pub context: u32,
+    pub first: u32,
+    pub second: u32,
+}
+
+/// What an import stands for.
+fn import_target(i: &Import) -> Target
+    ensures { result ≡ target_for i.now }
+{
+    target_or(i.module.as_str().as_bytes(), i.name.as_str().as_bytes())
+}
+
+/// What all imports stand for.
+pub(crate) fn import_targets(
+    alloc: Global,
+    imports: &[Import],
+) -> Result<Members<Target>, OutOfMemory>
+    ensures { IfOk result (λ ts. ts ≡ targets_of imports.now) }
+{
+    let mut targets = Members::new(alloc);
+    for i in imports {
+        targets.push(import_target(i))?;
+    }
+    Ok(targets)
+}
+
+/// What a target answers while the host is closed.
+fn closing(target: Target) -> Closing
+    ensures { result ≡ closing_for target }
+{
+    match target {
+        Target::Proxy(_) | Target::OtherProxy => Closing::Status { number: 10 },
+        Target::MemoryGrowth => Closing::Nothing,
+        Target::Wasi(WasiCall::ProcExit) => Closing::Exit,
+        Target::Wasi(_) | Target::OtherWasi => Closing::Status { number: 52 },
+    }
+}
+
+/// What all targets answer while the host is closed.
+fn closings(alloc: Global, targets: &[Target]) -> Result<Members<Closing>, OutOfMemory>
+    ensures { IfOk result (λ cs. cs ≡ closings_of targets.now) }
+{
+    let mut closed = Members::new(alloc);
+    for t in targets {
+        closed.push(closing(*t))?;
+    }
+    Ok(closed)
+}
+
+/// The functions that are exported, by their roles.
+pub(crate) fn functions(
+    alloc: Global,
+    exports: &[Export],
+) -> Result<Members<Option<u32>>, OutOfMemory>
+    ensures { IfOk result (λ fs. fs ≡ functions_for exports.now) }
+{
+    let mut found = Members::new(alloc);
+    for r in &ROLES {
+        found.push(exported(role_name(*r), exports))?;
+    }
+    Ok(found)
+}
+
+/// A number that was returned.
+fn number(value: Option<Value>) -> Option<u32>
+    ensures { result ≡ number_of value }
+{
+    match value {
+        Some(Value::I32(n)) => Some(n),
+        Some(Value::I64(_)) => None,
+        None => None,
+    }
+}
+
+/// The first of two.
+fn either(a: Option<u32>, b: Option<u32>) -> Option<u32>
+    ensures { result ≡ option_or a b }
+{
+    match a {
+        Some(x) => Some(x),
+        None => b,
+    }
+}
+
+/// The function of a role.
+pub(crate) fn function(functions: &[Option<u32>], role: Role) -> Option<u32>
+    ensures { result ≡ function_for functions.now role }
+{
+    match functions.get(role_place(role)) {
+        Some(f) => *f,
+        None => None,
+    }
+}
+
+/// The function that allocates.
+fn allocator(functions: &[Option<u32>]) -> Option<u32>
+    ensures { result ≡ allocator_in functions.now }
+{
+    either(
+        function(functions, Role::MemoryAllocate),
+        function(functions, Role::Malloc),
+    )
+}
+
+/// The function that begins, behind the module's start function.
+fn beginner(functions: &[Option<u32>]) -> Option<u32>
+    ensures { result ≡ beginner_in functions.now }
+{
+    either(
+        function(functions, Role::Initialize),
+        function(functions, Role::Start),
+    )
+}
+
+/// The machine of the instance of a module.
+fn machine_of(alloc: Global, code: ValidModule, pages: u32) -> Result<Machine, OutOfMemory>
+    requires none { link_fault judged_of code pages ≡ None }
+    requires pages { pages ≤ 256 }
+    ensures { IfOk result (IsFirst code pages) }
+{
+    match Instance::new(alloc, code, &ProxyLinks, pages) {
+        Ok(i) => Machine::new(alloc, i),
+        Err(_) => Err(AllocError),
+    }
+}
+
+/// What a module tells of its calls.
+#[derive(Drop)]
+struct Outline {
+    targets: Members<Target>,
+    closed: Members<Closing>,
+    functions: Members<Option<u32>>,
+    start: Option<u32>,
+}
+
+/// The outline of a module.
+fn outline_of(alloc: Global, m: &Module) -> Result<Outline, OutOfMemory>
+    ensures { IfOk result (λ o. IsOutline m.now o.targets o.closed o.functions o.start) }
+{
+    let targets = import_targets(alloc, m.imports.as_slice())?;
+    let closed = closings(alloc, targets.as_slice())?;
+    let functions = functions(alloc, m.exports.as_slice())?;
+    Ok(Outline {
+        targets,
+        closed,
+        functions,
+        start: m.start,
+    })
+}
+
+/// Makes a context of a VM the effective one, where the VM has it.
+fn make_effective(contexts: &mut Contexts, place: VmNo, context: u32)
+    requires { place < length contexts.old.vms }
+    ensures effective { contexts.new ≡ made_effective place context contexts.old }
+    ensures vms { length contexts.new.vms ≡ length contexts.old.vms }
+{
+    let _ = contexts.set_effective(place, ContextId::new(context));
+}
+
+impl Vm {
+    /// The VM of a number, whose module fits with so many pages, with so much fuel for each run. Nothing is run.
+    pub fn new(
+        alloc: Global,
+        place: VmNo,
+        code: ValidModule,
+        pages: u32,
+        fuel: u64,
+    ) -> Result<Vm, OutOfMemory>
+        requires fits { fit_fault code pages ≡ None }
+        requires pages { pages ≤ 256 }
+        ensures { IfOk result (λ v. v ≡ first_vm place code pages fuel) }
+    {
+        let outline = outline_of(alloc, code.module())?;
+        let machine = machine_of(alloc, code, pages)?;
+        let allocator = allocator(outline.functions.as_slice());
+        Ok(Vm {
+            guest: MachineGuest {
+                machine,
+                allocator,
+                closed: outline.closed,
+                fuel,
+            },
+            calls: Dispatcher {
+                place,
+                targets: outline.targets,
+            },
+            functions: outline.functions,
+            start: outline.start,
+            budget: fuel,
+        })
+    }
+
+    /// Its number.
+    pub(crate) fn place(&self) -> VmNo
+        ensures { result ≡ self.now.calls.place }
+    {
+        self.calls.place
+    }
+
+    /// The function of a role, which takes what the role says.
+    fn function_of(&self, role: Role) -> Option<u32>
+        ensures is { result ≡ function_for self.now.functions role }
+        ensures typed { IfSome result (HasRole self.now.guest.program role) }
+    {
+        function(self.functions.as_slice(), role)
+    }
+
+    /// Runs a function with the whole budget.
+    fn run<S: Shared>(
+        self,
+        alloc: Global,
+        contexts: &mut Contexts,
+        lines: &mut SentList,
+        shared: &mut S,
+        now: u64,
+        func: u32,
+        args: &[Value],
+    ) -> Result<Ran, OutOfMemory>
+        requires there { self.calls.place < length contexts.old.vms }
+        requires stores { length contexts.old.vms ≤ S.stores shared.old }
+        requires takes { Takes self.guest.program func args.now }
+        ensures run { Ends S.performs shared.old (running self now func args.now (host_state contexts.old lines.old)) (λ r. ran r.end r.vm (host_state contexts.new lines.new)) result shared.new }
+        ensures kept { IfOk result (λ r. IfSome r.vm (λ v. v.calls ≡ self.calls)) }
+        ensures vms { IfOk result (λ r. IfSome r.vm (λ _. length contexts.new.vms ≡ length contexts.old.vms)) }
+        ensures stores { S.stores shared.new ≡ S.stores shared.old }
+    {
+        let Vm {
+            mut guest,
+            calls,
+            functions,
+            start,
+            budget,
+        } = self;
+        guest.fuel = budget;
+        match run(
+            alloc, &mut guest, &calls, contexts, lines, shared, now, func, args,
+        ) {
+            RunEnd::Returned { value } => Ok(Ran {
+                end: Ended::Returned {
+                    value: number(value),
+                },
+                vm: Some(Vm {
+                    guest,
+                    calls,
+                    functions,
+                    start,
+                    budget,
+                }),
+            }),
+            RunEnd::Trapped { cause } => Ok(Ran {
+                end: Ended::Trapped { cause },
+                vm: None,
+            }),
+            RunEnd::FuelSpent => Ok(Ran {
+                end: Ended::FuelSpent,
+                vm: None,
+            }),
+            RunEnd::OutOfMemory => Err(AllocError),
+        }
+    }
+
+    /// Runs a function that takes nothing, where there is one.
+    fn run_if<S: Shared>(
+        self,
+        alloc: Global,
+        contexts: &mut Contexts,
+        lines: &mut SentList,
+        shared: &mut S,
+        now: u64,
+        func: Option<u32>,
+    ) -> Result<Ran, OutOfMemory>
+        requires there { self.calls.place < length contexts.old.vms }
+        requires stores { length contexts.old.vms ≤ S.stores shared.old }
+        requires takes { TakesNothing self.guest.program func }
+        ensures run { Ends S.performs shared.old (running_if self now func [] (host_state contexts.old lines.old)) (λ r. ran r.end r.vm (host_state contexts.new lines.new)) result shared.new }
+        ensures kept { IfOk result (λ r. IfSome r.vm (λ v. v.calls ≡ self.calls)) }
+        ensures vms { IfOk result (λ r. IfSome r.vm (λ _. length contexts.new.vms ≡ length contexts.old.vms)) }
+        ensures stores { S.stores shared.new ≡ S.stores shared.old }
+    {
+        match func {
+            Some(f) => self.run(alloc, contexts, lines, shared, now, f, &[]),
+            None => Ok(Ran {
+                end: Ended::Returned { value: None },
+                vm: Some(self),
+            }),
+        }
+    }
+
+    /// Runs the function that begins behind the start function, where there is one.
+    fn begin_further<S: Shared>(
+        self,
+        alloc: Global,
+        contexts: &mut Contexts,
+        lines: &mut SentList,
+        shared: &mut S,
+        now: u64,
+    ) -> Result<Ran, OutOfMemory>
+        requires there { self.calls.place < length contexts.old.vms }
+        requires stores { length contexts.old.vms ≤ S.stores shared.old }
+        ensures run { Ends S.performs shared.old (running_if self now (beginner_in self.functions) [] (host_state contexts.old lines.old)) (λ r. ran r.end r.vm (host_state contexts.new lines.new)) result shared.new }
+        ensures stores { S.stores shared.new ≡ S.stores shared.old }
+    {
+        let func = beginner(self.functions.as_slice());
+        self.run_if(alloc, contexts, lines, shared, now, func)
+    }
+
+    /// Runs the start function of the module, where there is one.
+    fn begin_first<S: Shared>(
+        self,
+        alloc: Global,
+        contexts: &mut Contexts,
+        lines: &mut SentList,
+        shared: &mut S,
+        now: u64,
+    ) -> Result<Ran, OutOfMemory>
+        requires there { self.calls.place < length contexts.old.vms }
+        requires stores { length contexts.old.vms ≤ S.stores shared.old }
+        ensures run { Ends S.performs shared.old (running_if self now self.start [] (host_state contexts.old lines.old)) (λ r. ran r.end r.vm (host_state contexts.new lines.new)) result shared.new }
+        ensures kept { IfOk result (λ r. IfSome r.vm (λ v. v.calls ≡ self.calls)) }
+        ensures vms { IfOk result (λ r. IfSome r.vm (λ _. length contexts.new.vms ≡ length contexts.old.vms)) }
+        ensures stores { S.stores shared.new ≡ S.stores shared.old }
+    {
+        let func = self.start;
+        self.run_if(alloc, contexts, lines, shared, now, func)
+    }
+
+    /// Begins: runs the start function of the module, and then `_initialize` or else `_start`, where they are there, each
+    /// with the whole budget.
+    pub(crate) fn begin<S: Shared>(
+        self,
+        alloc: Global,
+        contexts: &mut Contexts,
+        lines: &mut SentList,
+        shared: &mut S,
+        now: u64,
+    ) -> Result<Ran, OutOfMemory>
+        requires there { self.calls.place < length contexts.old.vms }
+        requires stores { length contexts.old.vms ≤ S.stores shared.old }
+        ensures run { Ends S.performs shared.old (beginning self now (host_state contexts.old lines.old)) (λ r. ran r.end r.vm (host_state contexts.new lines.new)) result shared.new }
+        ensures stores { S.stores shared.new ≡ S.stores shared.old }
+    {
+        match self.begin_first(alloc, contexts, lines, shared, now) {
+            Ok(first) => match first.vm {
+                Some(vm) => match vm.begin_further(alloc, contexts, lines, shared, now) {
+                    Ok(further) => Ok(further),
+                    Err(e) => Err(e),
+                },
+                None => Ok(Ran {
+                    end: first.end,
+                    vm: None,
+                }),
+            },
+            Err(e) => Err(e),
+        }
+    }
+
+    /// Calls the function of a role with its context, which is the effective one then, and two numbers more, of which it is
+    /// given as many as it has parameters. One that is not exported does nothing.
+    pub(crate) fn call_role<S: Shared>(
+        self,
+        alloc: Global,
+        contexts: &mut Contexts,
+        lines: &mut SentList,
+        shared: &mut S,
+        now: u64,
+        role: Role,
+        numbers: Numbers,
+    ) -> Result<Ran, OutOfMemory>
+        requires there { self.calls.place < length contexts.old.vms }
+        requires stores { length contexts.old.vms ≤ S.stores shared.old }
+        ensures run { Ends S.performs shared.old (calling_role self now role numbers.context numbers.first numbers.second (host_state contexts.old lines.old)) (λ r. ran r.end r.vm (host_state contexts.new lines.new)) result shared.new }
+        ensures stores { S.stores shared.new ≡ S.stores shared.old }
+    {
+        let func = match self.function_of(role) {
+            Some(func) => func,
+            None => {
+                return Ok(Ran {
+                    end: Ended::Returned { value: None },
+                    vm: Some(self),
+                });
+            }
+        };
+        make_effective(contexts, self.place(), numbers.context);
+        let all = numbers.values();
+        let args = first_of(&all, role);
+        self.run(alloc, contexts, lines, shared, now, func, args)
+    }
+}
