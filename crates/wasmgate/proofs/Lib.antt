@@ -4,4 +4,3 @@ mod Progresses
 mod Fronts
 mod Turns
 mod Once
-mod Cuts

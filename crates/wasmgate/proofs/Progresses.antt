@@ -12,27 +12,33 @@ use Rattle.replay_script.specs.declared.command.Command.{Command}
 use Rattle.replay_script.specs.Prints.{sent_line, printed}
 use Rattle.replay_script.specs.ScriptWorld.{Playing, fresh, nature}
 use Rattle.replay_script.specs.Scripts.{events_of}
-use Rattle.store_model.specs.Program.{done}
-use Rattle.worker.specs.State.{State, first_state, Standing, Setting}
-use Rattle.worker.specs.Turn.{Outcome, outcome, IsTurned}
-use Rattle.wasmgate.specs.Replay.{Plays, Prints, PrintsFront, IsReady, Flushed, Advances}
+use Rattle.course.specs.Course.{ends, Goes}
+use Rattle.store_model.specs.Sequential.{Stores, Performs}
+use Rattle.worker.specs.NoCalls.{no_calling}
+use Rattle.worker.specs.State.{Standing, Setting, rules_of}
+use Rattle.worker.specs.Steps.{Both}
+use Rattle.worker.specs.Turn.{Outcome, outcome, turn}
+use Rattle.worker.specs.declared.no_machines.NoMachines.{NoMachines}
+use Rattle.wasmgate.specs.Replay.{first_worker, first_stores, Plays, Prints, PrintsFront, IsReady, Flushed, Advances}
 use Rattle.wasmgate.proofs.Fronts.{GoOn, go_on_more, goes, gave_all}
 
 -- some first events were played, and of what they print a part was written and the rest waits
-pub record Progress (config : Config) (front : List Event) (state : State) (old new : Option (List ℕ)) (waits : List ℕ) : Type 0 where
+pub record Progress (config : Config) (front : List Event) (state : Both NoMachines) (stores : Stores) (old new : Option (List ℕ)) (waits : List ℕ) : Type 0 where
   pub sent : List Sent
-  pub plays : Plays config first_state front sent state
+  pub plays : Plays (first_worker config).setting (first_worker config).state first_stores front sent state stores
   pub written : List ℕ
   pub gained : Gains old written new
   pub text : printed sent ≡ written ++ waits
 
--- the worker and the world of a script, of which no Stop came so far
-pub record Far (commands : List Command) (worker : Standing) (world : Playing) (old new : Option (List ℕ)) (waits : List ℕ) : Type 0 where
-  pub plain : IsPlain 0 worker.setting.config
+-- the worker, the world and the stores of a script, of which no Stop came so far
+pub record Far (commands : List Command) (worker : Standing NoMachines) (world : Playing) (shared : Stores) (old new : Option (List ℕ)) (waits : List ℕ) : Type 0 where
+  pub config : Config
+  pub plain : IsPlain 0 config
+  pub setting_is : worker.setting ≡ (first_worker config).setting
   pub nothing_waits : worker.waiting ≡ []
   pub nature_is : nature world ≡ nature (fresh (events_of commands))
   pub goes_on : GoOn (happened world.trace)
-  pub progress : Progress worker.setting.config (happened world.trace) worker.state old new waits
+  pub progress : Progress config (happened world.trace) worker.state shared old new waits
 
 -- what is printed of two lists
 pub printed_both : (a b : List Sent) → printed (a ++ b) ≡ printed a ++ printed b
@@ -40,64 +46,76 @@ printed_both [] b = refl
 printed_both (x ∷ a) b = ap (λ (t : List ℕ). sent_line x ++ t) (printed_both a b) ∙ sym (append_assoc (sent_line x) (printed a) (printed b))
 
 -- one more event
-pub plays_more : (config : Config) (state : State) (front : List Event) (sent : List Sent) (mid : State) (event : Event) (end : Outcome)
-    → Plays config state front sent mid → IsTurned config mid event (done end) → Plays config state (front ++ (event ∷ [])) (sent ++ solid end.sent) end.state
-plays_more config state [] sent mid event end plays turned = (
+pub plays_more : (setting : Setting) (state : Both NoMachines) (s : Stores) (front : List Event) (sent : List Sent) (mid : Both NoMachines) (t : Stores) (event : Event) (end : Outcome NoMachines) (u : Stores)
+    → Plays setting state s front sent mid t → Goes Performs t (turn no_calling (rules_of setting) mid event) (ends end) u
+    → Plays setting state s (front ++ (event ∷ [])) (sent ++ solid end.sent) end.state u
+plays_more setting state s [] sent mid t event end u plays goes = (
   end,
+  u,
   [],
-  subst (λ (s : State). IsTurned config s event (done end)) plays.1 turned,
-  (refl, refl),
+  subst (λ (x : Both NoMachines × Stores). Goes Performs x.1 (turn no_calling (rules_of setting) x.0 event) (ends end) u) (λ i. (plays.1 i, plays.2 i)) goes,
+  (refl, refl, refl),
   ap (λ (ss : List Sent). ss ++ solid end.sent) plays.0 ∙ sym (append-nil (solid end.sent)),
 )
-plays_more config state (e ∷ front) sent mid event end plays turned = (
+plays_more setting state s (e ∷ front) sent mid t event end u plays goes = (
   plays.0,
-  plays.1 ++ solid end.sent,
-  plays.2,
-  plays_more config plays.0.state front plays.1 mid event end plays.3 turned,
-  ap (λ (ss : List Sent). ss ++ solid end.sent) plays.4 ∙ append_assoc (solid plays.0.sent) plays.1 (solid end.sent),
+  plays.1,
+  plays.2 ++ solid end.sent,
+  plays.3,
+  plays_more setting plays.0.state plays.1 front plays.2 mid t event end u plays.4 goes,
+  ap (λ (ss : List Sent). ss ++ solid end.sent) plays.5 ∙ append_assoc (solid plays.0.sent) plays.2 (solid end.sent),
 )
 
 -- a turn more
-progress_on : (from : Standing) (before : Playing) (old new : Option (List ℕ)) (waits : List ℕ) (goes_on : Bool) (to : Standing) (after : Playing) (waiting : List ℕ)
-    → Progress from.setting.config (happened before.trace) from.state old new waits → Advances from before waits goes_on to after waiting
-    → Progress to.setting.config (happened after.trace) to.state old new waiting
-progress_on from before old new waits goes_on to after waiting p a =
-    let played = plays_more from.setting.config first_state (happened before.trace) p.sent from.state a.event (outcome to.state a.sent) p.plays a.turned in
-    let there : Plays from.setting.config first_state (happened after.trace) (p.sent ++ solid a.sent) to.state =
-    subst (λ (es : List Event). Plays from.setting.config first_state es (p.sent ++ solid a.sent) to.state) (sym a.given) played in
+progress_on : (config : Config) (from : Standing NoMachines) (before : Playing) (s : Stores) (old new : Option (List ℕ)) (waits : List ℕ) (goes_on : Bool) (to : Standing NoMachines) (after : Playing) (t : Stores)
+    (waiting : List ℕ) → from.setting ≡ (first_worker config).setting → Progress config (happened before.trace) from.state s old new waits → Advances from before s waits goes_on to after t waiting
+    → Progress config (happened after.trace) to.state t old new waiting
+progress_on config from before s old new waits goes_on to after t waiting setting_is p a =
+    let goes : Goes Performs s (turn no_calling (rules_of (first_worker config).setting) from.state a.event) (ends (outcome to.state a.sent)) t =
+    subst (λ (x : Setting). Goes Performs s (turn no_calling (rules_of x) from.state a.event) (ends (outcome to.state a.sent)) t) setting_is a.goes in
+    let played = plays_more (first_worker config).setting (first_worker config).state first_stores (happened before.trace) p.sent from.state s a.event (outcome to.state a.sent) t p.plays goes in
+    let there : Plays (first_worker config).setting (first_worker config).state first_stores (happened after.trace) (p.sent ++ solid a.sent) to.state t =
+    subst (λ (es : List Event). Plays (first_worker config).setting (first_worker config).state first_stores es (p.sent ++ solid a.sent) to.state t) (sym a.given) played in
     record {
       sent = p.sent ++ solid a.sent;
-      plays = subst (λ (s : Setting). Plays s.config first_state (happened after.trace) (p.sent ++ solid a.sent) to.state) (sym a.setting_is) there;
+      plays = there;
       written = p.written;
       gained = p.gained;
       text = printed_both p.sent (solid a.sent) ∙ ap (λ (t : List ℕ). t ++ printed (solid a.sent)) p.text
           ∙ append_assoc p.written waits (printed (solid a.sent)) ∙ ap (λ (t : List ℕ). p.written ++ t) (sym a.waiting_is);
     }
 
-pub far_start : (commands : List Command) (worker : Standing) (world : Playing) (old : Option (List ℕ)) (waits : List ℕ) → waits ≡ [] → IsReady commands worker world → Far commands worker world old old waits
-far_start commands worker world old waits none r = record {
+pub far_start : (commands : List Command) (worker : Standing NoMachines) (world : Playing) (shared : Stores) (old : Option (List ℕ)) (waits : List ℕ) → waits ≡ [] → IsReady commands worker world shared
+    → Far commands worker world shared old old waits
+far_start commands worker world shared old waits none r = record {
+  config = r.config;
   plain = r.plain;
-  nothing_waits = r.nothing_waits;
+  setting_is = ap (λ (w : Standing NoMachines). w.setting) r.worker_is;
+  nothing_waits = ap (λ (w : Standing NoMachines). w.waiting) r.worker_is;
   nature_is = ap nature r.world_is;
   goes_on = subst (λ (w : Playing). GoOn (happened w.trace)) (sym r.world_is) tt;
-  progress = subst (λ (w : Playing). Progress worker.setting.config (happened w.trace) worker.state old old waits) (sym r.world_is)
-      (record { sent = []; plays = (refl, r.state_is); written = []; gained = gains_nothing old; text = sym none });
+  progress = subst (λ (w : Playing). Progress r.config (happened w.trace) worker.state shared old old waits) (sym r.world_is)
+      (record { sent = []; plays = (refl, ap (λ (w : Standing NoMachines). w.state) r.worker_is, r.shared_is); written = []; gained = gains_nothing old; text = sym none });
 }
 
-pub far_on : (commands : List Command) (from : Standing) (before : Playing) (old new : Option (List ℕ)) (waits : List ℕ) (to : Standing) (after : Playing) (waiting : List ℕ)
-    → Far commands from before old new waits → Advances from before waits true to after waiting → Far commands to after old new waiting
-far_on commands from before old new waits to after waiting f a = record {
-  plain = subst (λ (s : Setting). IsPlain 0 s.config) (sym a.setting_is) f.plain;
+pub far_on : (commands : List Command) (from : Standing NoMachines) (before : Playing) (s : Stores) (old new : Option (List ℕ)) (waits : List ℕ) (to : Standing NoMachines) (after : Playing) (t : Stores) (waiting : List ℕ)
+    → Far commands from before s old new waits → Advances from before s waits true to after t waiting → Far commands to after t old new waiting
+far_on commands from before s old new waits to after t waiting f a = record {
+  config = f.config;
+  plain = f.plain;
+  setting_is = a.setting_is ∙ f.setting_is;
   nothing_waits = a.nothing_waits;
   nature_is = a.nature_is ∙ f.nature_is;
   goes_on = subst GoOn (sym a.given) (go_on_more (happened before.trace) a.event f.goes_on a.is_no_stop);
-  progress = progress_on from before old new waits true to after waiting f.progress a;
+  progress = progress_on f.config from before s old new waits true to after t waiting f.setting_is f.progress a;
 }
 
-pub far_flushed : (commands : List Command) (worker : Standing) (world : Playing) (old mid new : Option (List ℕ)) (waits waiting : List ℕ)
-    → Far commands worker world old mid waits → Flushed waits mid waiting new → Far commands worker world old new waiting
-far_flushed commands worker world old mid new waits waiting f g = record {
+pub far_flushed : (commands : List Command) (worker : Standing NoMachines) (world : Playing) (shared : Stores) (old mid new : Option (List ℕ)) (waits waiting : List ℕ)
+    → Far commands worker world shared old mid waits → Flushed waits mid waiting new → Far commands worker world shared old new waiting
+far_flushed commands worker world shared old mid new waits waiting f g = record {
+  config = f.config;
   plain = f.plain;
+  setting_is = f.setting_is;
   nothing_waits = f.nothing_waits;
   nature_is = f.nature_is;
   goes_on = f.goes_on;
@@ -111,19 +129,20 @@ far_flushed commands worker world old mid new waits waiting f g = record {
 }
 
 -- a front of what waits was written
-pub far_cut : (commands : List Command) (worker : Standing) (world : Playing) (old mid new : Option (List ℕ)) (waits : List ℕ)
-    → Far commands worker world old mid waits → GainsFront mid waits new → PrintsFront commands old new
-far_cut commands worker world old mid new waits f g =
+pub far_cut : (commands : List Command) (worker : Standing NoMachines) (world : Playing) (shared : Stores) (old mid new : Option (List ℕ)) (waits : List ℕ)
+    → Far commands worker world shared old mid waits → GainsFront mid waits new → PrintsFront commands old new
+far_cut commands worker world shared old mid new waits f g =
     let so_far = goes commands world f.nature_is f.goes_on in
     let p = f.progress in
     record {
       sent = p.sent;
       replays = record {
-        config = worker.setting.config;
+        config = f.config;
         plain = f.plain;
         front = happened world.trace;
         more = so_far.more;
         after = worker.state;
+        stores = shared;
         is = so_far.is;
         plays = p.plays;
       };
@@ -131,35 +150,36 @@ far_cut commands worker world old mid new waits f g =
     }
 
 -- behind Stop: all the events were played
-all_played : (commands : List Command) (from : Standing) (before : Playing) (old mid : Option (List ℕ)) (waits : List ℕ) (to : Standing) (after : Playing) (waiting : List ℕ)
-    → Far commands from before old mid waits → Advances from before waits false to after waiting → Progress to.setting.config (events_of commands) to.state old mid waiting
-all_played commands from before old mid waits to after waiting f a =
+all_played : (commands : List Command) (from : Standing NoMachines) (before : Playing) (s : Stores) (old mid : Option (List ℕ)) (waits : List ℕ) (to : Standing NoMachines) (after : Playing) (t : Stores) (waiting : List ℕ)
+    → (f : Far commands from before s old mid waits) → Advances from before s waits false to after t waiting → Progress f.config (events_of commands) to.state t old mid waiting
+all_played commands from before s old mid waits to after t waiting f a =
     let all : happened after.trace ≡ events_of commands =
     a.given ∙ gave_all commands after (happened before.trace) a.event (a.nature_is ∙ f.nature_is) f.goes_on a.is_no_stop a.given in
-    subst (λ (es : List Event). Progress to.setting.config es to.state old mid waiting) all (progress_on from before old mid waits false to after waiting f.progress a)
+    subst (λ (es : List Event). Progress f.config es to.state t old mid waiting) all (progress_on f.config from before s old mid waits false to after t waiting f.setting_is f.progress a)
 
-pub far_done : (commands : List Command) (from : Standing) (before : Playing) (old mid new : Option (List ℕ)) (waits : List ℕ) (to : Standing) (after : Playing) (waiting : List ℕ)
-    → Far commands from before old mid waits → Advances from before waits false to after waiting → Gains mid waiting new → Prints commands old new
-far_done commands from before old mid new waits to after waiting f a g =
-    let p = all_played commands from before old mid waits to after waiting f a in
+pub far_done : (commands : List Command) (from : Standing NoMachines) (before : Playing) (s : Stores) (old mid new : Option (List ℕ)) (waits : List ℕ) (to : Standing NoMachines) (after : Playing) (t : Stores) (waiting : List ℕ)
+    → Far commands from before s old mid waits → Advances from before s waits false to after t waiting → Gains mid waiting new → Prints commands old new
+far_done commands from before s old mid new waits to after t waiting f a g =
+    let p = all_played commands from before s old mid waits to after t waiting f a in
     record {
       sent = p.sent;
-      replays = record { config = to.setting.config; plain = subst (λ (s : Setting). IsPlain 0 s.config) (sym a.setting_is) f.plain; after = to.state; plays = p.plays };
+      replays = record { config = f.config; plain = f.plain; after = to.state; stores = t; plays = p.plays };
       gained = subst (λ (t : List ℕ). Gains old t new) (sym p.text) (gains_more old p.written mid waiting new p.gained g);
     }
 
-pub far_cut_done : (commands : List Command) (from : Standing) (before : Playing) (old mid new : Option (List ℕ)) (waits : List ℕ) (to : Standing) (after : Playing) (waiting : List ℕ)
-    → Far commands from before old mid waits → Advances from before waits false to after waiting → GainsFront mid waiting new → PrintsFront commands old new
-far_cut_done commands from before old mid new waits to after waiting f a g =
-    let p = all_played commands from before old mid waits to after waiting f a in
+pub far_cut_done : (commands : List Command) (from : Standing NoMachines) (before : Playing) (s : Stores) (old mid new : Option (List ℕ)) (waits : List ℕ) (to : Standing NoMachines) (after : Playing) (t : Stores) (waiting : List ℕ)
+    → Far commands from before s old mid waits → Advances from before s waits false to after t waiting → GainsFront mid waiting new → PrintsFront commands old new
+far_cut_done commands from before s old mid new waits to after t waiting f a g =
+    let p = all_played commands from before s old mid waits to after t waiting f a in
     record {
       sent = p.sent;
       replays = record {
-        config = to.setting.config;
-        plain = subst (λ (s : Setting). IsPlain 0 s.config) (sym a.setting_is) f.plain;
+        config = f.config;
+        plain = f.plain;
         front = events_of commands;
         more = [];
         after = to.state;
+        stores = t;
         is = sym (append-nil (events_of commands));
         plays = p.plays;
       };

@@ -14,27 +14,12 @@ use Rattle.outbox.proofs.Deliveries.{in_order}
 use Rattle.replay_script.specs.Prints.{printed}
 use Rattle.replay_script.specs.ScriptWorld.{Playing, nature, taken_since}
 use Rattle.replay_script.proofs.Worlds.{plays_its_script}
-use Rattle.store_model.specs.Made.{Made}
-use Rattle.store_model.specs.Program.{Program, done, Reaches}
+use Rattle.store_model.specs.Sequential.{Stores, Performs}
+use Rattle.worker.specs.NoCalls.{no_calling}
 use Rattle.worker.specs.State.{Standing}
-use Rattle.worker.specs.Turn.{Outcome, outcome, IsTurned}
+use Rattle.worker.specs.declared.no_machines.NoMachines.{NoMachines}
 use Rattle.worker.specs.Turned.{one_turn, Whole, TookWhole}
 use Rattle.wasmgate.specs.Replay.{Advances}
-
--- a program that is done makes no calls
-done_same : {A : Type 0} (a b : A) (ms : List Made) → Reaches (done a) ms (done b) → done a ≡ done b
-done_same a b [] same = same
-done_same a b (m ∷ ms) reaches = elim reaches [ ]
-
--- what a turn's program came to is its outcome
-pub turned_done : {S : Type 0} (performs : S → List Made → S → Type 0) (s : S) (old : Option (List Passed)) (stop : Bool) (from to : Standing) (t : S) (new : Option (List Passed))
-    → (w : Whole performs stop s old from to t new) → IsTurned from.setting.config from.state w.event (done (outcome to.state w.sent))
-turned_done performs s old stop from to t new w = record {
-  sent = w.turned.sent;
-  after = w.turned.after;
-  answers = w.turned.answers;
-  is = sym (done_same _ _ w.runs.calls (subst (λ (p : Program Outcome). Reaches p w.runs.calls (done (outcome to.state w.sent))) w.turned.is w.runs.reaches));
-}
 
 same_trace : (a b : List Passed) → Some a ≡ Some b → a ≡ b
 same_trace a b e = cc
@@ -71,11 +56,11 @@ taken_whole event sent steps rest h never =
     let all = in_order (one_turn event sent ∷ []) steps rest delivers never in
     (all.0 ∙ ap solid (append-nil sent), all.1)
 
-pub went_advances : {S : Type 0} (performs : S → List Made → S → Type 0) (s t : S) (from to : Standing) (before after : Playing) (waits waiting : List ℕ) (taken : List Sent)
+pub went_advances : (s t : Stores) (from to : Standing NoMachines) (before after : Playing) (waits waiting : List ℕ) (taken : List Sent)
     → from.waiting ≡ [] → to.setting ≡ from.setting → nature after ≡ nature before → TookWhole (Some before.trace) (Some after.trace)
-    → Whole performs false s (Some before.trace) from to t (Some after.trace) → taken ≡ taken_since after.trace → waiting ≡ waits ++ printed taken
-    → Advances from before waits true to after waiting
-went_advances performs s t from to before after waits waiting taken none setting same took w is_taken is_waiting =
+    → Whole no_calling Performs false s (Some before.trace) from to t (Some after.trace) → taken ≡ taken_since after.trace → waiting ≡ waits ++ printed taken
+    → Advances from before s waits true to after t waiting
+went_advances s t from to before after waits waiting taken none setting same took w is_taken is_waiting =
     let h : HandsOver [] (one_turn w.event w.sent) w.steps to.waiting =
     subst (λ (x : List Sent). HandsOver x (one_turn w.event w.sent) w.steps to.waiting) none w.hands_over in
     let never : NeverShort w.steps = subst NeverShort (one_gain before.trace after.trace took.steps w.steps took.told w.told) took.never in
@@ -86,7 +71,7 @@ went_advances performs s t from to before after waits waiting taken none setting
       event = w.event;
       is_no_stop = w.is_stop;
       sent = w.sent;
-      turned = turned_done performs s (Some before.trace) false from to t (Some after.trace) w;
+      goes = w.goes;
       setting_is = setting;
       nothing_waits = all.1;
       given = given_once before after from.waiting w.event w.sent w.steps to.waiting w.told w.hands_over;
@@ -94,16 +79,16 @@ went_advances performs s t from to before after waits waiting taken none setting
       waiting_is = is_waiting ∙ ap (λ (x : List Sent). waits ++ printed x) sent_is;
     }
 
-pub stopped_advances : {S : Type 0} (performs : S → List Made → S → Type 0) (s t : S) (from to : Standing) (before after : Playing) (waits : List ℕ)
+pub stopped_advances : (s t : Stores) (from to : Standing NoMachines) (before after : Playing) (waits : List ℕ)
     → from.waiting ≡ [] → to.setting ≡ from.setting → nature after ≡ nature before
-    → Whole performs true s (Some before.trace) from to t (Some after.trace) → Advances from before waits false to after waits
-stopped_advances performs s t from to before after waits none setting same w =
+    → Whole no_calling Performs true s (Some before.trace) from to t (Some after.trace) → Advances from before s waits false to after t waits
+stopped_advances s t from to before after waits none setting same w =
     let still = subst (λ (b : Bool). OnTrue b ((w.sent ≡ []) × (w.hands_over.taken ≡ []) × (to.waiting ≡ from.waiting))) w.is_stop w.hands_over.stopped in
     record {
       event = w.event;
       is_no_stop = w.is_stop;
       sent = w.sent;
-      turned = turned_done performs s (Some before.trace) true from to t (Some after.trace) w;
+      goes = w.goes;
       setting_is = setting;
       nothing_waits = still.2 ∙ none;
       given = given_once before after from.waiting w.event w.sent w.steps to.waiting w.told w.hands_over;

@@ -3,4 +3,3 @@ pub mod Words
 pub mod Call
 pub mod Run
 pub mod Laws
-pub mod Cuts

@@ -6,8 +6,7 @@ ghost use Rattle.replay_script.specs.declared.command.Command.{Command};
 ghost use Rattle.replay_script.specs.Prints.{printed};
 ghost use Rattle.replay_script.specs.Scripts.{AreLines, at_start};
 ghost use Rattle.wasmgate.specs.declared.replay.PlayEnd.TheVariants.{OutFault as OutFaultEnd, OutOfMemory as OutOfMemoryEnd};
-ghost use Rattle.wasmgate.specs.Replay.{Prints, PrintsFront, IsReady, Flushed, Advances};
-ghost use Rattle.worker.specs.State.{first_state};
+ghost use Rattle.wasmgate.specs.Replay.{Prints, PrintsFront, IsReady, Flushed, Advances, first_worker, first_stores};
 
 use gate_base::{Octets, OutOfMemory, WorkerNo};
 use gate_config::Config;
@@ -15,7 +14,7 @@ use gate_io::{Failed, Sent, Sink, write_whole};
 use replay_script::{Command, ScriptWorld, events_of, print_sent};
 use shared_store::Alone;
 use std::alloc::{AllocError, AllocFailed, Global};
-use worker::{Turn, Worker};
+use worker::{NoMachines, Turn, Worker};
 
 /// How many bytes of output wait at most before they are written.
 const MAX_PENDING: usize = 65536;
@@ -46,20 +45,17 @@ impl From<Failed> for PlayEnd {
 }
 
 /// The worker of a script, which has the plain configuration without plug-ins, number 1, and the seed of a script's world.
-fn plain_worker(alloc: Global) -> Result<Worker, OutOfMemory>
-    ensures plain { IfOk result (λ worker. IsPlain 0 worker.setting.config) }
-    ensures state { IfOk result (λ worker. worker.state ≡ first_state) }
-    ensures waiting { IfOk result (λ worker. worker.waiting ≡ []) }
+fn plain_worker(alloc: Global, config: Config) -> Result<Worker<NoMachines>, OutOfMemory>
+    ensures { IfOk result (λ worker. worker ≡ first_worker config) }
 {
-    let config = Config::plain(alloc, 0)?;
     let who = WorkerNo::new(1).unwrap();
-    Worker::new(alloc, config, who, [0; 32])
+    Worker::new(alloc, config, who, [0; 32], NoMachines { none: true })
 }
 
 /// What plays a script: a worker in the script's world, and the stores that it shares with no other.
 #[derive(Drop)]
 struct Player {
-    worker: Worker,
+    worker: Worker<NoMachines>,
     world: ScriptWorld,
     shared: Alone,
 }
@@ -67,13 +63,14 @@ struct Player {
 /// What plays these lines, before the first of them.
 fn player_of(alloc: Global, commands: Vec<Command>) -> Result<Player, OutOfMemory>
     requires { AreLines at_start commands.items }
-    ensures ready { IfOk result (λ player. IsReady commands.items player.worker player.world) }
+    ensures ready { IfOk result (λ player. IsReady commands.items player.worker player.world player.shared) }
     ensures vms { IfOk result (λ player. player.worker.setting.config.vms ≡ []) }
     ensures nothing_waits { IfOk result (λ player. player.worker.waiting ≡ []) }
 {
     let events = events_of(alloc, commands)?;
     let world = ScriptWorld::new(alloc, events);
-    let worker = plain_worker(alloc)?;
+    let config = Config::plain(alloc, 0)?;
+    let worker = plain_worker(alloc, config)?;
     let shared = Alone::new(alloc, 0)?;
     Ok(Player {
         worker,
@@ -106,8 +103,8 @@ fn play_all<O: Sink>(
     requires pending { pending.old ≡ [] }
     requires vms { player.old.worker.setting.config.vms ≡ [] }
     requires nothing_waits { player.old.worker.waiting ≡ [] }
-    ensures done { (commands : List Command) → IsReady commands player.old.worker player.old.world → OnOk result (Prints commands (O.taken out.old) (O.taken out.new)) }
-    ensures front { (commands : List Command) → IsReady commands player.old.worker player.old.world → OnErr result (PrintsFront commands (O.taken out.old) (O.taken out.new)) }
+    ensures done { (commands : List Command) → IsReady commands player.old.worker player.old.world player.old.shared → OnOk result (Prints commands (O.taken out.old) (O.taken out.new)) }
+    ensures front { (commands : List Command) → IsReady commands player.old.worker player.old.world player.old.shared → OnErr result (PrintsFront commands (O.taken out.old) (O.taken out.new)) }
     ensures faults { O.faults out.old ≤ O.faults out.new }
     ensures failed { result ≡ Err PlayEnd.OutFault → Rose (O.faults out.old) (O.faults out.new) }
 {
@@ -141,7 +138,7 @@ fn flush<O: Sink>(pending: &mut Octets, out: &mut O) -> Result<(), Failed>
 fn advance(alloc: Global, player: &mut Player, pending: &mut Octets) -> Result<bool, OutOfMemory>
     requires vms { player.old.worker.setting.config.vms ≡ [] }
     requires nothing_waits { player.old.worker.waiting ≡ [] }
-    ensures { IfOk result (λ goes_on. Advances player.old.worker player.old.world pending.old goes_on player.new.worker player.new.world pending.new) }
+    ensures { IfOk result (λ goes_on. Advances player.old.worker player.old.world player.old.shared pending.old goes_on player.new.worker player.new.world player.new.shared pending.new) }
 {
     match player
         .worker

@@ -1,27 +1,47 @@
--- Lines at their places.
-use Rattle.std.proofs.Common.{◌≡◌, ℕ, zero, suc, ◌<◌, List, [], ◌∷◌, ◌++◌, length, refl, ap, sym, subst, ◌∙◌, arith, Option, Some, slice_index_or, slice_set}
-use Rattle.std.proofs.lemmas.Option.{slice_get-get_or}
-use Rattle.std.specs.List.{insert, remove}
-use Rattle.gate_io.specs.declared.event.Sent.{Sent}
-use Rattle.exchange.specs.State.{Line, Context}
-use Rattle.exchange.specs.Seen.{Turned}
-use Rattle.exchange.specs.Turns.{Happening, Turns}
-use Rattle.worker.specs.Turn.{Acts, gone_on}
+-- Places in the lists of a worker.
+use Rattle.std.proofs.Common.{◌≡◌, ◌≤◌, ℕ, ◌==◌, ◌+◌, suc, List, [], ◌∷◌, length, map, ◌++◌, Bool, true, false, refl, ap, sym, ◌∙◌, arith, Option, Some, None}
+use Rattle.std.proofs.lemmas.List.{append-nil}
+use Rattle.std.specs.Prelude.{not, ◌||◌, cond, IsSome, nat_lt, option_map, Result, Ok, Err, OnOk, is_ok}
+use Rattle.contexts.specs.declared.parts.Context.{Context}
+use Rattle.contexts.specs.Keyed.{found}
+use Rattle.contexts.specs.Reached.{tick_in, contains, context_no}
+use Rattle.worker.specs.declared.types.Line.{Line}
+use Rattle.exchange.specs.declared.types.Filter.{Filter}
+use Rattle.worker.specs.Steps.{place_for, filters_by}
+use Rattle.worker.specs.Turn.{is_of, start_of, roots_from}
+use Rattle.worker.specs.declared.types.Job.{Job}
+use Rattle.worker.specs.declared.types.Job.TheVariants as jobs
+use Rattle.contexts.specs.declared.parts.Plugin.{Plugin}
+use Rattle.std.specs.List.{list_any}
 
--- to take an element out and put another in its place is to set it
-pub insert-remove : {X : Type 0} (xs : List X) (i : ℕ) (y : X) → i < length xs → insert (remove xs i) i y ≡ slice_set xs i y
-insert-remove [] i y within = absurd (omega arith)
-insert-remove (x ∷ xs) zero y within = refl
-insert-remove {X} (x ∷ xs) (suc i) y within = ap (λ (l : List X). x ∷ l) (insert-remove xs i y (omega arith))
+pub place_within : (number : ℕ) (lines : List Line) → place_for number lines ≤ length lines
+place_within number [] = omega arith
+place_within number (line ∷ lines) = by (place_within number lines) (not (nat_lt number line.number))
+  where
+    by : place_for number lines ≤ length lines → (b : Bool) → cond b (1 + place_for number lines) 0 ≤ suc (length lines)
+    by later true = omega arith
+    by later false = omega arith
 
--- a line that took a turn has acted
-pub acted : (context : Context) (happening : Happening) (lines : List Line) (place : ℕ) (line : Line) (old : List Sent) (next : Option Line) (new : List Sent) (after : List Line)
-    → place < length lines → line ≡ slice_index_or lines place line → old ≡ [] → Turned context line happening old next new → after ≡ gone_on lines place next
-    → Acts context happening lines place new after
-acted context happening lines place line old next new after within is nothing turned gone = record {
-  line = line;
-  stands = slice_get-get_or lines place line within ∙ ap Some (sym is);
-  next = next;
-  turns = subst (λ (l : List Sent). Turns context line happening l next) (sym (turned.is ∙ ap (λ (l : List Sent). l ++ turned.sent) nothing)) turned.turns;
-  is = gone;
-}
+-- a root that has a tick is there
+pub tick_known : (root : ℕ) (cs : List Context) → IsSome (tick_in cs root) → contains root (map context_no cs) ≡ true
+tick_known root [] is = absurd (cc)
+tick_known root (c ∷ cs) is = by (tick_known root cs) (c.id == root) is
+  where
+    by : (IsSome (tick_in cs root) → contains root (map context_no cs) ≡ true) → (b : Bool) → IsSome (option_map (λ (x : Context). x.tick) (cond b (Some c) (found context_no root cs)))
+        → (b || contains root (map context_no cs)) ≡ true
+    by later true is = refl
+    by later false is = later is
+
+pub ok_of : {A E P : Type 0} (r : Result A E) → is_ok r ≡ true → OnOk r P → P
+ok_of (Ok a) is p = p
+ok_of (Err e) is p = absurd (cc)
+
+pub filters_none : (filters : List Filter) (o : Option Filter) → o ≡ None → filters ≡ filters ++ filters_by o
+filters_none filters o is = sym (ap (λ (x : Option Filter). filters ++ filters_by x) is ∙ append-nil filters)
+
+pub filters_some : (filters more : List Filter) (o : Option Filter) (f : Filter) → o ≡ Some f → more ≡ filters ++ f ∷ [] → more ≡ filters ++ filters_by o
+filters_some filters more o f is more_is = more_is ∙ sym (ap (λ (x : Option Filter). filters ++ filters_by x) is)
+
+pub none_starts : (vm : ℕ) (plugins : List Plugin) (before : List Job) → list_any (is_of vm) plugins ≡ false → before ≡ before ++ start_of vm plugins
+none_starts vm plugins before none =
+    sym (ap (λ (b : Bool). before ++ cond b (jobs.Begin vm ∷ roots_from vm 0 true plugins) []) none ∙ append-nil before)

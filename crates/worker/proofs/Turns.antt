@@ -1,6 +1,11 @@
 -- Turns, by how they end.
-use Rattle.std.proofs.Common.{◌≡◌, Bool, true, false, List, [], ◌∷◌, ◌++◌, refl, ap, sym, subst, Option, Ok, Err}
+use Rattle.std.proofs.Common.{◌≡◌, ℕ, Bool, true, false, List, [], ◌∷◌, ◌++◌, refl, ap, sym, subst, ◌∙◌, Option, Ok, Err}
 use Rattle.std.specs.Prelude.{IsTrue}
+use Rattle.contexts.specs.declared.parts.Contexts.{Contexts}
+use Rattle.course.specs.Called.{Called}
+use Rattle.course.specs.Course.{Course, ends, Goes}
+use Rattle.course.specs.Runs.{goes_still, goes_part, goes_as, goes_from}
+use Rattle.course.specs.declared.host.Callback.{Callback}
 use Rattle.gate_io.specs.Events.{is_stop}
 use Rattle.gate_io.specs.Passing.{asking}
 use Rattle.gate_io.specs.Told.{Gains}
@@ -11,19 +16,19 @@ use Rattle.gate_io.specs.declared.event.What.TheVariants.{Stop}
 use Rattle.gate_io.specs.declared.passed.Passed.{Passed}
 use Rattle.gate_io.specs.declared.passed.Passed.TheVariants.{Asked, Gave}
 use Rattle.gate_io.specs.declared.passed.Wants.{Wants}
-use Rattle.store_model.specs.Made.{Made}
-use Rattle.store_model.specs.Program.{done}
-use Rattle.store_model.specs.Runs.{runs_none}
 use Rattle.outbox.specs.Cleared.{cleared}
 use Rattle.outbox.specs.Delivery.{Offered}
 use Rattle.outbox.specs.Joined.{joined}
 use Rattle.outbox.proofs.Deliveries.{told_of_turn, handed_over, stands_still, is_no_stop}
-use Rattle.exchange.specs.Seen.{at}
-use Rattle.exchange.specs.State.{Line}
-use Rattle.worker.specs.State.{Standing, with_lines}
-use Rattle.worker.specs.Turn.{Answers, outcome}
-use Rattle.worker.specs.Turned.{TookWhole, one_turn, Whole, Unanswered, PartlySent}
-use Rattle.worker.specs.Wants.{wants_of}
+use Rattle.store_model.specs.Made.{Made}
+use Rattle.store_model.specs.Program.{Program}
+use Rattle.worker.specs.declared.room.Room.{Room}
+use Rattle.worker.specs.Filled.{filled}
+use Rattle.worker.specs.Settling.{settling}
+use Rattle.worker.specs.State.{Standing, rules_of}
+use Rattle.worker.specs.Steps.{Both, both}
+use Rattle.worker.specs.Turn.{Outcome, outcome, emptied, comes_to, facing, most_steps, turn, turn_by}
+use Rattle.worker.specs.Turned.{TookWhole, one_turn, wanted, Whole, Unanswered, PartlySent}
 
 -- of a world that takes each piece whole, no `send` took less
 pub took_whole : {E : Type 0} (takes_whole : Bool) (old mid new : Option (List Passed)) (before after : List Sent) (wants : Wants) (event : Event) → IsTrue takes_whole
@@ -34,72 +39,92 @@ took_whole takes_whole old mid new before after wants event whole given offered 
   never = offered.taken_whole whole;
 }
 
-module _ {S : Type 0} (performs : S → List Made → S → Type 0) (nothing : (s : S) → performs s [] s) where
+-- what was sent is taken out of the room
+same_room : (sent : List Sent) (room : Room) → room.hub.sent ≡ [] → emptied (filled sent room) ≡ room
+same_room sent room is = λ i. record room { hub = record room.hub { sent = sym is i } }
+
+module _ {H S : Type 0} (calling : H → ℕ → Callback → ℕ → ℕ → ℕ → ℕ → Contexts → Program (Called H)) (performs : S → List Made → S → Type 0) where
+  -- the turn that is no Stop went to its end
+  went_to : (s t : S) (from : Standing H) (event : Event) (host : H) (room : Room) (sent : List Sent) → is_stop event.what ≡ false → room.hub.sent ≡ []
+      → Goes performs s (settling calling (rules_of from.setting) most_steps from.state.host (facing (rules_of from.setting) event from.state.room)) (ends (both host (filled sent room))) t
+      → Goes performs s (turn calling (rules_of from.setting) from.state event) (ends (outcome (both host room) (joined sent))) t
+  went_to s t from event host room sent other empty goes =
+      goes_from (ap (λ (b : Bool). turn_by calling (rules_of from.setting) b from.state event) other)
+      (goes_as (goes_part (λ b. ends (comes_to b)) goes) (λ i. ends (outcome (both host (same_room sent room empty i)) (joined sent))))
+
+  -- it was cut short
+  cut_off : (s t : S) (from : Standing H) (event : Event) (left : Course (Both H)) → is_stop event.what ≡ false
+      → Goes performs s (settling calling (rules_of from.setting) most_steps from.state.host (facing (rules_of from.setting) event from.state.room)) left t
+      → (q : Course (Outcome H)) × Goes performs s (turn calling (rules_of from.setting) from.state event) q t
+  cut_off s t from event left other goes =
+      (_, goes_from (ap (λ (b : Bool). turn_by calling (rules_of from.setting) b from.state event) other) (goes_part (λ b. ends (comes_to b)) goes))
+
   -- the turn of Stop
-  pub stopped : (s : S) (old new : Option (List Passed)) (from : Standing) (wants : Wants) (event : Event)
-      → wants ≡ wants_of from.state from.waiting → event.what ≡ Stop → Gains old (asking wants (Ok event)) new → Whole performs true s old from from s new
-  stopped s old new from wants event wants_are is given = record {
-    event = event;
-    is_stop = ap is_stop is;
-    program = done (outcome from.state []);
-    turned = record {
-      sent = [];
-      after = from.state.lines;
-      answers = subst (λ (what : What). Answers (at event.now from.setting.config) from.state.lines what [] from.state.lines) (sym is) (refl, refl);
-      is = refl;
-    };
-    sent = [];
-    runs = runs_none performs nothing s (done (outcome from.state []));
-    steps = Asked wants ∷ Gave event ∷ [];
-    told = given;
-    asks = ap (λ (w : Wants). w ∷ []) wants_are;
-    hands_over = stands_still from.waiting event wants is;
-  }
+  pub stopped : (nothing : (s : S) → performs s [] s) (s : S) (old new : Option (List Passed)) (from to : Standing H) (wants : Wants) (event : Event)
+      → wants ≡ wanted from → event.what ≡ Stop → to ≡ record from { took = true } → Gains old (asking wants (Ok event)) new → Whole calling performs true s old from to s new
+  stopped nothing s old new from to wants event wants_are is to_is given =
+      subst (λ (x : Standing H). Whole calling performs true s old from x s new) (sym to_is)
+      (record {
+        event = event;
+        is_stop = ap is_stop is;
+        sent = [];
+        goes = goes_from (ap (λ (w : What). turn_by calling (rules_of from.setting) (is_stop w) from.state event) is) (goes_still performs s s (ends (outcome from.state [])) (nothing s));
+        steps = Asked wants ∷ Gave event ∷ [];
+        told = given;
+        asks = ap (λ (w : Wants). w ∷ []) wants_are;
+        hands_over = stands_still from.waiting event wants is;
+        took = refl;
+      })
 
   -- another turn, in which all was offered
-  pub went : {E : Type 0} (s : S) (takes_whole : Bool) (old mid new : Option (List Passed)) (from to : Standing) (wants : Wants) (event : Event) (sent : List Sent)
-      → wants ≡ wants_of from.state from.waiting → (event.what ≡ Stop → ⊥) → Answers (at event.now from.setting.config) from.state.lines event.what sent to.state.lines
+  pub went : {E : Type 0} (s t : S) (takes_whole : Bool) (old mid new : Option (List Passed)) (from to : Standing H) (wants : Wants) (event : Event) (sent : List Sent)
+      → wants ≡ wanted from → (event.what ≡ Stop → ⊥) → to.took ≡ true → to.state.room.hub.sent ≡ []
+      → Goes performs s (settling calling (rules_of from.setting) most_steps from.state.host (facing (rules_of from.setting) event from.state.room)) (ends (both to.state.host (filled sent to.state.room))) t
       → Gains old (asking wants (Ok event)) mid → Offered {E = E} takes_whole mid [] (cleared event.what from.waiting ++ joined sent) (Ok tt) new to.waiting
-      → Whole performs false s old from to s new
-  went s takes_whole old mid new from to wants event sent wants_are other answers given offered = record {
+      → Whole calling performs false s old from to t new
+  went s t takes_whole old mid new from to wants event sent wants_are other took empty goes given offered = record {
     event = event;
     is_stop = is_no_stop event.what other;
-    program = done (outcome to.state (joined sent));
-    turned = record { sent = sent; after = to.state.lines; answers = answers; is = refl };
     sent = joined sent;
-    runs = runs_none performs nothing s (done (outcome to.state (joined sent)));
+    goes = went_to s t from event to.state.host to.state.room sent (is_no_stop event.what other) empty goes;
     steps = Asked wants ∷ Gave event ∷ offered.steps;
     told = told_of_turn old mid new wants event offered.steps given offered.told;
     asks = λ i. wants_are i ∷ offered.delivered.not_asked i;
     hands_over = handed_over takes_whole mid new from.waiting (one_turn event (joined sent)) wants (cleared event.what from.waiting ++ joined sent) to.waiting (is_no_stop event.what other) refl offered;
+    took = took;
   }
 
   -- memory ran out before anything was handed over
-  pub unanswered : (s : S) (old new : Option (List Passed)) (from : Standing) (wants : Wants) (event : Event)
-      → wants ≡ wants_of from.state from.waiting → (event.what ≡ Stop → ⊥) → Gains old (asking wants (Ok event)) new → Unanswered performs s old from s new
-  unanswered s old new from wants event wants_are other given = record {
-    event = event;
-    goes_on = is_no_stop event.what other;
-    calls = [];
-    performed = nothing s;
-    reaches = λ program turned. (program, refl);
-    told = subst (λ (w : Wants). Gains old (Asked w ∷ Gave event ∷ []) new) wants_are given;
-  }
+  pub unanswered : (s t : S) (old new : Option (List Passed)) (from to : Standing H) (wants : Wants) (event : Event)
+      → wants ≡ wanted from → (event.what ≡ Stop → ⊥) → to.took ≡ true
+      → (left : Course (Both H)) × Goes performs s (settling calling (rules_of from.setting) most_steps from.state.host (facing (rules_of from.setting) event from.state.room)) left t
+      → Gains old (asking wants (Ok event)) new → Unanswered calling performs s old from to t new
+  unanswered s t old new from to wants event wants_are other took goes given =
+      let cut = cut_off s t from event goes.0 (is_no_stop event.what other) goes.1 in
+      record {
+        event = event;
+        goes_on = is_no_stop event.what other;
+        left = cut.0;
+        goes = cut.1;
+        told = subst (λ (w : Wants). Gains old (Asked w ∷ Gave event ∷ []) new) wants_are given;
+        took = took;
+      }
 
   -- memory ran out as it was handed over
-  pub partly_sent : {E : Type 0} (e : E) (s : S) (takes_whole : Bool) (old mid new : Option (List Passed)) (from : Standing) (lines : List Line) (waiting : List Sent) (wants : Wants) (event : Event) (sent : List Sent)
-      → wants ≡ wants_of from.state from.waiting → (event.what ≡ Stop → ⊥) → Answers (at event.now from.setting.config) from.state.lines event.what sent lines
+  pub partly_sent : {E : Type 0} (e : E) (s t : S) (takes_whole : Bool) (old mid new : Option (List Passed)) (from to : Standing H) (host : H) (room : Room) (waiting : List Sent) (wants : Wants)
+      (event : Event) (sent : List Sent)
+      → wants ≡ wanted from → (event.what ≡ Stop → ⊥) → to.took ≡ true → room.hub.sent ≡ []
+      → Goes performs s (settling calling (rules_of from.setting) most_steps from.state.host (facing (rules_of from.setting) event from.state.room)) (ends (both host (filled sent room))) t
       → Gains old (asking wants (Ok event)) mid → Offered {E = E} takes_whole mid [] (cleared event.what from.waiting ++ joined sent) (Err e) new waiting
-      → PartlySent performs s old from s new
-  partly_sent e s takes_whole old mid new from lines waiting wants event sent wants_are other answers given offered = record {
+      → PartlySent calling performs s old from to t new
+  partly_sent e s t takes_whole old mid new from to host room waiting wants event sent wants_are other took empty goes given offered = record {
     event = event;
     goes_on = is_no_stop event.what other;
-    program = done (outcome (with_lines lines) (joined sent));
-    turned = record { sent = sent; after = lines; answers = answers; is = refl };
-    end = outcome (with_lines lines) (joined sent);
-    runs = runs_none performs nothing s (done (outcome (with_lines lines) (joined sent)));
+    end = outcome (both host room) (joined sent);
+    goes = went_to s t from event host room sent (is_no_stop event.what other) empty goes;
     taken = offered.steps;
     rest = offered.rest;
     delivered = offered.delivered;
     told = subst (λ (w : Wants). Gains old (Asked w ∷ Gave event ∷ offered.steps) new) wants_are (told_of_turn old mid new wants event offered.steps given offered.told);
+    took = took;
   }

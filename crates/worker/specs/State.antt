@@ -1,32 +1,34 @@
 -- What a worker is between two turns.
-use Rattle.std.specs.Prelude.{ℕ, List, []}
+use Rattle.std.specs.Prelude.{ℕ, Bool, List, length}
 use Rattle.gate_config.specs.declared.config.Config.{Config}
 use Rattle.gate_io.specs.declared.event.Sent.{Sent}
-use Rattle.exchange.specs.State.{Line}
+use Rattle.worker.specs.declared.types.Bodies.{Bodies}
+use Rattle.worker.specs.Plan.{Plan}
+use Rattle.worker.specs.Steps.{Both}
 
--- the lines that are open, by their numbers
-pub record State : Type 0 where
-  pub lines : List Line
-
--- no line is open
-abbrev pub first_state : State
-first_state = record { lines = [] }
-
-abbrev pub with_lines : List Line → State
-with_lines lines = record { lines = lines }
-
--- what a worker is made with
+-- what a worker is made with, and what its machines say of themselves: which bodies each plug-in filters, and which VMs register queues
 pub record Setting : Type 0 where
   pub config : Config
   pub who : ℕ
   pub seed : List ℕ
+  pub bodies : List Bodies
+  pub registers : List Bool
 
--- between two turns: what it was made with, its lines, and what waits until its world takes it
-pub record Standing : Type 0 where
+-- what its turns go by
+abbrev pub rules_of : Setting → Plan
+rules_of setting = record {
+  routes = setting.config.routes;
+  plugins = setting.config.plugins;
+  vms = length setting.config.vms;
+  deadline = setting.config.deadline_ms;
+  bodies = setting.bodies;
+  registers = setting.registers;
+}
+
+-- between two turns: what it was made with; its machines, its lines and its contexts; what waits until its world takes it; and whether it took
+-- an event
+pub record Standing (H : Type 0) : Type 0 where
   pub setting : Setting
-  pub state : State
+  pub state : Both H
   pub waiting : List Sent
-
--- a worker that has done nothing
-abbrev pub new_worker : Setting → Standing
-new_worker setting = record { setting = setting; state = first_state; waiting = [] }
+  pub took : Bool

@@ -1,139 +1,133 @@
--- WHAT A WORKER DOES AT AN EVENT.
-use Rattle.std.specs.Prelude.{◌≡◌, ℕ, ◌==◌, List, [], ◌∷◌, length, Option, None, Some, nat_lt, is_some, if◌then◌else◌, position, slice_get, slice_set, insert, remove}
-use Rattle.std.specs.List.{position_or_len}
-use Rattle.gate_config.specs.declared.config.Config.{Config}
+-- A TURN: what a worker does at an event.
+use Rattle.std.specs.Prelude.{◌≡◌, ℕ, zero, suc, ◌+◌, ◌==◌, Bool, true, false, not, ◌&&◌, List, [], ◌∷◌, ◌++◌, length, slice_get, nat_le, Option, None, Some, if◌then◌else◌}
+use Rattle.std.specs.List.{list_any}
+use Rattle.contexts.specs.declared.parts.Context.{Context}
+use Rattle.contexts.specs.declared.parts.Contexts.{Contexts}
+use Rattle.contexts.specs.declared.parts.Plugin.{Plugin}
+use Rattle.contexts.specs.declared.parts.Tick.{Tick}
+use Rattle.contexts.specs.Reached.{vm_in}
+use Rattle.course.specs.Called.{Called}
+use Rattle.course.specs.Course.{Course, ends, then_do}
+use Rattle.course.specs.declared.host.Callback.{Callback}
+use Rattle.gate_io.specs.Events.{is_stop}
 use Rattle.gate_io.specs.declared.event.Event.{Event}
 use Rattle.gate_io.specs.declared.event.Sent.{Sent}
-use Rattle.gate_io.specs.declared.event.Sent.TheVariants.{Close}
-use Rattle.gate_io.specs.declared.event.Side.TheVariants.{Down, Up}
 use Rattle.gate_io.specs.declared.event.What.{What}
-use Rattle.gate_io.specs.declared.event.What.TheVariants.{Opened, Bytes, End, Gone, Joined, Refused, Room, Clock, Stop}
-use Rattle.store_model.specs.Program.{Program, done}
 use Rattle.outbox.specs.Joined.{joined}
-use Rattle.exchange.specs.State.{Line, new_line, Context}
-use Rattle.exchange.specs.Seen.{at}
-use Rattle.exchange.specs.Turns.{Happening, came, finishes, lost, Turns}
-use Rattle.worker.specs.State.{State, with_lines}
+use Rattle.store_model.specs.Program.{Program}
+use Rattle.worker.specs.declared.room.Room.{Room}
+use Rattle.worker.specs.declared.types.Job.{Job}
+use Rattle.worker.specs.declared.types.Job.TheVariants as jobs
+use Rattle.worker.specs.Plan.{Plan}
+use Rattle.worker.specs.Settling.{settling}
+use Rattle.worker.specs.Steps.{Both, both, is_due_tick}
 
--- ---- the open lines
+-- ---- the start of the VMs
 
--- where the open line of a number stands
-abbrev pub place_in : ℕ → List Line → Option ℕ
-place_in number lines = position (λ line. line.number == number) lines
+abbrev pub is_of : ℕ → Plugin → Bool
+is_of vm p = p.vm == vm
 
--- the place of a new line: behind those of lower numbers
-abbrev pub place_for : ℕ → List Line → ℕ
-place_for number lines = position_or_len (λ line. nat_lt number line.number) lines
+-- the roots of a VM's plug-ins, from a place on; the first of them is where the VM starts
+abbrev pub roots_from : ℕ → ℕ → Bool → List Plugin → List Job
+roots_from vm place first [] = []
+roots_from vm place first (p ∷ plugins) =
+    if is_of vm p then jobs.Root vm place first ∷ roots_from vm (place + 1) false plugins else roots_from vm (place + 1) first plugins
 
--- the line at a place goes on as this, or was closed
-abbrev pub gone_on : List Line → ℕ → Option Line → List Line
-gone_on lines place None = remove lines place
-gone_on lines place (Some line) = slice_set lines place line
+-- a VM that a plug-in names
+abbrev pub start_of : ℕ → List Plugin → List Job
+start_of vm plugins = if list_any (is_of vm) plugins then jobs.Begin vm ∷ roots_from vm 0 true plugins else []
 
--- ---- what happens on which line
+-- of so many, in order
+abbrev pub starts_of : ℕ → List Plugin → List Job
+starts_of zero plugins = []
+starts_of (suc n) plugins = starts_of n plugins ++ start_of n plugins
 
--- what happened, and the number of the line on which it did
-pub record OnLine : Type 0 where
-  pub number : ℕ
-  pub happening : Happening
+-- there are 16 VMs at most
+abbrev pub first_vms : ℕ → ℕ
+first_vms n = if nat_le n 16 then n else 16
 
-abbrev pub on_line : ℕ → Happening → OnLine
-on_line number happening = record { number = number; happening = happening }
+abbrev pub vms_in : Room → ℕ
+vms_in room = first_vms (length room.hub.contexts.vms)
 
--- That a connection stands, that there is room, and that time passed, change nothing by themselves.
-abbrev pub happening_of : What → Option OnLine
-happening_of (Opened number) = None
-happening_of (Bytes number side bytes) = Some (on_line number (came side bytes))
-happening_of (End number side) = Some (on_line number (finishes side))
-happening_of (Gone number side) = Some (on_line number (lost side))
-happening_of (Joined number) = None
-happening_of (Refused number) = Some (on_line number (lost Up))
-happening_of (Room number side) = None
-happening_of Clock = None
-happening_of Stop = None
+-- at the first event all of them start
+abbrev pub starts : Room → List Job
+starts room = if room.is_begun then [] else starts_of (vms_in room) room.hub.contexts.plugins
 
--- ---- an event
+-- ---- what comes in front of the event, and behind it
 
--- nothing is sent, and the lines are as before
-abbrev pub StandsStill : List Line → List Sent → List Line → Type 0
-StandsStill lines sent after = (sent ≡ []) × (after ≡ lines)
+abbrev pub is_due_now : ℕ → Option Tick → Bool
+is_due_now now None = false
+is_due_now now (Some t) = is_due_tick now t
 
--- The turns of lines are told by `Turning`: as the gateway reads, part by part, or in another way (`Cuts`).
+-- the roots of a VM that are due, in the order of their ids
+abbrev pub ticks_in : ℕ → ℕ → List Context → List Job
+ticks_in now vm [] = []
+ticks_in now vm (c ∷ contexts) = if is_due_now now c.tick then jobs.Tick vm c.id ∷ ticks_in now vm contexts else ticks_in now vm contexts
 
--- A line takes a turn. The others stay.
-pub record ActsBy (Turning : Context → Line → Happening → List Sent → Option Line → Type 0) (context : Context) (happening : Happening) (lines : List Line) (place : ℕ) (sent : List Sent) (after : List Line) : Type 0 where
-  pub line : Line
-  pub stands : slice_get lines place ≡ Some line
-  pub next : Option Line
-  pub turns : Turning context line happening sent next
-  pub is : after ≡ gone_on lines place next
+abbrev pub ticks_of : ℕ → ℕ → Contexts → List Job
+ticks_of now zero h = []
+ticks_of now (suc n) h = ticks_of now n h ++ ticks_in now n (vm_in h n).contexts
 
--- on a line that is not open nothing happens
-abbrev pub ActsAtBy : (Context → Line → Happening → List Sent → Option Line → Type 0) → Context → Happening → List Line → Option ℕ → List Sent → List Line → Type 0
-ActsAtBy Turning context happening lines None sent after = StandsStill lines sent after
-ActsAtBy Turning context happening lines (Some place) sent after = ActsBy Turning context happening lines place sent after
+abbrev pub ticks_due : Room → List Job
+ticks_due room = ticks_of room.hub.moment (vms_in room) room.hub.contexts
 
-abbrev pub HappensBy : (Context → Line → Happening → List Sent → Option Line → Type 0) → Context → List Line → Option OnLine → List Sent → List Line → Type 0
-HappensBy Turning context lines None sent after = StandsStill lines sent after
-HappensBy Turning context lines (Some on) sent after = ActsAtBy Turning context on.happening lines (place_in on.number lines) sent after
+-- responses may be due where the configuration says for how long they are waited for
+abbrev pub deadlines : Plan → List Job
+deadlines plan = if plan.deadline == 0 then [] else jobs.Expire ∷ []
 
--- so many lines are open at most
-abbrev pub most_lines : ℕ
-most_lines = 128
+-- each VM that registers queues is told of their items, of 16 at most
+abbrev pub registers_at : Option Bool → Bool
+registers_at None = false
+registers_at (Some registers) = registers
 
--- A connection was opened. Of an open line that changes nothing. Where there is no room for a line, it is closed at once.
-abbrev pub opened_lines : ℕ → List Line → List Line
-opened_lines number lines =
-    if is_some (place_in number lines) then lines
-    else if nat_lt (length lines) most_lines then insert lines (place_for number lines) (new_line number)
-    else lines
+abbrev pub notice_of : Plan → ℕ → List Job
+notice_of plan vm = if registers_at (slice_get plan.registers vm) then jobs.Notice vm 16 ∷ [] else []
 
-abbrev pub opened_sent : ℕ → List Line → List Sent
-opened_sent number lines =
-    if is_some (place_in number lines) then []
-    else if nat_lt (length lines) most_lines then []
-    else Close number Down ∷ []
+abbrev pub notices_of : Plan → ℕ → List Job
+notices_of plan zero = []
+notices_of plan (suc n) = notices_of plan n ++ notice_of plan n
 
-abbrev pub Opens : ℕ → List Line → List Sent → List Line → Type 0
-Opens number lines sent after = (sent ≡ opened_sent number lines) × (after ≡ opened_lines number lines)
+-- THE PARTS OF A TURN, in order: the start of the VMs, ticks, deadlines, the event, notices
+abbrev pub agenda_of : Plan → What → Room → List Job
+agenda_of plan what room = starts room ++ (ticks_due room ++ (deadlines plan ++ (jobs.Happen what ∷ notices_of plan (vms_in room))))
 
-abbrev pub AnswersBy : (Context → Line → Happening → List Sent → Option Line → Type 0) → Context → List Line → What → List Sent → List Line → Type 0
-AnswersBy Turning context lines (Opened number) sent after = Opens number lines sent after
-AnswersBy Turning context lines (Bytes number side bytes) sent after = HappensBy Turning context lines (happening_of (Bytes number side bytes)) sent after
-AnswersBy Turning context lines (End number side) sent after = HappensBy Turning context lines (happening_of (End number side)) sent after
-AnswersBy Turning context lines (Gone number side) sent after = HappensBy Turning context lines (happening_of (Gone number side)) sent after
-AnswersBy Turning context lines (Joined number) sent after = HappensBy Turning context lines (happening_of (Joined number)) sent after
-AnswersBy Turning context lines (Refused number) sent after = HappensBy Turning context lines (happening_of (Refused number)) sent after
-AnswersBy Turning context lines (Room number side) sent after = HappensBy Turning context lines (happening_of (Room number side)) sent after
-AnswersBy Turning context lines Clock sent after = HappensBy Turning context lines (happening_of Clock) sent after
-AnswersBy Turning context lines Stop sent after = HappensBy Turning context lines (happening_of Stop) sent after
+abbrev pub at_moment : ℕ → Room → Room
+at_moment now room = record room { hub = record room.hub { moment = now } }
 
--- as the gateway reads, part by part
-abbrev pub Acts : Context → Happening → List Line → ℕ → List Sent → List Line → Type 0
-Acts context happening lines place sent after = ActsBy Turns context happening lines place sent after
+abbrev pub with_agenda : Plan → What → Room → Room
+with_agenda plan what room = record room { agenda = agenda_of plan what room; is_begun = true }
 
-abbrev pub ActsAt : Context → Happening → List Line → Option ℕ → List Sent → List Line → Type 0
-ActsAt context happening lines place sent after = ActsAtBy Turns context happening lines place sent after
+abbrev pub facing : Plan → Event → Room → Room
+facing plan event room = with_agenda plan event.what (at_moment event.now room)
 
-abbrev pub Happens : Context → List Line → Option OnLine → List Sent → List Line → Type 0
-Happens context lines on sent after = HappensBy Turns context lines on sent after
-
-abbrev pub Answers : Context → List Line → What → List Sent → List Line → Type 0
-Answers context lines what sent after = AnswersBy Turns context lines what sent after
-
--- ---- a turn
+-- so many steps a turn takes at most
+abbrev pub most_steps : ℕ
+most_steps = 18446744073709551615
 
 -- the new state, and what is sent
-pub record Outcome : Type 0 where
-  pub state : State
+pub record Outcome (H : Type 0) : Type 0 where
+  pub state : Both H
   pub sent : List Sent
 
-abbrev pub outcome : State → List Sent → Outcome
+abbrev pub outcome : {H : Type 0} → Both H → List Sent → Outcome H
 outcome state sent = record { state = state; sent = sent }
 
--- THE TURN OF AN EVENT: what it asks of the shared stores, and comes to. Neighbours that are bytes of one line and side are joined.
-pub record IsTurned (config : Config) (state : State) (event : Event) (program : Program Outcome) : Type 0 where
-  pub sent : List Sent
-  pub after : List Line
-  pub answers : Answers (at event.now config) state.lines event.what sent after
-  pub is : program ≡ done (outcome (with_lines after) (joined sent))
+-- nothing is left to be sent
+abbrev pub emptied : Room → Room
+emptied room = record room { hub = record room.hub { sent = [] } }
+
+-- what a turn comes to: neighbours that are bytes of one line and side are joined
+abbrev pub comes_to : {H : Type 0} → Both H → Outcome H
+comes_to b = outcome (both b.host (emptied b.room)) (joined b.room.hub.sent)
+
+module _ {H : Type 0} (calling : H → ℕ → Callback → ℕ → ℕ → ℕ → ℕ → Contexts → Program (Called H)) (plan : Plan) where
+  -- WHAT A WORKER DOES AT AN EVENT: what it asks of the shared stores, what it reads, and what it comes to. At Stop it does nothing.
+  abbrev pub turned : Both H → Event → Course (Outcome H)
+  turned state event = then_do (settling calling plan most_steps state.host (facing plan event state.room)) (λ b. ends (comes_to b))
+
+  abbrev pub turn_by : (stop : Bool) → Both H → Event → Course (Outcome H)
+  turn_by true state event = ends (outcome state [])
+  turn_by false state event = turned state event
+
+  abbrev pub turn : Both H → Event → Course (Outcome H)
+  turn state event = turn_by (is_stop event.what) state event

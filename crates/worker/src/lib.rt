@@ -1,22 +1,27 @@
-//! A worker: it takes events from its world, one a turn, and sends what its lines send.
+//! A worker: it takes events from its world, one a turn, passes messages through the filters of its lines, and sends what comes of it.
 #![tactic(auto)]
 
-mod answer;
-mod apart;
+mod agenda;
+mod calls;
+mod happening;
+mod hearing;
 mod laws;
-mod listed;
-mod opened;
+mod lines;
+mod making;
+mod making_worker;
+mod no_machines;
+mod room;
+mod sides;
+mod turning;
+mod types;
 mod wanted;
 mod worker;
 
-pub use apart::{
-    cuts_are_alike_apart, cuts_are_alike_in_room, lines_are_apart, lines_are_apart_in_room,
-};
-pub use laws::{
-    an_event_has_one_turn, cuts_are_alike, idle_events_change_nothing, lines_stay_in_order,
-    turns_are_item_turns, turns_send_no_empty_piece, worked_cuts, worked_turns,
-};
+pub use calls::{call_back, call_live};
+pub use laws::{more_steps_change_nothing, turns_are_functions};
+pub use lines::Lines;
+pub use no_machines::NoMachines;
+pub use room::Room;
+pub use turning::settle;
+pub use types::{Asked, Bodies, Change, ContextAt, Job, Line, NewContext, Next, Own, Reads, Rules};
 pub use worker::{Turn, Worker};
-
-#[cfg(test)]
-mod tests;

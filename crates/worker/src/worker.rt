@@ -1,16 +1,28 @@
 // A worker, and its turns.
-ghost use Rattle.std.specs.Prelude.{◌≡◌, ◌≤◌, IsTrue, length, IfOk};
+ghost use Rattle.worker.specs.Plan.{plan_of};
+ghost use Rattle.std.specs.Prelude.{◌≡◌, ◌≤◌, IsTrue, length, [], IfOk, OnOk};
+ghost use Rattle.course.specs.Course.{Ends};
 ghost use Rattle.gate_io.specs.Told.{Rose};
-ghost use Rattle.worker.specs.State.{new_worker};
+ghost use Rattle.worker.specs.Filled.{filled, event_of};
+ghost use Rattle.worker.specs.Making.{new_worker};
+ghost use Rattle.worker.specs.Settling.{settling};
+ghost use Rattle.worker.specs.State.{rules_of};
+ghost use Rattle.worker.specs.Steps.{both};
+ghost use Rattle.worker.specs.Turn.{facing, most_steps};
 ghost use Rattle.worker.specs.Turned.{Turned, TookWhole};
 
-use crate::answer::answer;
+use crate::agenda::agenda_of;
+use crate::making_worker::{bodies_of, first_room, registers_of};
+use crate::room::Room;
+use crate::turning::settle;
+use crate::types::Rules;
 use crate::wanted::wants_of;
-use exchange::Line;
+use course::Host;
 use gate_base::{OutOfMemory, WorkerNo};
 use gate_config::Config;
-use gate_io::{What, World, WorldEnd};
+use gate_io::{Event, Sent, What, World, WorldEnd};
 use outbox::Outbox;
+use queue::Queue;
 use std::alloc::Global;
 use std::marker::Model;
 use store_model::Shared;
@@ -28,42 +40,67 @@ pub enum Turn {
     OutOfMemory,
 }
 
-/// A worker: its open lines, and what waits until its world takes it. Clauses see what it was made with, its lines by their
-/// numbers, and what waits.
+/// A worker: its machines, its lines and contexts, and what waits until its world takes it. Clauses see what it was made with, its machines
+/// and the rest of it, what waits, and whether it took an event.
 #[derive(Drop)]
-pub struct Worker {
-    config: Config,
+pub struct Worker<H> {
+    rules: Rules,
     who: WorkerNo,
     seed: [u8; 32],
-    lines: Vec<Line>,
+    host: H,
+    room: Room,
     outbox: Outbox,
+    took: bool,
 }
 
-impl Model for Worker {
+impl<H> Model for Worker<H> {
     ghost use Rattle.worker.specs.State.{Standing};
 
-    ghost Value = { Standing };
+    ghost Value = { Standing H };
 
-    ghost view = { λ w. record { setting = record { config = w.config; who = w.who; seed = w.seed }; state = record { lines = w.lines.items }; waiting = w.outbox } };
+    ghost view = { λ w. record {
+      setting = record { config = w.rules.config; who = w.who; seed = w.seed; bodies = w.rules.bodies; registers = w.rules.registers };
+      state = record { host = w.host; room = w.room };
+      waiting = w.outbox;
+      took = w.took;
+    } };
 }
 
-impl Worker {
-    /// A worker that has done nothing.
+impl<H: Host + Drop> Worker<H> {
+    /// A worker that has done nothing, over these machines.
     pub fn new(
         alloc: Global,
         config: Config,
         who: WorkerNo,
         seed: [u8; 32],
+        host: H,
     ) -> Result<Self, OutOfMemory>
-        ensures { IfOk result (λ worker. worker ≡ new_worker (record { config = config; who = who; seed = seed })) }
+        ensures { IfOk result (λ worker. worker ≡ new_worker H.exported H.registering config who seed host) }
     {
-        Ok(Worker {
+        let bodies = bodies_of(alloc, &host, config.plugins.as_slice())?;
+        let registers = registers_of(alloc, &host, config.vms.len())?;
+        let room = first_room(alloc, &config, seed)?;
+        let rules = Rules {
             config,
+            bodies,
+            registers,
+        };
+        Ok(Worker {
+            rules,
             who,
             seed,
-            lines: Vec::new(alloc),
+            host,
+            room,
             outbox: Outbox::new(alloc),
+            took: false,
         })
+    }
+
+    /// Whether it took an event.
+    pub fn took(&self) -> bool
+        ensures { result ≡ self.now.took }
+    {
+        self.took
     }
 
     /// Takes one event of the world, and hands over what it sends. After want of memory the worker is to be used no more.
@@ -74,15 +111,17 @@ impl Worker {
         shared: &mut S,
     ) -> Turn
         requires stores { length self.old.setting.config.vms ≤ S.stores shared.old }
+        requires needs { H.needs self.old.state.host ≤ S.stores shared.old }
         ensures setting { self.new.setting ≡ self.old.setting }
+        ensures needs { H.needs self.new.state.host ≡ H.needs self.old.state.host }
         ensures stores { S.stores shared.new ≡ S.stores shared.old }
         ensures nature { W.nature world.new ≡ W.nature world.old }
         ensures faults { W.faults world.old ≤ W.faults world.new }
         ensures fault { result ≡ Turn.WorldFault → Rose (W.faults world.old) (W.faults world.new) }
         ensures whole { IsTrue (W.nature world.old).takes_whole → result ≡ Turn.Went → TookWhole (W.trace world.old) (W.trace world.new) }
-        ensures turned { Turned S.performs shared.old (W.trace world.old) self.old result self.new shared.new (W.trace world.new) }
+        ensures turned { Turned H.calling S.performs shared.old (W.trace world.old) self.old result self.new shared.new (W.trace world.new) }
     {
-        let Ok(wants) = wants_of(alloc, &self.outbox, &self.lines) else {
+        let Ok(wants) = wants_of(alloc, &self.rules, &self.room, &self.outbox) else {
             return Turn::OutOfMemory;
         };
         let event = match world.next(alloc, &wants) {
@@ -90,10 +129,18 @@ impl Worker {
             Err(WorldEnd::Failed) => return Turn::WorldFault,
             Err(WorldEnd::OutOfMemory) => return Turn::OutOfMemory,
         };
+        self.took = true;
         if let What::Stop = event.what {
             return Turn::Stopped;
         }
-        let Ok(sent) = answer(alloc, &self.config, &mut self.lines, event.now, &event.what) else {
+        let Ok(sent) = react(
+            alloc,
+            &self.rules,
+            &mut self.host,
+            &mut self.room,
+            &event,
+            shared,
+        ) else {
             return Turn::OutOfMemory;
         };
         match self.outbox.deliver(alloc, world, &event.what, sent) {
@@ -101,4 +148,51 @@ impl Worker {
             Err(_) => Turn::OutOfMemory,
         }
     }
+}
+
+/// Does all that comes of an event: what it sends.
+fn react<H: Host, S: Shared>(
+    alloc: Global,
+    rules: &Rules,
+    host: &mut H,
+    room: &mut Room,
+    event: &Event,
+    shared: &mut S,
+) -> Result<Vec<Sent>, OutOfMemory>
+    requires needs { H.needs host.old ≤ S.stores shared.old }
+    requires stores { (plan_of rules.now).vms ≤ S.stores shared.old }
+    ensures needs { H.needs host.new ≡ H.needs host.old }
+    ensures stores { S.stores shared.new ≡ S.stores shared.old }
+    ensures empty { IfOk result (λ sent. room.new.hub.sent ≡ []) }
+    ensures run { Ends S.performs shared.old (settling H.calling (plan_of rules.now) most_steps host.old (facing (plan_of rules.now) event.entry.now room.old)) (λ sent. both host.new (filled sent.items room.new)) result shared.new }
+{
+    let what = event.what.copy(alloc)?;
+    face(alloc, rules, event.now, what, room)?;
+    settle(alloc, host, rules, room, u64::MAX, shared)?;
+    Ok(take_sent(alloc, room))
+}
+
+/// The parts of a turn are to come.
+fn face(
+    alloc: Global,
+    rules: &Rules,
+    now: u64,
+    what: What,
+    room: &mut Room,
+) -> Result<(), OutOfMemory>
+    ensures { OnOk result (room.new ≡ facing (plan_of rules.now) (event_of now what) room.old) }
+{
+    room.hub.moment = now;
+    let agenda = agenda_of(alloc, rules, what, room)?;
+    room.agenda = agenda;
+    room.is_begun = true;
+    Ok(())
+}
+
+/// Takes out what is sent.
+fn take_sent(alloc: Global, room: &mut Room) -> Vec<Sent>
+    ensures room { filled result.items room.new ≡ room.old }
+    ensures empty { room.new.hub.sent ≡ [] }
+{
+    std::mem::replace(&mut room.hub.sent, Queue::new(alloc)).into_vec()
 }

@@ -10,46 +10,46 @@ pub turns-init : goal.turns-init
 turns-init g c = record {
   vms = c.requires.vms;
   nothing_waits = c.requires.nothing_waits;
-  far = λ commands ready. far_start commands _ _ _ _ c.requires.pending ready;
+  far = λ commands ready. far_start commands _ _ _ _ _ c.requires.pending ready;
   faults = omega arith;
 }
 
 pub returns-in_err-advance-clause-front : goal.returns-in_err-advance-clause-front
 returns-in_err-advance-clause-front g c = λ commands ready.
-    on_err c.from_residual.result _ (far_cut commands _ _ _ _ _ _ (c.turns.invariant.far commands ready) (gains_none _ c.turns.pending))
+    on_err c.from_residual.result _ (far_cut commands _ _ _ _ _ _ _ (c.turns.invariant.far commands ready) (gains_none _ c.turns.pending))
 
 pub returns-in_err-write_whole-clause-front : goal.returns-in_err-write_whole-clause-front
 returns-in_err-write_whole-clause-front g c = λ commands ready.
-    let stopped = subst (λ (b : Bool). Advances c.turns.player.worker c.turns.player.world c.turns.pending b c.advance.new.player.worker c.advance.new.player.world c.advance.new.pending)
+    let stopped = subst (λ (b : Bool). Advances c.turns.player.worker c.turns.player.world c.turns.player.shared c.turns.pending b c.advance.new.player.worker c.advance.new.player.world c.advance.new.player.shared c.advance.new.pending)
     c.if-not-branch.true c.in_ok-advance.ensures in
     on_err c.from_residual-in_err-write_whole.result _
-    (far_cut_done commands _ _ _ (g.O.Sink.taken c.turns.out) (g.O.Sink.taken c.write_whole.new.sink) _ _ _ _ (c.turns.invariant.far commands ready) stopped
+    (far_cut_done commands _ _ _ _ (g.O.Sink.taken c.turns.out) (g.O.Sink.taken c.write_whole.new.sink) _ _ _ _ _ (c.turns.invariant.far commands ready) stopped
     (subst (λ (t : List ℕ). GainsFront (g.O.Sink.taken c.turns.out) t (g.O.Sink.taken c.write_whole.new.sink)) c.as_slice.ensures c.in_err-write_whole.ensures.err))
 
 pub returns-then-not-branch-clause-done : goal.returns-then-not-branch-clause-done
 returns-then-not-branch-clause-done g c = λ commands ready.
-    let stopped = subst (λ (b : Bool). Advances c.turns.player.worker c.turns.player.world c.turns.pending b c.advance.new.player.worker c.advance.new.player.world c.advance.new.pending)
+    let stopped = subst (λ (b : Bool). Advances c.turns.player.worker c.turns.player.world c.turns.player.shared c.turns.pending b c.advance.new.player.worker c.advance.new.player.world c.advance.new.player.shared c.advance.new.pending)
     c.if-not-branch.true c.in_ok-advance.ensures in
-    far_done commands _ _ _ (g.O.Sink.taken c.turns.out) (g.O.Sink.taken c.write_whole.new.sink) _ _ _ _ (c.turns.invariant.far commands ready) stopped
+    far_done commands _ _ _ _ (g.O.Sink.taken c.turns.out) (g.O.Sink.taken c.write_whole.new.sink) _ _ _ _ _ (c.turns.invariant.far commands ready) stopped
     (subst (λ (t : List ℕ). Gains (g.O.Sink.taken c.turns.out) t (g.O.Sink.taken c.write_whole.new.sink)) c.as_slice.ensures c.in_ok-write_whole.ensures.ok)
 
 pub returns-in_err-flush-clause-front : goal.returns-in_err-flush-clause-front
 returns-in_err-flush-clause-front g c = λ commands ready.
-    let went = subst (λ (b : Bool). Advances c.turns.player.worker c.turns.player.world c.turns.pending b c.advance.new.player.worker c.advance.new.player.world c.advance.new.pending)
+    let went = subst (λ (b : Bool). Advances c.turns.player.worker c.turns.player.world c.turns.player.shared c.turns.pending b c.advance.new.player.worker c.advance.new.player.world c.advance.new.player.shared c.advance.new.pending)
     c.if-not-branch.false c.in_ok-advance.ensures in
     on_err c.from_residual-in_err-flush.result _
-    (far_cut commands _ _ _ (g.O.Sink.taken c.turns.out) _ _ (far_on commands _ _ _ _ _ _ _ _ (c.turns.invariant.far commands ready) went) c.in_err-flush.ensures.err)
+    (far_cut commands _ _ _ _ (g.O.Sink.taken c.turns.out) _ _ (far_on commands _ _ _ _ _ _ _ _ _ _ (c.turns.invariant.far commands ready) went) c.in_err-flush.ensures.err)
 
 pub turns-preserved : goal.turns-preserved
 turns-preserved g c =
-    let went = subst (λ (b : Bool). Advances c.turns.player.worker c.turns.player.world c.turns.pending b c.advance.new.player.worker c.advance.new.player.world c.advance.new.pending)
+    let went = subst (λ (b : Bool). Advances c.turns.player.worker c.turns.player.world c.turns.player.shared c.turns.pending b c.advance.new.player.worker c.advance.new.player.world c.advance.new.player.shared c.advance.new.pending)
     c.if-not-branch.false c.in_ok-advance.ensures in
     record {
       vms = ap (λ (s : Setting). s.config.vms) went.setting_is ∙ c.turns.invariant.vms;
       nothing_waits = went.nothing_waits;
-      far = λ commands ready. far_flushed commands _ _ _ (g.O.Sink.taken c.turns.out) _ _ _ (far_on commands _ _ _ _ _ _ _ _ (c.turns.invariant.far commands ready) went) c.in_ok-flush.ensures.ok;
+      far = λ commands ready. far_flushed commands _ _ _ _ (g.O.Sink.taken c.turns.out) _ _ _ (far_on commands _ _ _ _ _ _ _ _ _ _ (c.turns.invariant.far commands ready) went) c.in_ok-flush.ensures.ok;
       faults = omega (arith, c.turns.invariant.faults, c.in_ok-flush.ensures.faults);
     }
 
 pub returns-clause-front : goal.returns-clause-front
-returns-clause-front g c = λ commands ready. far_cut commands _ _ _ _ _ _ (c.turns.invariant.far commands ready) (gains_none _ c.turns.pending)
+returns-clause-front g c = λ commands ready. far_cut commands _ _ _ _ _ _ _ (c.turns.invariant.far commands ready) (gains_none _ c.turns.pending)

@@ -8,6 +8,6 @@ abbrev pub invariant-turns : goal.invariant-turns
 invariant-turns g l = record {
   vms : l.player.worker.setting.config.vms ≡ [];
   nothing_waits : l.player.worker.waiting ≡ [];
-  far : (commands : List Command) → IsReady commands l.fn.player.worker l.fn.player.world → Far commands l.player.worker l.player.world (g.O.Sink.taken l.fn.out) (g.O.Sink.taken l.out) l.pending;
+  far : (commands : List Command) → IsReady commands l.fn.player.worker l.fn.player.world l.fn.player.shared → Far commands l.player.worker l.player.world l.player.shared (g.O.Sink.taken l.fn.out) (g.O.Sink.taken l.out) l.pending;
   faults : g.O.Sink.faults l.fn.out ≤ g.O.Sink.faults l.out;
 }

@@ -1,0 +1,14 @@
+use Rattle.course.specs.Course.{ends}
+use Rattle.course.specs.Runs.{cut_short, goes_still, goes_called}
+use Rattle.store_model.specs.declared.call.Call.TheVariants as calls
+use Rattle.worker.specs.Steps.{both, noticed}
+use Rattle.worker.proofs.Quietly.{room_ends_on}
+use Rattle.worker.proofs.turning.ask_notice.Goals as goal
+
+pub returns-in_err-reply-clause-run : goal.returns-in_err-reply-clause-run
+returns-in_err-reply-clause-run g c = cut_short _ c.from_residual.result c.from_residual.ensures.0 (goes_still g.S.Shared.performs _ _ _ c.in_err-reply.ensures.err)
+
+pub returns-clause-run : goal.returns-clause-run
+returns-clause-run g c =
+    room_ends_on _ _ _ c.notice.result c.notice.ensures
+    (goes_called g.S.Shared.performs _ _ c.args.vm calls.Notice _ (λ reply. ends (both c.args.host.now (noticed c.args.vm c.args.left reply c.args.room.now))) c.in_ok-reply.ensures.done)

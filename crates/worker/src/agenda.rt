@@ -1,0 +1,209 @@
+// The parts of a turn, in order.
+ghost use Rattle.worker.specs.Plan.{plan_of};
+ghost use Rattle.std.specs.List.{list_any};
+ghost use Rattle.std.specs.Prelude.{◌≡◌, ◌≤◌, true, [], ◌∷◌, ◌++◌, length, OnOk, IfOk, slice_get};
+ghost use Rattle.worker.specs.Turn.{is_of, roots_from, start_of, starts_of, first_vms, vms_in, starts, is_due_now, ticks_in, ticks_of, ticks_due, deadlines, registers_at, notice_of, notices_of, agenda_of};
+ghost use Rattle.contexts.specs.Reached.{vm_in};
+ghost use Rattle.worker.specs.Steps.{is_due_tick};
+
+use crate::room::Room;
+use crate::types::{Job, Rules};
+use contexts::{Context, Contexts, Plugin, Tick};
+use gate_base::{OutOfMemory, VmNo};
+use gate_io::What;
+use queue::Queue;
+use std::alloc::Global;
+
+/// How many VMs there are, 16 at most.
+pub(crate) fn vms_in(room: &Room) -> u8
+    ensures count { result ≡ vms_in room.now }
+    ensures bound { result ≤ 16 }
+{
+    let n = room.hub.contexts.vms.len();
+    if n <= 16 { n as u8 } else { 16 }
+}
+
+/// The VM of a number.
+pub(crate) fn vm_of(n: u8) -> VmNo
+    requires { n ≤ 15 }
+    ensures { result ≡ n }
+{
+    match VmNo::new(n) {
+        Some(vm) => vm,
+        None => unreachable!(),
+    }
+}
+
+/// Whether a plug-in is of a VM.
+fn is_of(vm: VmNo, p: &Plugin) -> bool
+    ensures { result ≡ is_of vm p.now }
+{
+    p.vm == vm
+}
+
+/// The roots of a VM's plug-ins.
+fn push_roots(jobs: &mut Queue<Job>, vm: VmNo, plugins: &[Plugin]) -> Result<(), OutOfMemory>
+    ensures { OnOk result (jobs.new ≡ jobs.old ++ roots_from vm 0 true plugins.now) }
+{
+    let mut first = true;
+    for (plugin, p) in plugins.iter().enumerate() {
+        if is_of(vm, p) {
+            jobs.push(Job::Root { vm, plugin, first })?;
+            first = false;
+        }
+    }
+    Ok(())
+}
+
+/// Whether a plug-in names a VM.
+fn is_named(vm: VmNo, plugins: &[Plugin]) -> bool
+    ensures { result ≡ list_any (is_of vm) plugins.now }
+{
+    plugins.iter().any(|p| is_of(vm, p))
+}
+
+/// A VM that a plug-in names starts.
+#[tactic(auto, using(crate::proofs::Places::none_starts))]
+fn push_start(jobs: &mut Queue<Job>, vm: VmNo, plugins: &[Plugin]) -> Result<(), OutOfMemory>
+    ensures { OnOk result (jobs.new ≡ jobs.old ++ start_of vm plugins.now) }
+{
+    if !is_named(vm, plugins) {
+        return Ok(());
+    }
+    jobs.push(Job::Begin { vm })?;
+    push_roots(jobs, vm, plugins)
+}
+
+/// The first VMs start.
+fn push_starts(jobs: &mut Queue<Job>, count: u8, plugins: &[Plugin]) -> Result<(), OutOfMemory>
+    requires { count ≤ 16 }
+    ensures { OnOk result (jobs.new ≡ jobs.old ++ starts_of count plugins.now) }
+{
+    for n in 0..count {
+        push_start(jobs, vm_of(n), plugins)?;
+    }
+    Ok(())
+}
+
+/// Whether a tick is due.
+fn is_due_now(now: u64, tick: Option<Tick>) -> bool
+    ensures { result ≡ is_due_now now tick }
+{
+    match tick {
+        None => false,
+        Some(t) => t.due <= now,
+    }
+}
+
+/// The roots of a VM that are due.
+fn push_ticks(
+    jobs: &mut Queue<Job>,
+    now: u64,
+    vm: VmNo,
+    contexts: &[Context],
+) -> Result<(), OutOfMemory>
+    ensures { OnOk result (jobs.new ≡ jobs.old ++ ticks_in now vm contexts.now) }
+{
+    for c in contexts {
+        if is_due_now(now, c.tick) {
+            jobs.push(Job::Tick { vm, root: c.id })?;
+        }
+    }
+    Ok(())
+}
+
+/// The contexts of a VM.
+pub(crate) fn contexts_of(h: &Contexts, vm: VmNo) -> &[Context]
+    ensures { result.now ≡ (vm_in h.now vm).contexts }
+{
+    match h.vms.as_slice().get(vm.get() as usize) {
+        None => &[],
+        Some(v) => v.contexts.as_slice(),
+    }
+}
+
+/// The roots of the first VMs that are due.
+fn push_all_ticks(
+    jobs: &mut Queue<Job>,
+    now: u64,
+    count: u8,
+    h: &Contexts,
+) -> Result<(), OutOfMemory>
+    requires { count ≤ 16 }
+    ensures { OnOk result (jobs.new ≡ jobs.old ++ ticks_of now count h.now) }
+{
+    for n in 0..count {
+        push_ticks(jobs, now, vm_of(n), contexts_of(h, vm_of(n)))?;
+    }
+    Ok(())
+}
+
+/// Whether a VM registers queues.
+pub(crate) fn registers_at(rules: &Rules, vm: VmNo) -> bool
+    ensures { result ≡ registers_at (slice_get (plan_of rules.now).registers vm) }
+{
+    match rules.registers.as_slice().get(vm.get() as usize) {
+        None => false,
+        Some(registers) => *registers,
+    }
+}
+
+/// A VM that registers queues takes notices.
+fn push_notice(jobs: &mut Queue<Job>, rules: &Rules, vm: VmNo) -> Result<(), OutOfMemory>
+    ensures { OnOk result (jobs.new ≡ jobs.old ++ notice_of (plan_of rules.now) vm) }
+{
+    if registers_at(rules, vm) {
+        jobs.push(Job::Notice { vm, left: 16 })?;
+    }
+    Ok(())
+}
+
+/// The first VMs that register queues take notices.
+fn push_notices(jobs: &mut Queue<Job>, rules: &Rules, count: u8) -> Result<(), OutOfMemory>
+    requires { count ≤ 16 }
+    ensures { OnOk result (jobs.new ≡ jobs.old ++ notices_of (plan_of rules.now) count) }
+{
+    for n in 0..count {
+        push_notice(jobs, rules, vm_of(n))?;
+    }
+    Ok(())
+}
+
+/// Responses may be due.
+fn push_deadlines(jobs: &mut Queue<Job>, rules: &Rules) -> Result<(), OutOfMemory>
+    ensures { OnOk result (jobs.new ≡ jobs.old ++ deadlines (plan_of rules.now)) }
+{
+    if rules.config.deadline_ms != 0 {
+        jobs.push(Job::Expire)?;
+    }
+    Ok(())
+}
+
+/// What comes in front of the event.
+fn parts_before(alloc: Global, rules: &Rules, room: &Room) -> Result<Queue<Job>, OutOfMemory>
+    ensures { IfOk result (λ jobs. jobs ≡ starts room.now ++ (ticks_due room.now ++ deadlines (plan_of rules.now))) }
+{
+    let count = vms_in(room);
+    let mut jobs = Queue::new(alloc);
+    if !room.is_begun {
+        push_starts(&mut jobs, count, room.hub.contexts.plugins.as_slice())?;
+    }
+    push_all_ticks(&mut jobs, room.hub.moment, count, &room.hub.contexts)?;
+    push_deadlines(&mut jobs, rules)?;
+    Ok(jobs)
+}
+
+/// The parts of a turn, in order.
+pub(crate) fn agenda_of(
+    alloc: Global,
+    rules: &Rules,
+    what: What,
+    room: &Room,
+) -> Result<Queue<Job>, OutOfMemory>
+    ensures { IfOk result (λ jobs. jobs ≡ agenda_of (plan_of rules.now) what room.now) }
+{
+    let mut jobs = parts_before(alloc, rules, room)?;
+    jobs.push(Job::Happen { what })?;
+    push_notices(&mut jobs, rules, vms_in(room))?;
+    Ok(jobs)
+}

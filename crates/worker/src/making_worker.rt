@@ -1,0 +1,129 @@
+// A worker that has done nothing.
+ghost use Rattle.std.specs.Prelude.{◌≡◌, ◌≤◌, [], ◌++◌, map, length, IfOk, OnOk};
+ghost use Rattle.worker.specs.Making.{with_vms, with_plugins, contexts_of, first_room, bodies_by, bodies_of, registers_of};
+ghost use Rattle.worker.specs.Turn.{first_vms};
+
+use crate::agenda::vm_of;
+use crate::lines::Lines;
+use crate::room::Room;
+use crate::types::Bodies;
+use contexts::{Configuration, Contexts, ShortName};
+use course::{Callback, Host};
+use exchange::Hub;
+use gate_base::OutOfMemory;
+use gate_config::{Config, PluginEntry, VmEntry};
+use queue::Queue;
+use std::alloc::{AllocError, Global};
+
+/// Which bodies a plug-in filters.
+fn bodies_by<H: Host>(host: &H, p: &PluginEntry) -> Bodies
+    ensures { result ≡ bodies_by H.exported H.registering host.now p.now }
+{
+    Bodies {
+        requests: host.exports(p.vm, Callback::RequestBody),
+        responses: host.exports(p.vm, Callback::ResponseBody),
+    }
+}
+
+/// Which bodies the plug-ins filter.
+pub(crate) fn bodies_of<H: Host>(
+    alloc: Global,
+    host: &H,
+    plugins: &[PluginEntry],
+) -> Result<Queue<Bodies>, OutOfMemory>
+    ensures { IfOk result (λ bodies. bodies ≡ bodies_of H.exported H.registering host.now plugins.now) }
+{
+    let mut bodies = Queue::new(alloc);
+    for p in plugins {
+        bodies.push(bodies_by(host, p))?;
+    }
+    Ok(bodies)
+}
+
+/// Which VMs register queues, of so many.
+pub(crate) fn registers_of<H: Host>(
+    alloc: Global,
+    host: &H,
+    vms: usize,
+) -> Result<Queue<bool>, OutOfMemory>
+    ensures { IfOk result (λ registers. registers ≡ registers_of H.exported H.registering host.now (first_vms vms)) }
+{
+    let count = if vms <= 16 { vms as u8 } else { 16 };
+    let mut registers = Queue::new(alloc);
+    for n in 0..count {
+        registers.push(host.registers(vm_of(n)))?;
+    }
+    Ok(registers)
+}
+
+/// A name. (Those of a configuration are short.)
+fn short_name(alloc: Global, name: &[u8]) -> Result<ShortName, OutOfMemory>
+    ensures { IfOk result (λ n. n ≡ name.now) }
+{
+    if name.len() > 32 {
+        return Err(AllocError);
+    }
+    ShortName::of(alloc, name)
+}
+
+/// What is configured. (Those of a configuration are short.)
+fn configuration_of(alloc: Global, bytes: &[u8]) -> Result<Configuration, OutOfMemory>
+    ensures { IfOk result (λ c. c ≡ bytes.now) }
+{
+    if bytes.len() > 65_536 {
+        return Err(AllocError);
+    }
+    Configuration::of(alloc, bytes)
+}
+
+/// Adds VMs to contexts.
+fn add_vms(alloc: Global, h: &mut Contexts, vms: &[VmEntry]) -> Result<(), OutOfMemory>
+    ensures { OnOk result (h.new ≡ with_vms h.old vms.now) }
+{
+    for v in vms {
+        let name = short_name(alloc, v.name.as_str().as_bytes())?;
+        let configuration = configuration_of(alloc, v.configuration.as_slice())?;
+        h.add_vm(alloc, name, configuration)?;
+    }
+    Ok(())
+}
+
+/// Adds plug-ins to contexts.
+fn add_plugins(alloc: Global, h: &mut Contexts, plugins: &[PluginEntry]) -> Result<(), OutOfMemory>
+    ensures { OnOk result (h.new ≡ with_plugins h.old plugins.now) }
+{
+    for p in plugins {
+        let name = short_name(alloc, p.name.as_str().as_bytes())?;
+        let configuration = configuration_of(alloc, p.configuration.as_slice())?;
+        h.add_plugin(p.vm, name, configuration)?;
+    }
+    Ok(())
+}
+
+/// No line is open, and no VM has started.
+pub(crate) fn first_room(
+    alloc: Global,
+    config: &Config,
+    seed: [u8; 32],
+) -> Result<Room, OutOfMemory>
+    ensures { IfOk result (λ room. room ≡ first_room config.now seed) }
+{
+    let mut contexts = Contexts::new(alloc, config.log_level, seed);
+    add_vms(alloc, &mut contexts, config.vms.as_slice())?;
+    add_plugins(alloc, &mut contexts, config.plugins.as_slice())?;
+    let hub = Hub {
+        moment: 0,
+        contexts,
+        sent: Queue::new(alloc),
+    };
+    Ok(Room {
+        lines: Lines::new(alloc),
+        hub,
+        reading: None,
+        jobs: Queue::new(alloc),
+        agenda: Queue::new(alloc),
+        waits: Queue::new(alloc),
+        dead: Queue::new(alloc),
+        is_begun: false,
+    })
+}
