@@ -49,10 +49,10 @@ own_other h vm e wm d w within apart =
     let stays = all_else_stays (record no_changes { own = Some w }) vm e h within in
     own_mapped k (vm_in k wm) (context_in k wm d)
     ∙ ⊎_elim
-      (λ (same : wm ≡ vm).
-        subst (λ m. option_map (λ (b : Context). b.own) (context_in k m d) ≡ option_map (λ (b : Context). b.own) (context_in h m d)) (sym same) (stays.owns d (apart same)))
-      (λ (other : wm ≡ vm → ⊥). ap (λ (v : VmContexts). option_map (λ (b : Context). b.own) (found context_no d v.contexts)) (stays.vms wm other))
-      (cases_eq wm vm)
+    (λ (same : wm ≡ vm).
+    subst (λ m. option_map (λ (b : Context). b.own) (context_in k m d) ≡ option_map (λ (b : Context). b.own) (context_in h m d)) (sym same) (stays.owns d (apart same)))
+    (λ (other : wm ≡ vm → ⊥). ap (λ (v : VmContexts). option_map (λ (b : Context). b.own) (found context_no d v.contexts)) (stays.vms wm other))
+    (cases_eq wm vm)
     ∙ sym (own_mapped h (vm_in h wm) (context_in h wm d))
 
 others_at : (f : Stage → Stage) (h : Contexts) (vm e : ℕ) (r : Bool) (wm d : ℕ) (q : Bool) → vm < length h.vms → IsOther vm e r wm d q → (p : Option Own) → own_at h vm e ≡ p → held_at (stage_after f h vm e r p) wm d q ≡ held_at h wm d q
@@ -60,17 +60,17 @@ others_at f h vm e r wm d q within apart None is = refl
 others_at f h vm e r wm d q within apart (Some o) is =
     let w : Own = with_stage r (f (stage_in r o)) o in
     ⊎_elim
-      (λ (same : wm ≡ vm). ⊎_elim
-        (λ (one : d ≡ e).
-          (λ i. held_at (own_put_of h vm e w) (same i) (one i) q)
-          ∙ ap (held_in q) (own_after h vm e o w within is)
-          ∙ ap (λ (t : Stage). t.held) (stage_other r q (f (stage_in r o)) o (apart same one))
-          ∙ held_was h vm e q o is
-          ∙ (λ i. held_at h (sym same i) (sym one i) q))
-        (λ (two : d ≡ e → ⊥). ap (held_in q) (own_other h vm e wm d w within (λ _ one. two one)))
-        (cases_eq d e))
-      (λ (other : wm ≡ vm → ⊥). ap (held_in q) (own_other h vm e wm d w within (λ same _. other same)))
-      (cases_eq wm vm)
+    (λ (same : wm ≡ vm). ⊎_elim
+    (λ (one : d ≡ e).
+    (λ i. held_at (own_put_of h vm e w) (same i) (one i) q)
+    ∙ ap (held_in q) (own_after h vm e o w within is)
+    ∙ ap (λ (t : Stage). t.held) (stage_other r q (f (stage_in r o)) o (apart same one))
+    ∙ held_was h vm e q o is
+    ∙ (λ i. held_at h (sym same i) (sym one i) q))
+    (λ (two : d ≡ e → ⊥). ap (held_in q) (own_other h vm e wm d w within (λ _ one. two one)))
+    (cases_eq d e))
+    (λ (other : wm ≡ vm → ⊥). ap (held_in q) (own_other h vm e wm d w within (λ same _. other same)))
+    (cases_eq wm vm)
 
 pub holds_its_own : HoldsItsOwn
 holds_its_own = record {

@@ -66,6 +66,7 @@ none_removed (x ∷ cs) id k none = by_k (none_removed cs id k) (x.id == k) refl
     by_id : found context_no k cs ≡ None → found context_no k (removed context_no id cs) ≡ None → (x.id == k) ≡ false → (b : Bool) → found context_no k (cond b cs (x ∷ removed context_no id cs)) ≡ None
     by_id gone later same true = gone
     by_id gone later same false = ap (λ b. cond b (Some x) (found context_no k (removed context_no id cs))) same ∙ later
+
     by_k : (found context_no k cs ≡ None → found context_no k (removed context_no id cs) ≡ None) → (b : Bool) → (x.id == k) ≡ b → cond b (Some x) (found context_no k cs) ≡ None → found context_no k (cond (x.id == id) cs (x ∷ removed context_no id cs)) ≡ None
     by_k ih true same gone = absurd (none_is (sym gone))
     by_k ih false same gone = by_id gone (ih gone) same (x.id == id)
@@ -224,10 +225,10 @@ ended_set (x ∷ xs) (suc n) = ended_set xs n
 pub ends_one : EndsOne
 ends_one = record {
   maps = λ n h wm d c within is at.
-    let k : Contexts = record h { exchanges = slice_set h.exchanges n (option_map ended_one (exchange_at h.exchanges n)) } in
-    ap (λ (g : Contexts). view_at g.exchanges n) (freed_not n k (referred n h wm d c within is at)) ∙ ended_set h.exchanges n;
+      let k : Contexts = record h { exchanges = slice_set h.exchanges n (option_map ended_one (exchange_at h.exchanges n)) } in
+      ap (λ (g : Contexts). view_at g.exchanges n) (freed_not n k (referred n h wm d c within is at)) ∙ ended_set h.exchanges n;
   others = λ n h m apart.
-    let k : Contexts = record h { exchanges = slice_set h.exchanges n (option_map ended_one (exchange_at h.exchanges n)) } in
-    freed_other n k m apart ∙ get_or-set_other h.exchanges n m (option_map ended_one (exchange_at h.exchanges n)) None apart;
+      let k : Contexts = record h { exchanges = slice_set h.exchanges n (option_map ended_one (exchange_at h.exchanges n)) } in
+      freed_other n k m apart ∙ get_or-set_other h.exchanges n m (option_map ended_one (exchange_at h.exchanges n)) None apart;
   contexts = λ n h. freed_vms n (record h { exchanges = slice_set h.exchanges n (option_map ended_one (exchange_at h.exchanges n)) });
 }

@@ -23,19 +23,16 @@ pub fn all_else_stays()
 /// A stage holds what it is given, and every other stage what it held.
 pub fn stages_hold_their_own()
     ensures { HoldsItsOwn }
-{
-}
+{}
 
 /// A context that is made or deleted, and an exchange that ends, change nothing else.
 pub fn lives_are_apart()
     ensures creates { CreatesOne }
     ensures deletes { DeletesOne }
     ensures ends { EndsOne }
-{
-}
+{}
 
 /// Two VMs with their contexts on two lines, worked.
 pub fn worked_contexts()
     ensures { ContextExamples }
-{
-}
+{}

@@ -12,7 +12,10 @@ mod roster;
 mod stages;
 
 pub use creating::{ContextEnd, UnknownContext};
-pub use laws::{all_else_stays, calls_are_isolated, lives_are_apart, put_is_seen, stages_hold_their_own, worked_contexts};
+pub use laws::{
+    all_else_stays, calls_are_isolated, lives_are_apart, put_is_seen, stages_hold_their_own,
+    worked_contexts,
+};
 pub use limits::{Configuration, Properties, PropertyEnd, ShortName};
 pub use parts::{
     Context, Contexts, Effect, Exchange, ExchangeView, Maps, Own, Plugin, Stage, Tick, VmContexts,
