@@ -1,0 +1,113 @@
+// The calls, callbacks and numbers of the Proxy-Wasm profile that wasmgate's filters have, for C without a library.
+// Compile for wasm32 with no library and no entry: see build.sh. docs/PROXY_WASM.md has each call's checks and answers.
+#ifndef PROXY_WASM_H
+#define PROXY_WASM_H
+
+typedef unsigned char u8;
+typedef unsigned int u32;
+typedef unsigned long long u64;
+
+// What a host call answers.
+enum status {
+    OK = 0,
+    NOT_FOUND = 1,
+    BAD_ARGUMENT = 2,
+    PARSE_FAILURE = 4,
+    INVALID_MEMORY_ACCESS = 6,
+    EMPTY = 7,
+    CAS_MISMATCH = 8,
+    INTERNAL_FAILURE = 10,
+    UNIMPLEMENTED = 12
+};
+
+// What a callback of a stream answers.
+enum action { CONTINUE = 0, PAUSE = 1 };
+
+enum level { TRACE, DEBUG, INFO, WARN, ERROR, CRITICAL };
+enum map { REQUEST_HEADERS, REQUEST_TRAILERS, RESPONSE_HEADERS, RESPONSE_TRAILERS };
+enum buffer { REQUEST_BODY = 0, RESPONSE_BODY = 1, VM_CONFIGURATION = 6, PLUGIN_CONFIGURATION = 7 };
+enum stream { REQUEST = 0, RESPONSE = 1 };
+
+#define HOST(name) __attribute__((import_module("env"), import_name(#name))) extern
+#define CALLBACK(name) __attribute__((export_name(#name)))
+
+HOST(proxy_log) u32 proxy_log(u32 level, const void *text, u32 size);
+HOST(proxy_get_current_time_nanoseconds) u32 proxy_get_current_time_nanoseconds(u64 *time);
+HOST(proxy_set_tick_period_milliseconds) u32 proxy_set_tick_period_milliseconds(u32 period);
+HOST(proxy_set_effective_context) u32 proxy_set_effective_context(u32 context);
+HOST(proxy_done) u32 proxy_done(void);
+HOST(proxy_get_buffer_bytes) u32 proxy_get_buffer_bytes(u32 buffer, u32 start, u32 most, u8 **bytes, u32 *size);
+HOST(proxy_set_buffer_bytes) u32 proxy_set_buffer_bytes(u32 buffer, u32 start, u32 size, const void *bytes, u32 len);
+HOST(proxy_get_header_map_value)
+u32 proxy_get_header_map_value(u32 map, const void *key, u32 key_size, u8 **value, u32 *size);
+HOST(proxy_add_header_map_value)
+u32 proxy_add_header_map_value(u32 map, const void *key, u32 key_size, const void *value, u32 size);
+HOST(proxy_replace_header_map_value)
+u32 proxy_replace_header_map_value(u32 map, const void *key, u32 key_size, const void *value, u32 size);
+HOST(proxy_remove_header_map_value) u32 proxy_remove_header_map_value(u32 map, const void *key, u32 key_size);
+HOST(proxy_continue_stream) u32 proxy_continue_stream(u32 stream);
+HOST(proxy_close_stream) u32 proxy_close_stream(u32 stream);
+HOST(proxy_send_local_response)
+u32 proxy_send_local_response(u32 code, const void *details, u32 details_size, const void *body, u32 body_size,
+                              const void *headers, u32 headers_size, u32 grpc_status);
+HOST(proxy_get_shared_data)
+u32 proxy_get_shared_data(const void *key, u32 key_size, u8 **value, u32 *size, u32 *cas);
+HOST(proxy_set_shared_data)
+u32 proxy_set_shared_data(const void *key, u32 key_size, const void *value, u32 size, u32 cas);
+HOST(proxy_register_shared_queue) u32 proxy_register_shared_queue(const void *name, u32 size, u32 *queue);
+HOST(proxy_dequeue_shared_queue) u32 proxy_dequeue_shared_queue(u32 queue, u8 **item, u32 *size);
+HOST(proxy_enqueue_shared_queue) u32 proxy_enqueue_shared_queue(u32 queue, const void *item, u32 size);
+
+// The marker of the ABI, which each module exports.
+CALLBACK(proxy_abi_version_0_2_1) void proxy_abi_version_0_2_1(void) {}
+
+// Where the host puts what it hands over: memory of a fixed size that is given out anew in each callback. A filter calls
+// `begin` first in each callback; what it kept of an earlier one is then gone.
+#ifndef ROOM
+#define ROOM 1114112
+#endif
+static u8 room[ROOM] __attribute__((aligned(8)));
+static u32 used;
+
+static void begin(void) { used = 0; }
+
+CALLBACK(proxy_on_memory_allocate) void *proxy_on_memory_allocate(u32 size) {
+    u32 rounded = (size + 7u) & ~7u;
+    if (rounded < size || rounded > ROOM - used) {
+        return 0;
+    }
+    void *at = room + used;
+    used += rounded;
+    return at;
+}
+
+// The length of a text that ends with a zero byte.
+static u32 length(const char *text) {
+    u32 n = 0;
+    while (text[n]) {
+        n++;
+    }
+    return n;
+}
+
+// The decimal digits of a number, in at most 10 bytes; how many there are.
+static u32 decimal(u32 number, u8 *digits) {
+    u8 reversed[10];
+    u32 n = 0;
+    do {
+        reversed[n++] = '0' + number % 10;
+        number /= 10;
+    } while (number);
+    for (u32 i = 0; i < n; i++) {
+        digits[i] = reversed[n - 1 - i];
+    }
+    return n;
+}
+
+static u32 log_text(u32 level, const char *text) { return proxy_log(level, text, length(text)); }
+
+static u32 add_header(u32 map, const char *name, const char *value) {
+    return proxy_add_header_map_value(map, name, length(name), value, length(value));
+}
+
+#endif
