@@ -9,6 +9,3 @@ pub mod laws;
 
 pub use calls::invoke;
 pub use ends::{End, Invoked, Refusal};
-
-#[cfg(test)]
-mod tests;

@@ -20,6 +20,3 @@ pub use jumps::Targets;
 pub use machine::{MOST_PENDING, Machine, Mode, Pending, call_once};
 pub use run::Stop;
 pub use values::Values;
-
-#[cfg(test)]
-mod tests;

@@ -13,8 +13,3 @@ pub use apply::{apply1, apply2};
 pub use instr::{Numeric, operator_of};
 pub use op::{NumTrap, Op1, Op2};
 pub use operator::{Arithmetic, Bitwise, Operator, Relation, Shift};
-
-#[cfg(test)]
-mod instr_tests;
-#[cfg(test)]
-mod tests;

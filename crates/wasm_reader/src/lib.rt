@@ -14,8 +14,3 @@ mod types;
 
 pub use ends::ReadEnd;
 pub use module::read_module;
-
-#[cfg(test)]
-mod samples;
-#[cfg(test)]
-mod tests;

@@ -18,8 +18,3 @@ pub fn shorten(alloc: Global, b: &[u8]) -> Result<Octets, ReadEnd>
     let m = read_module(alloc, b)?;
     Ok(write_module(alloc, &m)?)
 }
-
-#[cfg(test)]
-mod samples;
-#[cfg(test)]
-mod tests;

@@ -16,6 +16,3 @@ pub use instance::{Instance, LinkEnd, Parts, fault as link_fault};
 pub use links::{Judged, Links, NoLinks};
 pub use memory::{Memory, PAGE};
 pub use table::Table;
-
-#[cfg(test)]
-mod tests;

@@ -28,6 +28,3 @@ pub use section::{Before, Section};
 pub use types::{FunctionType, GlobalType, Limits, Value, ValueType, ValueTypes};
 pub use valid::{Part, ValidModule};
 pub use write::{write_s32, write_s64, write_u32};
-
-#[cfg(test)]
-mod tests;

@@ -16,6 +16,3 @@ mod seen;
 
 pub use module::{ValidEnd, validate};
 pub use wasm_syntax::Part;
-
-#[cfg(test)]
-mod tests;

@@ -45,26 +45,3 @@ impl Seen {
         Ok(is_new)
     }
 }
-
-#[cfg(test)]
-mod tests {
-    use super::*;
-    use std::test::Fail;
-
-    #[test]
-    fn name_is_new_once(rt: HostRuntime) -> Result<(), Fail> {
-        let names = [
-            ("main", true),
-            ("memory", true),
-            ("main", false),
-            ("", true),
-            ("mai", true),
-            ("", false),
-        ];
-        let mut seen = Seen::new(rt.alloc());
-        for (name, is_new) in names {
-            assert_eq!(rt; seen.add(rt.alloc(), name)?, is_new, "{name:?}");
-        }
-        Ok(())
-    }
-}

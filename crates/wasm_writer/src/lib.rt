@@ -11,6 +11,3 @@ mod sections;
 mod types;
 
 pub use module::write_module;
-
-#[cfg(test)]
-mod tests;
