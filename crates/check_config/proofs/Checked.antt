@@ -1,6 +1,5 @@
 -- How a check ends, by what was loaded and printed.
 use Rattle.std.proofs.Common.{◌≡◌, ℕ, List, Result, Option, Ok, Err, subst}
-use Rattle.gate_io.specs.Told.{gains_nothing}
 use Rattle.config_files.specs.Loading.{Told}
 use Rattle.config_files.specs.declared.reading.LoadEnd.{LoadEnd}
 use Rattle.gate_config.specs.Given.{Given}

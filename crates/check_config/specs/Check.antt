@@ -1,5 +1,5 @@
 -- What `check` prints of a configuration, and how it ends.
-use Rattle.std.specs.Prelude.{◌≡◌, ℕ, List, [], ◌∷◌, ◌++◌, length, codes, decimal, Option, Some, Result, Ok, Err}
+use Rattle.std.specs.Prelude.{◌≡◌, ℕ, List, [], ◌++◌, length, codes, decimal, Option, Some, Result, Ok, Err}
 use Rattle.gate_io.specs.Told.{Gains, GainsFront}
 use Rattle.gate_io.specs.Paths.{told_at}
 use Rattle.config_files.specs.Loading.{Told, IsLoaded, IsNotLoaded}

@@ -13,7 +13,7 @@ use itoa::Buffer;
 use std::alloc::Global;
 
 /// Why a check does not print its line.
-#[derive(Debug, Drop)]
+#[derive(Drop)]
 pub enum CheckEnd {
     /// The configuration or a module was refused, a read failed, or memory ran out for them.
     NotLoaded { end: LoadEnd },

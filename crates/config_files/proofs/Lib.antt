@@ -1,2 +1,4 @@
+pub mod Misfits
+pub mod Over
 pub mod Read
 pub mod Steps

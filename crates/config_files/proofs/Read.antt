@@ -1,5 +1,5 @@
 -- What one read tells.
-use Rattle.std.proofs.Common.{◌≡◌, ℕ, ◌<◌, ◌≤◌, Bool, false, nat_le, nat_lt, true, if◌then◌else◌, List, [], ◌∷◌, length, Result, Option, None, Some, Ok, Err, refl, sym, ap, subst, ◌∙◌, arith, ◌^◌, codes}
+use Rattle.std.proofs.Common.{◌≡◌, ℕ, ◌<◌, Bool, false, nat_le, nat_lt, true, if◌then◌else◌, List, [], ◌∷◌, length, Result, Option, None, Some, Ok, Err, refl, sym, subst, arith, ◌^◌, codes}
 use Rattle.std.proofs.lemmas.List.{append-nil}
 use Rattle.std.specs.Result.{OnOk, OnErr, IfOk}
 use Rattle.std.proofs.lemmas.Bool.Decides.{nat_tests}
@@ -9,7 +9,9 @@ use Rattle.gate_io.specs.declared.ends.FileEnd.{FileEnd}
 use Rattle.gate_io.specs.declared.ends.FileEnd.TheVariants.{Failed, TooLong, OutOfMemory}
 use Rattle.wasm_syntax.specs.Grammar.{header, header_read, body_read, most_bytes, module_read, FirstFault}
 use Rattle.read_config.specs.Whole.{config_of}
-use Rattle.config_files.specs.Loading.{Told, IsNoCodeOf, IsNoCode}
+use Rattle.wasm_syntax.specs.declared.module.Module.{Module}
+use Rattle.config_files.specs.Modules.{IsModule, IsFilter}
+use Rattle.config_files.specs.Loading.{Told, IsCode, IsNoCodeOf, IsNoCode}
 use Rattle.config_files.specs.declared.reading.CodeEnd.{CodeEnd}
 use Rattle.config_files.specs.declared.reading.CodeEnd.TheVariants as code
 
@@ -67,7 +69,10 @@ long_config text long =
     rw past
 
 -- what is said of the bytes of a file is said of the file
-pub no_code : (files : Told) (path bytes : List ℕ) (e : CodeEnd) → ((text : List ℕ) → told_at files path ≡ Some text → bytes ≡ text) → IsNoCodeOf bytes e → IsNoCode files path e
-no_code files path bytes (code.Refused fault) same h = λ text told. subst (λ (b : List ℕ). IsNoCodeOf b (code.Refused fault)) (same text told) h
-no_code files path bytes code.FileFault same h = absurd h
-no_code files path bytes code.OutOfMemory same h = tt
+pub no_code : (files : Told) (path bytes : List ℕ) (pages : ℕ) (e : CodeEnd) → ((text : List ℕ) → told_at files path ≡ Some text → bytes ≡ text) → IsNoCodeOf bytes pages e → IsNoCode files path pages e
+no_code files path bytes pages (code.Refused fault) same h = λ text told. subst (λ (b : List ℕ). IsNoCodeOf b pages (code.Refused fault)) (same text told) h
+no_code files path bytes pages code.FileFault same h = absurd h
+no_code files path bytes pages code.OutOfMemory same h = tt
+
+pub code_is : (files : Told) (path bytes : List ℕ) (pages : ℕ) (m : Module) → ((text : List ℕ) → told_at files path ≡ Some text → bytes ≡ text) → IsFilter bytes pages m → IsCode files path pages m
+code_is files path bytes pages m same h = record { file = λ text told. subst (λ (b : List ℕ). IsModule b m) (same text told) h.is; fits = h.fits }

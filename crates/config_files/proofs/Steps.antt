@@ -1,14 +1,16 @@
 -- One more VM that holds its module, or that has none.
-use Rattle.std.proofs.Common.{◌≡◌, ◌⊎◌, inl, inr, ℕ, zero, suc, ◌+◌, ◌<◌, ◌≤◌, List, [], ◌∷◌, ◌++◌, map, length, get_or, take, drop, Option, None, Some, Ok, Err, refl, ap, sym, subst, ◌∙◌, arith}
+use Rattle.std.proofs.Common.{◌≡◌, inl, inr, ℕ, zero, suc, ◌<◌, List, [], ◌∷◌, ◌++◌, length, All, get_or, take, drop, Option, None, Some, Ok, Err, refl, ap, sym, subst, ◌∙◌, arith}
 use Rattle.gate_io.specs.Told.{Gains, GainsFront, gains_more, gains_then_front, gains_front_of_more}
 use Rattle.wasm_syntax.specs.declared.module.Module.{Module}
 use Rattle.gate_config.specs.declared.entries.VmEntry.{VmEntry}
 use Rattle.gate_config.specs.Given.{Given, holding}
+use Rattle.gate_config.specs.Kept.{IsVm}
+use Rattle.machines.specs.Making.{FitsBy, HasFilter}
 use Rattle.gate_io.specs.Paths.{told_at}
 use Rattle.read_config.specs.Whole.{Judged, config_of}
 use Rattle.config_files.specs.declared.reading.LoadEnd.{LoadEnd}
 use Rattle.config_files.specs.declared.reading.LoadEnd.TheVariants.{Config as NoConfig, Module as NoModule, FileFault, OutOfMemory}
-use Rattle.config_files.specs.Loading.{Told, IsCode, HoldsCode, AllHold, Holding, IsBad, IsBadAt, IsBadIn, IsNotLoaded, ReadsInOrder, modules_of, module_at, paths_of}
+use Rattle.config_files.specs.Loading.{Told, IsCode, HoldsCode, AllHold, Holding, IsBad, IsBadAt, IsBadIn, IsNotLoaded, HasModule, ReadsInOrder, modules_of, module_at, pages_at, paths_of}
 
 pub module_same : (files : Told) (n : ℕ) (old held : List VmEntry) → Holding files n old held → module_at n held ≡ module_at n old
 module_same files zero old held h = ap (module_at 0) h
@@ -22,7 +24,19 @@ same_length files (suc n) [] held h = absurd h
 same_length files (suc n) (v ∷ vs) [] h = absurd h
 same_length files (suc n) (v ∷ vs) (w ∷ ws) h = ap suc (same_length files n vs ws h.1)
 
-pub one_more : (files : Told) (n : ℕ) (old held : List VmEntry) (m : Module) → Holding files n old held → n < length old → IsCode files (module_at n old) m → Holding files (suc n) old (holding n m held)
+pub pages_same : (files : Told) (n : ℕ) (old held : List VmEntry) → Holding files n old held → pages_at n held ≡ pages_at n old
+pages_same files zero old held h = ap (pages_at 0) h
+pages_same files (suc n) [] held h = absurd h
+pages_same files (suc n) (v ∷ vs) [] h = absurd h
+pages_same files (suc n) (v ∷ vs) (w ∷ ws) h = pages_same files n vs ws h.1
+
+-- the module of the file of a VM that comes next
+pub code_next : (files : Told) (n : ℕ) (old held : List VmEntry) (m : Module) → Holding files n old held → IsCode files (module_at n held) (pages_at n held) m → IsCode files (module_at n old) (pages_at n old) m
+code_next files n old held m h c =
+    subst (λ (p : ℕ). IsCode files (module_at n old) p m) (pages_same files n old held h)
+    (subst (λ (p : List ℕ). IsCode files p (pages_at n held) m) (module_same files n old held h) c)
+
+pub one_more : (files : Told) (n : ℕ) (old held : List VmEntry) (m : Module) → Holding files n old held → n < length old → IsCode files (module_at n old) (pages_at n old) m → Holding files (suc n) old (holding n m held)
 one_more files n [] held m h low f = absurd (omega arith)
 one_more files zero (v ∷ vs) held m h low f =
     subst (λ (x : List VmEntry). Holding files 1 (v ∷ vs) (holding 0 m x)) (sym h) (record { code = m; file = f; is = refl }, refl)
@@ -79,6 +93,11 @@ module_is n [] d low = absurd (omega arith)
 module_is zero (v ∷ vs) d low = refl
 module_is (suc n) (v ∷ vs) d low = module_is n vs d (omega arith)
 
+pub code_here : (files : Told) (n : ℕ) (vms : List VmEntry) (d : VmEntry) (m : Module) → n < length vms → IsCode files (get_or vms n d).«module» (get_or vms n d).pages m → IsCode files (module_at n vms) (pages_at n vms) m
+code_here files n [] d m low h = absurd (omega arith)
+code_here files zero (v ∷ vs) d m low h = h
+code_here files (suc n) (v ∷ vs) d m low h = code_here files n vs d m (omega arith) h
+
 pub bad_at : (files : Told) (n : ℕ) (vms : List VmEntry) (d : VmEntry) (e : LoadEnd) → n < length vms → IsBad files (get_or vms n d) e → IsBadAt files n vms e
 bad_at files n [] d e low h = absurd (omega arith)
 bad_at files zero (v ∷ vs) d e low h = h
@@ -89,6 +108,29 @@ modules_held files [] held h = ap modules_of h
 modules_held files (v ∷ vs) [] h = absurd h
 modules_held files (v ∷ vs) (w ∷ ws) h =
     ap (λ (x : VmEntry). x.«module» ∷ modules_of ws) h.0.is ∙ ap (λ (l : List (List ℕ)). v.«module» ∷ l) (modules_held files vs ws h.1)
+
+-- ---- what the VMs hold
+
+there_each : (P : VmEntry → Type 0) (w : VmEntry) (ws : List VmEntry) → P w → All P ws → All P (w ∷ ws)
+there_each P w ws first others zero d low = first
+there_each P w ws first others (suc k) d low = others k d (omega (arith, low))
+
+module_there : (files : Told) (v w : VmEntry) → HoldsCode files v w → HasModule w
+module_there files v w h = (h.code, ap (λ (x : VmEntry). x.code) h.is)
+
+filter_there : (files : Told) (v w : VmEntry) → HoldsCode files v w → IsVm w → HasFilter w
+filter_there files v w h is = record { fits = subst (λ (x : VmEntry). FitsBy x.code x.pages) (sym h.is) h.file.fits; pages = is.pages.1 }
+
+pub modules_there : (files : Told) (old held : List VmEntry) → AllHold files old held → All HasModule held
+modules_there files [] held h = subst (All HasModule) (sym h) (λ k d low. absurd (omega (arith, low)))
+modules_there files (v ∷ vs) [] h = absurd h
+modules_there files (v ∷ vs) (w ∷ ws) h = there_each HasModule w ws (module_there files v w h.0) (modules_there files vs ws h.1)
+
+pub filters_there : (files : Told) (old held : List VmEntry) → AllHold files old held → All IsVm held → All HasFilter held
+filters_there files [] held h is = subst (All HasFilter) (sym h) (λ k d low. absurd (omega (arith, low)))
+filters_there files (v ∷ vs) [] h is = absurd h
+filters_there files (v ∷ vs) (w ∷ ws) h is =
+    there_each HasFilter w ws (filter_there files v w h.0 (is 0 w (omega arith))) (filters_there files vs ws h.1 (λ k d low. is (suc k) d (omega (arith, low))))
 
 -- all but the VMs is as it was, over two steps
 pub others_same : (a b c : Given) (x : List VmEntry) → c ≡ record b { vms = x } → b ≡ record a { vms = b.vms } → c ≡ record a { vms = c.vms }

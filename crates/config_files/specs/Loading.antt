@@ -1,10 +1,11 @@
 -- What is read from files: the text of a configuration, and then the module of each of its VMs, in their order.
-use Rattle.std.specs.Prelude.{◌≡◌, ◌⊎◌, ℕ, zero, suc, List, [], ◌∷◌, map, Option, Some, Ok, Err}
+use Rattle.std.specs.Prelude.{◌≡◌, ◌⊎◌, ℕ, zero, suc, List, [], ◌∷◌, map, Option, None, Some, Ok, Err}
 use Rattle.gate_io.specs.Paths.{told_at}
 use Rattle.gate_io.specs.Told.{GainsFront}
 use Rattle.wasm_syntax.specs.declared.module.Module.{Module}
 use Rattle.gate_config.specs.declared.entries.VmEntry.{VmEntry}
 use Rattle.gate_config.specs.Given.{Given, with_code}
+use Rattle.vm_host.specs.Fits.{fit_fault}
 use Rattle.read_config.specs.Whole.{Judged, config_of}
 use Rattle.read_config.specs.declared.read.ConfigEnd.{ConfigEnd}
 use Rattle.read_config.specs.declared.read.ConfigEnd.TheVariants.{Refused, OutOfMemory as NoMemory}
@@ -19,18 +20,19 @@ use Rattle.config_files.specs.declared.reading.LoadEnd.TheVariants.{Config as No
 abbrev pub Told : Type 0
 Told = Option (List (List ℕ × List ℕ))
 
--- the file of this path is this module, where it is told
-abbrev pub IsCode : Told → List ℕ → Module → Type 0
-IsCode files path m = (bytes : List ℕ) → told_at files path ≡ Some bytes → IsModule bytes m
+-- this module is one of a filter whose memory may have so many pages, and the file of this path is it, where that is told
+pub record IsCode (files : Told) (path : List ℕ) (pages : ℕ) (m : Module) : Type 0 where
+  pub file : (bytes : List ℕ) → told_at files path ≡ Some bytes → IsModule bytes m
+  pub fits : fit_fault m pages ≡ None
 
--- the file of this path has this fault, where it is told
-abbrev pub HasFaultAt : Told → List ℕ → ModuleFault → Type 0
-HasFaultAt files path fault = (bytes : List ℕ) → told_at files path ≡ Some bytes → HasFault bytes fault
+-- the file of this path has this fault as a module with so many pages, where it is told
+abbrev pub HasFaultAt : Told → List ℕ → (pages : ℕ) → ModuleFault → Type 0
+HasFaultAt files path pages fault = (bytes : List ℕ) → told_at files path ≡ Some bytes → HasFault bytes pages fault
 
 -- the second is the first with the module of its file
 pub record HoldsCode (files : Told) (vm held : VmEntry) : Type 0 where
   pub code : Module
-  pub file : IsCode files vm.«module» code
+  pub file : IsCode files vm.«module» vm.pages code
   pub is : held ≡ record vm { code = Some code }
 
 -- each VM holds the module of its file
@@ -39,19 +41,27 @@ AllHold files [] held = held ≡ []
 AllHold files (vm ∷ vms) [] = ⊥
 AllHold files (vm ∷ vms) (h ∷ held) = HoldsCode files vm h × AllHold files vms held
 
+-- the second is the first, and each VM holds the module of its file
+pub record HoldsAll (files : Told) (said config : Given) : Type 0 where
+  pub vms : AllHold files said.vms config.vms
+  pub others : config ≡ record said { vms = config.vms }
+
+-- a VM holds a module
+abbrev pub HasModule : VmEntry → Type 0
+HasModule vm = (m : Module) × (vm.code ≡ Some m)
+
 -- the file of this VM has this fault, and those of the VMs before it are modules
 abbrev pub IsFirstBad : Told → List VmEntry → List ℕ → ModuleFault → Type 0
 IsFirstBad files [] name fault = ⊥
 IsFirstBad files (vm ∷ vms) name fault =
-    ((vm.name ≡ name) × HasFaultAt files vm.«module» fault)
-    ⊎ ((m : Module) × IsCode files vm.«module» m × IsFirstBad files vms name fault)
+    ((vm.name ≡ name) × HasFaultAt files vm.«module» vm.pages fault)
+    ⊎ ((m : Module) × IsCode files vm.«module» vm.pages m × IsFirstBad files vms name fault)
 
 -- THE CONFIGURATION OF A FILE: what its text says, and each VM holds the module of its file
 pub record IsLoaded (files : Told) (text : List ℕ) (config : Given) : Type 0 where
   pub said : Given
   pub read : config_of text ≡ Ok said
-  pub vms : AllHold files said.vms config.vms
-  pub others : config ≡ record said { vms = config.vms }
+  pub holds : HoldsAll files said config
 
 -- the text is a configuration, and this module is the first bad one of its VMs
 pub record HasBadModule (files : Told) (text name : List ℕ) (fault : ModuleFault) : Type 0 where
@@ -79,15 +89,15 @@ refusal_of (Refused number key) = NoConfig number key
 refusal_of NoMemory = OutOfMemory
 
 -- why bytes, or a file, are no code
-abbrev pub IsNoCodeOf : List ℕ → CodeEnd → Type 0
-IsNoCodeOf bytes (code.Refused fault) = HasFault bytes fault
-IsNoCodeOf bytes code.FileFault = ⊥
-IsNoCodeOf bytes code.OutOfMemory = Unit {0}
+abbrev pub IsNoCodeOf : List ℕ → (pages : ℕ) → CodeEnd → Type 0
+IsNoCodeOf bytes pages (code.Refused fault) = HasFault bytes pages fault
+IsNoCodeOf bytes pages code.FileFault = ⊥
+IsNoCodeOf bytes pages code.OutOfMemory = Unit {0}
 
-abbrev pub IsNoCode : Told → List ℕ → CodeEnd → Type 0
-IsNoCode files path (code.Refused fault) = HasFaultAt files path fault
-IsNoCode files path code.FileFault = Unit {0}
-IsNoCode files path code.OutOfMemory = Unit {0}
+abbrev pub IsNoCode : Told → List ℕ → (pages : ℕ) → CodeEnd → Type 0
+IsNoCode files path pages (code.Refused fault) = HasFaultAt files path pages fault
+IsNoCode files path pages code.FileFault = Unit {0}
+IsNoCode files path pages code.OutOfMemory = Unit {0}
 
 -- the refusal of a module of this name, or want of memory
 abbrev pub IsModuleEnd : List ℕ → ModuleFault → LoadEnd → Type 0
@@ -98,7 +108,7 @@ IsModuleEnd name fault FileFault = ⊥
 
 -- why this VM has no module
 abbrev pub IsBad : Told → VmEntry → LoadEnd → Type 0
-IsBad files vm (NoModule name fault) = (vm.name ≡ name) × HasFaultAt files vm.«module» fault
+IsBad files vm (NoModule name fault) = (vm.name ≡ name) × HasFaultAt files vm.«module» vm.pages fault
 IsBad files vm (NoConfig number key) = ⊥
 IsBad files vm FileFault = Unit {0}
 IsBad files vm OutOfMemory = Unit {0}
@@ -120,10 +130,15 @@ module_at n [] = []
 module_at zero (vm ∷ vms) = vm.«module»
 module_at (suc n) (vm ∷ vms) = module_at n vms
 
+abbrev pub pages_at : ℕ → List VmEntry → ℕ
+pages_at n [] = 0
+pages_at zero (vm ∷ vms) = vm.pages
+pages_at (suc n) (vm ∷ vms) = pages_at n vms
+
 -- the VM of this place holds the module of its file, and all else is as it was
 pub record HoldsAt (files : Told) (n : ℕ) (old new : Given) : Type 0 where
   pub code : Module
-  pub file : IsCode files (module_at n old.vms) code
+  pub file : IsCode files (module_at n old.vms) (pages_at n old.vms) code
   pub is : new ≡ with_code n code old
 
 -- so many of the VMs hold the modules of their files, and the others are as they were

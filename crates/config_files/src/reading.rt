@@ -1,11 +1,12 @@
 // A configuration and its modules from files.
-ghost use Rattle.std.specs.Prelude.{◌≡◌, ◌≢◌, ◌≤◌, ◌<◌, ◌∷◌, [], Some, Ok, Err, ℕ, List, IfOk, IfErr, OnOk, OnErr, length};
+ghost use Rattle.std.specs.Prelude.{◌≡◌, ◌≢◌, ◌≤◌, ◌<◌, ◌∷◌, [], Some, Ok, Err, ℕ, List, All, IfOk, IfErr, OnOk, OnErr, length};
 ghost use Rattle.gate_config.specs.Given.{given};
 ghost use Rattle.gate_io.specs.Paths.{told_at};
 ghost use Rattle.gate_io.specs.Told.{Gains, GainsFront, Rose};
 ghost use Rattle.read_config.specs.Whole.{config_of};
-ghost use Rattle.config_files.specs.Modules.{IsModule};
-ghost use Rattle.config_files.specs.Loading.{AllHold, HoldsAt, IsBad, IsBadAt, IsBadIn, IsCode, IsLoaded, IsModuleEnd, IsNoCode, IsNoCodeOf, IsNoConfig, IsNotLoaded, ReadsInOrder, module_at, modules_of, refusal_of};
+ghost use Rattle.machines.specs.Making.{HasFilter};
+ghost use Rattle.config_files.specs.Modules.{IsFilter};
+ghost use Rattle.config_files.specs.Loading.{HasModule, HoldsAll, HoldsAt, IsBad, IsBadAt, IsBadIn, IsCode, IsLoaded, IsModuleEnd, IsNoCode, IsNoCodeOf, IsNoConfig, IsNotLoaded, ReadsInOrder, module_at, modules_of, refusal_of};
 
 use crate::modules::{ModuleEnd, ModuleFault, read_code};
 use gate_base::{Octets, Text, VmNo};
@@ -22,7 +23,7 @@ const MAX_CONFIG: usize = 1048576;
 const MAX_MODULE: usize = 4194304;
 
 /// Why nothing was loaded: the first of these that stands.
-#[derive(Debug, Drop)]
+#[derive(Drop)]
 pub enum LoadEnd {
     /// The configuration is refused, with this number at this key.
     Config { number: u8, key: Text },
@@ -35,7 +36,7 @@ pub enum LoadEnd {
 }
 
 /// Why no module was read from a file.
-#[derive(Clone, Copy, Debug)]
+#[derive(Clone, Copy)]
 enum CodeEnd {
     /// The file is no module that a VM can run.
     Refused { fault: ModuleFault },
@@ -45,11 +46,13 @@ enum CodeEnd {
     OutOfMemory,
 }
 
-/// The configuration of the file of a path, each VM of which holds the module of its own file. The files are read one by one, the
-/// configuration's first, then the modules' in the order of the VMs, and none behind a refusal.
+/// The configuration of the file of a path, each VM of which holds the module of its own file, which is one of a filter with the VM's
+/// pages. The files are read one by one, the configuration's first, then the modules' in the order of the VMs, and none behind a refusal.
 pub fn load<F: Files>(alloc: Global, path: &str, files: &mut F) -> Result<Config, LoadEnd>
     ensures loaded { IfOk result (λ c. (text : List ℕ) → told_at (F.holds files.old) path.now ≡ Some text → IsLoaded (F.holds files.old) text (given c)) }
     ensures refused { IfErr result (λ e. (text : List ℕ) → told_at (F.holds files.old) path.now ≡ Some text → IsNotLoaded (F.holds files.old) text e) }
+    ensures modules { IfOk result (λ c. All HasModule c.vms) }
+    ensures filters { IfOk result (λ c. All HasFilter c.vms) }
     ensures all_read { IfOk result (λ c. Gains (F.paths files.old) (path.now ∷ modules_of c.vms) (F.paths files.new)) }
     ensures paths { ReadsInOrder (F.holds files.old) path.now (F.paths files.old) (F.paths files.new) }
     ensures holds { F.holds files.new ≡ F.holds files.old }
@@ -118,9 +121,14 @@ fn refusal_of(end: ConfigEnd) -> LoadEnd
 }
 
 /// Gives each VM the module of its file, in their order.
-fn load_modules<F: Files>(alloc: Global, config: &mut Config, files: &mut F) -> Result<(), LoadEnd>
-    ensures held { OnOk result (AllHold (F.holds files.old) config.old.vms config.new.vms) }
-    ensures others { OnOk result (given config.new ≡ record (given config.old) { vms = config.new.vms }) }
+pub(crate) fn load_modules<F: Files>(
+    alloc: Global,
+    config: &mut Config,
+    files: &mut F,
+) -> Result<(), LoadEnd>
+    ensures holding { OnOk result (HoldsAll (F.holds files.old) (given config.old) (given config.new)) }
+    ensures modules { OnOk result (All HasModule config.new.vms) }
+    ensures filters { OnOk result (All HasFilter config.new.vms) }
     ensures refused { IfErr result (IsBadIn (F.holds files.old) config.old.vms) }
     ensures all_read { OnOk result (Gains (F.paths files.old) (modules_of config.old.vms) (F.paths files.new)) }
     ensures front { OnErr result (GainsFront (F.paths files.old) (modules_of config.old.vms) (F.paths files.new)) }
@@ -167,7 +175,7 @@ fn load_vm<F: Files>(
 
 /// The module of a VM's file.
 fn vm_code<F: Files>(alloc: Global, vm: &VmEntry, files: &mut F) -> Result<ValidModule, LoadEnd>
-    ensures code { IfOk result (IsCode (F.holds files.old) vm.now.«module») }
+    ensures code { IfOk result (IsCode (F.holds files.old) vm.now.«module» vm.now.pages) }
     ensures refused { IfErr result (IsBad (F.holds files.old) vm.now) }
     ensures one { OnOk result (Gains (F.paths files.old) (vm.now.«module» ∷ []) (F.paths files.new)) }
     ensures front { OnErr result (GainsFront (F.paths files.old) (vm.now.«module» ∷ []) (F.paths files.new)) }
@@ -175,7 +183,7 @@ fn vm_code<F: Files>(alloc: Global, vm: &VmEntry, files: &mut F) -> Result<Valid
     ensures faults { F.faults files.old ≤ F.faults files.new }
     ensures fault { result ≡ Err LoadEnd.FileFault → Rose (F.faults files.old) (F.faults files.new) }
 {
-    match code_at(alloc, vm.module.as_str(), files) {
+    match code_at(alloc, vm.module.as_str(), vm.pages, files) {
         Ok(code) => Ok(code),
         Err(CodeEnd::Refused { fault }) => Err(bad_module(alloc, vm, fault)),
         Err(CodeEnd::FileFault) => Err(LoadEnd::FileFault),
@@ -193,10 +201,15 @@ fn bad_module(alloc: Global, vm: &VmEntry, fault: ModuleFault) -> LoadEnd
     }
 }
 
-/// The module of the file of a path.
-fn code_at<F: Files>(alloc: Global, path: &str, files: &mut F) -> Result<ValidModule, CodeEnd>
-    ensures code { IfOk result (IsCode (F.holds files.old) path.now) }
-    ensures refused { IfErr result (IsNoCode (F.holds files.old) path.now) }
+/// The module of the file of a path, which is one of a filter whose memory may have so many pages.
+fn code_at<F: Files>(
+    alloc: Global,
+    path: &str,
+    pages: u32,
+    files: &mut F,
+) -> Result<ValidModule, CodeEnd>
+    ensures code { IfOk result (IsCode (F.holds files.old) path.now pages) }
+    ensures refused { IfErr result (IsNoCode (F.holds files.old) path.now pages) }
     ensures one { OnOk result (Gains (F.paths files.old) (path.now ∷ []) (F.paths files.new)) }
     ensures front { OnErr result (GainsFront (F.paths files.old) (path.now ∷ []) (F.paths files.new)) }
     ensures holds { F.holds files.new ≡ F.holds files.old }
@@ -204,7 +217,7 @@ fn code_at<F: Files>(alloc: Global, path: &str, files: &mut F) -> Result<ValidMo
     ensures fault { result ≡ Err CodeEnd.FileFault → Rose (F.faults files.old) (F.faults files.new) }
 {
     match read_file(alloc, path, MAX_MODULE, files) {
-        Ok(bytes) => code_in(alloc, bytes.as_slice()),
+        Ok(bytes) => code_in(alloc, bytes.as_slice(), pages),
         Err(FileEnd::Failed) => Err(CodeEnd::FileFault),
         Err(FileEnd::TooLong) => Err(CodeEnd::Refused {
             fault: ModuleFault::Unread {
@@ -217,11 +230,11 @@ fn code_at<F: Files>(alloc: Global, path: &str, files: &mut F) -> Result<ValidMo
 }
 
 /// The module of these bytes.
-fn code_in(alloc: Global, bytes: &[u8]) -> Result<ValidModule, CodeEnd>
-    ensures code { IfOk result (IsModule bytes.now) }
-    ensures refused { IfErr result (IsNoCodeOf bytes.now) }
+fn code_in(alloc: Global, bytes: &[u8], pages: u32) -> Result<ValidModule, CodeEnd>
+    ensures code { IfOk result (IsFilter bytes.now pages) }
+    ensures refused { IfErr result (IsNoCodeOf bytes.now pages) }
 {
-    match read_code(alloc, bytes) {
+    match read_code(alloc, bytes, pages) {
         Ok(code) => Ok(code),
         Err(ModuleEnd::Refused { fault }) => Err(CodeEnd::Refused { fault }),
         Err(ModuleEnd::OutOfMemory) => Err(CodeEnd::OutOfMemory),

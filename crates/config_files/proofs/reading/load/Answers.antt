@@ -1,8 +1,7 @@
-use Rattle.std.proofs.Common.{◌≡◌, List, ℕ, [], ◌∷◌, Ok, ap, sym, subst, ◌∙◌}
-use Rattle.gate_config.specs.declared.entries.VmEntry.{VmEntry}
+use Rattle.std.proofs.Common.{List, ℕ, [], ◌∷◌, Ok, sym, subst}
 use Rattle.gate_config.specs.Given.{given}
 use Rattle.gate_io.specs.Told.{Gains, gains_more, gains_then_front}
-use Rattle.config_files.specs.Loading.{Told, AllHold, IsBadIn, modules_of}
+use Rattle.config_files.specs.Loading.{Told, HoldsAll, IsBadIn, modules_of}
 use Rattle.config_files.proofs.Read.{all_is_a_front}
 use Rattle.config_files.proofs.Steps.{first_read, modules_held, not_loaded}
 use Rattle.config_files.proofs.reading.load.Goals as goal
@@ -14,14 +13,13 @@ pub returns-in-Ok-load_modules-clause-loaded : goal.returns-in-Ok-load_modules-c
 returns-in-Ok-load_modules-clause-loaded g c text told = record {
   said = given c.in-Ok.config;
   read = c.in-Ok.ensures.read text told;
-  vms = subst (λ (t : Told). AllHold t c.in-Ok.config.vms c.load_modules.new.config.vms) c.read_text.ensures.holds c.in-Ok-load_modules.ensures.held;
-  others = c.in-Ok-load_modules.ensures.others;
+  holds = subst (λ (t : Told). HoldsAll t (given c.in-Ok.config) (given c.load_modules.new.config)) c.read_text.ensures.holds c.in-Ok-load_modules.ensures.holding;
 }
 
 pub returns-in-Ok-load_modules-clause-all_read : goal.returns-in-Ok-load_modules-clause-all_read
 returns-in-Ok-load_modules-clause-all_read g c =
     let whole = gains_more (g.F.Files.paths c.args.files.now) (c.args.path.now ∷ []) (g.F.Files.paths c.read_text.new.files) (modules_of c.in-Ok.config.vms) (g.F.Files.paths c.load_modules.new.files) c.in-Ok.ensures.one c.in-Ok-load_modules.ensures.all_read in
-    let same = modules_held (g.F.Files.holds c.read_text.new.files) c.in-Ok.config.vms c.load_modules.new.config.vms c.in-Ok-load_modules.ensures.held in
+    let same = modules_held (g.F.Files.holds c.read_text.new.files) c.in-Ok.config.vms c.load_modules.new.config.vms c.in-Ok-load_modules.ensures.holding.vms in
     subst (λ (l : List (List ℕ)). Gains (g.F.Files.paths c.args.files.now) (c.args.path.now ∷ l) (g.F.Files.paths c.load_modules.new.files)) (sym same) whole
 
 pub returns-in-Ok-load_modules-clause-paths : goal.returns-in-Ok-load_modules-clause-paths

@@ -1,10 +1,10 @@
-use Rattle.std.proofs.Common.{◌≡◌, ◌<◌, ◌≤◌, List, ℕ, suc, ◌+◌, [], ◌∷◌, take, length, refl, ap, sym, subst, ◌∙◌, arith, add-one}
+use Rattle.std.proofs.Common.{◌≡◌, ◌<◌, ◌≤◌, List, ℕ, suc, [], ◌∷◌, length, refl, ap, sym, subst, ◌∙◌, arith, add-one}
 use Rattle.std.proofs.lemmas.List.{take_all}
 use Rattle.gate_config.specs.declared.entries.VmEntry.{VmEntry}
 use Rattle.gate_config.specs.Given.{Given, given}
 use Rattle.gate_io.specs.Told.{Gains, GainsFront, gains_nothing}
-use Rattle.config_files.specs.Loading.{Told, Holding, HoldsAt, IsBadAt, IsCode, modules_of}
-use Rattle.config_files.proofs.Steps.{all_held, bad_in, module_same, one_more, others_same, read_front, read_more, same_length}
+use Rattle.config_files.specs.Loading.{Told, Holding, HoldsAt, IsBadAt, modules_of}
+use Rattle.config_files.proofs.Steps.{all_held, bad_in, code_next, filters_there, module_same, modules_there, one_more, others_same, read_front, read_more, same_length}
 use Rattle.config_files.proofs.reading.load_modules.Goals as goal
 
 pub loop-place-init : goal.loop-place-init
@@ -24,7 +24,7 @@ loop-place-preserved g c =
     let inv = c.loop-place.invariant in
     let low : n < length old = omega (arith, c.len-place-end.ensures, c.loop-place-test.true) in
     let here = subst (λ (t : Told). HoldsAt t n (given now) (given c.load_vm.new.config)) inv.3 c.in-Ok.ensures.held in
-    let more = one_more files n old now.vms here.code inv.0 low (subst (λ (p : List ℕ). IsCode files p here.code) (module_same files n old now.vms inv.0) here.file) in
+    let more = one_more files n old now.vms here.code inv.0 low (code_next files n old now.vms here.code inv.0 here.file) in
     let one = subst (λ (p : List ℕ). Gains (g.F.Files.paths c.loop-place.files) (p ∷ []) (g.F.Files.paths c.load_vm.new.files)) (module_same files n old now.vms inv.0) c.in-Ok.ensures.one in
     let vms = ap (λ (x : Given). x.vms) here.is in (
       rw add-one (subst (λ (l : List VmEntry). Holding files (suc n) old l) (sym vms) more),
@@ -34,11 +34,28 @@ loop-place-preserved g c =
       omega (arith, inv.4, c.load_vm.ensures.faults),
     )
 
-pub returns-clause-held : goal.returns-clause-held
-returns-clause-held g c =
+pub returns-clause-holding : goal.returns-clause-holding
+returns-clause-holding g c =
     let old = c.args.config.now.vms in
     let all : c.loop-place.place ≡ length old = omega (arith, c.len-place-end.ensures, c.loop-place-test.false) in
-    all_held (g.F.Files.holds c.args.files.now) old c.loop-place.config.vms (subst (λ (n : ℕ). Holding (g.F.Files.holds c.args.files.now) n old c.loop-place.config.vms) all c.loop-place.invariant.0)
+    record {
+      vms = all_held (g.F.Files.holds c.args.files.now) old c.loop-place.config.vms (subst (λ (n : ℕ). Holding (g.F.Files.holds c.args.files.now) n old c.loop-place.config.vms) all c.loop-place.invariant.0);
+      others = c.loop-place.invariant.1;
+    }
+
+pub returns-clause-modules : goal.returns-clause-modules
+returns-clause-modules g c =
+    let files = g.F.Files.holds c.args.files.now in
+    let old = c.args.config.now.vms in
+    let all : c.loop-place.place ≡ length old = omega (arith, c.len-place-end.ensures, c.loop-place-test.false) in
+    modules_there files old c.loop-place.config.vms (all_held files old c.loop-place.config.vms (subst (λ (n : ℕ). Holding files n old c.loop-place.config.vms) all c.loop-place.invariant.0))
+
+pub returns-clause-filters : goal.returns-clause-filters
+returns-clause-filters g c =
+    let files = g.F.Files.holds c.args.files.now in
+    let old = c.args.config.now.vms in
+    let all : c.loop-place.place ≡ length old = omega (arith, c.len-place-end.ensures, c.loop-place-test.false) in
+    filters_there files old c.loop-place.config.vms (all_held files old c.loop-place.config.vms (subst (λ (n : ℕ). Holding files n old c.loop-place.config.vms) all c.loop-place.invariant.0)) c.loop-place.config.kept.all_vms
 
 pub returns-clause-all_read : goal.returns-clause-all_read
 returns-clause-all_read g c =

@@ -1,4 +1,4 @@
-use Rattle.std.proofs.Common.{◌≡◌, ◌≤◌, take, length}
+use Rattle.std.proofs.Common.{◌≡◌, ◌≤◌, take}
 use Rattle.gate_config.specs.Given.{given}
 use Rattle.gate_io.specs.Told.{Gains}
 use Rattle.config_files.specs.Loading.{Holding, modules_of}

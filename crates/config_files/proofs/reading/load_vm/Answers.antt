@@ -3,18 +3,17 @@ use Rattle.gate_config.specs.declared.entries.VmEntry.{VmEntry}
 use Rattle.gate_config.specs.Given.{given, with_code}
 use Rattle.gate_io.specs.Told.{Gains, GainsFront}
 use Rattle.config_files.specs.Loading.{IsBad, IsCode}
-use Rattle.config_files.proofs.Steps.{module_is, bad_at}
+use Rattle.config_files.proofs.Steps.{code_here, module_is, bad_at}
 use Rattle.config_files.proofs.reading.load_vm.Goals as goal
 
 pub returns-in-Ok-clause-held : goal.returns-in-Ok-clause-held
 returns-in-Ok-clause-held g c =
+    let files = g.F.Files.holds c.args.files.now in
     let vms = c.args.config.now.vms in
-    let vm = c.get.result.now in
-    let same = module_is c.args.place vms vm c.requires ∙ ap (λ (v : VmEntry). v.«module») (sym c.get.ensures) in
     let number : c.in-Some.vm ≡ c.args.place = c.in-Some.ensures.value in
     record {
       code = c.in-Ok.code;
-      file = subst (λ (p : List ℕ). IsCode (g.F.Files.holds c.args.files.now) p c.in-Ok.code) (sym same) c.in-Ok.ensures.code;
+      file = code_here files c.args.place vms c.get.result.now c.in-Ok.code c.requires (subst (λ (v : VmEntry). IsCode files v.«module» v.pages c.in-Ok.code) c.get.ensures c.in-Ok.ensures.code);
       is = c.hold.ensures ∙ ap (λ (n : ℕ). with_code n c.in-Ok.code (given c.args.config.now)) number;
     }
 
