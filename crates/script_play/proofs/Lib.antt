@@ -1,0 +1,6 @@
+mod Answered
+mod Fronts
+mod Progresses
+mod Starts
+mod Turns
+mod Once
