@@ -1,0 +1,44 @@
+-- The calls and asks that lives make, in order.
+use Rattle.std.proofs.Common.{⊎_elim}
+use Rattle.std.specs.Prelude.{ℕ, Bool, zero, suc, ◌⊎◌, List, [], ◌++◌, Option}
+use Rattle.course.specs.Course.{Course, Goes, calls_in}
+use Rattle.fleet.specs.Lives.{Calling, Turns, Life, OneLife, Cut, Early, Last, Lives}
+use Rattle.gate_io.specs.declared.passed.Passed.{Passed}
+use Rattle.store_model.specs.Made.{Made}
+use Rattle.worker.specs.State.{Standing}
+use Rattle.worker.specs.Turned.{Turned}
+use Rattle.worker.specs.declared.worker.Turn.{Turn}
+use Rattle.worker.specs.declared.worker.Turn.TheVariants.{Went, Stopped, WorldFault, OutOfMemory}
+
+module _ {H S : Type 0} (calling : Calling H) (performs : S → List Made → S → Type 0) where
+  abbrev made_on : {A : Type 0} (s : S) (p q : Course A) (t : S) → Goes performs s p q t → List Made
+  made_on s p q t goes = calls_in goes.met
+
+  -- those of a turn: of its course, as far as it went
+  abbrev pub made_in_turn : (end : Turn) (s : S) (old : Option (List Passed)) (from to : Standing H) (t : S) (new : Option (List Passed)) → Turned calling performs s old from end to t new → List Made
+  made_in_turn Went s old from to t new h = made_on s _ _ t h.goes
+  made_in_turn Stopped s old from to t new h = made_on s _ _ t h.goes
+  made_in_turn WorldFault s old from to t new h = []
+  made_in_turn OutOfMemory s old from to t new h = ⊎_elim (λ a. []) (λ b. ⊎_elim (λ u. made_on s _ _ t u.goes) (λ p. made_on s _ _ t p.goes) b) h
+
+  abbrev pub made_in_turns : (n : ℕ) (s : S) (old : Option (List Passed)) (from to : Standing H) (t : S) (new : Option (List Passed)) → Turns calling performs n s old from to t new → List Made
+  made_in_turns zero s old from to t new h = []
+  made_in_turns (suc n) s old from to t new h = made_in_turns n s old from h.0 h.1 h.2 h.3 ++ made_in_turn Went h.1 h.2 h.0 to t new h.4
+
+  abbrev pub made_in_life : (s : S) (old : Option (List Passed)) (from : Standing H) (end : Turn) (to : Standing H) (t : S) (new : Option (List Passed)) → Life calling performs s old from end to t new → List Made
+  made_in_life s old from end to t new h = made_in_turns h.count s old from h.before h.at h.mid h.went ++ made_in_turn end h.at h.mid h.before to t new h.last
+
+  -- (none where a life was not begun)
+  abbrev pub made_in_one : (first : Standing H) (s : S) (old : Option (List Passed)) (end : Turn) (took : Bool) (t : S) (new : Option (List Passed)) → OneLife calling performs first s old end took t new → List Made
+  made_in_one first s old end took t new h = ⊎_elim (λ l. made_in_life s old first end l.after t new l.life) (λ e. []) h
+
+  abbrev pub made_in_early : (first : Standing H) (n : ℕ) (s : S) (old : Option (List Passed)) (t : S) (new : Option (List Passed)) → Early calling performs first n s old t new → List Made
+  made_in_early first zero s old t new h = []
+  made_in_early first (suc n) s old t new h = made_in_early first n s old h.0 h.1 h.2 ++ made_in_life h.0 h.1 first OutOfMemory h.3.lived.after t h.3.left h.3.lived.life
+
+  abbrev pub made_in_last : (first : Standing H) (s : S) (old : Option (List Passed)) (end : Turn) (t : S) (new : Option (List Passed)) → Last calling performs first s old end t new ⊎ Cut calling performs first s old end t new → List Made
+  made_in_last first s old end t new h = ⊎_elim (λ l. made_in_one first s old end l.took t new l.once) (λ k. made_in_life s old first OutOfMemory k.lived.after t k.left k.lived.life) h
+
+  -- THE CALLS OF A WORKER: those of its lives, turn by turn
+  abbrev pub made_in : (first : Standing H) (s : S) (old : Option (List Passed)) (end : Turn) (again : Bool) (t : S) (new : Option (List Passed)) → Lives calling performs first s old end again t new → List Made
+  made_in first s old end again t new h = made_in_early first h.count s old h.at h.mid h.early ++ made_in_last first h.at h.mid end t new h.last

@@ -1,0 +1,16 @@
+//! The workers of a configuration, each in a thread of its own, and the lives of each.
+#![tactic(auto)]
+
+mod laws;
+mod lives;
+mod moves;
+mod post;
+mod run;
+mod watched;
+
+pub use laws::seats_go_on_by_lives;
+pub use lives::live;
+pub use moves::{hand_back, post_all};
+pub use post::{Post, work, work_all, work_posts};
+pub use run::{FleetEnd, run_fleet};
+pub use watched::{Connection, Watched};

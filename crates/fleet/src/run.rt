@@ -1,0 +1,133 @@
+// All workers of a configuration.
+ghost use Rattle.std.specs.Prelude.{◌≡◌, ◌≤◌, true, length, All, IfOk, IfErr, IfNone, IfSome, IsTrue, []};
+ghost use Rattle.std.specs.List.{list_any};
+ghost use Rattle.fleet.specs.Lives.{first_of};
+ghost use Rattle.fleet.specs.Run.{AnyRose, Ran, is_clean, is_fault};
+ghost use Rattle.shared_store.specs.Workers.{AreAll, AreShut};
+
+use crate::moves::{hand_back, post_all};
+use crate::post::{Post, work_posts};
+use course::Host;
+use gate_config::Config;
+use gate_io::{Gate, World};
+use makes_host::MakesHost;
+use shared_store::{ClosedStores, Tables, no_seat_gets_lost};
+use std::alloc::Global;
+use std::sync::Wait;
+use std::thread::Threads;
+use turn_table::Seat;
+use worker::Turn;
+
+/// Why a fleet did not run to its end.
+#[derive(Clone, Copy)]
+pub enum FleetEnd {
+    /// A world failed.
+    WorldFault,
+    /// Memory ran out.
+    OutOfMemory,
+}
+
+/// Whether a world failed.
+fn is_fault(turn: Turn) -> bool
+    ensures { result ≡ is_fault turn }
+{
+    matches!(turn, Turn::WorldFault)
+}
+
+/// Whether each post's worker had one life, which ended with Stop.
+fn are_clean<W: World>(posts: &[Post<W>]) -> bool
+    ensures { IsTrue result → All (λ p. is_clean p ≡ true) posts.now }
+{
+    for post in posts {
+        if !is_clean(post) {
+            return false;
+        }
+    }
+    true
+}
+
+/// Whether a post's worker had one life, which ended with Stop.
+fn is_clean<W: World>(post: &Post<W>) -> bool
+    ensures { result ≡ is_clean post.now }
+{
+    matches!(post.end, Turn::Stopped) && !post.again
+}
+
+/// Why a post's worker ended, where it was not Stop.
+fn end_of<W: World>(posts: &[Post<W>]) -> Option<FleetEnd>
+    ensures fault { result ≡ Some FleetEnd.WorldFault → IsTrue (list_any (λ p. is_fault p.end) posts.now) }
+    ensures clean { IfNone result (All (λ p. is_clean p ≡ true) posts.now) }
+{
+    if posts.iter().any(|post| is_fault(post.end)) {
+        return Some(FleetEnd::WorldFault);
+    }
+    if are_clean(posts) {
+        return None;
+    }
+    Some(FleetEnd::OutOfMemory)
+}
+
+/// Shuts the tables where nothing went wrong.
+fn finish(
+    end: Option<FleetEnd>,
+    tables: Tables,
+    lists: Vec<Vec<Seat>>,
+) -> Result<ClosedStores, FleetEnd>
+    requires { AreAll tables lists.items }
+    ensures ok { IfOk result (AreShut tables lists.items) }
+    ensures err { IfErr result (λ e. end ≡ Some e) }
+    ensures none { IfOk result (λ stores. end ≡ None) }
+{
+    match end {
+        Some(end) => Err(end),
+        None => Ok(tables.shut(lists)),
+    }
+}
+
+/// How many VMs there are.
+fn count_of(config: &Config) -> u8
+    ensures count { result ≡ length config.now.vms }
+    ensures most { result ≤ 16 }
+{
+    config.vms.len() as u8
+}
+
+/// Runs a worker of the configuration in each of the worlds, each in a thread of its own. A worker that ends is not waited for by the others,
+/// which go on until their Stop. The worlds are given back in their order, whatever happens. There are no metrics: each ask of them is
+/// answered so.
+pub fn run_fleet<
+    R: Threads + Wait + Sync,
+    H: Host + Send + Drop,
+    M: MakesHost<H> + Sync,
+    W: World + Send + Drop,
+    G: Gate + Sync,
+>(
+    rt: &R,
+    alloc: Global,
+    config: &Config,
+    maker: &M,
+    worlds: &mut Vec<W>,
+    gate: &G,
+) -> Result<ClosedStores, FleetEnd>
+    requires takes { M.takes maker.now config.now }
+    requires fresh { All (λ w. IfSome (W.trace w) (λ trace. trace ≡ [])) worlds.old.items }
+    requires worlds { length worlds.old.items ≡ config.now.workers }
+    ensures fault { result ≡ Err FleetEnd.WorldFault → AnyRose W.faults worlds.old.items worlds.new.items }
+    ensures ran { Ran W.trace W.nature W.faults H.calling (first_of H.exported H.registering config.now (M.made maker.now config.now)) config.now.workers worlds.old.items worlds.new.items result }
+    ensures as_many { length worlds.new.items ≡ length worlds.old.items }
+    ensures stores { IfOk result (λ stores. length stores ≡ length config.now.vms) }
+{
+    let vms = count_of(config);
+    let Ok(mut posts) = Vec::with_capacity(alloc, worlds.len()) else {
+        return Err(FleetEnd::OutOfMemory);
+    };
+    let Ok((tables, mut lists)) = Tables::make(alloc, vms, config.workers) else {
+        return Err(FleetEnd::OutOfMemory);
+    };
+    post_all(alloc, worlds, &mut lists, &mut posts);
+    work_posts(rt, alloc, config, maker, &tables, gate, &mut posts);
+    let end = end_of(posts.as_slice());
+    hand_back(worlds, &mut lists, &mut posts);
+    no_seat_gets_lost();
+    finish(end, tables, lists)
+}

@@ -1,0 +1,8 @@
+//! Serving: the site is started, a fleet runs in its worlds, they are given back, and what the stores came to is told.
+#![tactic(auto)]
+
+mod running;
+mod telling;
+
+pub use running::{ServeEnd, serve};
+pub use telling::summary;

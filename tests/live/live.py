@@ -1,0 +1,553 @@
+"""The program over sockets, on loopback alone: clients and a server of this file's own around `serve`.
+
+python3 live.py PROGRAM WORD.. runs every case, with a gateway for each group of them, and ends with status 0 where all passed.
+Each group tells how many lines it opens, and the gateway is to stop by itself after so many.
+"""
+
+import os
+import signal
+import socket
+import struct
+import subprocess
+import sys
+import tempfile
+import threading
+import time
+
+PATIENCE = 20.0  # seconds for one answer
+ALL = 180  # seconds for everything
+
+HEAD_END = b"\r\n\r\n"
+
+
+def closed_port():
+    """A port at which nobody listens."""
+    with socket.socket() as s:
+        s.bind(("127.0.0.1", 0))
+        return s.getsockname()[1]
+
+
+def reset(s):
+    """Ends a connection by a reset."""
+    s.setsockopt(socket.SOL_SOCKET, socket.SO_LINGER, struct.pack("ii", 1, 0))
+    s.close()
+
+
+class Reader:
+    """Reads messages from a connection."""
+
+    def __init__(self, s):
+        self.s = s
+        self.left = b""
+
+    def more(self):
+        piece = self.s.recv(65536)
+        self.left += piece
+        return bool(piece)
+
+    def head(self):
+        while HEAD_END not in self.left:
+            if not self.more():
+                raise EOFError("no whole head: %r" % self.left[:200])
+        head, self.left = self.left.split(HEAD_END, 1)
+        lines = head.decode("latin-1").split("\r\n")
+        fields = {}
+        for line in lines[1:]:
+            name, value = line.split(":", 1)
+            fields[name.strip().lower()] = value.strip()
+        return lines[0], fields
+
+    def exactly(self, count):
+        while len(self.left) < count:
+            if not self.more():
+                raise EOFError("%d of %d bytes" % (len(self.left), count))
+        piece, self.left = self.left[:count], self.left[count:]
+        return piece
+
+    def line(self):
+        while b"\r\n" not in self.left:
+            if not self.more():
+                raise EOFError("no whole line")
+        line, self.left = self.left.split(b"\r\n", 1)
+        return line
+
+    def rest(self):
+        while self.more():
+            pass
+        piece, self.left = self.left, b""
+        return piece
+
+    def body(self, fields, to_end=False):
+        if fields.get("transfer-encoding", "").lower() == "chunked":
+            whole = b""
+            while True:
+                size = int(self.line().split(b";")[0], 16)
+                if size == 0:
+                    while self.line():
+                        pass
+                    return whole
+                whole += self.exactly(size)
+                self.line()
+        if "content-length" in fields:
+            return self.exactly(int(fields["content-length"]))
+        return self.rest() if to_end else b""
+
+
+def answer(body, status="200 OK"):
+    return b"HTTP/1.1 %s\r\nContent-Length: %d\r\n\r\n" % (status.encode(), len(body)) + body
+
+
+class Upstream:
+    """A server. What it does is in the path of the request. It keeps what it read, by path."""
+
+    def __init__(self):
+        self.seen = {}
+        self.listener = socket.socket()
+        self.listener.setsockopt(socket.SOL_SOCKET, socket.SO_REUSEADDR, 1)
+        self.listener.bind(("127.0.0.1", 0))
+        self.listener.listen(128)
+        self.port = self.listener.getsockname()[1]
+        threading.Thread(target=self.accept, daemon=True).start()
+
+    def accept(self):
+        while True:
+            try:
+                s, _ = self.listener.accept()
+            except OSError:
+                return
+            threading.Thread(target=self.serve, args=(s,), daemon=True).start()
+
+    def serve(self, s):
+        s.settimeout(3 * PATIENCE)
+        try:
+            self.serve_one(s)
+        except (OSError, EOFError, ValueError):
+            pass
+        finally:
+            s.close()
+
+    def serve_one(self, s):
+        reader = Reader(s)
+        first, fields = reader.head()
+        path = first.split(" ")[1]
+        self.seen[path] = (first, fields)
+        if path == "/reset":
+            reset(s)
+            return
+        if path == "/part-reset":
+            s.sendall(answer(b"x" * 100000)[:5000])
+            time.sleep(0.2)
+            reset(s)
+            return
+        if path == "/part-close":
+            s.sendall(answer(b"x" * 1000)[:500])
+            return
+        if path == "/early":
+            # Answers before the request is whole, stays open, and sends more.
+            s.sendall(answer(b"early"))
+            try:
+                for _ in range(10):
+                    s.sendall(b"HTTP/1.1 200 OK\r\nContent-Length: 5\r\n\r\nstray")
+                    time.sleep(0.02)
+            except OSError:
+                pass
+            return
+        body = reader.body(fields)
+        if path == "/slow":
+            for byte in answer(b"slow answer"):
+                s.sendall(bytes([byte]))
+                time.sleep(0.002)
+        elif path == "/to-end":
+            s.sendall(b"HTTP/1.0 200 OK\r\n\r\n" + b"until the end" * 1000)
+            return
+        elif path == "/late":
+            time.sleep(0.5)
+            s.sendall(answer(b"late"))
+        elif path.startswith("/big/"):
+            s.sendall(answer(b"0123456789" * (int(path.split("/")[2]) // 10)))
+        elif path == "/echo":
+            s.sendall(answer(body))
+        else:
+            s.sendall(answer(path.encode()))
+        reader.rest()
+
+
+class Gateway:
+    """The program, serving."""
+
+    def __init__(self, program, folder, upstream_port, lines, workers=1, more=""):
+        self.lines = lines
+        self.opened = 0
+        self.guard = threading.Lock()
+        self.port = closed_port()
+        config = os.path.join(folder, "config-%d.toml" % self.port)
+        with open(config, "w") as f:
+            f.write(
+                '[gateway]\nlisten = "127.0.0.1:%d"\nupstream = "127.0.0.1:%d"\nworkers = %d\n%s\n[[route]]\npath = "/{*rest}"\n'
+                % (self.port, upstream_port, workers, more)
+            )
+        words = program + ["serve", config, "--stop-after", str(lines)]
+        self.process = subprocess.Popen(words, stdout=subprocess.PIPE, stderr=subprocess.PIPE, cwd=folder)
+
+    def connect(self):
+        with self.guard:
+            self.opened += 1
+        for _ in range(500):
+            try:
+                s = socket.create_connection(("127.0.0.1", self.port), PATIENCE)
+                s.settimeout(PATIENCE)
+                return s
+            except ConnectionRefusedError:
+                if self.process.poll() is not None:
+                    raise AssertionError("the gateway ended: %r" % (self.process.communicate(),))
+                time.sleep(0.02)
+        raise AssertionError("the gateway does not listen")
+
+    def rss(self):
+        with open("/proc/%d/status" % self.process.pid) as f:
+            for line in f:
+                if line.startswith("VmRSS"):
+                    return int(line.split()[1])
+        return 0
+
+    def descriptors(self):
+        return len(os.listdir("/proc/%d/fd" % self.process.pid))
+
+    def ends(self, wanted=b""):
+        """It stops by itself once all lines have closed, with status 0 and this output."""
+        if self.opened != self.lines:
+            raise AssertionError("a group opened %d lines and told %d" % (self.opened, self.lines))
+        out, err = self.process.communicate(timeout=PATIENCE)
+        if self.process.returncode != 0 or out != wanted:
+            raise AssertionError("status %d, output %r, errors %r" % (self.process.returncode, out, err[-500:]))
+
+    def kill(self):
+        if self.process.poll() is None:
+            self.process.kill()
+            self.process.communicate()
+
+
+def expect(got, wanted):
+    if got != wanted:
+        raise AssertionError("got %r, wanted %r" % (got[:300] if isinstance(got, bytes) else got, wanted))
+
+
+def request(path, body=None, extra=""):
+    if body is None:
+        return ("GET %s HTTP/1.1\r\nHost: a\r\n%s\r\n" % (path, extra)).encode()
+    return ("POST %s HTTP/1.1\r\nHost: a\r\nContent-Length: %d\r\n%s\r\n" % (path, len(body), extra)).encode() + body
+
+
+def status_of(first):
+    return first.split(" ")[1]
+
+
+def get(s, reader, path, wanted):
+    s.sendall(request(path))
+    first, fields = reader.head()
+    expect(status_of(first), "200")
+    expect(reader.body(fields), wanted)
+
+
+# ---- the cases; each is given the gateway and the server, and closes its lines
+
+
+def plain(gateway, upstream):
+    """A request goes up with `via`, its response comes down, and the line stays."""
+    with gateway.connect() as s:
+        reader = Reader(s)
+        get(s, reader, "/plain", b"/plain")
+        first, fields = upstream.seen["/plain"]
+        expect(first, "GET /plain HTTP/1.1")
+        expect(fields.get("via"), "1.1 wasmgate")
+        get(s, reader, "/again", b"/again")
+
+
+def with_body(gateway, upstream):
+    """Bodies of a length and chunked ones go up and come down."""
+    with gateway.connect() as s:
+        reader = Reader(s)
+        body = bytes(range(256)) * 1000
+        s.sendall(request("/echo", body))
+        first, fields = reader.head()
+        expect(status_of(first), "200")
+        expect(reader.body(fields) == body, True)
+        s.sendall(b"POST /echo HTTP/1.1\r\nHost: a\r\nTransfer-Encoding: chunked\r\n\r\n")
+        for n in range(1, 50):
+            s.sendall(b"%x\r\n%s\r\n" % (n, b"c" * n))
+        s.sendall(b"0\r\n\r\n")
+        first, fields = reader.head()
+        expect(reader.body(fields) == b"c" * (49 * 25), True)
+
+
+def pipelined(gateway, upstream):
+    """A thousand requests in one piece are answered in their order."""
+    with gateway.connect() as s:
+        reader = Reader(s)
+        s.sendall(b"".join(request("/n/%d" % n) for n in range(1000)))
+        for n in range(1000):
+            first, fields = reader.head()
+            expect(status_of(first), "200")
+            expect(reader.body(fields), b"/n/%d" % n)
+
+
+def resets(gateway, upstream):
+    """A server that resets before its answer is 502 and the line goes on; one that resets or ends in mid-answer ends the line."""
+    with gateway.connect() as s:
+        reader = Reader(s)
+        s.sendall(request("/reset"))
+        first, fields = reader.head()
+        expect(status_of(first), "502")
+        reader.body(fields)
+        get(s, reader, "/after", b"/after")
+    for path in ("/part-reset", "/part-close"):
+        with gateway.connect() as s:
+            reader = Reader(s)
+            s.sendall(request(path))
+            first, fields = reader.head()
+            expect(status_of(first), "200")
+            try:
+                reader.body(fields)
+                raise AssertionError("a whole body came")
+            except (EOFError, ConnectionResetError):
+                pass
+
+
+def client_resets(gateway, upstream):
+    """Clients that reset in mid-response end their own lines alone."""
+    for _ in range(10):
+        s = gateway.connect()
+        s.sendall(request("/big/1000000"))
+        s.recv(1000)
+        reset(s)
+    with gateway.connect() as s:
+        get(s, Reader(s), "/still", b"/still")
+
+
+def half_closed(gateway, upstream):
+    """A client that sends nothing more gets the responses to what it sent, and then the end."""
+    with gateway.connect() as s:
+        reader = Reader(s)
+        s.sendall(request("/late") + request("/second"))
+        s.shutdown(socket.SHUT_WR)
+        for wanted in (b"late", b"/second"):
+            first, fields = reader.head()
+            expect(reader.body(fields), wanted)
+        expect(reader.rest(), b"")
+
+
+def byte_by_byte(gateway, upstream):
+    """A request and a response of single bytes."""
+    with gateway.connect() as s:
+        s.setsockopt(socket.IPPROTO_TCP, socket.TCP_NODELAY, 1)
+        reader = Reader(s)
+        for byte in request("/slow", b"a body"):
+            s.sendall(bytes([byte]))
+            time.sleep(0.001)
+        first, fields = reader.head()
+        expect(reader.body(fields), b"slow answer")
+
+
+def to_the_end(gateway, upstream):
+    """A response that goes on until the server's end."""
+    with gateway.connect() as s:
+        reader = Reader(s)
+        s.sendall(request("/to-end"))
+        first, fields = reader.head()
+        expect(reader.body(fields, to_end=True) == b"until the end" * 1000, True)
+
+
+def malformed(gateway, upstream):
+    """A bad request is answered and its line closed, though more than fits still comes."""
+    with gateway.connect() as s:
+        try:
+            s.sendall(b"GET /\x00 HTTP/1.1\r\n\r\n" + b"x" * 300000)
+        except OSError:
+            pass
+        first, fields = Reader(s).head()
+        expect(status_of(first), "400")
+
+
+def stray(gateway, upstream):
+    """Nothing that an early server sends behind its answer reaches the next exchange."""
+    with gateway.connect() as s:
+        reader = Reader(s)
+        s.sendall(request("/early") + request("/next"))
+        first, fields = reader.head()
+        expect(reader.body(fields), b"early")
+        first, fields = reader.head()
+        expect(reader.body(fields), b"/next")
+
+
+def stalled(gateway, upstream):
+    """A client that does not read keeps nobody else waiting, and the gateway does not keep what it does not take."""
+    slow = gateway.connect()
+    slow.sendall(request("/big/20000000"))
+    time.sleep(0.5)
+    before = gateway.rss()
+    with gateway.connect() as s:
+        reader = Reader(s)
+        for n in range(30):
+            get(s, reader, "/beside/%d" % n, b"/beside/%d" % n)
+    if gateway.rss() - before > 20000:
+        raise AssertionError("it grew by %d kB" % (gateway.rss() - before))
+    reader = Reader(slow)
+    first, fields = reader.head()
+    expect(len(reader.body(fields)), 20000000)
+    slow.close()
+
+
+def descriptors(gateway, upstream):
+    """Descriptors come back once lines are closed."""
+    with gateway.connect() as s:
+        reader = Reader(s)
+        get(s, reader, "/base", b"/base")
+        base = gateway.descriptors()
+        lines = [gateway.connect() for _ in range(20)]
+        for n, line in enumerate(lines):
+            get(line, Reader(line), "/many/%d" % n, b"/many/%d" % n)
+        for line in lines:
+            line.close()
+        for _ in range(100):
+            if gateway.descriptors() <= base:
+                break
+            time.sleep(0.05)
+        expect(gateway.descriptors() <= base, True)
+
+
+def refusing(gateway, upstream):
+    """Where the server cannot be reached the answer is 502, and the line goes on."""
+    with gateway.connect() as s:
+        reader = Reader(s)
+        for _ in range(3):
+            s.sendall(request("/refused"))
+            first, fields = reader.head()
+            expect(status_of(first), "502")
+            reader.body(fields)
+
+
+def many(gateway, upstream):
+    """Lines of several workers, at once."""
+    failures = []
+
+    def one(number):
+        try:
+            with gateway.connect() as s:
+                reader = Reader(s)
+                for n in range(20):
+                    get(s, reader, "/w/%d/%d" % (number, n), b"/w/%d/%d" % (number, n))
+                body = b"%d" % number * 10000
+                s.sendall(request("/echo", body))
+                first, fields = reader.head()
+                expect(reader.body(fields) == body, True)
+        except Exception as e:  # told by the case
+            failures.append(e)
+
+    threads = [threading.Thread(target=one, args=(n,)) for n in range(30)]
+    for t in threads:
+        t.start()
+    for t in threads:
+        t.join(PATIENCE * 3)
+    if failures:
+        raise AssertionError("%d of 30 lines: %r" % (len(failures), failures[0]))
+
+
+def nothing(gateway, upstream):
+    """A line that is opened and closed."""
+    gateway.connect().close()
+
+
+# A module of a memory and an ABI marker: `proxy_abi_version_0_2_1` is its one function, which does nothing.
+MARKED = (
+    b"\0asm\1\0\0\0"
+    b"\1\4\1\x60\0\0"
+    b"\3\2\1\0"
+    b"\5\3\1\0\1"
+    b"\7\x24\2"
+    b"\6memory\2\0"
+    b"\x17proxy_abi_version_0_2_1\0\0"
+    b"\x0a\4\1\2\0\x0b"
+)
+
+WITH_STORES = (
+    '[[vm]]\nname = "first"\nmodule = "marked.wasm"\n'
+    '[[vm]]\nname = "second"\nmodule = "marked.wasm"\n'
+)
+
+# name, workers, what the configuration has besides, what is printed at the end, cases with how many lines each opens
+GROUPS = [
+    (
+        "one worker",
+        1,
+        "",
+        b"",
+        [
+            (plain, 1),
+            (with_body, 1),
+            (pipelined, 1),
+            (resets, 3),
+            (half_closed, 1),
+            (byte_by_byte, 1),
+            (to_the_end, 1),
+            (malformed, 1),
+            (stray, 1),
+            (stalled, 2),
+            (descriptors, 21),
+            (client_resets, 11),
+        ],
+    ),
+    ("three workers", 3, "", b"", [(many, 30)]),
+    ("no server", 1, "", b"", [(refusing, 1)]),
+    (
+        "stores",
+        2,
+        WITH_STORES,
+        b"store first calls 0 keys 0 items 0\nstore second calls 0 keys 0 items 0\n",
+        [(plain, 1), (nothing, 1)],
+    ),
+]
+
+
+def run_group(program, folder, upstream, group):
+    name, workers, more, wanted, cases = group
+    lines = sum(opens for _, opens in cases)
+    port = closed_port() if name == "no server" else upstream.port
+    gateway = Gateway(program, folder, port, lines, workers, more)
+    passed, failed = 0, 0
+    try:
+        for case, _ in cases:
+            try:
+                case(gateway, upstream)
+                passed += 1
+            except Exception as e:
+                failed += 1
+                print("FAIL live/%s: %s: %r" % (name, case.__name__, e), flush=True)
+        if failed == 0:
+            try:
+                gateway.ends(wanted)
+                passed += 1
+            except Exception as e:
+                failed += 1
+                print("FAIL live/%s: its end: %r" % (name, e), flush=True)
+    finally:
+        gateway.kill()
+    return passed, failed
+
+
+def main():
+    signal.alarm(ALL)
+    program = [os.path.abspath(sys.argv[1])] + sys.argv[2:]
+    upstream = Upstream()
+    passed, failed = 0, 0
+    with tempfile.TemporaryDirectory() as folder:
+        with open(os.path.join(folder, "marked.wasm"), "wb") as f:
+            f.write(MARKED)
+        for group in GROUPS:
+            p, f = run_group(program, folder, upstream, group)
+            passed += p
+            failed += f
+    print("live: %d passed, %d failed" % (passed, failed))
+    sys.exit(1 if failed else 0)
+
+
+main()
