@@ -1,0 +1,34 @@
+// A script over the filters of a configuration.
+ghost use Rattle.std.specs.Prelude.{◌≡◌, ◌≤◌, ◌⊎◌, [], All, Err, OnOk};
+ghost use Rattle.gate_io.specs.Told.{Gains, Rose};
+ghost use Rattle.machines.specs.Making.{HasFilter};
+ghost use Rattle.play_filters.specs.Filtered.{filtered};
+ghost use Rattle.replay_script.specs.Scripts.{AreLines, at_start};
+ghost use Rattle.script_play.specs.Replay.{Prints, PrintsFront};
+
+use gate_config::Config;
+use gate_io::Sink;
+use machines::Machines;
+use replay_script::Command;
+use script_play::{PlayEnd, play};
+use std::alloc::Global;
+
+/// Plays the lines of a script from no open line on, over worker 1 of a configuration that holds its modules, and writes what they send.
+#[tactic(auto, unfolding(crate::specs::Filtered::filtered))]
+pub fn play_filtered<O: Sink>(
+    alloc: Global,
+    config: Config,
+    commands: Vec<Command>,
+    out: &mut O,
+) -> Result<(), PlayEnd>
+    requires lines { AreLines at_start commands.items }
+    requires filters { All HasFilter config.vms }
+    ensures done { OnOk result (Prints (filtered config) commands.items (O.taken out.old) (O.taken out.new)) }
+    ensures out_fault { result ≡ Err PlayEnd.OutFault → PrintsFront (filtered config) commands.items (O.taken out.old) (O.taken out.new) }
+    ensures memory { result ≡ Err PlayEnd.OutOfMemory → Gains (O.taken out.old) [] (O.taken out.new)
+        ⊎ PrintsFront (filtered config) commands.items (O.taken out.old) (O.taken out.new) }
+    ensures faults { O.faults out.old ≤ O.faults out.new }
+    ensures failed { result ≡ Err PlayEnd.OutFault → Rose (O.faults out.old) (O.faults out.new) }
+{
+    play(alloc, &Machines, config, commands, out)
+}
