@@ -1,3 +1,4 @@
 pub mod Summing
+pub mod Totals
 pub mod Learning
 pub mod Closing

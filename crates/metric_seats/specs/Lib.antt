@@ -1,3 +1,4 @@
 pub mod Knowing
 pub mod Places
 pub mod Measuring
+pub mod Totals

@@ -1,5 +1,5 @@
 // The names of the metrics of one VM name.
-ghost use Rattle.std.specs.Prelude.{◌≡◌, ◌<◌, ◌+◌, ◌∷◌, ◌++◌, [], true, length, is_some, Some, IsOk, IfOk, OnOk, OnErr, IfSome};
+ghost use Rattle.std.specs.Prelude.{◌≡◌, ◌<◌, ◌≤◌, ◌+◌, ◌∷◌, ◌++◌, [], true, length, is_some, Some, IsOk, IfOk, OnOk, OnErr, IfSome};
 ghost use Rattle.store_model.specs.MetricNames.{IsIdGiven, IsNamesReply, define_after, define_reply, metric_name, names_after, names_reply, names_take_no_memory, no_names, place_among};
 
 use gate_base::{Octets, OutOfMemory, QueueId, VmNo, WorkerNo};
@@ -44,6 +44,14 @@ impl MetricNames {
         ensures { result ≡ self.now.vm }
     {
         self.vm
+    }
+
+    /// The kinds and names in the order of their ids from 1.
+    pub fn names(&self) -> &[MetricName]
+        ensures names { result.now ≡ self.now.names }
+        ensures few { length result.now ≤ MOST_METRICS }
+    {
+        self.names.as_slice()
     }
 
     /// Makes a call of a worker: a Register of a kind's byte and a name defines a metric, and every other call finds nothing. Want of

@@ -1,6 +1,7 @@
 // The tables of a VM name's metrics, and the asks of them.
 ghost use Rattle.std.specs.Prelude.{◌≡◌, ◌≢◌, ◌<◌, ◌≤◌, ◌+◌, ◌-◌, ◌%◌, ◌^◌, ◌++◌, [], ◌∷◌, length, slice_set, IsOk, IfOk, IfSome, OnErr, Ok};
 ghost use Rattle.metric_seats.specs.Places.{Asked, CountedIf, IsCount, Defined, IsSamePlace, PlaceStays, PlacesJoined, Summed, SummedIf, define_call, first_place, kind_for, looked_own, next_place, own_word, raised_own, tables_of};
+ghost use Rattle.metric_seats.specs.Totals.{total_in};
 ghost use Rattle.metric_table.specs.Seats.{Shut};
 ghost use Rattle.store_model.specs.History.{own};
 ghost use Rattle.store_model.specs.MetricNames.{names_acts};
@@ -40,6 +41,21 @@ pub struct MetricsClosed {
     pub names: MetricNames,
     pub totals: MetricTotals,
     pub definitions: u64,
+}
+
+impl MetricsClosed {
+    /// The sum of all workers' words of a metric, modulo 2^64.
+    pub fn total(&self, kind: MetricKind, id: u32) -> u64
+        requires { (1 ≤ id) × (id ≤ 64) }
+        ensures { result ≡ total_in self.now.totals kind id }
+    {
+        let mut total = 0u64;
+        for number in 1..9u8 {
+            let who = WorkerNo::new(number).unwrap();
+            total = total.wrapping_add(self.totals.word(who, kind, id));
+        }
+        total
+    }
 }
 
 /// The call that defines a metric.

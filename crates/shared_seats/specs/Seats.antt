@@ -1,5 +1,5 @@
 -- The tables of all stores and metrics, and a worker's seats at them.
-use Rattle.std.specs.Prelude.{◌≡◌, ℕ, List, length, map, slice_set}
+use Rattle.std.specs.Prelude.{◌≡◌, ℕ, List, [], length, map, slice_set}
 use mathlib.Core.Option.{some}
 use lib.ListN.{get_elem?}
 use Rattle.turn_table.specs.Seats.{Seated, TurnTableId}
@@ -13,6 +13,10 @@ pub record TablesOf : Type 0 where
 pub record SeatsOf : Type 0 where
   pub stores : List Seated
   pub metrics : List Metered
+
+-- the seats at no tables
+abbrev pub no_seats : SeatsOf
+no_seats = record { stores = []; metrics = [] }
 
 -- one seat at each table, and one place at the metrics of each VM name
 pub record AreAtMetrics (tables : TablesOf) (stores : List Seated) (metrics : List Metered) : Type 0 where

@@ -1,5 +1,9 @@
 // A worker's seats at all tables.
+ghost use Rattle.std.specs.Prelude.{◌≡◌};
+ghost use Rattle.shared_seats.specs.Seats.{no_seats};
+
 use metric_seats::MetricPlace;
+use std::alloc::Global;
 use std::marker::Model;
 use turn_table::Seat;
 
@@ -16,4 +20,16 @@ impl Model for SeatList {
     ghost Value = { SeatsOf };
 
     ghost view = { λ s. record { stores = s.stores.items; metrics = s.metrics.items } };
+}
+
+impl SeatList {
+    /// No seats. It takes no memory.
+    pub fn new(alloc: Global) -> SeatList
+        ensures { result ≡ no_seats }
+    {
+        SeatList {
+            stores: Vec::new(alloc),
+            metrics: Vec::new(alloc),
+        }
+    }
 }

@@ -67,7 +67,7 @@ impl<'a, R: Wait, G: Gate> StoreSeat<'a, R, G> {
         let at = vm.get() as usize;
         let tables = self.tables;
         let place = &mut self.metrics[at];
-        tables.metrics[at].ask(self.rt, alloc, place, ask, self.gate)
+        tables.metrics.tables[at].ask(self.rt, alloc, place, ask, self.gate)
     }
 
     /// Gives back the seats. It takes no memory.

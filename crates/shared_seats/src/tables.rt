@@ -1,12 +1,12 @@
 // The tables of all stores and metrics.
-use metric_seats::MetricTable;
+use crate::metrics::MetricTables;
 use std::marker::Model;
 
 /// The tables of the stores and those of the metrics, in the order of the VM names. Clauses see which tables they are.
 #[derive(Drop)]
 pub struct Tables {
     pub(crate) stores: shared_store::Tables,
-    pub(crate) metrics: Vec<MetricTable>,
+    pub(crate) metrics: MetricTables,
 }
 
 impl Model for Tables {
@@ -15,7 +15,7 @@ impl Model for Tables {
 
     ghost Value = { TablesOf };
 
-    ghost view = { λ t. record { stores = t.stores; metrics = t.metrics.items } };
+    ghost view = { λ t. record { stores = t.stores; metrics = t.metrics } };
 
-    ghost invariant = { λ t. length t.metrics.items ≡ length t.stores };
+    ghost invariant = { λ t. length t.metrics ≡ length t.stores };
 }
