@@ -1,5 +1,5 @@
 -- How an exchange is answered by the gateway or by a filter.
-use Rattle.std.specs.Prelude.{ℕ, Bool, true, false, not, ◌&&◌, ◌||◌, ◌-◌, List, [], ◌∷◌, length, drop, if◌then◌else◌}
+use Rattle.std.specs.Prelude.{ℕ, Bool, true, false, not, ◌&&◌, ◌||◌, ◌-◌, List, [], length, drop, if◌then◌else◌}
 use Rattle.contexts.specs.declared.parts.Contexts.{Contexts}
 use Rattle.filter_chain.specs.declared.stage.Stage.{Stage}
 use Rattle.filter_chain.specs.declared.item.Item.{Item}
@@ -16,22 +16,26 @@ use Rattle.exchange.specs.Heads.{is_bare, may_stay, is_final, answer_of}
 use Rattle.exchange.specs.Maps.{put_response, answer_map}
 use Rattle.exchange.specs.Leaving.{sending, sends, left}
 
--- both connections are closed, since there is nothing more to say on the client's
-abbrev pub cut_off : Exchange → Exchange
-cut_off x = record x { has_ended = true; stays = false }
+-- what the stages of both directions held is dropped
+abbrev pub none_held : Exchange → Hub → Hub
+none_held x hub = record hub { contexts = cleared (cleared hub.contexts x.request) x.response }
+
+-- both connections are closed, since there is nothing more to say on the client's; no stage is left
+abbrev pub cut_off : Exchange → Hub → Exchange × Hub
+cut_off x hub = (record x { request = []; response = []; has_ended = true; stays = false }, none_held x hub)
 
 -- the line stays open behind an answer
 abbrev pub stays_open : Exchange → Bool
 stays_open x = may_stay x.asked && not x.closes
 
--- AN ANSWER THAT PASSES NO STAGE ends the exchange. Where a response head went down before, both connections are closed instead. (The status
--- is one of a final response.)
+-- AN ANSWER THAT PASSES NO STAGE ends the exchange, and no stage is left. Where a response head went down before, both connections are
+-- closed instead. (The status is one of a final response.)
 abbrev pub directly : ℕ → ℕ → List Pair → List ℕ → Exchange → Hub → Exchange × Hub
 directly n status fields body x hub =
-    if x.is_head_out || not (is_final status) then (cut_off x, hub)
+    if x.is_head_out || not (is_final status) then cut_off x hub
     else (
-      record x { is_head_out = true; has_ended = true; stays = stays_open x },
-      sends (sending n Down (local_reply_of status fields body x.asked.is_head (not (stays_open x)) hub.moment)) hub,
+      record x { request = []; response = []; is_head_out = true; has_ended = true; stays = stays_open x },
+      sends (sending n Down (local_reply_of status fields body x.asked.is_head (not (stays_open x)) hub.moment)) (none_held x hub),
     )
 
 -- ---- what comes of passing items on in the chain of the response

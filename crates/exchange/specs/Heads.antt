@@ -125,7 +125,7 @@ is_204 None = false
 is_204 (Some status) = status == 204
 
 -- A RESPONSE ON ITS WAY DOWN is framed by the method that the client sent and the status that goes out, so that no filter puts the
--- client's line out of step. Where those allow no body, none is written, and the length that was told may stand. Where they do, but the
+-- client's line out of step. Where those allow no body, its head may still tell a length: that which was told. Where they do, but the
 -- response that was received had none whatever its length says, its body is empty. Else the framing is that of the response as it was
 -- received, but a body that a filter may change has chunks.
 abbrev pub down_framing : (filtered : Bool) → Request → Response → (out : Option ℕ) → Framing
@@ -134,6 +134,11 @@ down_framing filtered q r out =
     then (if (is_bare r.length || not filtered) && not (is_204 r.status || is_204 out) then told_framing r.told else no_body)
     else if lacks_body r.to_head r.status then by_length 0
     else framing_of (is_bare r.length) filtered q.old_client r.status r.told (length_of r.length)
+
+-- THE BYTES OF ITS BODY, and its trailers, are written by the framing that its head tells; but where that method and that status allow no
+-- body, nothing of one is written, whatever comes from the server.
+abbrev pub body_framing : Request → (out : Option ℕ) → Framing → Framing
+body_framing q out framing = if lacks_body q.is_head out then no_body else framing
 
 -- ---- persistence (RFC 9112, section 9.3)
 

@@ -1,6 +1,5 @@
 -- What leaves the chains of an exchange, and what is sent then.
 use Rattle.std.specs.Prelude.{ℕ, Bool, true, false, not, ◌&&◌, List, [], ◌∷◌, ◌++◌, Option, None, Some, nat_le, if◌then◌else◌}
-use Rattle.filter_chain.specs.declared.stage.Stage.{Stage}
 use Rattle.filter_chain.specs.declared.item.Item.{Item}
 use Rattle.filter_chain.specs.declared.item.Item.TheVariants.{Head, Piece, Trailers}
 use Rattle.gate_io.specs.declared.event.Sent.{Sent}
@@ -11,7 +10,7 @@ use Rattle.http1_model.specs.Framing.{Framing, head_wire, piece_wire, trailer_wi
 use Rattle.http1_model.specs.Unread.{new_reading}
 use Rattle.exchange.specs.declared.types.Exchange.{Exchange}
 use Rattle.exchange.specs.declared.types.Hub.{Hub}
-use Rattle.exchange.specs.Heads.{sent_head, up_tail, down_tail, up_framing, down_framing, asked_by, is_head, status_in, is_by_close, may_stay}
+use Rattle.exchange.specs.Heads.{sent_head, up_tail, down_tail, up_framing, down_framing, body_framing, asked_by, is_head, status_in, is_by_close, may_stay}
 use Rattle.exchange.specs.Maps.{request_map, response_map, request_trailers, response_trailers}
 
 -- bytes for a side, if there are any
@@ -39,9 +38,13 @@ up n Trailers x hub = (x, sends (sending n Up (trailer_wire (goes_up x) (request
 
 -- ---- what leaves the chain of the response goes down
 
--- the framing of the response, once its head went out
+-- the framing that the head of the response tells, once it went out
 abbrev pub out_framing : Exchange → Framing
 out_framing x = down_framing x.filters_responses x.asked x.told x.out
+
+-- that by which its body is written
+abbrev pub written_framing : Exchange → Framing
+written_framing x = body_framing x.asked x.out (out_framing x)
 
 -- the line stays open behind it
 abbrev pub stays_behind : Exchange → Framing → Bool
@@ -60,8 +63,8 @@ head_down n end x hub = (
 
 abbrev pub down : ℕ → Item → Exchange → Hub → Exchange × Hub
 down n (Head end) x hub = head_down n end (with_out (status_in (response_map x.place hub.contexts)) x) hub
-down n (Piece bytes end) x hub = (record x { has_ended = end }, sends (sending n Down (piece_wire (out_framing x) bytes end)) hub)
-down n Trailers x hub = (record x { has_ended = true }, sends (sending n Down (trailer_wire (out_framing x) (response_trailers x.place hub.contexts).pairs)) hub)
+down n (Piece bytes end) x hub = (record x { has_ended = end }, sends (sending n Down (piece_wire (written_framing x) bytes end)) hub)
+down n Trailers x hub = (record x { has_ended = true }, sends (sending n Down (trailer_wire (written_framing x) (response_trailers x.place hub.contexts).pairs)) hub)
 
 -- ---- one item after another, unless the exchange has ended
 

@@ -3,3 +3,5 @@ pub mod Maps
 pub mod Leaving
 pub mod Answering
 pub mod Passing
+pub mod Laws
+pub mod Examples

@@ -38,9 +38,14 @@ put_went response n x hub (p, stages) = passed_on response n p (with_chain respo
 
 -- ---- on an exchange that has not ended
 
--- AN ITEM COMES to a chain
+-- Nothing comes to a chain any more: the exchange has ended, or the chain is that of the request, and it was answered. The stages of the
+-- request are gone then, so an item would go up past all filters.
+abbrev pub takes_nothing : Bool → Exchange → Bool
+takes_nothing response x = x.has_ended || (not response && x.is_answered)
+
+-- AN ITEM COMES to a chain. (One item may be too much, and is answered; those behind it are dropped.)
 abbrev pub puts : Bool → ℕ → Item → Exchange × Hub → Exchange × Hub
-puts response n item (x, hub) = if x.has_ended then (x, hub) else put_went response n x hub (put hub.contexts item (chain_of response x))
+puts response n item (x, hub) = if takes_nothing response x then (x, hub) else put_went response n x hub (put hub.contexts item (chain_of response x))
 
 abbrev pub puts_all : Bool → ℕ → List Item → Exchange × Hub → Exchange × Hub
 puts_all response n [] xh = xh
@@ -74,7 +79,7 @@ resumes vm context response n x hub = resumes_at response n (stage_of vm context
 
 -- both connections are closed
 abbrev pub closed : ℕ → Exchange → Hub → Exchange × Hub
-closed n x hub = if x.has_ended then (x, hub) else (cut_off x, hub)
+closed n x hub = if x.has_ended then (x, hub) else cut_off x hub
 
 -- the body callback of a stage has returned
 abbrev pub pauses : Bool → ℕ → Exchange → Hub → Hub

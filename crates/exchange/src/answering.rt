@@ -7,7 +7,7 @@ ghost use Rattle.filter_chain.specs.Chains.{put, reached, cleared};
 ghost use Rattle.exchange.specs.Heads.{answer_of};
 ghost use Rattle.exchange.specs.Maps.{put_response, answer_map};
 ghost use Rattle.exchange.specs.Leaving.{sending, sends, left};
-ghost use Rattle.exchange.specs.Answering.{cut_off, stays_open, directly, passed_down, put_went_down, puts_down, reached_of, answered_by, with_answer, puts_answer, through, shutting, is_direct, answers_open, answer};
+ghost use Rattle.exchange.specs.Answering.{none_held, cut_off, stays_open, directly, passed_down, put_went_down, puts_down, reached_of, answered_by, with_answer, puts_answer, through, shutting, is_direct, answers_open, answer};
 
 use crate::heads::{answer_of, is_bare, is_final, may_stay};
 use crate::leaving::{leave_all, send};
@@ -21,10 +21,20 @@ use header_maps::HeaderList;
 use local_reply::local;
 use std::alloc::Global;
 
-/// Both connections are closed.
-pub(crate) fn cut_off(x: &mut Exchange)
-    ensures { x.new ≡ cut_off x.old }
+/// No stage is left, and what they held is dropped.
+fn drop_stages(alloc: Global, x: &mut Exchange, hub: &mut Hub)
+    ensures exchange { x.new ≡ record x.old { request = []; response = [] } }
+    ensures hub { hub.new ≡ none_held x.old hub.old }
 {
+    x.request.clear(alloc, &mut hub.contexts);
+    x.response.clear(alloc, &mut hub.contexts);
+}
+
+/// Both connections are closed.
+pub(crate) fn cut_off(alloc: Global, x: &mut Exchange, hub: &mut Hub)
+    ensures { cut_off x.old hub.old ≡ (x.new, hub.new) }
+{
+    drop_stages(alloc, x, hub);
     x.has_ended = true;
     x.stays = false;
 }
@@ -36,7 +46,7 @@ fn stays_open(x: &Exchange) -> bool
     may_stay(x.asked) && !x.closes
 }
 
-/// Sends a whole answer.
+/// Sends a whole answer, and no stage is left.
 fn send_answer(
     alloc: Global,
     n: LineNo,
@@ -48,8 +58,8 @@ fn send_answer(
 ) -> Result<(), OutOfMemory>
     requires least { 200 ≤ status }
     requires most { status ≤ 599 }
-    ensures exchange { OnOk result (x.new ≡ record x.old { is_head_out = true; has_ended = true; stays = stays_open x.old }) }
-    ensures hub { OnOk result (hub.new ≡ sends (sending n Down (local_reply_of status fields.now.pairs body.now x.old.asked.is_head (not (stays_open x.old)) hub.old.moment)) hub.old) }
+    ensures exchange { OnOk result (x.new ≡ record x.old { request = []; response = []; is_head_out = true; has_ended = true; stays = stays_open x.old }) }
+    ensures hub { OnOk result (hub.new ≡ sends (sending n Down (local_reply_of status fields.now.pairs body.now x.old.asked.is_head (not (stays_open x.old)) hub.old.moment)) (none_held x.old hub.old)) }
 {
     let stays = stays_open(x);
     let bytes = local(
@@ -62,6 +72,7 @@ fn send_answer(
         hub.moment,
     )?;
     send(hub, n, Side::Down, bytes)?;
+    drop_stages(alloc, x, hub);
     x.is_head_out = true;
     x.has_ended = true;
     x.stays = stays;
@@ -81,7 +92,7 @@ pub(crate) fn answer_directly(
     ensures { OnOk result (directly n status fields.now.pairs body.now x.old hub.old ≡ (x.new, hub.new)) }
 {
     if x.is_head_out || !is_final(status) {
-        cut_off(x);
+        cut_off(alloc, x, hub);
         return Ok(());
     }
     send_answer(alloc, n, status, fields, body, x, hub)

@@ -8,8 +8,8 @@ ghost use Rattle.h1_head.specs.Measures.{seen_length};
 ghost use Rattle.h1_head.specs.Seen.{seen_head};
 ghost use Rattle.h1_stream.specs.Seen.{asked_of};
 ghost use Rattle.h1_write.specs.Seen.{seen_framing};
-ghost use Rattle.exchange.specs.Heads.{length_of, is_bare, is_head, request_of, path_of, route_in, status_in, response_of, up_framing, asked_by, lacks_body, is_204, down_framing, is_by_close, may_stay, is_final, shuts, passes_filters, answer_of, sent_length};
-ghost use Rattle.exchange.specs.Leaving.{out_framing, stays_behind, is_due};
+ghost use Rattle.exchange.specs.Heads.{length_of, is_bare, is_head, request_of, path_of, route_in, status_in, response_of, up_framing, asked_by, lacks_body, is_204, down_framing, body_framing, is_by_close, may_stay, is_final, shuts, passes_filters, answer_of, sent_length};
+ghost use Rattle.exchange.specs.Leaving.{out_framing, written_framing, stays_behind, is_due};
 
 use crate::types::{Exchange, Request, Response};
 use gate_config::Config;
@@ -189,6 +189,17 @@ pub(crate) fn down_framing(filtered: bool, q: Request, r: Response, out: Option<
     framing_of(bare, filtered, q.old_client, r.status, r.told, r.length)
 }
 
+/// The framing by which the body of a response is written whose head tells this one.
+fn body_framing(q: Request, out: Option<u16>, framing: Framing) -> Framing
+    ensures { seen_framing result ≡ body_framing q out (seen_framing framing) }
+{
+    if lacks_body(q.is_head, out) {
+        Framing::Nothing
+    } else {
+        framing
+    }
+}
+
 /// Whether the end of the line ends a response.
 fn is_by_close(framing: Framing) -> bool
     ensures { result ≡ is_by_close (seen_framing framing) }
@@ -206,11 +217,18 @@ pub(crate) fn may_stay(q: Request) -> bool
     !q.old_client && !q.close && q.whole
 }
 
-/// The framing of the response that goes down, once its head went out.
+/// The framing that the head of the response tells, once it went out.
 pub(crate) fn out_framing(x: &Exchange) -> Framing
     ensures { seen_framing result ≡ out_framing x.now }
 {
     down_framing(x.filters_responses, x.asked, x.told, x.out)
+}
+
+/// The framing by which the body of the response is written.
+pub(crate) fn written_framing(x: &Exchange) -> Framing
+    ensures { seen_framing result ≡ written_framing x.now }
+{
+    body_framing(x.asked, x.out, out_framing(x))
 }
 
 /// Whether the line stays open behind a response that is framed so.

@@ -7,9 +7,11 @@ ghost use Rattle.http1_model.specs.Unread.{new_reading};
 ghost use Rattle.h1_write.specs.Seen.{seen_framing};
 ghost use Rattle.exchange.specs.Heads.{asked_by, is_head, status_in, sent_head, up_tail, down_tail};
 ghost use Rattle.exchange.specs.Maps.{request_map, response_map, request_trailers, response_trailers};
-ghost use Rattle.exchange.specs.Leaving.{sending, sends, goes_up, up, out_framing, stays_behind, head_down, down, leaves, left};
+ghost use Rattle.exchange.specs.Leaving.{sending, sends, goes_up, up, out_framing, written_framing, stays_behind, head_down, down, leaves, left};
 
-use crate::heads::{is_head, out_framing, response_kind, status_in, stays_behind, up_framing};
+use crate::heads::{
+    is_head, out_framing, response_kind, status_in, stays_behind, up_framing, written_framing,
+};
 use crate::maps::{request_map, request_trailers, response_map, response_trailers};
 use crate::types::{Exchange, Hub};
 use crate::writing::{request_bytes, response_bytes, trailer_bytes};
@@ -164,11 +166,11 @@ fn head_down(
 
 /// The bytes of the response's trailers.
 fn trailers_down(alloc: Global, x: &Exchange, hub: &Hub) -> Result<Octets, OutOfMemory>
-    ensures { IfOk result (λ bytes. bytes ≡ trailer_wire (out_framing x.now) (response_trailers x.now.place hub.now.contexts).pairs) }
+    ensures { IfOk result (λ bytes. bytes ≡ trailer_wire (written_framing x.now) (response_trailers x.now.place hub.now.contexts).pairs) }
 {
     let none = HeaderList::new(alloc);
     let map = response_trailers(&hub.contexts, x.place, &none);
-    trailer_bytes(alloc, map, out_framing(x))
+    trailer_bytes(alloc, map, written_framing(x))
 }
 
 /// An item leaves the chain of the response.
@@ -187,7 +189,7 @@ fn leave_down(
             head_down(alloc, n, end, x, hub)
         }
         Item::Piece { bytes, end } => {
-            let bytes = piece_bytes(alloc, bytes, end, out_framing(x))?;
+            let bytes = piece_bytes(alloc, bytes, end, written_framing(x))?;
             send(hub, n, Side::Down, bytes)?;
             x.has_ended = end;
             Ok(())

@@ -3,6 +3,7 @@
 
 mod answering;
 mod heads;
+mod laws;
 mod leaving;
 mod maps;
 mod passing;
@@ -11,6 +12,7 @@ mod writing;
 
 pub use answering::answer;
 pub use heads::{is_bare, is_due, is_final, path_route, request_of, response_of};
+pub use laws::{no_body_goes_down, nothing_follows_an_answer, worked_exchanges};
 pub use leaving::send;
 pub use maps::{
     fields_map, mark, pair_count, put_request, put_request_trailers, put_response,

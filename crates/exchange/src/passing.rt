@@ -2,9 +2,8 @@
 ghost use Rattle.std.specs.Prelude.{◌≡◌, true, false, not, [], ◌∷◌, ◌++◌, ◌<◌, length, OnOk, IfOk, ℕ, Some, slice_get, position, ◌==◌, ◌&&◌};
 ghost use Rattle.std.specs.List.{list_any};
 ghost use Rattle.filter_chain.specs.Chains.{put, continued, let_through};
-ghost use Rattle.exchange.specs.declared.types.Hub.{Hub};
 ghost use Rattle.exchange.specs.Answering.{with_held};
-ghost use Rattle.exchange.specs.Passing.{chain_of, with_chain, passed_on, went, put_went, puts, puts_all, goes_on, gives_way, put_in, stage_of, resumes, resumes_at, closed, pauses, acts, has_stage_of, is_there, fails_closed, opens_at, opens, opens_response, opens_all, dies, refused, expires};
+ghost use Rattle.exchange.specs.Passing.{chain_of, with_chain, passed_on, went, put_went, takes_nothing, puts, puts_all, goes_on, gives_way, put_in, stage_of, resumes, resumes_at, closed, pauses, acts, has_stage_of, is_there, fails_closed, opens_at, opens, opens_response, opens_all, dies, refused, expires};
 
 use crate::answering::{answer_fixed, answer_plainly, cut_off, go_down, shut};
 use crate::heads::{is_due, passes_filters, shuts};
@@ -42,6 +41,13 @@ pub fn pass_on(
     }
 }
 
+/// Whether nothing comes to a chain any more.
+fn takes_nothing(response: bool, x: &Exchange) -> bool
+    ensures { result ≡ takes_nothing response x.now }
+{
+    x.has_ended || (!response && x.is_answered)
+}
+
 /// An item comes to a chain.
 fn put_one(
     alloc: Global,
@@ -53,7 +59,7 @@ fn put_one(
 ) -> Result<(), OutOfMemory>
     ensures { OnOk result (puts response n item (x.old, hub.old) ≡ (x.new, hub.new)) }
 {
-    if x.has_ended {
+    if takes_nothing(response, x) {
         return Ok(());
     }
     let passed = if response {
@@ -231,11 +237,11 @@ pub fn resume(
 }
 
 /// Both connections are closed.
-pub fn close(x: &mut Exchange)
-    ensures { (n : ℕ) (hub : Hub) → closed n x.old hub ≡ (x.new, hub) }
+pub fn close(alloc: Global, x: &mut Exchange, hub: &mut Hub)
+    ensures { (n : ℕ) → closed n x.old hub.old ≡ (x.new, hub.new) }
 {
     if !x.has_ended {
-        cut_off(x);
+        cut_off(alloc, x, hub);
     }
 }
 

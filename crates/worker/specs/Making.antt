@@ -1,5 +1,6 @@
 -- A worker that has done nothing.
-use Rattle.std.specs.Prelude.{ℕ, zero, suc, Bool, false, List, [], ◌∷◌, ◌++◌, length, map, None}
+use Rattle.std.specs.Prelude.{ℕ, zero, suc, ◌==◌, Bool, false, ◌&&◌, List, [], ◌∷◌, ◌++◌, length, map, None}
+use Rattle.std.specs.List.{list_any}
 use Rattle.contexts.specs.declared.parts.Contexts.{Contexts}
 use Rattle.contexts.specs.Making.{no_contexts, with_vm, with_plugin}
 use Rattle.course.specs.declared.host.Callback.{Callback}
@@ -38,6 +39,10 @@ first_room config seed = record {
   is_begun = false;
 }
 
+-- whether a plug-in is run by a VM
+abbrev pub runs_on : ℕ → PluginEntry → Bool
+runs_on vm p = p.vm == vm
+
 module _ {H : Type 0} (exported : H → ℕ → Callback → Bool) (registering : H → ℕ → Bool) where
   -- which bodies the plug-ins filter
   abbrev pub bodies_by : H → PluginEntry → Bodies
@@ -46,10 +51,14 @@ module _ {H : Type 0} (exported : H → ℕ → Callback → Bool) (registering 
   abbrev pub bodies_of : H → List PluginEntry → List Bodies
   bodies_of host plugins = map (bodies_by host) plugins
 
-  -- which of the first so many VMs register queues
-  abbrev pub registers_of : H → ℕ → List Bool
-  registers_of host zero = []
-  registers_of host (suc n) = registers_of host n ++ registering host n ∷ []
+  -- whether a VM is told of items: a plug-in names it, without which it never starts, and its module registers queues
+  abbrev pub is_told : List PluginEntry → H → ℕ → Bool
+  is_told plugins host n = list_any (runs_on n) plugins && registering host n
+
+  -- which of the first so many VMs are told of items
+  abbrev pub registers_of : List PluginEntry → H → ℕ → List Bool
+  registers_of plugins host zero = []
+  registers_of plugins host (suc n) = registers_of plugins host n ++ is_told plugins host n ∷ []
 
   abbrev pub setting_of : Config → ℕ → List ℕ → H → Setting
   setting_of config who seed host = record {
@@ -57,7 +66,7 @@ module _ {H : Type 0} (exported : H → ℕ → Callback → Bool) (registering 
     who = who;
     seed = seed;
     bodies = bodies_of host config.plugins;
-    registers = registers_of host (first_vms (length config.vms));
+    registers = registers_of config.plugins host (first_vms (length config.vms));
   }
 
   -- what a worker is made as

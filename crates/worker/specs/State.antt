@@ -6,7 +6,7 @@ use Rattle.worker.specs.declared.types.Bodies.{Bodies}
 use Rattle.worker.specs.Plan.{Plan}
 use Rattle.worker.specs.Steps.{Both}
 
--- what a worker is made with, and what its machines say of themselves: which bodies each plug-in filters, and which VMs register queues
+-- what a worker is made with, and what its machines say of themselves: which bodies each plug-in filters, and which VMs are told of items
 pub record Setting : Type 0 where
   pub config : Config
   pub who : ℕ

@@ -691,9 +691,13 @@ abbrev pub expires_all : Room → Room
 expires_all room =
     if list_any (is_late room.hub.moment) room.lines then with_lines room (all_lines expires room.lines room.hub) else room
 
--- a notice was taken: its root is told, and then the next notice is taken
+-- these come next among the parts of the turn
+abbrev pub behind_rest : List Job → Room → Room
+behind_rest more room = record room { agenda = more ++ room.agenda }
+
+-- A notice was taken: its root is told. Once all that comes of it is at rest, ends among it, the next notice is taken.
 abbrev pub noticed : ℕ → ℕ → Reply → Room → Room
-noticed vm left (replies.Owed root queue) room = in_front (jobs.Ready vm root queue ∷ jobs.Notice vm (left - 1) ∷ []) room
+noticed vm left (replies.Owed root queue) room = in_front (jobs.Ready vm root queue ∷ []) (behind_rest (jobs.Notice vm (left - 1) ∷ []) room)
 noticed vm left replies.Absent room = room
 noticed vm left (replies.Value value number) room = room
 noticed vm left (replies.Done number) room = room

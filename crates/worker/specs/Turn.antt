@@ -75,7 +75,7 @@ ticks_due room = ticks_of room.hub.moment (vms_in room) room.hub.contexts
 abbrev pub deadlines : Plan → List Job
 deadlines plan = if plan.deadline == 0 then [] else jobs.Expire ∷ []
 
--- each VM that registers queues is told of their items, of 16 at most
+-- each VM that is told of items, of 16 at most: a plug-in names it, and its module registers queues
 abbrev pub registers_at : Option Bool → Bool
 registers_at None = false
 registers_at (Some registers) = registers

@@ -70,7 +70,7 @@ abbrev pub with_lines : Option ℕ → List Line → Option ℕ
 with_lines due [] = due
 with_lines due (line ∷ lines) = with_lines (earlier due (due_on line.exchange)) lines
 
--- a VM that registers queues, and is not dead, looks for notices each 50 milliseconds
+-- a VM that is told of items, and is not dead, looks for notices each 50 milliseconds
 abbrev pub looks_one : Plan → Room → ℕ → Bool
 looks_one plan room n = registers_at (slice_get plan.registers n) && not (is_dead n room)
 

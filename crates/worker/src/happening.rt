@@ -1,10 +1,11 @@
 // What happens, and lines that come and go.
-ghost use Rattle.std.specs.Prelude.{◌≡◌, [], ◌∷◌, ◌++◌, OnOk, IfOk, option_copied, Some, None};
+ghost use Rattle.std.specs.Prelude.{◌≡◌, ◌-◌, [], ◌∷◌, ◌++◌, OnOk, IfOk, option_copied, Some, None};
 ghost use Rattle.gate_io.specs.declared.event.Side.TheVariants.{Down};
+ghost use Rattle.worker.specs.declared.types.Job.TheVariants as job;
 ghost use Rattle.worker.specs.Changes.{changed};
 ghost use Rattle.worker.specs.Fate.{fate_of};
 ghost use Rattle.worker.specs.Rooms.{sending, on_number};
-ghost use Rattle.worker.specs.Steps.{drops_line, closes_line, reads_side, line_ends, fixed_answer, refusal_sent, refuses_in, refuses_line, opens, comes, comes_on, is_answered_in, is_read_in, loses_down, is_missed, loses_up, lost, happens, expires_all, line_in, exchange_of_line, exchange_on, noticed, in_front};
+ghost use Rattle.worker.specs.Steps.{drops_line, closes_line, reads_side, line_ends, fixed_answer, refusal_sent, refuses_in, refuses_line, opens, comes, comes_on, is_answered_in, is_read_in, loses_down, is_missed, loses_up, lost, happens, expires_all, line_in, exchange_of_line, exchange_on, noticed, in_front, behind_rest};
 
 use crate::room::Room;
 use crate::sides::{exchange_of, is_open};
@@ -299,6 +300,18 @@ impl Room {
         self.lines.expire(alloc, &mut self.hub)
     }
 
+    /// The next notice is taken once all is at rest.
+    fn put_notice(&mut self, alloc: Global, vm: VmNo, left: u8) -> Result<(), OutOfMemory>
+        ensures { OnOk result (self.new ≡ behind_rest (job.Notice vm (left - 1) ∷ []) self.old) }
+    {
+        let mut jobs = Queue::new(alloc);
+        jobs.push(Job::Notice {
+            vm,
+            left: left.saturating_sub(1),
+        })?;
+        self.put_behind_rest(alloc, jobs)
+    }
+
     /// A notice was taken, or there is none.
     pub(crate) fn notice(
         &mut self,
@@ -311,12 +324,9 @@ impl Room {
     {
         match reply {
             Reply::Owed { root, queue } => {
+                self.put_notice(alloc, vm, left)?;
                 let mut jobs = Queue::new(alloc);
                 jobs.push(Job::Ready { vm, root, queue })?;
-                jobs.push(Job::Notice {
-                    vm,
-                    left: left.saturating_sub(1),
-                })?;
                 self.put_in_front(alloc, jobs)
             }
             _ => Ok(()),

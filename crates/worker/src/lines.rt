@@ -114,7 +114,7 @@ fn change(
             response,
         } => resume(alloc, vm, context, response, n, x, hub),
         Change::Close => {
-            close(x);
+            close(alloc, x, hub);
             Ok(())
         }
         Change::Answer {

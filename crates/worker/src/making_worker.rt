@@ -1,6 +1,7 @@
 // A worker that has done nothing.
+ghost use Rattle.std.specs.List.{list_any};
 ghost use Rattle.std.specs.Prelude.{◌≡◌, ◌≤◌, [], ◌++◌, map, length, IfOk, OnOk};
-ghost use Rattle.worker.specs.Making.{with_vms, with_plugins, contexts_of, first_room, bodies_by, bodies_of, registers_of};
+ghost use Rattle.worker.specs.Making.{with_vms, with_plugins, contexts_of, first_room, bodies_by, bodies_of, runs_on, is_told, registers_of};
 ghost use Rattle.worker.specs.Turn.{first_vms};
 
 use crate::agenda::vm_of;
@@ -10,7 +11,7 @@ use crate::types::Bodies;
 use contexts::{Configuration, Contexts, ShortName};
 use course::{Callback, Host};
 use exchange::Hub;
-use gate_base::OutOfMemory;
+use gate_base::{OutOfMemory, VmNo};
 use gate_config::{Config, PluginEntry, VmEntry};
 use queue::Queue;
 use std::alloc::{AllocError, Global};
@@ -40,18 +41,40 @@ pub(crate) fn bodies_of<H: Host>(
     Ok(bodies)
 }
 
-/// Which VMs register queues, of so many.
+/// Whether a plug-in is run by a VM.
+fn runs_on(vm: VmNo, p: &PluginEntry) -> bool
+    ensures { result ≡ runs_on vm p.now }
+{
+    p.vm == vm
+}
+
+/// Whether a plug-in names a VM.
+fn is_named(vm: VmNo, plugins: &[PluginEntry]) -> bool
+    ensures { result ≡ list_any (runs_on vm) plugins.now }
+{
+    plugins.iter().any(|p| runs_on(vm, p))
+}
+
+/// Whether a VM is told of the items of its queues.
+fn is_told<H: Host>(host: &H, plugins: &[PluginEntry], vm: VmNo) -> bool
+    ensures { result ≡ is_told H.exported H.registering plugins.now host.now vm }
+{
+    is_named(vm, plugins) && host.registers(vm)
+}
+
+/// Which VMs are told of the items of their queues, of so many.
 pub(crate) fn registers_of<H: Host>(
     alloc: Global,
     host: &H,
+    plugins: &[PluginEntry],
     vms: usize,
 ) -> Result<Queue<bool>, OutOfMemory>
-    ensures { IfOk result (λ registers. registers ≡ registers_of H.exported H.registering host.now (first_vms vms)) }
+    ensures { IfOk result (λ registers. registers ≡ registers_of H.exported H.registering plugins.now host.now (first_vms vms)) }
 {
     let count = if vms <= 16 { vms as u8 } else { 16 };
     let mut registers = Queue::new(alloc);
     for n in 0..count {
-        registers.push(host.registers(vm_of(n)))?;
+        registers.push(is_told(host, plugins, vm_of(n)))?;
     }
     Ok(registers)
 }

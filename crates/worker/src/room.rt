@@ -7,7 +7,7 @@ ghost use Rattle.exchange.specs.Leaving.{sends};
 ghost use Rattle.gate_io.specs.declared.event.Side.TheVariants.{Up};
 ghost use Rattle.worker.specs.Changes.{changed};
 ghost use Rattle.worker.specs.Rooms.{next_of, next_part, is_dead, is_released, on_number, on_context, with_contexts, sending, is_own, does, effects_of, without_effects, trap_word, death_word, death_text, died, behind, valued, answered_with};
-ghost use Rattle.worker.specs.Steps.{in_front, unless_zero, is_zero, action_of, has_vm, waits, last_jobs, done_with, deletes, acts_on, done_jobs, close_up, ends_exchange, ends_at, first_begun, frees, frees_at, nothing_more};
+ghost use Rattle.worker.specs.Steps.{in_front, unless_zero, is_zero, action_of, has_vm, waits, last_jobs, done_with, deletes, acts_on, done_jobs, close_up, ends_exchange, ends_at, first_begun, frees, frees_at, nothing_more, behind_rest};
 
 use crate::lines::Lines;
 use crate::types::{Asked, Change, ContextAt, Job, Next, Own, Reads};
@@ -402,6 +402,20 @@ impl Room {
         let mut jobs = more;
         jobs.append(std::mem::replace(&mut self.jobs, Queue::new(alloc)))?;
         self.jobs = jobs;
+        Ok(())
+    }
+
+    /// These jobs are the next parts of the turn.
+    pub(crate) fn put_behind_rest(
+        &mut self,
+        alloc: Global,
+        more: Queue<Job>,
+    ) -> Result<(), OutOfMemory>
+        ensures { OnOk result (self.new ≡ behind_rest more self.old) }
+    {
+        let mut agenda = more;
+        agenda.append(std::mem::replace(&mut self.agenda, Queue::new(alloc)))?;
+        self.agenda = agenda;
         Ok(())
     }
 

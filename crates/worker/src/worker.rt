@@ -78,7 +78,7 @@ impl<H: Host + Drop> Worker<H> {
         ensures { IfOk result (λ worker. worker ≡ new_worker H.exported H.registering config who seed host) }
     {
         let bodies = bodies_of(alloc, &host, config.plugins.as_slice())?;
-        let registers = registers_of(alloc, &host, config.vms.len())?;
+        let registers = registers_of(alloc, &host, config.plugins.as_slice(), config.vms.len())?;
         let room = first_room(alloc, &config, seed)?;
         let rules = Rules {
             config,

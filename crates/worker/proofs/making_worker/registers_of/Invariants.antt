@@ -3,4 +3,4 @@ use Rattle.worker.specs.Making.{registers_of}
 use Rattle.worker.proofs.making_worker.registers_of.Given as goal
 
 abbrev pub invariant-loop-n : goal.invariant-loop-n
-invariant-loop-n g l = l.registers ≡ registers_of g.H.Host.exported g.H.Host.registering l.host l.n
+invariant-loop-n g l = l.registers ≡ registers_of g.H.Host.exported g.H.Host.registering l.plugins l.host l.n
