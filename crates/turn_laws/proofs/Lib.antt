@@ -1,0 +1,9 @@
+pub mod General
+pub mod Following
+pub mod Order
+pub mod Effects
+pub mod Answer
+pub mod Death
+pub mod Parts
+pub mod Passage
+pub mod Waiting

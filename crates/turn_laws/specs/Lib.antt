@@ -1,0 +1,10 @@
+pub mod Laws
+pub mod Tables
+pub mod Scenes
+pub mod Order
+pub mod Effects
+pub mod Answer
+pub mod Death
+pub mod Parts
+pub mod Passage
+pub mod Waiting

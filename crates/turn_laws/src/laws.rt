@@ -1,0 +1,55 @@
+// What holds of turns, whatever the machines. The functions have nothing to do: their contracts are the laws.
+ghost use Rattle.turn_laws.specs.Laws.{TurnsAreFunctionsOver, MoreStepsChangeNothingOver};
+ghost use Rattle.turn_laws.specs.Order.{StepExamples};
+ghost use Rattle.turn_laws.specs.Effects.{EffectExamples};
+ghost use Rattle.turn_laws.specs.Answer.{AnswerExample};
+ghost use Rattle.turn_laws.specs.Death.{DeathExample};
+ghost use Rattle.turn_laws.specs.Parts.{PartsExample};
+ghost use Rattle.turn_laws.specs.Passage.{PassageExample};
+ghost use Rattle.turn_laws.specs.Waiting.{WaitingExample};
+
+/// Whatever the machines are, a turn is a function of what the shared stores reply.
+pub fn turn_is_function_over<H>()
+    ensures { TurnsAreFunctionsOver H }
+{}
+
+/// Whatever the machines are, where so many steps come to rest, more of them change nothing.
+pub fn more_steps_change_nothing_over<H>()
+    ensures { MoreStepsChangeNothingOver H }
+{}
+
+/// What comes first where several things are to be done.
+pub fn steps_in_order()
+    ensures { StepExamples }
+{}
+
+/// A callback's effects come in the order of its calls: a response head that goes on and then a local response, and the two the other way
+/// round.
+pub fn worked_effects()
+    ensures { EffectExamples }
+{}
+
+/// A filter answers a request: the answer passes the filters that were reached.
+pub fn worked_answer()
+    ensures { AnswerExample }
+{}
+
+/// A VM dies in a tick: one plug-in of it lets messages pass then, another does not.
+pub fn worked_death()
+    ensures { DeathExample }
+{}
+
+/// A tick, a deadline and a notice fall due at one event.
+pub fn worked_order()
+    ensures { PartsExample }
+{}
+
+/// A request is held by a filter, goes on by a tick, and is responded to: three turns, one behind the other.
+pub fn worked_passage()
+    ensures { PassageExample }
+{}
+
+/// A context that answers 0 to `done` is told of its end once it waits no longer, and a callback asks the shared store.
+pub fn worked_waiting()
+    ensures { WaitingExample }
+{}

@@ -1,0 +1,9 @@
+//! Laws of turns over any machines, and worked turns with filters.
+#![tactic(auto)]
+
+mod laws;
+
+pub use laws::{
+    more_steps_change_nothing_over, steps_in_order, turn_is_function_over, worked_answer,
+    worked_death, worked_effects, worked_order, worked_passage, worked_waiting,
+};
