@@ -13,7 +13,7 @@ use replay_script::Command;
 use script_play::{PlayEnd, play};
 use std::alloc::Global;
 
-/// Plays the lines of a script from no open line on, over worker 1 of a configuration that holds its modules, and writes what they send.
+/// Plays the lines of a script from no open line on, over the workers of a configuration that holds its modules, and writes what they send.
 #[tactic(auto, unfolding(crate::specs::Filtered::filtered))]
 pub fn play_filtered<O: Sink>(
     alloc: Global,
@@ -21,7 +21,7 @@ pub fn play_filtered<O: Sink>(
     commands: Vec<Command>,
     out: &mut O,
 ) -> Result<(), PlayEnd>
-    requires lines { AreLines at_start commands.items }
+    requires lines { AreLines (at_start config.workers) commands.items }
     requires filters { All HasFilter config.vms }
     ensures done { OnOk result (Prints (filtered config) commands.items (O.taken out.old) (O.taken out.new)) }
     ensures out_fault { result ≡ Err PlayEnd.OutFault → PrintsFront (filtered config) commands.items (O.taken out.old) (O.taken out.new) }

@@ -1,3 +1,4 @@
+mod Crews
 mod Spaces
 mod LineEnds
 mod Texts

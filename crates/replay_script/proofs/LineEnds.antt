@@ -6,9 +6,9 @@ use Rattle.std.proofs.lemmas.Fmt.{decimal_is_IsNumeral}
 use Rattle.hex.specs.Hex.{encode_with, encode_lower, lower_digits, hex_digit_value, IsBytes}
 use Rattle.hex.proofs.HexLemmas.{IsDigits-lower_digits}
 use Rattle.replay_script.specs.declared.command.Command.{Command}
-use Rattle.replay_script.specs.declared.command.Command.TheVariants.{At, Open, Bytes, End, Gone, Joined, Refused, UpBytes, UpEnd, UpGone, Clock, Stop}
+use Rattle.replay_script.specs.declared.command.Command.TheVariants.{On, At, Open, Bytes, End, Gone, Joined, Refused, UpBytes, UpEnd, UpGone, Clock, Stop}
 use Rattle.replay_script.specs.Commands.{IsFree, IsLine, IsPiece, IsInForm, text_of}
-use Rattle.replay_script.proofs.Spaces.{line_fits}
+use Rattle.replay_script.proofs.Spaces.{line_fits, worker_fits}
 
 -- a byte that stands in neither part stands in neither of both
 free_of_both : (b : ℕ) (xs ys : List ℕ) → IsFree b xs → IsFree b ys → IsFree b (xs ++ ys)
@@ -62,6 +62,7 @@ with_bytes word n bytes test line piece =
 
 -- the text of a command has no LF
 pub text_has_no_end : (c : Command) → IsInForm c → IsFree 10 (text_of c)
+text_has_no_end (On worker) form = numbered (codes "on ") worker refl (worker_fits worker form)
 text_has_no_end (At moment) form = numbered (codes "at ") moment refl form
 text_has_no_end (Open line) form = numbered (codes "open ") line refl (line_fits line form)
 text_has_no_end (Bytes line bytes) form = with_bytes (codes "bytes ") line bytes refl form.0 form.1

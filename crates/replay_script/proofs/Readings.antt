@@ -1,9 +1,9 @@
 -- A text is one script at most, or has one first line of no form.
-use Rattle.std.proofs.Common.{◌≡◌, ◌⊎◌, inl, inr, ℕ, ◌+◌, ◌≤◌, ◌<◌, Bool, false, List, [], ◌∷◌, ◌++◌, length, refl, ap, sym, ◌∙◌, subst, append_assoc, arith, length-append}
+use Rattle.std.proofs.Common.{◌≡◌, ◌⊎◌, inl, inr, ℕ, ◌+◌, ◌≤◌, ◌<◌, false, List, [], ◌∷◌, ◌++◌, length, refl, ap, sym, ◌∙◌, subst, append_assoc, arith, length-append}
 use Rattle.std.proofs.lemmas.List.{append-nil}
 use Rattle.replay_script.specs.declared.command.Command.{Command}
 use Rattle.replay_script.specs.Commands.{IsFree, IsInForm, Spells, text_of}
-use Rattle.replay_script.specs.Scripts.{script_text, Standing, at_start, behind, behind_all, moment_behind, ComesNext, AreLines, IsScript, FirstBad}
+use Rattle.replay_script.specs.Scripts.{script_text, Standing, at_start, behind, behind_all, moment_behind, worker_behind, ComesNext, AreLines, IsScript, FirstBad}
 use Rattle.replay_script.proofs.Spaces.{split_alone, has_no_such}
 use Rattle.replay_script.proofs.LineEnds.{text_has_no_end}
 use Rattle.replay_script.proofs.Texts.{text_alone}
@@ -24,15 +24,21 @@ pub behind_more : (s : Standing) (cs : List Command) (c : Command) → behind_al
 behind_more s [] c = refl
 behind_more s (d ∷ cs) c = behind_more (behind s d) cs c
 
--- a line that sets an earlier moment may not come next
-pub falls : (s : Standing) (now : ℕ) (stopped : Bool) (c : Command) → s ≡ record { now = now; stopped = stopped } → moment_behind now c < now → ComesNext s c → ⊥
-falls s now stopped c same low next =
-    let rises : now ≤ moment_behind now c = (subst (λ (t : Standing). ComesNext t c) same next).rises in
+-- a line that sets an earlier moment, or a worker that is not there, may not come next
+pub falls : (s : Standing) (now : ℕ) (c : Command) → s.now ≡ now → moment_behind now c < now → ComesNext s c → ⊥
+falls s now c same low next =
+    let rises : now ≤ moment_behind now c = subst (λ (m : ℕ). m ≤ moment_behind m c) same next.rises in
     omega (arith, low, rises)
 
--- a line that sets no earlier moment may come next, where no `stop` was there
-pub rises : (s : Standing) (now : ℕ) (c : Command) → s ≡ record { now = now; stopped = false } → now ≤ moment_behind now c → IsInForm c → ComesNext s c
-rises s now c same low form = subst (λ (t : Standing). ComesNext t c) (sym same) (record { in_form = form; rises = low; goes_on = refl })
+pub strays : (s : Standing) (who workers : ℕ) (c : Command) → s.who ≡ who → s.workers ≡ workers → workers < worker_behind who c → ComesNext s c → ⊥
+strays s who workers c same all high next =
+    let there : worker_behind who c ≤ s.workers = subst (λ (w : ℕ). worker_behind w c ≤ s.workers) same next.there in
+    omega (arith, high, there, all)
+
+-- any other may, where no `stop` was there
+pub rises : (s : Standing) (now who workers : ℕ) (c : Command) → s ≡ record { now = now; who = who; stopped = false; workers = workers } → now ≤ moment_behind now c
+    → worker_behind who c ≤ workers → IsInForm c → ComesNext s c
+rises s now who workers c same low there form = subst (λ (t : Standing). ComesNext t c) (sym same) (record { in_form = form; rises = low; there = there; goes_on = refl })
 
 -- no line is nothing
 no_line : (xs ys : List ℕ) → [] ≡ xs ++ (10 ∷ ys) → ⊥
@@ -89,25 +95,25 @@ fronts at (c ∷ f) (d ∷ g) r s F G e =
     ]
 
 -- a text is one script at most
-pub one_script : (text : List ℕ) (a b : List Command) → IsScript text a → IsScript text b → a ≡ b
-one_script text a b A B =
-    elim (fronts at_start a b [] [] A.lines B.lines (append-nil (script_text a) ∙ sym A.is ∙ B.is ∙ sym (append-nil (script_text b)))) [
+pub one_script : (workers : ℕ) (text : List ℕ) (a b : List Command) → IsScript workers text a → IsScript workers text b → a ≡ b
+one_script workers text a b A B =
+    elim (fronts (at_start workers) a b [] [] A.lines B.lines (append-nil (script_text a) ∙ sym A.is ∙ B.is ∙ sym (append-nil (script_text b)))) [
       | inl both ↦ both.0
       | inr one ↦ elim one [ inl x ↦ absurd (no_line _ _ x.spelled) | inr y ↦ absurd (no_line _ _ y.spelled) ]
     ]
 
 -- no script has a first line of no form
-pub script_or_bad : (text : List ℕ) (a : List Command) (n : ℕ) → IsScript text a → FirstBad text n → ⊥
-script_or_bad text a n A B =
-    elim (fronts at_start a B.front [] B.rest A.lines B.lines (append-nil (script_text a) ∙ sym A.is ∙ B.is)) [
+pub script_or_bad : (workers : ℕ) (text : List ℕ) (a : List Command) (n : ℕ) → IsScript workers text a → FirstBad workers text n → ⊥
+script_or_bad workers text a n A B =
+    elim (fronts (at_start workers) a B.front [] B.rest A.lines B.lines (append-nil (script_text a) ∙ sym A.is ∙ B.is)) [
       | inl both ↦ B.some (sym both.1)
       | inr one ↦ elim one [ inl x ↦ B.bad x.line _ x.next x.spelled | inr y ↦ no_line _ _ y.spelled ]
     ]
 
 -- there is one first line of no form at most
-pub one_first_bad : (text : List ℕ) (m n : ℕ) → FirstBad text m → FirstBad text n → m ≡ n
-one_first_bad text m n A B =
-    elim (fronts at_start A.front B.front A.rest B.rest A.lines B.lines (sym A.is ∙ B.is)) [
+pub one_first_bad : (workers : ℕ) (text : List ℕ) (m n : ℕ) → FirstBad workers text m → FirstBad workers text n → m ≡ n
+one_first_bad workers text m n A B =
+    elim (fronts (at_start workers) A.front B.front A.rest B.rest A.lines B.lines (sym A.is ∙ B.is)) [
       | inl both ↦ A.number_is ∙ ap (λ (cs : List Command). length cs + 1) both.0 ∙ sym B.number_is
       | inr one ↦ elim one [ inl x ↦ absurd (B.bad x.line _ x.next x.spelled) | inr y ↦ absurd (A.bad y.line _ y.next y.spelled) ]
     ]

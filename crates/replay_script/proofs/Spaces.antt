@@ -10,7 +10,7 @@ use Rattle.hex.specs.Hex.{decode_of, encode_lower}
 use Rattle.hex.specs.declared.error.FromHexError.{FromHexError}
 use Rattle.hex.specs.declared.error.FromHexError.TheVariants.{OutOfMemory}
 use Rattle.hex.proofs.HexLemmas.{decode_of-encode_lower}
-use Rattle.replay_script.specs.Commands.{IsFree, IsLine, IsPiece}
+use Rattle.replay_script.specs.Commands.{IsFree, IsLine, IsPiece, IsWorker}
 
 -- one more byte that is another
 pub free_and : (b : ℕ) (xs : List ℕ) (x : ℕ) → IsFree b xs → x ≢ b → IsFree b (xs ++ (x ∷ []))
@@ -28,6 +28,12 @@ parts_are b text at low here =
 pub line_fits : (n : ℕ) → IsLine n → n < 2 ^ 64
 line_fits n line = omega (arith, line.high)
 
+pub worker_fits : (n : ℕ) → IsWorker n → n < 2 ^ 64
+worker_fits n worker = omega (arith, worker.high)
+
+pub worker_is_byte : (n : ℕ) → IsWorker n → n < 2 ^ 8
+worker_is_byte n worker = omega (arith, worker.high)
+
 -- a number in decimal is text
 pub decimal_is_text : (n : ℕ) (word : List ℕ) → n < 2 ^ 64 → word ≡ decimal n → IsUtf8 word
 decimal_is_text n word low e = subst (λ (bs : List ℕ). IsUtf8 bs) (sym e) (IsUtf8-from_ascii (decimal n) (IsAscii-decimal n low))
@@ -40,6 +46,11 @@ decimal_is_read k n word r small low e parses = parse-decimal k n word r small l
 pub line_is_kept : (r : Option ℕ) (m n : ℕ) → IsLine n → m ≡ n → (1 ≤ m → IsSome r) → IfSome r (λ l. l ≡ m) → r ≡ Some n
 line_is_kept None m n line same there value = let no : false ≡ true = there (omega (arith, line.low)) in cc
 line_is_kept (Some l) m n line same there value = ap Some (value ∙ same)
+
+pub worker_is_kept : (r : Option ℕ) (m n : ℕ) → IsWorker n → m ≡ n → ((1 ≤ m) × (m ≤ 8) → IsSome r) → IfSome r (λ w. w ≡ m) → r ≡ Some n
+worker_is_kept None m n worker same there value =
+    let no : false ≡ true = there (omega (arith, worker.low), omega (arith, worker.high)) in cc
+worker_is_kept (Some w) m n worker same there value = ap Some (value ∙ same)
 
 -- digits have no space
 pub digits_are_free : (ds : List ℕ) → AllDigits 10 ds → IsFree 32 ds

@@ -7,9 +7,9 @@ use Rattle.std.proofs.lemmas.Fmt.{decimal_is_IsNumeral}
 use Rattle.hex.specs.Hex.{encode_lower, decode_of}
 use Rattle.hex.proofs.HexLemmas.{decode_of-encode_lower}
 use Rattle.replay_script.specs.declared.command.Command.{Command}
-use Rattle.replay_script.specs.declared.command.Command.TheVariants.{At, Open, Bytes, End, Gone, Joined, Refused, UpBytes, UpEnd, UpGone, Clock, Stop}
+use Rattle.replay_script.specs.declared.command.Command.TheVariants.{On, At, Open, Bytes, End, Gone, Joined, Refused, UpBytes, UpEnd, UpGone, Clock, Stop}
 use Rattle.replay_script.specs.Commands.{IsFree, IsLine, IsPiece, IsInForm, text_of}
-use Rattle.replay_script.proofs.Spaces.{decimal_is_free, line_fits}
+use Rattle.replay_script.proofs.Spaces.{decimal_is_free, line_fits, worker_fits}
 
 -- the text begins with this word
 abbrev begins : List ℕ → List ℕ → Bool
@@ -40,6 +40,7 @@ bytes_in text = ok_bytes (decode_of (after text))
 abbrev read_text : List ℕ → Command
 read_text text =
     if begins (codes "at ") text then At (number_in (drop 3 text))
+    else if begins (codes "on ") text then On (number_in (drop 3 text))
     else if begins (codes "open ") text then Open (number_in (drop 5 text))
     else if begins (codes "bytes ") text then Bytes (number_in (drop 6 text)) (bytes_in (drop 6 text))
     else if begins (codes "end ") text then End (number_in (drop 4 text))
@@ -90,6 +91,7 @@ bytes_back n bytes line piece =
 
 -- a command is read back
 pub read_back : (c : Command) → IsInForm c → read_text (text_of c) ≡ c
+read_back (On worker) form = ap On (number_back worker (worker_fits worker form))
 read_back (At moment) form = ap At (number_back moment form)
 read_back (Open line) form = ap Open (line_back line form)
 read_back (Bytes line bytes) form =

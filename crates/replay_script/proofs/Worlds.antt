@@ -15,7 +15,7 @@ use Rattle.gate_io.specs.Passing.{happened, received}
 use Rattle.gate_io.specs.Reads.{happened-append, received-append}
 use Rattle.gate_io.specs.Scripts.{first_of, gives_its_events}
 use Rattle.replay_script.specs.declared.command.Command.{Command}
-use Rattle.replay_script.specs.declared.command.Command.TheVariants.{At}
+use Rattle.replay_script.specs.declared.command.Command.TheVariants.{On, At}
 use Rattle.replay_script.specs.declared.command.Command.TheVariants.{Stop as StopLine}
 use Rattle.replay_script.specs.Scripts.{events_from, events_of, happens, moment_behind}
 use Rattle.replay_script.specs.Commands.{what_of}
@@ -124,6 +124,7 @@ GoesOn None = Unit {0}
 GoesOn (Some what) = is_stop what ≡ false
 
 goes_on : (c : Command) → GoesOn (what_of c)
+goes_on (On worker) = tt
 goes_on (At moment) = tt
 goes_on StopLine = tt
 goes_on c = refl

@@ -5,11 +5,12 @@ use Rattle.gate_io.specs.declared.event.What.{What}
 use Rattle.gate_io.specs.declared.event.What.TheVariants as what
 use Rattle.gate_io.specs.declared.event.Side.TheVariants.{Down, Up}
 use Rattle.replay_script.specs.declared.command.Command.{Command}
-use Rattle.replay_script.specs.declared.command.Command.TheVariants.{At, Open, Bytes, End, Gone, Joined, Refused, UpBytes, UpEnd, UpGone, Clock, Stop}
+use Rattle.replay_script.specs.declared.command.Command.TheVariants.{On, At, Open, Bytes, End, Gone, Joined, Refused, UpBytes, UpEnd, UpGone, Clock, Stop}
 
 -- The text of a line, without the LF at its end: words with one space between two. Numbers are decimal without a
 -- leading zero, bytes are lower-case hexadecimal.
 abbrev pub text_of : Command → List ℕ
+text_of (On worker) = codes "on " ++ decimal worker
 text_of (At moment) = codes "at " ++ decimal moment
 text_of (Open line) = codes "open " ++ decimal line
 text_of (Bytes line bytes) = codes "bytes " ++ (decimal line ++ (32 ∷ encode_lower bytes))
@@ -22,6 +23,11 @@ text_of (UpEnd line) = codes "upend " ++ decimal line
 text_of (UpGone line) = codes "upgone " ++ decimal line
 text_of Clock = codes "clock"
 text_of Stop = codes "stop"
+
+-- a number of a worker
+pub record IsWorker (n : ℕ) : Type 0 where
+  pub low : 1 ≤ n
+  pub high : n ≤ 8
 
 -- a number of a line
 pub record IsLine (n : ℕ) : Type 0 where
@@ -41,6 +47,7 @@ IsFree byte (b ∷ bytes) = (b ≡ byte → ⊥) × IsFree byte bytes
 
 -- the numbers and bytes are within their bounds
 abbrev pub IsInForm : Command → Type 0
+IsInForm (On worker) = IsWorker worker
 IsInForm (At moment) = moment < 2 ^ 64
 IsInForm (Open line) = IsLine line
 IsInForm (Bytes line bytes) = IsLine line × IsPiece bytes
@@ -59,8 +66,9 @@ pub record Spells (line : List ℕ) (command : Command) : Type 0 where
   pub in_form : IsInForm command
   pub text : line ≡ text_of command
 
--- What happens at a line. `at` only sets the moment, and `stop` is the end, at which Stop comes in any case.
+-- What happens at a line. `on` only sets the worker and `at` the moment, and `stop` is the end, at which Stop comes in any case.
 abbrev pub what_of : Command → Option What
+what_of (On worker) = None
 what_of (At moment) = None
 what_of (Open line) = Some (what.Opened line)
 what_of (Bytes line bytes) = Some (what.Bytes line Down bytes)

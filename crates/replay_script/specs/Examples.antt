@@ -7,8 +7,8 @@ use Rattle.gate_io.specs.declared.event.What.{What}
 use Rattle.gate_io.specs.declared.event.What.TheVariants as what
 use Rattle.gate_io.specs.declared.passed.Passed.TheVariants.{Asked, Gave, Took}
 use Rattle.gate_io.specs.declared.passed.Wants.{Wants}
-use Rattle.replay_script.specs.declared.command.Command.TheVariants.{At, Open, Bytes, End, Gone, Joined, Refused, UpBytes, UpEnd, UpGone, Clock, Stop}
-use Rattle.replay_script.specs.Scripts.{events_of, IsScript, FirstBad}
+use Rattle.replay_script.specs.declared.command.Command.TheVariants.{On, At, Open, Bytes, End, Gone, Joined, Refused, UpBytes, UpEnd, UpGone, Clock, Stop}
+use Rattle.replay_script.specs.Scripts.{events_of, workers_of, IsScript, FirstBad}
 use Rattle.replay_script.specs.ScriptWorld.{taken_since, zero_seed}
 
 abbrev moment : ℕ → What → Event
@@ -27,8 +27,11 @@ pub record WorkedScripts : Type 0 where
   pub end : events_of (At 5 ∷ []) ≡ events_of (At 5 ∷ Stop ∷ [])
   pub empty : events_of [] ≡ moment 0 what.Stop ∷ []
   -- a moment may come again, and may not fall
-  pub rising : IsScript (codes "at 5\nclock\nat 5\nstop\n") (At 5 ∷ Clock ∷ At 5 ∷ Stop ∷ [])
-  pub falling : FirstBad (codes "at 5\nclock\nat 4\nstop\n") 3
+  pub rising : IsScript 1 (codes "at 5\nclock\nat 5\nstop\n") (At 5 ∷ Clock ∷ At 5 ∷ Stop ∷ [])
+  pub falling : FirstBad 1 (codes "at 5\nclock\nat 4\nstop\n") 3
+  -- what stands behind `on` happens at its worker, from worker 1 on; a worker that is not there is of no form
+  pub workers : workers_of (Open 1 ∷ On 2 ∷ Open 1 ∷ At 5 ∷ Clock ∷ On 1 ∷ End 1 ∷ []) ≡ 1 ∷ 2 ∷ 2 ∷ 1 ∷ 1 ∷ []
+  pub no_worker : FirstBad 2 (codes "on 2\non 3\nstop\n") 2
   -- what was taken since the last event
   pub kept : taken_since (Asked wants ∷ Gave (moment 0 (what.Opened 1)) ∷ Took (sent.Connect 1) ∷ Asked wants ∷ Gave (moment 0 what.Clock) ∷ Took (sent.Connect 2) ∷ Took (sent.Close 2 Down) ∷ [])
       ≡ sent.Connect 2 ∷ sent.Close 2 Down ∷ []

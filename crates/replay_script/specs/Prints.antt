@@ -1,5 +1,5 @@
 -- What a run sends, as text.
-use Rattle.std.specs.Prelude.{ℕ, List, [], ◌∷◌, ◌++◌, codes, decimal}
+use Rattle.std.specs.Prelude.{ℕ, ◌==◌, map, if◌then◌else◌, List, [], ◌∷◌, ◌++◌, codes, decimal}
 use Rattle.hex.specs.Hex.{encode_lower}
 use Rattle.gate_base.specs.declared.level.Level.{Level}
 use Rattle.gate_base.specs.declared.level.Level.TheVariants.{Trace, Debug, Info, Warn, Error, Critical}
@@ -33,3 +33,28 @@ sent_line sent = sent_text sent ++ (10 ∷ [])
 abbrev pub printed : List Sent → List ℕ
 printed [] = []
 printed (sent ∷ more) = sent_line sent ++ printed more
+
+-- what a worker sends
+pub record Told : Type 0 where
+  pub who : ℕ
+  pub sent : Sent
+
+abbrev pub told : ℕ → Sent → Told
+told who sent = record { who = who; sent = sent }
+
+abbrev pub tell : ℕ → List Sent → List Told
+tell who sent = map (told who) sent
+
+-- the worker of the last line, where the last line before was of this one
+abbrev pub last_in : ℕ → List Told → ℕ
+last_in last [] = last
+last_in last (t ∷ more) = last_in t.who more
+
+-- the line that says of which worker what follows is, with its LF
+abbrev pub on_line : ℕ → List ℕ
+on_line who = codes "on " ++ decimal who ++ (10 ∷ [])
+
+-- The output of several workers, in order, where the last line was of this one: before a line of another stands the line that names it.
+abbrev pub printed_by : ℕ → List Told → List ℕ
+printed_by last [] = []
+printed_by last (t ∷ more) = (if t.who == last then [] else on_line t.who) ++ (sent_line t.sent ++ printed_by t.who more)

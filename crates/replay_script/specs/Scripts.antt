@@ -4,7 +4,7 @@ use Rattle.gate_io.specs.declared.event.Event.{Event}
 use Rattle.gate_io.specs.declared.event.What.{What}
 use Rattle.gate_io.specs.MemoryWorld.{stop_at}
 use Rattle.replay_script.specs.declared.command.Command.{Command}
-use Rattle.replay_script.specs.declared.command.Command.TheVariants.{At, Open, Bytes, End, Gone, Joined, Refused, UpBytes, UpEnd, UpGone, Clock, Stop}
+use Rattle.replay_script.specs.declared.command.Command.TheVariants.{On, At, Open, Bytes, End, Gone, Joined, Refused, UpBytes, UpEnd, UpGone, Clock, Stop}
 use Rattle.replay_script.specs.Commands.{text_of, what_of, IsInForm}
 
 -- the text of the lines, each with an LF behind it
@@ -12,17 +12,21 @@ abbrev pub script_text : List Command → List ℕ
 script_text [] = []
 script_text (command ∷ commands) = text_of command ++ (10 ∷ script_text commands)
 
--- How far the lines of a script have come: the moment of what happens next, and whether `stop` was there.
+-- How far the lines of a script have come: the moment of what happens next and the worker that it happens at, whether `stop` was there,
+-- and how many workers there are.
 pub record Standing : Type 0 where
   pub now : ℕ
+  pub who : ℕ
   pub stopped : Bool
+  pub workers : ℕ
 
--- before the first line
-abbrev pub at_start : Standing
-at_start = record { now = 0; stopped = false }
+-- before the first line, where there are so many workers
+abbrev pub at_start : ℕ → Standing
+at_start workers = record { now = 0; who = 1; stopped = false; workers = workers }
 
 -- the moment behind a line: `at` sets it
 abbrev pub moment_behind : ℕ → Command → ℕ
+moment_behind now (On worker) = now
 moment_behind now (At moment) = moment
 moment_behind now (Open line) = now
 moment_behind now (Bytes line bytes) = now
@@ -36,7 +40,24 @@ moment_behind now (UpGone line) = now
 moment_behind now Clock = now
 moment_behind now Stop = now
 
+-- the worker behind a line: `on` sets it
+abbrev pub worker_behind : ℕ → Command → ℕ
+worker_behind who (On worker) = worker
+worker_behind who (At moment) = who
+worker_behind who (Open line) = who
+worker_behind who (Bytes line bytes) = who
+worker_behind who (End line) = who
+worker_behind who (Gone line) = who
+worker_behind who (Joined line) = who
+worker_behind who (Refused line) = who
+worker_behind who (UpBytes line bytes) = who
+worker_behind who (UpEnd line) = who
+worker_behind who (UpGone line) = who
+worker_behind who Clock = who
+worker_behind who Stop = who
+
 abbrev pub is_stop : Command → Bool
+is_stop (On worker) = false
 is_stop (At moment) = false
 is_stop (Open line) = false
 is_stop (Bytes line bytes) = false
@@ -52,16 +73,23 @@ is_stop Stop = true
 
 -- behind one line, and behind these
 abbrev pub behind : Standing → Command → Standing
-behind standing command = record { now = moment_behind standing.now command; stopped = is_stop command }
+behind standing command = record {
+  now = moment_behind standing.now command;
+  who = worker_behind standing.who command;
+  stopped = is_stop command;
+  workers = standing.workers;
+}
 
 abbrev pub behind_all : Standing → List Command → Standing
 behind_all standing [] = standing
 behind_all standing (command ∷ commands) = behind_all (behind standing command) commands
 
--- The line may come next: it is within its bounds, no moment is less than the one before, and no line stands behind `stop`.
+-- The line may come next: it is within its bounds, no moment is less than the one before, the worker is there, and no line stands behind
+-- `stop`.
 pub record ComesNext (standing : Standing) (command : Command) : Type 0 where
   pub in_form : IsInForm command
   pub rises : standing.now ≤ moment_behind standing.now command
+  pub there : worker_behind standing.who command ≤ standing.workers
   pub goes_on : standing.stopped ≡ false
 
 -- each of the lines may come next behind those before it
@@ -69,21 +97,21 @@ abbrev pub AreLines : Standing → List Command → Type 0
 AreLines standing [] = Unit {0}
 AreLines standing (command ∷ commands) = ComesNext standing command × AreLines (behind standing command) commands
 
--- The text is the script of these lines.
-pub record IsScript (text : List ℕ) (commands : List Command) : Type 0 where
-  pub lines : AreLines at_start commands
+-- The text is the script of these lines, of so many workers.
+pub record IsScript (workers : ℕ) (text : List ℕ) (commands : List Command) : Type 0 where
+  pub lines : AreLines (at_start workers) commands
   pub is : text ≡ script_text commands
 
 -- The text begins with these lines, which are a script, and the line behind them, of this number from 1, is of no form:
 -- it is none of a script with these lines before it.
-pub record FirstBad (text : List ℕ) (number : ℕ) : Type 0 where
+pub record FirstBad (workers : ℕ) (text : List ℕ) (number : ℕ) : Type 0 where
   pub front : List Command
   pub rest : List ℕ
-  pub lines : AreLines at_start front
+  pub lines : AreLines (at_start workers) front
   pub is : text ≡ script_text front ++ rest
   pub number_is : number ≡ length front + 1
   pub some : rest ≡ [] → ⊥
-  pub bad : (command : Command) (more : List ℕ) → ComesNext (behind_all at_start front) command → rest ≡ text_of command ++ (10 ∷ more) → ⊥
+  pub bad : (command : Command) (more : List ℕ) → ComesNext (behind_all (at_start workers) front) command → rest ≡ text_of command ++ (10 ∷ more) → ⊥
 
 -- what happens at a moment, if anything
 abbrev pub happens : ℕ → Option What → List Event
@@ -98,3 +126,16 @@ events_from now (command ∷ commands) = happens now (what_of command) ++ events
 -- the events of a script
 abbrev pub events_of : List Command → List Event
 events_of commands = events_from 0 commands
+
+-- The workers of the events, from a worker on: each happens at the worker that was set last, and so does Stop.
+abbrev pub worker_of : ℕ → Option What → List ℕ
+worker_of who None = []
+worker_of who (Some what) = who ∷ []
+
+abbrev pub workers_from : ℕ → List Command → List ℕ
+workers_from who [] = who ∷ []
+workers_from who (command ∷ commands) = worker_of who (what_of command) ++ workers_from (worker_behind who command) commands
+
+-- the workers of the events of a script, one for each
+abbrev pub workers_of : List Command → List ℕ
+workers_of commands = workers_from 1 commands

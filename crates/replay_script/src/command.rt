@@ -1,16 +1,18 @@
 // The lines of a script, as commands.
-ghost use Rattle.std.specs.Prelude.{◌≡◌, ◌++◌, IfOk, OnOk};
+ghost use Rattle.std.specs.Prelude.{◌≡◌, ◌++◌, IfOk, OnOk, is_some};
 ghost use Rattle.replay_script.specs.Commands.{text_of, what_of};
-ghost use Rattle.replay_script.specs.Scripts.{is_stop, moment_behind};
+ghost use Rattle.replay_script.specs.Scripts.{is_stop, moment_behind, worker_behind};
 
 use crate::words::{print_bytes, print_decimal, print_number};
-use gate_base::{LineNo, Octets, OutOfMemory};
+use gate_base::{LineNo, Octets, OutOfMemory, WorkerNo};
 use gate_io::{Side, What};
 use std::alloc::Global;
 
 /// One line of a script.
 #[derive(Debug, Drop)]
 pub enum Command {
+    /// `on K`: what stands behind it happens at this worker.
+    On { worker: WorkerNo },
     /// `at N`: what stands behind it happens at this moment, in nanoseconds since 1970-01-01 00:00:00 UTC.
     At { moment: u64 },
     /// `open L`: a client's connection is opened.
@@ -38,11 +40,12 @@ pub enum Command {
 }
 
 impl Command {
-    /// What happens at this line, with a copy of its bytes. At `at` and at `stop` it is nothing.
+    /// What happens at this line, with a copy of its bytes. At `on`, `at` and `stop` it is nothing.
     pub fn what(&self, alloc: Global) -> Result<Option<What>, OutOfMemory>
         ensures { IfOk result (λ what. what ≡ what_of self.now) }
     {
         Ok(match self {
+            Command::On { .. } => None,
             Command::At { .. } => None,
             Command::Open { line } => Some(What::Opened { line: *line }),
             Command::Bytes { line, bytes } => Some(What::Bytes {
@@ -78,11 +81,12 @@ impl Command {
         })
     }
 
-    /// What happens at this line. At `at` and at `stop` it is nothing.
+    /// What happens at this line. At `on`, `at` and `stop` it is nothing.
     pub fn into_what(self) -> Option<What>
         ensures { result ≡ what_of self }
     {
         match self {
+            Command::On { .. } => None,
             Command::At { .. } => None,
             Command::Open { line } => Some(What::Opened { line }),
             Command::Bytes { line, bytes } => Some(What::Bytes {
@@ -118,6 +122,16 @@ impl Command {
         }
     }
 
+    /// Whether something happens at this line.
+    pub fn happens(&self) -> bool
+        ensures { result ≡ is_some (what_of self.now) }
+    {
+        !matches!(
+            self,
+            Command::On { .. } | Command::At { .. } | Command::Stop
+        )
+    }
+
     /// The moment of what stands behind this line, where this is the moment before it.
     pub fn moment_behind(&self, now: u64) -> u64
         ensures { result ≡ moment_behind now self.now }
@@ -125,6 +139,16 @@ impl Command {
         match self {
             Command::At { moment } => *moment,
             _ => now,
+        }
+    }
+
+    /// The worker of what stands behind this line, where this is the worker before it.
+    pub fn worker_behind(&self, who: WorkerNo) -> WorkerNo
+        ensures { result ≡ worker_behind who self.now }
+    {
+        match self {
+            Command::On { worker } => *worker,
+            _ => who,
         }
     }
 
@@ -145,6 +169,7 @@ pub(crate) fn print_command(
     ensures { OnOk result (out.new ≡ out.old ++ text_of command.now) }
 {
     match command {
+        Command::On { worker } => print_decimal(out, b"on ", u64::from(worker.get())),
         Command::At { moment } => print_decimal(out, b"at ", *moment),
         Command::Open { line } => print_number(out, b"open ", *line),
         Command::Bytes { line, bytes } => {

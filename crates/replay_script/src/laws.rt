@@ -7,19 +7,19 @@ ghost use Rattle.replay_script.specs.declared.command.Command.{Command};
 ghost use Rattle.replay_script.specs.declared.command.Command.TheVariants as command;
 ghost use Rattle.replay_script.specs.Commands.{text_of};
 ghost use Rattle.replay_script.specs.Scripts.{script_text, IsScript, FirstBad};
-ghost use Rattle.replay_script.specs.Prints.{printed};
+ghost use Rattle.replay_script.specs.Prints.{printed, printed_by, told};
 ghost use Rattle.replay_script.specs.Laws.{PlaysItsScript};
 ghost use Rattle.replay_script.specs.Examples.{WorkedScripts};
 
 /// A text is the script of one list of lines at most.
 pub fn one_reading()
-    ensures { (text : List ℕ) (a b : List Command) → IsScript text a → IsScript text b → a ≡ b }
+    ensures { (workers : ℕ) (text : List ℕ) (a b : List Command) → IsScript workers text a → IsScript workers text b → a ≡ b }
 {}
 
 /// A text that is a script has no first line of no form, and any other has one at most.
 pub fn one_refusal()
-    ensures none { (text : List ℕ) (a : List Command) (n : ℕ) → IsScript text a → FirstBad text n → ⊥ }
-    ensures one { (text : List ℕ) (m n : ℕ) → FirstBad text m → FirstBad text n → m ≡ n }
+    ensures none { (workers : ℕ) (text : List ℕ) (a : List Command) (n : ℕ) → IsScript workers text a → FirstBad workers text n → ⊥ }
+    ensures one { (workers : ℕ) (text : List ℕ) (m n : ℕ) → FirstBad workers text m → FirstBad workers text n → m ≡ n }
 {}
 
 /// The world of a script gives the script's events in order, up to its Stop, and no others; and what it keeps of what it took,
@@ -40,11 +40,14 @@ pub fn worked_lines()
     ensures upbytes { text_of (command.UpBytes 3 (10 ∷ [])) ≡ codes "upbytes 3 0a" }
     ensures upend { text_of (command.UpEnd 3) ≡ codes "upend 3" }
     ensures upgone { text_of (command.UpGone 3) ≡ codes "upgone 3" }
+    ensures on { text_of (command.On 8) ≡ codes "on 8" }
     ensures clock { text_of command.Clock ≡ codes "clock" }
     ensures script { script_text (command.Open 1 ∷ command.Stop ∷ []) ≡ codes "open 1\nstop\n" }
     ensures empty { script_text [] ≡ [] }
     ensures print { printed (sent.Connect 1 ∷ sent.Bytes 1 Up (71 ∷ []) ∷ sent.Bytes 1 Down (10 ∷ []) ∷ sent.Close 129 Down ∷ sent.Close 2 Up ∷ [])
         ≡ codes "connect 1\nup 1 47\ndown 1 0a\nclose 129\nupclose 2\n" }
+    ensures by_worker { printed_by 1 (told 1 (sent.Connect 1) ∷ told 2 (sent.Connect 1) ∷ told 2 (sent.Connect 2) ∷ told 1 (sent.Close 1 Up) ∷ [])
+        ≡ codes "connect 1\non 2\nconnect 1\nconnect 2\non 1\nupclose 1\n" }
     ensures log { printed (sent.Log Info (104 ∷ 105 ∷ []) ∷ []) ≡ codes "log info 6869\n" }
 {}
 

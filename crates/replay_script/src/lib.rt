@@ -13,9 +13,9 @@ mod trace;
 mod words;
 
 pub use command::Command;
-pub use events::events_of;
+pub use events::{events_of, workers_of};
 pub use laws::{one_reading, one_refusal, worked_lines, worked_scripts, worlds_play_their_scripts};
-pub use print::print_sent;
+pub use print::{print_on, print_sent};
 pub use read::{ScriptEnd, read_script};
 pub use script_world::ScriptWorld;
 

@@ -1,9 +1,9 @@
 // What a run sends, printed.
 ghost use Rattle.std.specs.Prelude.{◌≡◌, ◌++◌, IfOk, OnOk, OnErr};
-ghost use Rattle.replay_script.specs.Prints.{sent_line, sent_text, printed, level_word};
+ghost use Rattle.replay_script.specs.Prints.{on_line, sent_line, sent_text, printed, level_word};
 
-use crate::words::{print_bytes, print_hex, print_number};
-use gate_base::{Level, Octets, OutOfMemory};
+use crate::words::{print_bytes, print_decimal, print_hex, print_number};
+use gate_base::{Level, Octets, OutOfMemory, WorkerNo};
 use gate_io::{Sent, Side};
 use std::alloc::Global;
 
@@ -16,6 +16,14 @@ pub fn print_sent(alloc: Global, out: &mut Octets, sent: &Sent) -> Result<(), Ou
     print_text(alloc, &mut line, sent)?;
     line.push(b'\n')?;
     out.extend_from_slice(line.as_slice())
+}
+
+/// Puts the line of output at the end that says of which worker what follows is.
+pub fn print_on(out: &mut Octets, who: WorkerNo) -> Result<(), OutOfMemory>
+    ensures { OnOk result (out.new ≡ out.old ++ on_line who) }
+{
+    print_decimal(out, b"on ", u64::from(who.get()))?;
+    out.push(b'\n')
 }
 
 /// Puts the line of output of one `Sent`, without its LF, at the end.

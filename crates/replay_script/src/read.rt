@@ -6,6 +6,7 @@ ghost use Rattle.replay_script.specs.Scripts.{IsScript, FirstBad};
 use crate::Command;
 use crate::spelling::command_of;
 use crate::split::split_once;
+use gate_base::WorkerNo;
 use std::alloc::{AllocError, AllocFailed, Global};
 
 /// Why a script is refused.
@@ -33,17 +34,19 @@ impl<T: Drop> From<AllocFailed<T>> for ScriptEnd {
     }
 }
 
-/// The lines of a script, in order, or the first line that is of no form.
-pub fn read_script(alloc: Global, text: &[u8]) -> Result<Vec<Command>, ScriptEnd>
-    requires { length text.now ≤ 67108864 }
-    ensures ok { IfOk result (λ commands. IsScript text.now commands.items) }
+/// The lines of a script of so many workers, in order, or the first line that is of no form.
+pub fn read_script(alloc: Global, text: &[u8], workers: u8) -> Result<Vec<Command>, ScriptEnd>
+    requires text { length text.now ≤ 67108864 }
+    requires workers { 1 ≤ workers }
+    ensures ok { IfOk result (λ commands. IsScript workers text.now commands.items) }
     ensures few { IfOk result (λ commands. length commands.items ≤ length text.now) }
-    ensures bad { (n : ℕ) → result ≡ Err (ScriptEnd.BadLine n) → FirstBad text.now n }
+    ensures bad { (n : ℕ) → result ≡ Err (ScriptEnd.BadLine n) → FirstBad workers text.now n }
 {
     let mut commands = Vec::with_capacity(alloc, line_count(text))?;
     let mut rest = text;
     let mut stopped = false;
     let mut now = 0;
+    let mut who = WorkerNo::new(1).unwrap();
     while !rest.is_empty() {
         let bad = Err(ScriptEnd::BadLine {
             number: commands.len() as u32 + 1,
@@ -61,7 +64,12 @@ pub fn read_script(alloc: Global, text: &[u8]) -> Result<Vec<Command>, ScriptEnd
         if later < now {
             return bad;
         }
+        let whose = command.worker_behind(who);
+        if whose.get() > workers {
+            return bad;
+        }
         now = later;
+        who = whose;
         stopped = command.is_stop();
         commands.push(command)?;
         rest = more;

@@ -3,12 +3,12 @@ ghost use Rattle.std.specs.Prelude.{◌≡◌, ◌≢◌, ◌∷◌, ◌++◌, �
 ghost use Rattle.std.specs.Option.{ForSome};
 ghost use Rattle.hex.specs.Hex.{encode_lower};
 ghost use Rattle.replay_script.specs.declared.command.Command.{Command};
-ghost use Rattle.replay_script.specs.Commands.{text_of, IsInForm, IsLine, IsPiece, Spells};
+ghost use Rattle.replay_script.specs.Commands.{text_of, IsInForm, IsLine, IsPiece, IsWorker, Spells};
 
 use crate::Command;
 use crate::command::print_command;
 use crate::split::split_once;
-use gate_base::{LineNo, Octets, OutOfMemory};
+use gate_base::{LineNo, Octets, OutOfMemory, WorkerNo};
 use hex::FromHexError;
 use std::alloc::{AllocError, Global};
 
@@ -42,6 +42,8 @@ fn guess(alloc: Global, line: &[u8]) -> Result<Option<Command>, OutOfMemory>
         bytes_of(alloc, words)
     } else if let Some(number) = line.strip_prefix(b"at ") {
         Ok(at_of(number))
+    } else if let Some(number) = line.strip_prefix(b"on ") {
+        Ok(on_of(number))
     } else if line == b"clock".as_slice() {
         Ok(Some(Command::Clock))
     } else if line == b"stop".as_slice() {
@@ -124,6 +126,29 @@ fn at_of(number: &[u8]) -> Option<Command>
     match str::from_utf8(number) {
         Ok(text) => match text.parse::<u64>() {
             Ok(moment) => Some(Command::At { moment }),
+            Err(_) => None,
+        },
+        Err(_) => None,
+    }
+}
+
+/// The command `on` of a number.
+fn on_of(number: &[u8]) -> Option<Command>
+    ensures in_form { ForSome result IsInForm }
+    ensures only { (n : ℕ) → IsWorker n → number.now ≡ decimal n → result ≡ Some (Command.On n) }
+{
+    let worker = worker_of(number)?;
+    Some(Command::On { worker })
+}
+
+/// The number of a worker that a word spells in decimal.
+fn worker_of(word: &[u8]) -> Option<WorkerNo>
+    ensures in_form { ForSome result IsWorker }
+    ensures only { (n : ℕ) → IsWorker n → word.now ≡ decimal n → result ≡ Some n }
+{
+    match str::from_utf8(word) {
+        Ok(text) => match text.parse::<u8>() {
+            Ok(number) => WorkerNo::new(number),
             Err(_) => None,
         },
         Err(_) => None,

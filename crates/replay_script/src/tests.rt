@@ -51,10 +51,16 @@ fn scripts_are_read_to_their_first_bad_line(rt: HostRuntime) -> Result<(), Fail>
         ("clock 1\n", Err(1)),
         ("upopen 1\n", Err(1)),
         ("up\n", Err(1)),
-        ("on 1\n", Err(1)),
+        ("on 1\non 2\nopen 1\non 1\n", Ok(4)),
+        ("on 3\n", Err(1)),
+        ("on 0\n", Err(1)),
+        ("on 9\n", Err(1)),
+        ("on 256\n", Err(1)),
+        ("on 01\n", Err(1)),
+        ("on\n", Err(1)),
     ] {
         assert!(rt; text.len() <= 67_108_864);
-        let read = read_script(rt.alloc(), text.as_bytes());
+        let read = read_script(rt.alloc(), text.as_bytes(), 2);
         let count = read.as_ref().map(|commands| commands.len());
         match answer {
             Ok(lines) => assert_eq!(rt; count.ok(), Some(lines), "{text:?}"),
@@ -76,7 +82,7 @@ fn a_line_brings_at_most_16384_bytes(rt: HostRuntime) -> Result<(), Fail> {
         text.push_str("\n")?;
         assert!(rt; text.len() <= 67_108_864);
         assert_eq!(rt;
-            read_script(rt.alloc(), text.as_bytes()).is_ok(),
+            read_script(rt.alloc(), text.as_bytes(), 2).is_ok(),
             good,
             "{count}"
         );
@@ -116,7 +122,7 @@ const EACH: &[u8] =
 fn lines_say_what_happens(rt: HostRuntime) -> Result<(), Fail> {
     let alloc = rt.alloc();
     assert!(rt; EACH.len() <= 67_108_864);
-    let commands = read_script(alloc, EACH)?;
+    let commands = read_script(alloc, EACH, 1)?;
     let mut copied = 0u16;
     for command in commands.iter() {
         if let Some(what) = command.what(alloc)? {
@@ -157,7 +163,7 @@ fn turn<W: World>(alloc: Global, world: &mut W, line: LineNo) -> Result<Event, F
 fn a_world_plays_its_script(rt: HostRuntime) -> Result<(), Fail> {
     let alloc = rt.alloc();
     let line = LineNo::new(7).ok_or("a line")?;
-    let commands = read_script(alloc, b"open 7\nat 5\nbytes 7 4142\nat 6\n")?;
+    let commands = read_script(alloc, b"open 7\nat 5\nbytes 7 4142\nat 6\n", 1)?;
     let events = events_of(alloc, commands)?;
     assert!(rt; are_in_order(&events));
     let mut world = ScriptWorld::new(alloc, events);

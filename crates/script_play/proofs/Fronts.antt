@@ -1,71 +1,98 @@
--- What the world of a script gave so far is a front of the script's events.
-use Rattle.std.proofs.Common.{◌≡◌, ℕ, true, false, List, [], ◌∷◌, ◌++◌, length, refl, sym, ap, ◌∙◌, subst}
+-- What the world of a script gave so far are the first of the script's events, and each has its worker.
+use Rattle.std.proofs.Common.{◌≡◌, ◌≤◌, ℕ, ◌+◌, List, [], ◌∷◌, ◌++◌, length, map, take, drop, Option, None, Some, refl, sym, ap, ◌∙◌, subst, arith, length-append, length-take-le}
+use Rattle.std.proofs.lemmas.List.{append-nil, take-append-drop}
 use Rattle.gate_io.specs.declared.event.Event.{Event}
 use Rattle.gate_io.specs.declared.event.What.{What}
-use Rattle.gate_io.specs.declared.event.What.TheVariants.{Opened, Bytes, End, Gone, Joined, Refused, Room, Clock, Stop}
-use Rattle.gate_io.specs.Events.{is_stop}
-use Rattle.gate_io.specs.MemoryWorld.{stop_at, end_of}
+use Rattle.gate_io.specs.MemoryWorld.{end_of}
 use Rattle.gate_io.specs.Passing.{happened}
 use Rattle.gate_io.specs.Scripts.{first_of, gives_its_events}
 use Rattle.replay_script.specs.declared.command.Command.{Command}
-use Rattle.replay_script.specs.Laws.{StopsOnce}
+use Rattle.replay_script.specs.Commands.{what_of}
 use Rattle.replay_script.specs.ScriptWorld.{Playing, fresh, in_memory, nature}
-use Rattle.replay_script.specs.Scripts.{events_of}
-use Rattle.replay_script.proofs.Worlds.{plays_its_script}
+use Rattle.replay_script.specs.Scripts.{events_from, events_of, happens, moment_behind, worker_behind, worker_of, workers_from, workers_of}
+use Rattle.script_play.specs.Laws.{EachHasItsWorker}
+use Rattle.script_play.specs.Replay.{Placed, place_all, placed, placed_of}
 
--- none of the events is Stop
-abbrev pub GoOn : List Event → Type 0
-GoOn [] = Unit {0}
-GoOn (event ∷ events) = (is_stop event.what ≡ false) × GoOn events
-
-pub go_on_more : (events : List Event) (event : Event) → GoOn events → is_stop event.what ≡ false → GoOn (events ++ event ∷ [])
-go_on_more [] event all one = (one, tt)
-go_on_more (e ∷ events) event all one = (all.0, go_on_more events event all.1 one)
-
--- some first events, with Stop at a moment behind all, of which none is Stop
+-- the first of these events, and more
 pub record Goes (events past : List Event) : Type 0 where
   pub more : List Event
   pub is : events ≡ past ++ more
 
-front_of : (events past : List Event) (now : ℕ) → GoOn past → past ≡ first_of events now (length past) → Goes events past
-front_of events [] now all is = record { more = events; is = refl }
-front_of [] (e ∷ past) now all is =
-    let one : e ≡ stop_at now = cc in
-    let stops : is_stop e.what ≡ true = ap (λ (x : Event). is_stop x.what) one in
-    absurd (let no : true ≡ false = sym stops ∙ all.0 in cc)
-front_of (x ∷ events) (e ∷ past) now all is =
+front_of : (events past : List Event) (now : ℕ) → length past ≤ length events → past ≡ first_of events now (length past) → Goes events past
+front_of events [] now low all = record { more = events; is = refl }
+front_of [] (e ∷ past) now low all = absurd (omega (arith, low))
+front_of (x ∷ events) (e ∷ past) now low all =
     let one : e ≡ x = cc in
     let rest : past ≡ first_of events now (length past) = cc in
-    let far = front_of events past now all.1 rest in
+    let far = front_of events past now (omega (arith, low)) rest in
     record { more = far.more; is = λ i. sym one i ∷ far.is i }
 
--- a world of the script that gave no Stop so far
-pub goes : (commands : List Command) (w : Playing) → nature w ≡ nature (fresh (events_of commands)) → GoOn (happened w.trace) → Goes (events_of commands) (happened w.trace)
-goes commands w same all =
-    front_of (events_of commands) (happened w.trace) (end_of (events_of commands)) all
+-- a world of the script, which gave no more than its events
+pub goes : (commands : List Command) (w : Playing) → nature w ≡ nature (fresh (events_of commands)) → length (happened w.trace) ≤ length (events_of commands) → Goes (events_of commands) (happened w.trace)
+goes commands w same low =
+    front_of (events_of commands) (happened w.trace) (end_of (events_of commands)) low
     (gives_its_events.fresh (in_memory (fresh (events_of commands))) (in_memory w) refl same)
 
-is_stop_event : (event : Event) → is_stop event.what ≡ true → event.what ≡ Stop
-is_stop_event event stops = by_what event.what stops
+-- one that gave as many gave all of them
+pub gave_all : (commands : List Command) (w : Playing) → nature w ≡ nature (fresh (events_of commands)) → length (happened w.trace) ≡ length (events_of commands) → happened w.trace ≡ events_of commands
+gave_all commands w same count =
+    let far = goes commands w same (omega (arith, count)) in
+    let both : length (events_of commands) ≡ length (happened w.trace) + length far.more = ap length far.is ∙ length-append (happened w.trace) far.more in
+    none_left (events_of commands) (happened w.trace) far.more far.is (omega (arith, both, count))
   where
-    by_what : (what : What) → is_stop what ≡ true → what ≡ Stop
-    by_what (Opened line) e = absurd (cc)
-    by_what (Bytes line side bytes) e = absurd (cc)
-    by_what (End line side) e = absurd (cc)
-    by_what (Gone line side) e = absurd (cc)
-    by_what (Joined line) e = absurd (cc)
-    by_what (Refused line) e = absurd (cc)
-    by_what (Room line side) e = absurd (cc)
-    by_what Clock e = absurd (cc)
-    by_what Stop e = refl
+    none_left : (events past more : List Event) → events ≡ past ++ more → length more ≡ 0 → past ≡ events
+    none_left events past [] is none = sym (is ∙ append-nil past)
+    none_left events past (e ∷ more) is none = absurd (omega (arith, none))
 
-stops_at_last : (past : List Event) (event : Event) → GoOn past → is_stop event.what ≡ true → StopsOnce (past ++ event ∷ [])
-stops_at_last [] event all stops = is_stop_event event stops
-stops_at_last (e ∷ []) event all stops = (all.0, is_stop_event event stops)
-stops_at_last (e ∷ (f ∷ past)) event all stops = (all.0, stops_at_last (f ∷ past) event all.1 stops)
+-- ---- workers and events
 
--- a world of the script that gave Stop just now gave all its events
-pub gave_all : (commands : List Command) (w : Playing) (past : List Event) (event : Event) → nature w ≡ nature (fresh (events_of commands)) → GoOn past → is_stop event.what ≡ true
-    → happened w.trace ≡ past ++ event ∷ [] → past ++ event ∷ [] ≡ events_of commands
-gave_all commands w past event same all stops given =
-    sym given ∙ plays_its_script.whole commands w same (subst StopsOnce (sym given) (stops_at_last past event all stops))
+one_each : (who now : ℕ) (what : Option What) → length (worker_of who what) ≡ length (happens now what)
+one_each who now None = refl
+one_each who now (Some what) = refl
+
+each_from : (who now : ℕ) (commands : List Command) → length (workers_from who commands) ≡ length (events_from now commands)
+each_from who now [] = refl
+each_from who now (c ∷ commands) =
+    let some = one_each who now (what_of c) in
+    let later = each_from (worker_behind who c) (moment_behind now c) commands in
+    let workers = length-append (worker_of who (what_of c)) (workers_from (worker_behind who c) commands) in
+    let events = length-append (happens now (what_of c)) (events_from (moment_behind now c) commands) in
+    omega (arith, some, later, workers, events)
+
+-- each event has its worker
+pub each_has_its_worker : (commands : List Command) → length (workers_of commands) ≡ length (events_of commands)
+each_has_its_worker commands = each_from 1 0 commands
+
+placed_events : (ws : List ℕ) (es : List Event) → length ws ≡ length es → map (λ (p : Placed). p.event) (place_all ws es) ≡ es
+placed_events [] [] e = refl
+placed_events [] (x ∷ es) e = absurd (omega (arith, e))
+placed_events (w ∷ ws) [] e = absurd (omega (arith, e))
+placed_events (w ∷ ws) (x ∷ es) e = ap (λ (xs : List Event). x ∷ xs) (placed_events ws es (omega (arith, e)))
+
+placed_workers : (ws : List ℕ) (es : List Event) → length ws ≡ length es → map (λ (p : Placed). p.who) (place_all ws es) ≡ ws
+placed_workers [] [] e = refl
+placed_workers [] (x ∷ es) e = absurd (omega (arith, e))
+placed_workers (w ∷ ws) [] e = absurd (omega (arith, e))
+placed_workers (w ∷ ws) (x ∷ es) e = ap (λ (ns : List ℕ). w ∷ ns) (placed_workers ws es (omega (arith, e)))
+
+pub all_placed : (commands : List Command) → EachHasItsWorker commands
+all_placed commands = record {
+  events = placed_events (workers_of commands) (events_of commands) (each_has_its_worker commands);
+  workers = placed_workers (workers_of commands) (events_of commands) (each_has_its_worker commands);
+}
+
+pub place_both : (ws vs : List ℕ) (es fs : List Event) → length ws ≡ length es → place_all (ws ++ vs) (es ++ fs) ≡ place_all ws es ++ place_all vs fs
+place_both [] vs [] fs e = refl
+place_both [] vs (x ∷ es) fs e = absurd (omega (arith, e))
+place_both (w ∷ ws) vs [] fs e = absurd (omega (arith, e))
+place_both (w ∷ ws) vs (x ∷ es) fs e = ap (λ (ps : List Placed). placed w x ∷ ps) (place_both ws vs es fs (omega (arith, e)))
+
+-- some first events at their workers, and the others
+pub placed_front : (commands : List Command) (i : ℕ) (past more : List Event) → events_of commands ≡ past ++ more → length past ≡ i → i ≤ length (workers_of commands)
+    → placed_of commands ≡ place_all (take i (workers_of commands)) past ++ place_all (drop i (workers_of commands)) more
+placed_front commands i past more is count low =
+    let whose = workers_of commands in
+    let long : length (take i whose) ≡ i = length-take-le i whose low in
+    ap (λ (es : List Event). place_all whose es) is
+    ∙ ap (λ (ws : List ℕ). place_all ws (past ++ more)) (sym (take-append-drop i whose))
+    ∙ place_both (take i whose) (drop i whose) past more (long ∙ sym count)

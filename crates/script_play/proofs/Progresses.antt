@@ -1,123 +1,140 @@
 -- How far a script was played, and what was written of what it prints.
-use Rattle.std.proofs.Common.{◌≡◌, ℕ, ◌+◌, Bool, true, false, List, [], ◌∷◌, ◌++◌, length, Option, refl, ap, sym, ◌∙◌, subst, append_assoc, ◌<◌, get_or, take}
-use Rattle.std.proofs.lemmas.List.{append-nil, take_more}
+use Rattle.std.proofs.Common.{◌≡◌, ℕ, zero, suc, ◌+◌, ◌-◌, ◌<◌, ◌≤◌, List, [], ◌∷◌, ◌++◌, length, map, Option, refl, ap, sym, ◌∙◌, subst, append_assoc, arith, get_or, take, drop, length-append, length-take-le}
+use Rattle.std.specs.Prelude.{All, slice_set}
+use Rattle.std.proofs.lemmas.List.{append-nil, get_or-map, map-set, take_all, take_more}
+use Rattle.std.proofs.lemmas.List.Elements.{All-append, All-cons, All-get_or, All-nil, All-set}
 use Rattle.gate_io.specs.Passing.{happened}
 use Rattle.gate_io.specs.declared.event.Event.{Event}
-use Rattle.gate_io.specs.declared.event.Sent.{Sent}
 use Rattle.gate_io.specs.Told.{Gains, GainsFront, gains_nothing, gains_more, gains_then_front}
 use Rattle.outbox.specs.Delivery.{solid}
 use Rattle.replay_script.specs.declared.command.Command.{Command}
-use Rattle.replay_script.specs.Prints.{sent_line, printed}
+use Rattle.replay_script.specs.Prints.{Told, last_in, printed_by, tell}
 use Rattle.replay_script.specs.ScriptWorld.{Playing, fresh, nature}
-use Rattle.replay_script.specs.Scripts.{events_of}
+use Rattle.replay_script.specs.Scripts.{events_of, workers_of}
 use Rattle.course.specs.Course.{ends, Goes}
 use Rattle.store_model.specs.Sequential.{Stores, Performs}
-use Rattle.worker.specs.State.{Standing, Setting, rules_of}
+use Rattle.worker.specs.Plan.{Plan}
+use Rattle.worker.specs.State.{Setting, Standing, rules_of}
 use Rattle.worker.specs.Steps.{Both}
 use Rattle.worker.specs.Turn.{Outcome, outcome, turn}
-use Rattle.script_play.specs.Replay.{Calling, Setup, first_worker, first_stores, Plays, PlaysFirst, Prints, PrintsFront, IsReady, Flushed, Advances}
-use Rattle.script_play.proofs.Fronts.{GoOn, go_on_more, goes, gave_all}
+use Rattle.script_play.specs.Replay.{Setup, Placed, placed, place_all, placed_of, first_worker, first_workers, for_worker, plan_for, state_at, state_of, stores_for, Plays, PlaysFirst, Prints, PrintsFront, IsReady, Flushed, Advances}
+use Rattle.script_play.proofs.Fronts.{each_has_its_worker, gave_all, goes, place_both, placed_front}
+use Rattle.script_play.proofs.Printing.{last_both, printed_both}
 
 -- some first events were played, and of what they print a part was written and the rest waits
-pub record Progress {H : Type 0} (setup : Setup H) (front : List Event) (state : Both H) (stores : Stores) (old new : Option (List ℕ)) (waits : List ℕ) : Type 0 where
-  pub sent : List Sent
-  pub plays : PlaysFirst setup front sent state stores
+pub record Progress {H : Type 0} (setup : Setup H) (front : List Placed) (states : List (Both H)) (stores : Stores) (last : ℕ) (old new : Option (List ℕ)) (waits : List ℕ) : Type 0 where
+  pub sent : List Told
+  pub plays : PlaysFirst setup front sent states stores
+  pub last_is : last ≡ last_in 1 sent
   pub written : List ℕ
   pub gained : Gains old written new
-  pub text : printed sent ≡ written ++ waits
+  pub text : printed_by 1 sent ≡ written ++ waits
 
--- the worker, the world and the stores of a script, of which no Stop came so far
-pub record Far {H : Type 0} (setup : Setup H) (commands : List Command) (worker : Standing H) (world : Playing) (shared : Stores) (old new : Option (List ℕ)) (waits : List ℕ) : Type 0 where
-  pub setting_is : worker.setting ≡ (first_worker setup).setting
+-- it goes by the plan of all
+abbrev pub GoesBy : {H : Type 0} → Setup H → Standing H → Type 0
+GoesBy setup worker = rules_of worker.setting ≡ plan_for setup
+
+-- the workers, the world and the stores of a script behind its first `i` events
+pub record Far {H : Type 0} (setup : Setup H) (commands : List Command) (i : ℕ) (workers : List (Standing H)) (world : Playing) (shared : Stores) (last : ℕ) (old new : Option (List ℕ)) (waits : List ℕ) : Type 0 where
+  pub plans : All (GoesBy setup) workers
   pub nature_is : nature world ≡ nature (fresh (events_of commands))
-  pub goes_on : GoOn (happened world.trace)
-  pub progress : Progress setup (happened world.trace) worker.state shared old new waits
-
--- what is printed of two lists
-pub printed_both : (a b : List Sent) → printed (a ++ b) ≡ printed a ++ printed b
-printed_both [] b = refl
-printed_both (x ∷ a) b = ap (λ (t : List ℕ). sent_line x ++ t) (printed_both a b) ∙ sym (append_assoc (sent_line x) (printed a) (printed b))
-
--- one more of a list, printed
-pub printed_snoc : (sent : List Sent) (i : ℕ) (old mid new : List ℕ) (x : Sent) → i < length sent → x ≡ get_or sent i x → mid ≡ old ++ printed (take i sent) → new ≡ mid ++ sent_line x
-    → new ≡ old ++ printed (take (i + 1) sent)
-printed_snoc sent i old mid new x low at so_far is =
-    is ∙ ap (λ (t : List ℕ). t ++ sent_line x) so_far ∙ append_assoc old (printed (take i sent)) (sent_line x)
-    ∙ ap (λ (t : List ℕ). old ++ t) (
-    ap (λ (t : List ℕ). printed (take i sent) ++ t) (sym (append-nil (sent_line x)))
-    ∙ sym (printed_both (take i sent) (x ∷ []))
-    ∙ ap printed (ap (λ (y : Sent). take i sent ++ (y ∷ [])) at ∙ sym (take_more sent i x low)))
-
--- one more event
-plays_more : {H : Type 0} (calling : Calling H) (setting : Setting) (state : Both H) (s : Stores) (front : List Event) (sent : List Sent) (mid : Both H) (t : Stores) (event : Event) (end : Outcome H) (u : Stores)
-    → Plays calling setting state s front sent mid t → Goes Performs t (turn calling (rules_of setting) mid event) (ends end) u
-    → Plays calling setting state s (front ++ (event ∷ [])) (sent ++ solid end.sent) end.state u
-plays_more {H} calling setting state s [] sent mid t event end u plays goes = (
-  end,
-  u,
-  [],
-  subst (λ (x : Both H × Stores). Goes Performs x.1 (turn calling (rules_of setting) x.0 event) (ends end) u) (λ i. (plays.1 i, plays.2 i)) goes,
-  (refl, refl, refl),
-  ap (λ (ss : List Sent). ss ++ solid end.sent) plays.0 ∙ sym (append-nil (solid end.sent)),
-)
-plays_more calling setting state s (e ∷ front) sent mid t event end u plays goes = (
-  plays.0,
-  plays.1,
-  plays.2 ++ solid end.sent,
-  plays.3,
-  plays_more calling setting plays.0.state plays.1 front plays.2 mid t event end u plays.4 goes,
-  ap (λ (ss : List Sent). ss ++ solid end.sent) plays.5 ∙ append_assoc (solid plays.0.sent) plays.2 (solid end.sent),
-)
+  pub count : length (happened world.trace) ≡ i
+  pub progress : Progress setup (place_all (take i (workers_of commands)) (happened world.trace)) (map state_of workers) shared last old new waits
 
 module _ {H : Type 0} (setup : Setup H) where
-  -- a turn more
-  progress_on : (from : Standing H) (before : Playing) (s : Stores) (old new : Option (List ℕ)) (waits : List ℕ) (goes_on : Bool) (to : Standing H) (after : Playing) (t : Stores)
-      (waiting : List ℕ) → from.setting ≡ (first_worker setup).setting → Progress setup (happened before.trace) from.state s old new waits
-      → Advances setup.calling from before s waits goes_on to after t waiting → Progress setup (happened after.trace) to.state t old new waiting
-  progress_on from before s old new waits goes_on to after t waiting setting_is p a =
-      let goes : Goes Performs s (turn setup.calling (rules_of (first_worker setup).setting) from.state a.event) (ends (outcome to.state a.sent)) t =
-      subst (λ (x : Setting). Goes Performs s (turn setup.calling (rules_of x) from.state a.event) (ends (outcome to.state a.sent)) t) setting_is a.goes in
-      let played = plays_more setup.calling (first_worker setup).setting (first_worker setup).state (first_stores setup) (happened before.trace) p.sent from.state s a.event (outcome to.state a.sent) t p.plays goes in
-      let there : PlaysFirst setup (happened after.trace) (p.sent ++ solid a.sent) to.state t =
-      subst (λ (es : List Event). PlaysFirst setup es (p.sent ++ solid a.sent) to.state t) (sym a.given) played in
-      record {
-        sent = p.sent ++ solid a.sent;
-        plays = there;
-        written = p.written;
-        gained = p.gained;
-        text = printed_both p.sent (solid a.sent) ∙ ap (λ (t : List ℕ). t ++ printed (solid a.sent)) p.text
-            ∙ append_assoc p.written waits (printed (solid a.sent)) ∙ ap (λ (t : List ℕ). p.written ++ t) (sym a.waiting_is);
-      }
+  -- one more event
+  pub plays_more : (states : List (Both H)) (s : Stores) (front : List Placed) (sent : List Told) (mid : List (Both H)) (t : Stores) (p : Placed) (end : Outcome H) (u : Stores)
+      → Plays setup states s front sent mid t → Goes Performs (for_worker p.who t) (turn setup.calling (plan_for setup) (state_at setup mid p.who) p.event) (ends end) u
+      → Plays setup states s (front ++ (p ∷ [])) (sent ++ tell p.who (solid end.sent)) (slice_set mid (p.who - 1) end.state) u
+  plays_more states s [] sent mid t p end u plays goes = (
+    end,
+    u,
+    [],
+    subst (λ (x : List (Both H) × Stores). Goes Performs (for_worker p.who x.1) (turn setup.calling (plan_for setup) (state_at setup x.0 p.who) p.event) (ends end) u) (λ i. (plays.1 i, plays.2 i)) goes,
+    (refl, ap (λ (m : List (Both H)). slice_set m (p.who - 1) end.state) plays.1, refl),
+    ap (λ (ss : List Told). ss ++ tell p.who (solid end.sent)) plays.0 ∙ sym (append-nil (tell p.who (solid end.sent))),
+  )
+  plays_more states s (e ∷ front) sent mid t p end u plays goes = (
+    plays.0,
+    plays.1,
+    plays.2 ++ tell p.who (solid end.sent),
+    plays.3,
+    plays_more (slice_set states (e.who - 1) plays.0.state) plays.1 front plays.2 mid t p end u plays.4 goes,
+    ap (λ (ss : List Told). ss ++ tell p.who (solid end.sent)) plays.5 ∙ append_assoc (tell e.who (solid plays.0.sent)) plays.2 (tell p.who (solid end.sent)),
+  )
+
+  all_go_by : (n : ℕ) → All (GoesBy setup) (first_workers setup n)
+  all_go_by zero = All-nil (GoesBy setup)
+  all_go_by (suc n) = All-append (GoesBy setup) (first_workers setup n) (first_worker setup (suc n) ∷ []) (all_go_by n)
+      (All-cons (GoesBy setup) (first_worker setup (suc n)) [] refl (All-nil (GoesBy setup)))
 
   module _ (commands : List Command) where
-    pub far_start : (worker : Standing H) (world : Playing) (shared : Stores) (old : Option (List ℕ)) (waits : List ℕ) → waits ≡ [] → IsReady setup commands worker world shared
-        → Far setup commands worker world shared old old waits
-    far_start worker world shared old waits none r = record {
-      setting_is = ap (λ (w : Standing H). w.setting) r.worker_is;
+    pub far_start : (workers : List (Standing H)) (world : Playing) (shared : Stores) (last : ℕ) (old : Option (List ℕ)) (waits : List ℕ) → waits ≡ [] → IsReady setup commands workers world shared last
+        → Far setup commands 0 workers world shared last old old waits
+    far_start workers world shared last old waits none r = record {
+      plans = subst (All (GoesBy setup)) (sym r.workers_are) (all_go_by setup.config.workers);
       nature_is = ap nature r.world_is;
-      goes_on = subst (λ (w : Playing). GoOn (happened w.trace)) (sym r.world_is) tt;
-      progress = subst (λ (w : Playing). Progress setup (happened w.trace) worker.state shared old old waits) (sym r.world_is)
-          (record { sent = []; plays = (refl, ap (λ (w : Standing H). w.state) r.worker_is, r.shared_is); written = []; gained = gains_nothing old; text = sym none });
+      count = ap (λ (w : Playing). length (happened w.trace)) r.world_is;
+      progress = record {
+        sent = [];
+        plays = (refl, ap (map state_of) r.workers_are, r.shared_is);
+        last_is = r.last_is;
+        written = [];
+        gained = gains_nothing old;
+        text = sym none;
+      };
     }
 
-    pub far_on : (from : Standing H) (before : Playing) (s : Stores) (old new : Option (List ℕ)) (waits : List ℕ) (to : Standing H) (after : Playing) (t : Stores) (waiting : List ℕ)
-        → Far setup commands from before s old new waits → Advances setup.calling from before s waits true to after t waiting → Far setup commands to after t old new waiting
-    far_on from before s old new waits to after t waiting f a = record {
-      setting_is = a.setting_is ∙ f.setting_is;
-      nature_is = a.nature_is ∙ f.nature_is;
-      goes_on = subst GoOn (sym a.given) (go_on_more (happened before.trace) a.event f.goes_on a.is_no_stop);
-      progress = progress_on from before s old new waits true to after t waiting f.setting_is f.progress a;
-    }
+    -- one event more
+    pub far_on : (i who : ℕ) (from : List (Standing H)) (before : Playing) (s : Stores) (last : ℕ) (old new : Option (List ℕ)) (waits : List ℕ) (to : List (Standing H)) (after : Playing) (t : Stores) (last_then : ℕ)
+        (waiting : List ℕ) → i < length (workers_of commands) → who ≡ get_or (workers_of commands) i who → who - 1 < length from → Far setup commands i from before s last old new waits
+        → Advances setup.calling who from before s last waits to after t last_then waiting → Far setup commands (i + 1) to after t last_then old new waiting
+    far_on i who from before s last old new waits to after t last_then waiting low who_is there f a =
+        let whose = workers_of commands in
+        let past = happened before.trace in
+        let p = f.progress in
+        let turns = a.at.turns in
+        let event = turns.event in
+        let sends = tell who (solid turns.sent) in
+        let there_is : get_or from (who - 1) a.at.old ≡ a.at.old = sym a.at.old_is in
+        let plan : rules_of a.at.old.setting ≡ plan_for setup = subst (GoesBy setup) there_is (All-get_or (GoesBy setup) from (who - 1) a.at.old there f.plans) in
+        let state : state_at setup (map state_of from) who ≡ a.at.old.state =
+        get_or-map state_of from (who - 1) a.at.old (first_worker setup who).state there ∙ ap state_of there_is in
+        let goes : Goes Performs (for_worker who s) (turn setup.calling (plan_for setup) (state_at setup (map state_of from) who) event) (ends (outcome a.at.new.state turns.sent)) t =
+        subst (λ (x : Plan × Both H). Goes Performs (for_worker who s) (turn setup.calling x.0 x.1 event) (ends (outcome a.at.new.state turns.sent)) t) (λ j. (plan j, sym state j)) turns.goes in
+        let played = plays_more (map state_of (first_workers setup setup.config.workers)) (stores_for (length setup.config.vms)) (place_all (take i whose) past) p.sent (map state_of from) s (placed who event)
+        (outcome a.at.new.state turns.sent) t p.plays goes in
+        let long : length (take i whose) ≡ i = length-take-le i whose (omega (arith, low)) in
+        let whose_are : take (i + 1) whose ≡ take i whose ++ (who ∷ []) = take_more whose i who low ∙ ap (λ (w : ℕ). take i whose ++ (w ∷ [])) (sym who_is) in
+        let front : place_all (take i whose) past ++ (placed who event ∷ []) ≡ place_all (take (i + 1) whose) (happened after.trace) =
+        sym (ap (λ (x : List ℕ × List Event). place_all x.0 x.1) (λ j. (whose_are j, turns.given j)) ∙ place_both (take i whose) (who ∷ []) past (event ∷ []) (long ∙ sym f.count)) in
+        let states : slice_set (map state_of from) (who - 1) a.at.new.state ≡ map state_of to = sym (ap (map state_of) a.at.new_is ∙ map-set state_of from (who - 1) a.at.new) in
+        let rules : GoesBy setup a.at.new = ap rules_of turns.setting_is ∙ plan in
+        record {
+          plans = subst (All (GoesBy setup)) (sym a.at.new_is) (All-set (GoesBy setup) from (who - 1) a.at.new rules f.plans);
+          nature_is = turns.nature_is ∙ f.nature_is;
+          count = ap length turns.given ∙ length-append past (event ∷ []) ∙ ap (λ (n : ℕ). n + 1) f.count;
+          progress = record {
+            sent = p.sent ++ sends;
+            plays = subst (λ (x : List Placed × List (Both H)). PlaysFirst setup x.0 (p.sent ++ sends) x.1 t) (λ j. (front j, states j)) played;
+            last_is = a.last_is ∙ ap (λ (n : ℕ). last_in n sends) p.last_is ∙ sym (last_both 1 p.sent sends);
+            written = p.written;
+            gained = p.gained;
+            text = printed_both 1 p.sent sends ∙ ap (λ (x : List ℕ). x ++ printed_by (last_in 1 p.sent) sends) p.text ∙ append_assoc p.written waits (printed_by (last_in 1 p.sent) sends)
+                ∙ ap (λ (x : List ℕ). p.written ++ x) (ap (λ (n : ℕ). waits ++ printed_by n sends) (sym p.last_is) ∙ sym a.waiting_is);
+          };
+        }
 
-    pub far_flushed : (worker : Standing H) (world : Playing) (shared : Stores) (old mid new : Option (List ℕ)) (waits waiting : List ℕ)
-        → Far setup commands worker world shared old mid waits → Flushed waits mid waiting new → Far setup commands worker world shared old new waiting
-    far_flushed worker world shared old mid new waits waiting f g = record {
-      setting_is = f.setting_is;
+    pub far_flushed : (i : ℕ) (workers : List (Standing H)) (world : Playing) (shared : Stores) (last : ℕ) (old mid new : Option (List ℕ)) (waits waiting : List ℕ)
+        → Far setup commands i workers world shared last old mid waits → Flushed waits mid waiting new → Far setup commands i workers world shared last old new waiting
+    far_flushed i workers world shared last old mid new waits waiting f g = record {
+      plans = f.plans;
       nature_is = f.nature_is;
-      goes_on = f.goes_on;
+      count = f.count;
       progress = record {
         sent = f.progress.sent;
         plays = f.progress.plays;
+        last_is = f.progress.last_is;
         written = f.progress.written ++ g.written;
         gained = gains_more old f.progress.written mid g.written new f.progress.gained g.gained;
         text = f.progress.text ∙ ap (λ (t : List ℕ). f.progress.written ++ t) g.is ∙ sym (append_assoc f.progress.written g.written waiting);
@@ -125,55 +142,36 @@ module _ {H : Type 0} (setup : Setup H) where
     }
 
     -- a front of what waits was written
-    pub far_cut : (worker : Standing H) (world : Playing) (shared : Stores) (old mid new : Option (List ℕ)) (waits : List ℕ)
-        → Far setup commands worker world shared old mid waits → GainsFront mid waits new → PrintsFront setup commands old new
-    far_cut worker world shared old mid new waits f g =
-        let so_far = goes commands world f.nature_is f.goes_on in
+    pub far_cut : (i : ℕ) (workers : List (Standing H)) (world : Playing) (shared : Stores) (last : ℕ) (old mid new : Option (List ℕ)) (waits : List ℕ) → i ≤ length (workers_of commands)
+        → Far setup commands i workers world shared last old mid waits → GainsFront mid waits new → PrintsFront setup commands old new
+    far_cut i workers world shared last old mid new waits low f g =
+        let each = each_has_its_worker commands in
+        let so_far = goes commands world f.nature_is (omega (arith, low, each, f.count)) in
         let p = f.progress in
         record {
           sent = p.sent;
           replays = record {
-            front = happened world.trace;
-            more = so_far.more;
-            after = worker.state;
+            front = place_all (take i (workers_of commands)) (happened world.trace);
+            more = place_all (drop i (workers_of commands)) so_far.more;
+            after = map state_of workers;
             stores = shared;
-            is = so_far.is;
+            is = placed_front commands i (happened world.trace) so_far.more so_far.is f.count low;
             plays = p.plays;
           };
           gained = subst (λ (t : List ℕ). GainsFront old t new) (sym p.text) (gains_then_front old p.written mid waits new p.gained g);
         }
 
-    -- behind Stop: all the events were played
-    all_played : (from : Standing H) (before : Playing) (s : Stores) (old mid : Option (List ℕ)) (waits : List ℕ) (to : Standing H) (after : Playing) (t : Stores) (waiting : List ℕ)
-        → Far setup commands from before s old mid waits → Advances setup.calling from before s waits false to after t waiting → Progress setup (events_of commands) to.state t old mid waiting
-    all_played from before s old mid waits to after t waiting f a =
-        let all : happened after.trace ≡ events_of commands =
-        a.given ∙ gave_all commands after (happened before.trace) a.event (a.nature_is ∙ f.nature_is) f.goes_on a.is_no_stop a.given in
-        subst (λ (es : List Event). Progress setup es to.state t old mid waiting) all (progress_on from before s old mid waits false to after t waiting f.setting_is f.progress a)
-
-    pub far_done : (from : Standing H) (before : Playing) (s : Stores) (old mid new : Option (List ℕ)) (waits : List ℕ) (to : Standing H) (after : Playing) (t : Stores) (waiting : List ℕ)
-        → Far setup commands from before s old mid waits → Advances setup.calling from before s waits false to after t waiting → Gains mid waiting new → Prints setup commands old new
-    far_done from before s old mid new waits to after t waiting f a g =
-        let p = all_played from before s old mid waits to after t waiting f a in
+    -- all the events were played
+    pub far_done : (i : ℕ) (workers : List (Standing H)) (world : Playing) (shared : Stores) (last : ℕ) (old mid new : Option (List ℕ)) (waits : List ℕ) → i ≡ length (workers_of commands)
+        → Far setup commands i workers world shared last old mid waits → Gains mid waits new → Prints setup commands old new
+    far_done i workers world shared last old mid new waits whole f g =
+        let whose = workers_of commands in
+        let p = f.progress in
+        let all : happened world.trace ≡ events_of commands = gave_all commands world f.nature_is (f.count ∙ whole ∙ each_has_its_worker commands) in
+        let front : place_all (take i whose) (happened world.trace) ≡ placed_of commands =
+        ap (λ (x : List ℕ × List Event). place_all x.0 x.1) (λ j. (take_all i whose (omega (arith, whole)) j, all j)) in
         record {
           sent = p.sent;
-          replays = record { after = to.state; stores = t; plays = p.plays };
-          gained = subst (λ (t : List ℕ). Gains old t new) (sym p.text) (gains_more old p.written mid waiting new p.gained g);
-        }
-
-    pub far_cut_done : (from : Standing H) (before : Playing) (s : Stores) (old mid new : Option (List ℕ)) (waits : List ℕ) (to : Standing H) (after : Playing) (t : Stores) (waiting : List ℕ)
-        → Far setup commands from before s old mid waits → Advances setup.calling from before s waits false to after t waiting → GainsFront mid waiting new → PrintsFront setup commands old new
-    far_cut_done from before s old mid new waits to after t waiting f a g =
-        let p = all_played from before s old mid waits to after t waiting f a in
-        record {
-          sent = p.sent;
-          replays = record {
-            front = events_of commands;
-            more = [];
-            after = to.state;
-            stores = t;
-            is = sym (append-nil (events_of commands));
-            plays = p.plays;
-          };
-          gained = subst (λ (t : List ℕ). GainsFront old t new) (sym p.text) (gains_then_front old p.written mid waiting new p.gained g);
+          replays = record { after = map state_of workers; stores = shared; plays = subst (λ (x : List Placed). PlaysFirst setup x p.sent (map state_of workers) shared) front p.plays };
+          gained = subst (λ (t : List ℕ). Gains old t new) (sym p.text) (gains_more old p.written mid waits new p.gained g);
         }

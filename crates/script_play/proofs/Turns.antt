@@ -1,23 +1,26 @@
 -- One turn of a worker in the world of a script.
-use Rattle.std.proofs.Common.{◌≡◌, ℕ, Bool, true, false, List, [], ◌∷◌, ◌++◌, length, arith, refl, sym, ap, ◌∙◌, subst, Option, Some}
+use Rattle.std.proofs.Common.{◌≡◌, ℕ, ◌-◌, Bool, true, false, List, [], ◌∷◌, ◌++◌, length, set, get_or, ◌<◌, arith, refl, sym, ap, ◌∙◌, subst, Option, Some}
 use Rattle.std.proofs.lemmas.List.{append-nil, append_cancel_left}
+use Rattle.std.proofs.lemmas.List.Elements.{All-set}
 use Rattle.std.specs.Bool.{OnTrue}
+use Rattle.std.specs.Prelude.{All}
 use Rattle.gate_io.specs.Passing.{happened, received}
 use Rattle.gate_io.specs.Reads.{happened-append}
 use Rattle.gate_io.specs.Told.{Gains}
 use Rattle.gate_io.specs.declared.event.Event.{Event}
 use Rattle.gate_io.specs.declared.event.Sent.{Sent}
 use Rattle.gate_io.specs.declared.passed.Passed.{Passed}
+use Rattle.gate_io.specs.declared.passed.Passed.TheVariants.{Asked, Gave}
 use Rattle.outbox.specs.Delivery.{solid, NeverShort}
 use Rattle.outbox.specs.Turns.{HandsOver, Delivers}
 use Rattle.outbox.proofs.Deliveries.{in_order}
-use Rattle.replay_script.specs.Prints.{printed}
+use Rattle.replay_script.specs.Prints.{Told, last_in, printed_by, tell}
 use Rattle.replay_script.specs.ScriptWorld.{Playing, nature, taken_since}
 use Rattle.replay_script.proofs.Worlds.{plays_its_script}
 use Rattle.store_model.specs.Sequential.{Stores, Performs}
 use Rattle.worker.specs.State.{Setting, Standing}
 use Rattle.worker.specs.Turned.{one_turn, Whole, TookWhole}
-use Rattle.script_play.specs.Replay.{Advances, Calling, CanTurn}
+use Rattle.script_play.specs.Replay.{Advances, Calling, CanTurn, Seated, Turns, TurnsAt, for_worker}
 
 same_trace : (a b : List Passed) → Some a ≡ Some b → a ≡ b
 same_trace a b e = cc
@@ -54,51 +57,75 @@ taken_whole event sent steps rest h never =
     let all = in_order (one_turn event sent ∷ []) steps rest delivers never in
     (all.0 ∙ ap solid (append-nil sent), all.1)
 
-pub went_advances : {H : Type 0} (calling : Calling H) (s t : Stores) (from to : Standing H) (before after : Playing) (waits waiting : List ℕ) (taken : List Sent)
-    → from.waiting ≡ [] → to.setting ≡ from.setting → nature after ≡ nature before → TookWhole (Some before.trace) (Some after.trace)
-    → Whole calling Performs false s (Some before.trace) from to t (Some after.trace) → taken ≡ taken_since after.trace → waiting ≡ waits ++ printed taken
-    → Advances calling from before s waits true to after t waiting
-went_advances calling s t from to before after waits waiting taken none setting same took w is_taken is_waiting =
+-- a turn of a worker for which nothing waits
+pub went_turns : {H : Type 0} (calling : Calling H) (s t : Stores) (from to : Standing H) (before after : Playing) → from.waiting ≡ [] → to.setting ≡ from.setting → nature after ≡ nature before
+    → TookWhole (Some before.trace) (Some after.trace) → Whole calling Performs false s (Some before.trace) from to t (Some after.trace) → Turns calling from before s to after t × (to.waiting ≡ [])
+went_turns calling s t from to before after none setting same took w =
     let h : HandsOver [] (one_turn w.event w.sent) w.steps to.waiting =
     subst (λ (x : List Sent). HandsOver x (one_turn w.event w.sent) w.steps to.waiting) none w.hands_over in
     let never : NeverShort w.steps = subst NeverShort (one_gain before.trace after.trace took.steps w.steps took.told w.told) took.never in
-    let all = taken_whole w.event w.sent w.steps to.waiting h never in
-    let sent_is : taken ≡ solid w.sent =
-    is_taken ∙ taken_in before.trace after.trace [] w.event w.sent w.steps to.waiting (told_steps before.trace after.trace w.steps w.told) h ∙ all.0 in
-    record {
-      event = w.event;
-      is_no_stop = w.is_stop;
-      sent = w.sent;
-      goes = w.goes;
-      setting_is = setting;
-      nothing_waits = all.1;
-      given = given_once before after from.waiting w.event w.sent w.steps to.waiting w.told w.hands_over;
-      nature_is = same;
-      waiting_is = is_waiting ∙ ap (λ (x : List Sent). waits ++ printed x) sent_is;
-    }
+    let all = taken_whole w.event w.sent w.steps to.waiting h never in (
+      record {
+        event = w.event;
+        sent = w.sent;
+        goes = w.goes;
+        setting_is = setting;
+        given = given_once before after from.waiting w.event w.sent w.steps to.waiting w.told w.hands_over;
+        nature_is = same;
+        taken_is = taken_in before.trace after.trace [] w.event w.sent w.steps to.waiting (told_steps before.trace after.trace w.steps w.told) h ∙ all.0;
+      },
+      all.1,
+    )
 
-pub stopped_advances : {H : Type 0} (calling : Calling H) (s t : Stores) (from to : Standing H) (before after : Playing) (waits : List ℕ)
-    → from.waiting ≡ [] → to.setting ≡ from.setting → nature after ≡ nature before
-    → Whole calling Performs true s (Some before.trace) from to t (Some after.trace) → Advances calling from before s waits false to after t waits
-stopped_advances calling s t from to before after waits none setting same w =
-    let still = subst (λ (b : Bool). OnTrue b ((w.sent ≡ []) × (w.hands_over.taken ≡ []) × (to.waiting ≡ from.waiting))) w.is_stop w.hands_over.stopped in
-    record {
-      event = w.event;
-      is_no_stop = w.is_stop;
-      sent = w.sent;
-      goes = w.goes;
-      setting_is = setting;
-      nothing_waits = still.2 ∙ none;
-      given = given_once before after from.waiting w.event w.sent w.steps to.waiting w.told w.hands_over;
-      nature_is = same;
-      waiting_is = sym (append-nil waits) ∙ ap (λ (x : List Sent). waits ++ printed (solid x)) (sym still.0);
-    }
+-- that of Stop sends nothing
+pub stopped_turns : {H : Type 0} (calling : Calling H) (s t : Stores) (from to : Standing H) (before after : Playing) → from.waiting ≡ [] → to.setting ≡ from.setting → nature after ≡ nature before
+    → Whole calling Performs true s (Some before.trace) from to t (Some after.trace) → Turns calling from before s to after t × (to.waiting ≡ [])
+stopped_turns calling s t from to before after none setting same w =
+    let h = w.hands_over in
+    let still = subst (λ (b : Bool). OnTrue b ((w.sent ≡ []) × (h.taken ≡ []) × (to.waiting ≡ from.waiting))) w.is_stop h.stopped in
+    let steps : received w.steps ≡ [] = ap received (h.steps_are ∙ ap (λ (x : List Passed). Asked h.wants ∷ Gave w.event ∷ x) still.1) in (
+      record {
+        event = w.event;
+        sent = w.sent;
+        goes = w.goes;
+        setting_is = setting;
+        given = given_once before after from.waiting w.event w.sent w.steps to.waiting w.told h;
+        nature_is = same;
+        taken_is = taken_in before.trace after.trace from.waiting w.event w.sent w.steps to.waiting (told_steps before.trace after.trace w.steps w.told) h ∙ steps ∙ ap solid (sym still.0);
+      },
+      still.2 ∙ none,
+    )
 
--- the stores are enough behind a turn too
-pub still_can_turn : {H : Type 0} (needs : H → ℕ) (from to : Standing H) (s t : Stores) → CanTurn needs from s → to.setting ≡ from.setting → needs to.state.host ≡ needs from.state.host
-    → length t.stores ≡ length s.stores → to.waiting ≡ [] → CanTurn needs to t
-still_can_turn needs from to s t can setting enough stores none =
+-- behind a turn the worker is seated too
+pub still_seated : {H : Type 0} (needs : H → ℕ) (stores : ℕ) (from to : Standing H) → Seated needs stores from → to.setting ≡ from.setting → needs to.state.host ≡ needs from.state.host → to.waiting ≡ []
+    → Seated needs stores to
+still_seated needs stores from to seated setting enough none =
     let vms : length to.setting.config.vms ≡ length from.setting.config.vms = ap (λ (x : Setting). length x.config.vms) setting in
-    let all = can.stores in
-    let some = can.enough in
-    record { stores = omega (arith, all, vms, stores); enough = omega (arith, some, enough, stores); nothing_waits = none }
+    let all = seated.vms in
+    let some = seated.enough in
+    record { vms = omega (arith, all, vms); enough = omega (arith, some, enough); nothing_waits = none }
+
+-- one of the workers did a turn
+pub one_of : {H : Type 0} (calling : Calling H) (at : ℕ) (from to : List (Standing H)) (before after : Playing) (s t : Stores) (old new : Standing H) → old ≡ get_or from at old → to ≡ set from at new
+    → Turns calling old before s new after t → TurnsAt calling at from before s to after t
+one_of calling at from to before after s t old new old_is new_is turns = record { old = old; new = new; old_is = old_is; new_is = new_is; turns = turns }
+
+pub all_can_turn : {H : Type 0} (needs : H → ℕ) (at : ℕ) (from to : List (Standing H)) (s t : Stores) (new : Standing H) → CanTurn needs from s → Seated needs (length s.stores) new → to ≡ set from at new
+    → length t.stores ≡ length s.stores → CanTurn needs to t
+all_can_turn needs at from to s t new can seated new_is count =
+    subst (λ (n : ℕ). All (Seated needs n) to) (sym count)
+    (subst (All (Seated needs (length s.stores))) (sym new_is) (All-set (Seated needs (length s.stores)) from at new seated can))
+
+-- a turn of a worker, printed
+pub advanced : {H : Type 0} (calling : Calling H) (who k : ℕ) (from to : List (Standing H)) (before after : Playing) (s mid t : Stores) (last last_then : ℕ) (waits waiting : List ℕ) (taken : List Sent) → k ≡ who
+    → mid ≡ for_worker who s → TurnsAt calling (k - 1) from before mid to after t → taken ≡ taken_since after.trace → waiting ≡ waits ++ printed_by last (tell who taken)
+    → last_then ≡ last_in last (tell who taken) → Advances calling who from before s last waits to after t last_then waiting
+advanced calling who k from to before after s mid t last last_then waits waiting taken k_is mid_is turned is_taken is_waiting is_last =
+    let at : TurnsAt calling (who - 1) from before (for_worker who s) to after t =
+    subst (λ (x : ℕ × Stores). TurnsAt calling (x.0 - 1) from before x.1 to after t) (λ i. (k_is i, mid_is i)) turned in
+    let sent_is : taken ≡ solid at.turns.sent = is_taken ∙ at.turns.taken_is in
+    record {
+      at = at;
+      last_is = is_last ∙ ap (λ (x : List Sent). last_in last (tell who x)) sent_is;
+      waiting_is = is_waiting ∙ ap (λ (x : List Sent). waits ++ printed_by last (tell who x)) sent_is;
+    }

@@ -1,25 +1,25 @@
--- What a script gives: the turns of a worker at its events, one after another.
-use Rattle.std.specs.Prelude.{◌≡◌, ℕ, ◌≤◌, Bool, not, replicate, List, [], ◌∷◌, ◌++◌, length, Option}
+-- What a script gives: the turns of its workers at their events, one after another.
+use Rattle.std.specs.Prelude.{◌≡◌, ℕ, zero, suc, ◌-◌, ◌≤◌, Bool, replicate, List, [], ◌∷◌, ◌++◌, length, map, slice_index_or, slice_set, All, Option}
 use Rattle.contexts.specs.declared.parts.Contexts.{Contexts}
 use Rattle.course.specs.Called.{Called}
 use Rattle.course.specs.Course.{ends, Goes}
 use Rattle.course.specs.declared.host.Callback.{Callback}
 use Rattle.gate_config.specs.declared.config.Config.{Config}
-use Rattle.gate_io.specs.Events.{is_stop}
 use Rattle.gate_io.specs.Passing.{happened}
 use Rattle.gate_io.specs.Told.{Gains, GainsFront}
 use Rattle.gate_io.specs.declared.event.Event.{Event}
 use Rattle.gate_io.specs.declared.event.Sent.{Sent}
 use Rattle.outbox.specs.Delivery.{solid}
 use Rattle.replay_script.specs.declared.command.Command.{Command}
-use Rattle.replay_script.specs.Prints.{printed}
-use Rattle.replay_script.specs.ScriptWorld.{Playing, fresh, nature}
-use Rattle.replay_script.specs.Scripts.{events_of}
+use Rattle.replay_script.specs.Prints.{Told, last_in, printed_by, tell}
+use Rattle.replay_script.specs.ScriptWorld.{Playing, fresh, nature, taken_since}
+use Rattle.replay_script.specs.Scripts.{events_of, workers_of}
 use Rattle.shared_store.specs.Fresh.{fresh_metrics, fresh_stores}
 use Rattle.store_model.specs.Program.{Program}
 use Rattle.store_model.specs.Sequential.{Stores, Performs}
 use Rattle.worker.specs.Making.{new_worker}
-use Rattle.worker.specs.State.{Setting, Standing, rules_of}
+use Rattle.worker.specs.Plan.{Plan}
+use Rattle.worker.specs.State.{Standing, rules_of}
 use Rattle.worker.specs.Steps.{Both}
 use Rattle.worker.specs.Turn.{Outcome, outcome, turn}
 
@@ -43,69 +43,107 @@ setup_of calling exported registering config host = record { calling = calling; 
 abbrev pub seed : List ℕ
 seed = replicate 32 0
 
--- worker 1, which has done nothing
-abbrev pub first_worker : {H : Type 0} → Setup H → Standing H
-first_worker setup = new_worker setup.exported setup.registering setup.config 1 seed setup.host
+-- a worker, which has done nothing
+abbrev pub first_worker : {H : Type 0} → Setup H → ℕ → Standing H
+first_worker setup who = new_worker setup.exported setup.registering setup.config who seed setup.host
 
--- so many empty stores with no metrics, and worker 1, which calls them
+-- workers 1 to n, in order
+abbrev pub first_workers : {H : Type 0} → Setup H → ℕ → List (Standing H)
+first_workers setup zero = []
+first_workers setup (suc n) = first_workers setup n ++ first_worker setup (suc n) ∷ []
+
+-- what the turns of all of them go by
+abbrev pub plan_for : {H : Type 0} → Setup H → Plan
+plan_for setup = rules_of (first_worker setup 1).setting
+
+abbrev pub state_of : {H : Type 0} → Standing H → Both H
+state_of worker = worker.state
+
+-- so many empty stores with no metrics, which worker 1 calls
 abbrev pub stores_for : ℕ → Stores
 stores_for n = record { who = 1; stores = fresh_stores n; metrics = fresh_metrics n }
 
--- one for each VM
-abbrev pub first_stores : {H : Type 0} → Setup H → Stores
-first_stores setup = stores_for (length setup.config.vms)
+-- the same stores, which this worker calls
+abbrev pub for_worker : ℕ → Stores → Stores
+for_worker who s = record s { who = who }
 
-module _ {H : Type 0} (calling : Calling H) (setting : Setting) where
-  -- From the one state, and the one state of the shared stores, the events lead through their turns to the other, and this is sent. An empty
-  -- piece is not, since there is nothing of it to take.
-  abbrev pub Plays : Both H → Stores → List Event → List Sent → Both H → Stores → Type 0
-  Plays state s [] sent after t = (sent ≡ []) × (after ≡ state) × (t ≡ s)
-  Plays state s (event ∷ events) sent after t =
-      (end : Outcome H) × (mid : Stores) × (more : List Sent) × Goes Performs s (turn calling (rules_of setting) state event) (ends end) mid
-      × Plays end.state mid events more after t × (sent ≡ solid end.sent ++ more)
+-- an event, and the worker at which it happens
+pub record Placed : Type 0 where
+  pub who : ℕ
+  pub event : Event
 
--- the events, from the start of a setup on
-abbrev pub PlaysFirst : {H : Type 0} → Setup H → List Event → List Sent → Both H → Stores → Type 0
-PlaysFirst setup events sent after t = Plays setup.calling (first_worker setup).setting (first_worker setup).state (first_stores setup) events sent after t
+abbrev pub placed : ℕ → Event → Placed
+placed who event = record { who = who; event = event }
 
--- WHAT A SCRIPT SENDS: what worker 1 of a setup sends at the script's events, from no open line on.
-pub record Replays {H : Type 0} (setup : Setup H) (commands : List Command) (sent : List Sent) : Type 0 where
-  pub after : Both H
+abbrev pub place_all : List ℕ → List Event → List Placed
+place_all [] events = []
+place_all (who ∷ whose) [] = []
+place_all (who ∷ whose) (event ∷ events) = placed who event ∷ place_all whose events
+
+-- the events of a script, each at its worker
+abbrev pub placed_of : List Command → List Placed
+placed_of commands = place_all (workers_of commands) (events_of commands)
+
+module _ {H : Type 0} (setup : Setup H) where
+  -- the state of a worker
+  abbrev pub state_at : List (Both H) → ℕ → Both H
+  state_at states who = slice_index_or states (who - 1) (first_worker setup who).state
+
+  -- From the states of the workers, and that of the stores which they share, the events lead through their turns, each of its worker, to
+  -- others, and this is sent. An empty piece is not, since there is nothing of it to take.
+  abbrev pub Plays : List (Both H) → Stores → List Placed → List Told → List (Both H) → Stores → Type 0
+  Plays states s [] sent after t = (sent ≡ []) × (after ≡ states) × (t ≡ s)
+  Plays states s (p ∷ events) sent after t =
+      (end : Outcome H) × (mid : Stores) × (more : List Told)
+      × Goes Performs (for_worker p.who s) (turn setup.calling (plan_for setup) (state_at states p.who) p.event) (ends end) mid
+      × Plays (slice_set states (p.who - 1) end.state) mid events more after t × (sent ≡ tell p.who (solid end.sent) ++ more)
+
+-- the events, from the start of a setup on: its workers have done nothing, and there is an empty store for each VM
+abbrev pub PlaysFirst : {H : Type 0} → Setup H → List Placed → List Told → List (Both H) → Stores → Type 0
+PlaysFirst setup events sent after t = Plays setup (map state_of (first_workers setup setup.config.workers)) (stores_for (length setup.config.vms)) events sent after t
+
+-- WHAT A SCRIPT SENDS: what the workers of a setup send at the script's events, from no open line on.
+pub record Replays {H : Type 0} (setup : Setup H) (commands : List Command) (sent : List Told) : Type 0 where
+  pub after : List (Both H)
   pub stores : Stores
-  pub plays : PlaysFirst setup (events_of commands) sent after stores
+  pub plays : PlaysFirst setup (placed_of commands) sent after stores
 
 -- some first events of a script send this, and more may follow
-pub record ReplaysFront {H : Type 0} (setup : Setup H) (commands : List Command) (sent : List Sent) : Type 0 where
-  pub front : List Event
-  pub more : List Event
-  pub after : Both H
+pub record ReplaysFront {H : Type 0} (setup : Setup H) (commands : List Command) (sent : List Told) : Type 0 where
+  pub front : List Placed
+  pub more : List Placed
+  pub after : List (Both H)
   pub stores : Stores
-  pub is : events_of commands ≡ front ++ more
+  pub is : placed_of commands ≡ front ++ more
   pub plays : PlaysFirst setup front sent after stores
 
 -- all that the script sends was printed
 pub record Prints {H : Type 0} (setup : Setup H) (commands : List Command) (old new : Option (List ℕ)) : Type 0 where
-  pub sent : List Sent
+  pub sent : List Told
   pub replays : Replays setup commands sent
-  pub gained : Gains old (printed sent) new
+  pub gained : Gains old (printed_by 1 sent) new
 
 -- a front of what the script prints was taken
 pub record PrintsFront {H : Type 0} (setup : Setup H) (commands : List Command) (old new : Option (List ℕ)) : Type 0 where
-  pub sent : List Sent
+  pub sent : List Told
   pub replays : ReplaysFront setup commands sent
-  pub gained : GainsFront old (printed sent) new
+  pub gained : GainsFront old (printed_by 1 sent) new
 
--- a worker, a world and stores that are to play these lines: nothing has happened as yet
-pub record IsReady {H : Type 0} (setup : Setup H) (commands : List Command) (worker : Standing H) (world : Playing) (shared : Stores) : Type 0 where
-  pub worker_is : worker ≡ first_worker setup
+-- workers, a world and stores that are to play these lines: nothing has happened as yet
+pub record IsReady {H : Type 0} (setup : Setup H) (commands : List Command) (workers : List (Standing H)) (world : Playing) (shared : Stores) (last : ℕ) : Type 0 where
+  pub workers_are : workers ≡ first_workers setup setup.config.workers
   pub world_is : world ≡ fresh (events_of commands)
-  pub shared_is : shared ≡ first_stores setup
+  pub shared_is : shared ≡ stores_for (length setup.config.vms)
+  pub last_is : last ≡ 1
 
--- A worker may do a turn over these stores: there is one for each of its VMs and all that its machines use, and nothing waits to be taken.
-pub record CanTurn {H : Type 0} (needs : H → ℕ) (worker : Standing H) (shared : Stores) : Type 0 where
-  pub stores : length worker.setting.config.vms ≤ length shared.stores
-  pub enough : needs worker.state.host ≤ length shared.stores
+-- A worker may do a turn over so many stores: there is one for each of its VMs and all that its machines use, and nothing waits to be taken.
+pub record Seated {H : Type 0} (needs : H → ℕ) (stores : ℕ) (worker : Standing H) : Type 0 where
+  pub vms : length worker.setting.config.vms ≤ stores
+  pub enough : needs worker.state.host ≤ stores
   pub nothing_waits : worker.waiting ≡ []
+
+abbrev pub CanTurn : {H : Type 0} → (H → ℕ) → List (Standing H) → Stores → Type 0
+CanTurn needs workers shared = All (Seated needs (length shared.stores)) workers
 
 -- a front of what waited was written, and the rest waits
 pub record Flushed (waits : List ℕ) (old : Option (List ℕ)) (waiting : List ℕ) (new : Option (List ℕ)) : Type 0 where
@@ -113,16 +151,27 @@ pub record Flushed (waits : List ℕ) (old : Option (List ℕ)) (waiting : List 
   pub gained : Gains old written new
   pub is : waits ≡ written ++ waiting
 
--- One turn of the worker in the script's world, and what it sends is printed behind what waits to be written. `goes_on` says that its event
--- was not Stop.
-pub record Advances {H : Type 0} (calling : Calling H) (from : Standing H) (before : Playing) (s : Stores) (waits : List ℕ) (goes_on : Bool)
-    (to : Standing H) (after : Playing) (t : Stores) (waiting : List ℕ) : Type 0 where
+-- One turn of a worker in the script's world, which took what the turn sends.
+pub record Turns {H : Type 0} (calling : Calling H) (from : Standing H) (before : Playing) (s : Stores) (to : Standing H) (after : Playing) (t : Stores) : Type 0 where
   pub event : Event
-  pub is_no_stop : is_stop event.what ≡ not goes_on
   pub sent : List Sent
   pub goes : Goes Performs s (turn calling (rules_of from.setting) from.state event) (ends (outcome to.state sent)) t
   pub setting_is : to.setting ≡ from.setting
-  pub nothing_waits : to.waiting ≡ []
   pub given : happened after.trace ≡ happened before.trace ++ event ∷ []
   pub nature_is : nature after ≡ nature before
-  pub waiting_is : waiting ≡ waits ++ printed (solid sent)
+  pub taken_is : taken_since after.trace ≡ solid sent
+
+-- one turn of the worker at a place
+pub record TurnsAt {H : Type 0} (calling : Calling H) (at : ℕ) (from : List (Standing H)) (before : Playing) (s : Stores) (to : List (Standing H)) (after : Playing) (t : Stores) : Type 0 where
+  pub old : Standing H
+  pub new : Standing H
+  pub old_is : old ≡ slice_index_or from at old
+  pub new_is : to ≡ slice_set from at new
+  pub turns : Turns calling old before s new after t
+
+-- one turn of a worker, and what it sends is printed behind what waits to be written
+pub record Advances {H : Type 0} (calling : Calling H) (who : ℕ) (from : List (Standing H)) (before : Playing) (s : Stores) (last : ℕ) (waits : List ℕ)
+    (to : List (Standing H)) (after : Playing) (t : Stores) (last_then : ℕ) (waiting : List ℕ) : Type 0 where
+  pub at : TurnsAt calling (who - 1) from before (for_worker who s) to after t
+  pub last_is : last_then ≡ last_in last (tell who (solid at.turns.sent))
+  pub waiting_is : waiting ≡ waits ++ printed_by last (tell who (solid at.turns.sent))

@@ -1,5 +1,12 @@
 // What holds of every script, as functions without a body.
-ghost use Rattle.script_play.specs.Laws.{OneReplay, FrontsOfOne};
+ghost use Rattle.std.specs.Prelude.{List};
+ghost use Rattle.replay_script.specs.declared.command.Command.{Command};
+ghost use Rattle.script_play.specs.Laws.{EachHasItsWorker, OneReplay, FrontsOfOne, StopStandsForAll};
+
+/// Each event of a script happens at its worker, and nothing else happens.
+pub fn each_has_its_worker()
+    ensures { (commands : List Command) → EachHasItsWorker commands }
+{}
 
 /// A script sends one list at most.
 pub fn one_replay<H>()
@@ -9,4 +16,9 @@ pub fn one_replay<H>()
 /// What some first events of a script send is a front of what the script sends.
 pub fn fronts_of_one<H>()
     ensures { FrontsOfOne H }
+{}
+
+/// Stop at further workers, behind a script's end, sends nothing.
+pub fn stop_stands_for_all<H>()
+    ensures { StopStandsForAll H }
 {}

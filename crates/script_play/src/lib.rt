@@ -1,9 +1,9 @@
-//! A script, played over one worker: each of its events is a turn, and what the turns send is printed.
+//! A script, played over the workers of a configuration: each of its events is a turn of its worker, and what the turns send is printed.
 #![tactic(auto)]
 
+mod crew;
 mod laws;
-mod player;
 mod playing;
 
-pub use laws::{fronts_of_one, one_replay};
+pub use laws::{each_has_its_worker, fronts_of_one, one_replay, stop_stands_for_all};
 pub use playing::{PlayEnd, play};

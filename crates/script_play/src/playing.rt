@@ -1,19 +1,19 @@
 // A script, played to its end.
-ghost use Rattle.std.specs.Prelude.{◌≡◌, ◌≤◌, ◌⊎◌, List, [], Err, OnOk, OnErr};
+ghost use Rattle.std.specs.Prelude.{◌≡◌, ◌≤◌, ◌⊎◌, List, [], All, length, Err, OnOk, OnErr};
 ghost use Rattle.gate_config.specs.declared.config.Config.{Config};
 ghost use Rattle.gate_io.specs.Told.{Gains, GainsFront, Rose};
 ghost use Rattle.replay_script.specs.declared.command.Command.{Command};
-ghost use Rattle.replay_script.specs.Scripts.{AreLines, at_start};
+ghost use Rattle.replay_script.specs.Scripts.{AreLines, at_start, workers_of as workers_in};
 ghost use Rattle.script_play.specs.declared.playing.PlayEnd.TheVariants.{OutFault as OutFaultEnd, OutOfMemory as OutOfMemoryEnd};
 ghost use Rattle.script_play.specs.Replay.{CanTurn, Flushed, IsReady, Prints, PrintsFront, Setup, setup_of};
 
-use crate::player::{Player, player_of};
+use crate::crew::{Crew, crew_of};
 use course::Host;
-use gate_base::Octets;
+use gate_base::{Octets, WorkerNo};
 use gate_config::Config;
 use gate_io::{Failed, Sink, write_whole};
 use makes_host::MakesHost;
-use replay_script::Command;
+use replay_script::{Command, workers_of};
 use std::alloc::{AllocError, Global};
 
 /// How many bytes of output wait at most before they are written.
@@ -44,7 +44,7 @@ impl From<Failed> for PlayEnd {
     }
 }
 
-/// Plays the lines of a script from no open line on, over worker 1 of a configuration, and writes what they send.
+/// Plays the lines of a script from no open line on, over the workers of a configuration, and writes what they send.
 pub fn play<H: Host + Drop, M: MakesHost<H>, O: Sink>(
     alloc: Global,
     maker: &M,
@@ -52,7 +52,7 @@ pub fn play<H: Host + Drop, M: MakesHost<H>, O: Sink>(
     commands: Vec<Command>,
     out: &mut O,
 ) -> Result<(), PlayEnd>
-    requires lines { AreLines at_start commands.items }
+    requires lines { AreLines (at_start config.workers) commands.items }
     requires takes { M.takes maker.now config }
     ensures done { OnOk result (Prints (setup_of H.calling H.exported H.registering config (M.made maker.now config)) commands.items (O.taken out.old) (O.taken out.new)) }
     ensures out_fault { result ≡ Err PlayEnd.OutFault
@@ -62,36 +62,38 @@ pub fn play<H: Host + Drop, M: MakesHost<H>, O: Sink>(
     ensures faults { O.faults out.old ≤ O.faults out.new }
     ensures failed { result ≡ Err PlayEnd.OutFault → Rose (O.faults out.old) (O.faults out.new) }
 {
-    let mut player = player_of(alloc, maker, config, commands)?;
-    play_all(alloc, &mut player, out)
+    let whose = workers_of(alloc, &commands)?;
+    let mut crew = crew_of(alloc, maker, &config, commands)?;
+    play_all(alloc, &mut crew, &whose, out)
 }
 
-/// Takes one turn after another until Stop comes, and writes what they send.
+/// Takes one turn after another, each of its worker, and writes what they send.
 fn play_all<H: Host + Drop, O: Sink>(
     alloc: Global,
-    player: &mut Player<H>,
+    crew: &mut Crew<H>,
+    whose: &[WorkerNo],
     out: &mut O,
 ) -> Result<(), PlayEnd>
-    requires { CanTurn H.needs player.old.worker player.old.shared }
+    requires can_turn { CanTurn H.needs crew.old.workers crew.old.shared }
+    requires there { All (λ who. (1 ≤ who) × (who ≤ length crew.old.workers)) whose.now }
     ensures done { (config : Config) (host : H) (commands : List Command)
-        → IsReady (setup_of H.calling H.exported H.registering config host) commands player.old.worker player.old.world player.old.shared
+        → IsReady (setup_of H.calling H.exported H.registering config host) commands crew.old.workers crew.old.world crew.old.shared crew.old.last
+        → whose.now ≡ workers_in commands
         → OnOk result (Prints (setup_of H.calling H.exported H.registering config host) commands (O.taken out.old) (O.taken out.new)) }
     ensures front { (config : Config) (host : H) (commands : List Command)
-        → IsReady (setup_of H.calling H.exported H.registering config host) commands player.old.worker player.old.world player.old.shared
+        → IsReady (setup_of H.calling H.exported H.registering config host) commands crew.old.workers crew.old.world crew.old.shared crew.old.last
+        → whose.now ≡ workers_in commands
         → OnErr result (PrintsFront (setup_of H.calling H.exported H.registering config host) commands (O.taken out.old) (O.taken out.new)) }
     ensures faults { O.faults out.old ≤ O.faults out.new }
     ensures failed { result ≡ Err PlayEnd.OutFault → Rose (O.faults out.old) (O.faults out.new) }
 {
     let mut pending = Octets::new(alloc);
-    // Stop comes behind fewer events than that.
-    'turns: for _ in 0..u64::MAX {
-        if !player.advance(alloc, &mut pending)? {
-            write_whole(out, pending.as_slice())?;
-            return Ok(());
-        }
+    'turns: for who in whose {
+        crew.advance(alloc, *who, &mut pending)?;
         flush(&mut pending, out)?;
     }
-    Err(PlayEnd::OutOfMemory)
+    write_whole(out, pending.as_slice())?;
+    Ok(())
 }
 
 /// Writes what waits, where that is enough.

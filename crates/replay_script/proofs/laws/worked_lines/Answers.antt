@@ -54,3 +54,11 @@ returns-clause-upend c = refl
 pub returns-clause-upgone : goal.returns-clause-upgone
 unfolding digits
 returns-clause-upgone c = refl
+
+pub returns-clause-on : goal.returns-clause-on
+unfolding digits
+returns-clause-on c = refl
+
+pub returns-clause-by_worker : goal.returns-clause-by_worker
+unfolding digits
+returns-clause-by_worker c = refl
