@@ -1,12 +1,13 @@
 -- The plain configuration over modules, VM by VM.
-use Rattle.std.proofs.Common.{◌≡◌, ℕ, zero, suc, ◌+◌, ◌<◌, List, [], ◌∷◌, ◌++◌, map, length, get_or, set, append_assoc, refl, ap, sym, subst, ◌∙◌, arith}
+use Rattle.std.proofs.Common.{◌≡◌, ℕ, zero, suc, ◌+◌, ◌<◌, List, [], ◌∷◌, ◌++◌, map, length, get_or, set, append_assoc, Option, refl, ap, sym, subst, ◌∙◌, arith}
 use Rattle.std.proofs.lemmas.List.{append-nil}
 use Rattle.gate_config.specs.declared.entries.VmEntry.{VmEntry}
 use Rattle.gate_config.specs.declared.config.Config.{Config}
 use Rattle.gate_config.specs.Given.{Given, given}
 use Rattle.gate_config.specs.Plain.{IsPlain, first_n, plain_vm}
-use Rattle.config_files.specs.Loading.{Told, modules_of}
-use Rattle.config_files.specs.Plain.{IsPlainLoaded, naming, plain_over, vm_over, vms_over, without_module}
+use Rattle.gate_io.specs.Told.{gains_nothing}
+use Rattle.config_files.specs.Loading.{Told, ReadsModules, NoneBehind, modules_of}
+use Rattle.config_files.specs.Plain.{IsPlainLoaded, ReadsPlain, naming, plain_over, vm_over, vms_over, without_module}
 
 -- so many of these paths, and no path in place of each of the others
 abbrev pub so_far : ℕ → List (List ℕ) → List (List ℕ)
@@ -68,6 +69,21 @@ length-so_far (suc n) (path ∷ paths) = ap suc (length-so_far n paths)
 pub modules_over : (k : ℕ) (paths : List (List ℕ)) → modules_of (vms_over k paths) ≡ paths
 modules_over k [] = refl
 modules_over k (path ∷ paths) = ap (λ (l : List (List ℕ)). path ∷ l) (modules_over (k + 1) paths)
+
+-- the reads of the modules of its VMs are those of the paths
+pub plain_read : (files : Told) (paths : List (List ℕ)) (vms : List VmEntry) (old new : Option (List (List ℕ))) → vms ≡ vms_over 0 paths → ReadsModules files vms old new → ReadsPlain files paths old new
+plain_read files paths vms old new e r = record {
+  gained = record {
+    front = r.gained.front;
+    rest = r.gained.rest;
+    whole_is = sym (ap modules_of e ∙ modules_over 0 paths) ∙ r.gained.whole_is;
+    gained = r.gained.gained;
+  };
+  none_behind = subst (λ (v : List VmEntry). NoneBehind files v r.gained.front) e r.none_behind;
+}
+
+pub none_read : (files : Told) (paths : List (List ℕ)) (old : Option (List (List ℕ))) → ReadsPlain files paths old old
+none_read files paths old = record { gained = record { front = []; rest = paths; whole_is = refl; gained = gains_nothing old }; none_behind = tt }
 
 -- a member of a list that is mapped
 pub mapped : {A : Type 0} (of : A → List ℕ) (xs : List A) (n : ℕ) (x : A) → n < length xs → x ≡ get_or xs n x → get_or (map of xs) n [] ≡ of x

@@ -1,7 +1,6 @@
 -- What one read tells.
 use Rattle.std.proofs.Common.{◌≡◌, ℕ, ◌<◌, Bool, false, nat_le, nat_lt, true, if◌then◌else◌, List, [], ◌∷◌, length, Result, Option, None, Some, Ok, Err, refl, sym, subst, arith, ◌^◌, codes}
-use Rattle.std.proofs.lemmas.List.{append-nil}
-use Rattle.std.specs.Result.{OnOk, OnErr, IfOk}
+use Rattle.std.specs.Result.{OnOk, OnErr, IfOk, IfErr}
 use Rattle.std.proofs.lemmas.Bool.Decides.{nat_tests}
 use Rattle.gate_io.specs.Paths.{told_at, ReadsTold, noted}
 use Rattle.gate_io.specs.Told.{Gains, GainsFront}
@@ -11,9 +10,12 @@ use Rattle.wasm_syntax.specs.Grammar.{header, header_read, body_read, most_bytes
 use Rattle.read_config.specs.Whole.{config_of}
 use Rattle.wasm_syntax.specs.declared.module.Module.{Module}
 use Rattle.config_files.specs.Modules.{IsModule, IsFilter}
-use Rattle.config_files.specs.Loading.{Told, IsCode, IsNoCodeOf, IsNoCode}
+use Rattle.config_files.specs.Loading.{Told, IsCode, IsNoCodeOf, IsNoCode, ReadsNoCode, ReadsRefused}
 use Rattle.config_files.specs.declared.reading.CodeEnd.{CodeEnd}
 use Rattle.config_files.specs.declared.reading.CodeEnd.TheVariants as code
+use Rattle.config_files.specs.declared.reading.LoadEnd.{LoadEnd}
+use Rattle.config_files.specs.declared.reading.LoadEnd.TheVariants as load
+use Rattle.config_files.specs.declared.modules.ModuleFault.{ModuleFault}
 
 pub told_bytes : (files : Told) (path : List ℕ) (most : ℕ) (r : Result (List ℕ) FileEnd) → ReadsTold files path most r → IfOk r (λ bytes. (text : List ℕ) → told_at files path ≡ Some text → bytes ≡ text)
 told_bytes None path most (Ok bytes) h = λ text e. absurd (cc)
@@ -37,6 +39,32 @@ front_path path old new (Err Failed) h = record { front = path ∷ []; rest = []
 front_path path old new (Err TooLong) h = record { front = path ∷ []; rest = []; whole_is = refl; gained = h }
 front_path path old new (Err OutOfMemory) h = record { front = []; rest = path ∷ []; whole_is = refl; gained = h }
 
+pub long_path : (path : List ℕ) (old new : Option (List (List ℕ))) (r : Result (List ℕ) FileEnd) → Gains old (noted path r) new → r ≡ Err TooLong → Gains old (path ∷ []) new
+long_path path old new (Ok bytes) h e = h
+long_path path old new (Err Failed) h e = h
+long_path path old new (Err TooLong) h e = h
+long_path path old new (Err OutOfMemory) h e = absurd (cc)
+
+-- ---- what was read where a file is refused
+
+pub code_end_read : (path : List ℕ) (e : CodeEnd) (old new : Option (List (List ℕ))) → Gains old (path ∷ []) new → ReadsNoCode path e old new
+code_end_read path (code.Refused fault) old new h = h
+code_end_read path code.FileFault old new h = tt
+code_end_read path code.OutOfMemory old new h = tt
+
+pub code_read : {T : Type 0} (path : List ℕ) (r : Result T CodeEnd) (old new : Option (List (List ℕ))) → Gains old (path ∷ []) new → IfErr r (λ e. ReadsNoCode path e old new)
+code_read path (Ok x) old new h = tt
+code_read path (Err e) old new h = code_end_read path e old new h
+
+pub fault_read : (path : List ℕ) (e : CodeEnd) (fault : ModuleFault) (old new : Option (List (List ℕ))) → e ≡ code.Refused fault → ReadsNoCode path e old new → Gains old (path ∷ []) new
+fault_read path e fault old new is h = subst (λ (x : CodeEnd). ReadsNoCode path x old new) is h
+
+pub end_read : (path : List ℕ) (e : LoadEnd) (old new : Option (List (List ℕ))) → Gains old (path ∷ []) new → ReadsRefused path e old new
+end_read path (load.Config number key) old new h = h
+end_read path (load.Module vm fault) old new h = h
+end_read path load.FileFault old new h = tt
+end_read path load.OutOfMemory old new h = tt
+
 -- ---- what holds anyway
 
 pub on_ok : {T E : Type 0} (r : Result T E) (P : Type 0) → P → OnOk r P
@@ -46,9 +74,6 @@ on_ok (Err e) P p = tt
 pub on_err : {T E : Type 0} (r : Result T E) (P : Type 0) → P → OnErr r P
 on_err (Ok x) P p = tt
 on_err (Err e) P p = p
-
-pub all_is_a_front : {A : Type 0} (old : Option (List A)) (whole : List A) (new : Option (List A)) → Gains old whole new → GainsFront old whole new
-all_is_a_front old whole new h = record { front = whole; rest = []; whole_is = sym (append-nil whole); gained = h }
 
 -- ---- texts that are too long
 

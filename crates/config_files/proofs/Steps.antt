@@ -1,6 +1,8 @@
 -- One more VM that holds its module, or that has none.
-use Rattle.std.proofs.Common.{◌≡◌, inl, inr, ℕ, zero, suc, ◌<◌, List, [], ◌∷◌, ◌++◌, length, All, get_or, take, drop, Option, None, Some, Ok, Err, refl, ap, sym, subst, ◌∙◌, arith}
-use Rattle.gate_io.specs.Told.{Gains, GainsFront, gains_more, gains_then_front, gains_front_of_more}
+use Rattle.std.proofs.Common.{◌≡◌, inl, inr, ℕ, zero, suc, ◌<◌, List, [], ◌∷◌, ◌++◌, length, All, get_or, take, drop, append_assoc, Option, Result, None, Some, Ok, Err, refl, ap, sym, subst, ◌∙◌, arith}
+use Rattle.std.proofs.lemmas.List.{append-nil}
+use Rattle.std.specs.Result.{IfErr}
+use Rattle.gate_io.specs.Told.{Gains, GainsFront, gains_more}
 use Rattle.wasm_syntax.specs.declared.module.Module.{Module}
 use Rattle.gate_config.specs.declared.entries.VmEntry.{VmEntry}
 use Rattle.gate_config.specs.Given.{Given, holding}
@@ -8,9 +10,10 @@ use Rattle.gate_config.specs.Kept.{IsVm}
 use Rattle.machines.specs.Making.{FitsBy, HasFilter}
 use Rattle.gate_io.specs.Paths.{told_at}
 use Rattle.read_config.specs.Whole.{Judged, config_of}
+use Rattle.config_files.specs.declared.modules.ModuleFault.{ModuleFault}
 use Rattle.config_files.specs.declared.reading.LoadEnd.{LoadEnd}
 use Rattle.config_files.specs.declared.reading.LoadEnd.TheVariants.{Config as NoConfig, Module as NoModule, FileFault, OutOfMemory}
-use Rattle.config_files.specs.Loading.{Told, IsCode, HoldsCode, AllHold, Holding, IsBad, IsBadAt, IsBadIn, IsNotLoaded, HasModule, ReadsInOrder, modules_of, module_at, pages_at, paths_of}
+use Rattle.config_files.specs.Loading.{Told, IsCode, HasCode, HoldsCode, AllHold, Holding, IsBad, IsBadAt, IsBadIn, IsConfigEnd, IsFirstBadAt, IsNoConfig, IsNotLoaded, HasModule, NoneBehind, NoneBehindConfig, ReadsInOrder, ReadsModules, ReadsRefused, StopsAt, StopsIn, modules_of, module_at, pages_at, paths_of}
 
 pub module_same : (files : Told) (n : ℕ) (old held : List VmEntry) → Holding files n old held → module_at n held ≡ module_at n old
 module_same files zero old held h = ap (module_at 0) h
@@ -82,11 +85,68 @@ modules_cut (suc n) (v ∷ vs) = ap (λ (l : List (List ℕ)). v.«module» ∷ 
 pub read_more : (n : ℕ) (vms : List VmEntry) (a b c : Option (List (List ℕ))) → n < length vms → Gains a (modules_of (take n vms)) b → Gains b (module_at n vms ∷ []) c → Gains a (modules_of (take (suc n) vms)) c
 read_more n vms a b c low first next = rw (modules_more n vms low) (gains_more a (modules_of (take n vms)) b (module_at n vms ∷ []) c first next)
 
-pub read_front : (n : ℕ) (vms : List VmEntry) (a b c : Option (List (List ℕ))) → n < length vms → Gains a (modules_of (take n vms)) b → GainsFront b (module_at n vms ∷ []) c → GainsFront a (modules_of vms) c
-read_front n vms a b c low first next =
-    let here = gains_then_front a (modules_of (take n vms)) b (module_at n vms ∷ []) c first next in
-    let part : GainsFront a (modules_of (take (suc n) vms)) c = subst (λ (l : List (List ℕ)). GainsFront a l c) (sym (modules_more n vms low)) here in
-    subst (λ (l : List (List ℕ)). GainsFront a l c) (sym (modules_cut (suc n) vms)) (gains_front_of_more a (modules_of (take (suc n) vms)) (modules_of (drop (suc n) vms)) c part)
+-- one more read behind a module
+next_read : (files : Told) (v : VmEntry) (vs : List VmEntry) (read : List ℕ) (reads : List (List ℕ)) → HasCode files v → NoneBehind files vs reads → NoneBehind files (v ∷ vs) (read ∷ reads)
+next_read files v vs read [] c h = tt
+next_read files v vs read (next ∷ reads) c h = (c, h)
+
+-- behind modules comes one more read at most
+last_read : (files : Told) (n : ℕ) (old held : List VmEntry) (path : List ℕ) (front rest : List (List ℕ)) → Holding files n old held → path ∷ [] ≡ front ++ rest
+    → NoneBehind files old (modules_of (take n old) ++ front)
+last_read files zero old held path [] rest h e = tt
+last_read files zero old held path (x ∷ []) rest h e = tt
+last_read files zero old held path (x ∷ y ∷ front) rest h e = absurd (cc)
+last_read files (suc n) [] held path front rest h e = absurd h
+last_read files (suc n) (v ∷ vs) [] path front rest h e = absurd h
+last_read files (suc n) (v ∷ vs) (w ∷ ws) path front rest h e =
+    next_read files v vs v.«module» (modules_of (take n vs) ++ front) (h.0.code, h.0.file) (last_read files n vs ws path front rest h.1 e)
+
+pub read_some : (files : Told) (n : ℕ) (old held : List VmEntry) (a b c : Option (List (List ℕ))) → n < length old → Holding files n old held
+    → Gains a (modules_of (take n old)) b → GainsFront b (module_at n old ∷ []) c → ReadsModules files old a c
+read_some files n old held a b c low h first next =
+    let done = modules_of (take n old) in
+    let left = modules_of (drop (suc n) old) in
+    let one : modules_of (take (suc n) old) ≡ (done ++ next.front) ++ next.rest =
+    modules_more n old low ∙ ap (λ (l : List (List ℕ)). done ++ l) next.whole_is ∙ sym (append_assoc done next.front next.rest) in
+    record {
+      gained = record {
+        front = done ++ next.front;
+        rest = next.rest ++ left;
+        whole_is = modules_cut (suc n) old ∙ ap (λ (l : List (List ℕ)). l ++ left) one ∙ append_assoc (done ++ next.front) next.rest left;
+        gained = gains_more a done b next.front c first next.gained;
+      };
+      none_behind = last_read files n old held (module_at n old) next.front next.rest h next.whole_is;
+    }
+
+none_behind_all : (files : Told) (old held : List VmEntry) → AllHold files old held → NoneBehind files old (modules_of old)
+none_behind_all files [] held h = tt
+none_behind_all files (v ∷ vs) [] h = absurd h
+none_behind_all files (v ∷ vs) (w ∷ ws) h = next_read files v vs v.«module» (modules_of vs) (h.0.code, h.0.file) (none_behind_all files vs ws h.1)
+
+pub read_all : (files : Told) (old held : List VmEntry) (a c : Option (List (List ℕ))) → AllHold files old held → Gains a (modules_of old) c → ReadsModules files old a c
+read_all files old held a c h all = record {
+  gained = record { front = modules_of old; rest = []; whole_is = sym (append-nil (modules_of old)); gained = all };
+  none_behind = none_behind_all files old held h;
+}
+
+first_bad_at : (files : Told) (n : ℕ) (old held : List VmEntry) (name : List ℕ) (fault : ModuleFault) → Holding files n old held → IsBadAt files n held (NoModule name fault)
+    → IsFirstBadAt files n old name fault
+first_bad_at files zero [] held name fault h b = absurd (subst (λ (x : List VmEntry). IsBadAt files 0 x (NoModule name fault)) h b)
+first_bad_at files zero (v ∷ vs) held name fault h b = subst (λ (x : List VmEntry). IsBadAt files 0 x (NoModule name fault)) h b
+first_bad_at files (suc n) [] held name fault h b = absurd h
+first_bad_at files (suc n) (v ∷ vs) [] name fault h b = absurd h
+first_bad_at files (suc n) (v ∷ vs) (w ∷ ws) name fault h b = ((h.0.code, h.0.file), first_bad_at files n vs ws name fault h.1 b)
+
+pub stops_in : (files : Told) (n : ℕ) (old held : List VmEntry) (e : LoadEnd) (a b c : Option (List (List ℕ))) → n < length old → Holding files n old held → IsBadAt files n held e
+    → Gains a (modules_of (take n old)) b → ReadsRefused (module_at n old) e b c → StopsIn files old e a c
+stops_in files n old held (NoModule name fault) a b c low h bad first last = record {
+  place = n;
+  first = first_bad_at files n old held name fault h bad;
+  gained = read_more n old a b c low first last;
+}
+stops_in files n old held (NoConfig number key) a b c low h bad first last = bad_in files n old held (NoConfig number key) h bad
+stops_in files n old held FileFault a b c low h bad first last = tt
+stops_in files n old held OutOfMemory a b c low h bad first last = tt
 
 pub module_is : (n : ℕ) (vms : List VmEntry) (d : VmEntry) → n < length vms → module_at n vms ≡ (get_or vms n d).«module»
 module_is n [] d low = absurd (omega arith)
@@ -139,16 +199,86 @@ others_same a b c x second first =
 
 -- ---- the whole
 
-front_any : (path : List ℕ) (old new : Option (List (List ℕ))) (judged : Judged) → GainsFront old (path ∷ []) new → GainsFront old (paths_of path judged) new
-front_any path old new (Ok said) h = gains_front_of_more old (path ∷ []) (modules_of said.vms) new h
-front_any path old new (Err refusal) h = h
+one_read : (files : Told) (path : List ℕ) (judged : Judged) (front rest : List (List ℕ)) → path ∷ [] ≡ front ++ rest → NoneBehindConfig files judged front
+one_read files path judged [] rest e = tt
+one_read files path (Ok said) (x ∷ []) rest e = tt
+one_read files path (Err refusal) (x ∷ []) rest e = refl
+one_read files path (Ok said) (x ∷ y ∷ front) rest e = absurd (cc)
+one_read files path (Err refusal) (x ∷ y ∷ front) rest e = absurd (cc)
+
+-- at most the configuration was read
+reads_one : (files : Told) (path : List ℕ) (judged : Judged) (old new : Option (List (List ℕ))) → ((text : List ℕ) → told_at files path ≡ Some text → judged ≡ config_of text)
+    → GainsFront old (path ∷ []) new → ReadsInOrder files path old new
+reads_one files path (Ok said) old new told h = record {
+  judged = Ok said;
+  told = told;
+  gained = record {
+    front = h.front;
+    rest = h.rest ++ modules_of said.vms;
+    whole_is = ap (λ (l : List (List ℕ)). l ++ modules_of said.vms) h.whole_is ∙ append_assoc h.front h.rest (modules_of said.vms);
+    gained = h.gained;
+  };
+  none_behind = one_read files path (Ok said) h.front h.rest h.whole_is;
+}
+reads_one files path (Err refusal) old new told h = record {
+  judged = Err refusal;
+  told = told;
+  gained = h;
+  none_behind = one_read files path (Err refusal) h.front h.rest h.whole_is;
+}
 
 by_told : (files : Told) (path : List ℕ) (old new : Option (List (List ℕ))) (o : Option (List ℕ)) → told_at files path ≡ o → GainsFront old (path ∷ []) new → ReadsInOrder files path old new
-by_told files path old new None e h = record { judged = Err (1, []); told = λ text t. absurd (let bad : None ≡ Some text = sym e ∙ t in cc); gained = h }
-by_told files path old new (Some bytes) e h = record { judged = config_of bytes; told = λ text t. ap config_of (let same : Some bytes ≡ Some text = sym e ∙ t in cc); gained = front_any path old new (config_of bytes) h }
+by_told files path old new None e h = reads_one files path (Err (1, [])) old new (λ text t. absurd (let bad : None ≡ Some text = sym e ∙ t in cc)) h
+by_told files path old new (Some bytes) e h = reads_one files path (config_of bytes) old new (λ text t. ap config_of (let same : Some bytes ≡ Some text = sym e ∙ t in cc)) h
 
 pub first_read : (files : Told) (path : List ℕ) (old new : Option (List (List ℕ))) → GainsFront old (path ∷ []) new → ReadsInOrder files path old new
 first_read files path old new h = by_told files path old new (told_at files path) refl h
+
+-- the configuration was read, and then modules
+pub then_read : (files : Told) (path : List ℕ) (said : Given) (a b c : Option (List (List ℕ))) → ((text : List ℕ) → told_at files path ≡ Some text → config_of text ≡ Ok said)
+    → Gains a (path ∷ []) b → ReadsModules files said.vms b c → ReadsInOrder files path a c
+then_read files path said a b c read one r = record {
+  judged = Ok said;
+  told = λ text t. sym (read text t);
+  gained = record {
+    front = path ∷ r.gained.front;
+    rest = r.gained.rest;
+    whole_is = ap (λ (l : List (List ℕ)). path ∷ l) r.gained.whole_is;
+    gained = gains_more a (path ∷ []) b r.gained.front c one r.gained.gained;
+  };
+  none_behind = r.none_behind;
+}
+
+pub then_stops : (files : Told) (path : List ℕ) (said : Given) (e : LoadEnd) (a b c : Option (List (List ℕ))) → ((text : List ℕ) → told_at files path ≡ Some text → config_of text ≡ Ok said)
+    → Gains a (path ∷ []) b → StopsIn files said.vms e b c → StopsAt files path e a c
+then_stops files path said (NoModule name fault) a b c read one s = record {
+  said = said;
+  read = read;
+  place = s.place;
+  first = s.first;
+  gained = gains_more a (path ∷ []) b (modules_of (take (suc s.place) said.vms)) c one s.gained;
+}
+then_stops files path said (NoConfig number key) a b c read one s = absurd s
+then_stops files path said FileFault a b c read one s = tt
+then_stops files path said OutOfMemory a b c read one s = tt
+
+-- the configuration was read and is refused
+pub config_stops : (files : Told) (path : List ℕ) (e : LoadEnd) (a c : Option (List (List ℕ))) → IsConfigEnd e → Gains a (path ∷ []) c → StopsAt files path e a c
+config_stops files path (NoConfig number key) a c is one = one
+config_stops files path (NoModule name fault) a c is one = absurd is
+config_stops files path FileFault a c is one = tt
+config_stops files path OutOfMemory a c is one = tt
+
+text_stops : (files : Told) (path text : List ℕ) (e : LoadEnd) (a c : Option (List (List ℕ))) → IsNoConfig text e → Gains a (path ∷ []) c → StopsAt files path e a c
+text_stops files path text (NoConfig number key) a c is one = one
+text_stops files path text (NoModule name fault) a c is one = absurd is
+text_stops files path text FileFault a c is one = tt
+text_stops files path text OutOfMemory a c is one = tt
+
+pub text_read : {T : Type 0} (files : Told) (path text : List ℕ) (r : Result T LoadEnd) (a c : Option (List (List ℕ))) → IfErr r (IsNoConfig text) → Gains a (path ∷ []) c
+    → IfErr r (λ e. StopsAt files path e a c)
+text_read files path text (Ok x) a c is one = tt
+text_read files path text (Err e) a c is one = text_stops files path text e a c is one
 
 pub not_loaded : (files : Told) (text : List ℕ) (said : Given) (e : LoadEnd) → config_of text ≡ Ok said → IsBadIn files said.vms e → IsNotLoaded files text e
 not_loaded files text said (NoModule name fault) read h = record { said = said; read = read; first = h }

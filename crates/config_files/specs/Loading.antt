@@ -1,7 +1,7 @@
 -- What is read from files: the text of a configuration, and then the module of each of its VMs, in their order.
-use Rattle.std.specs.Prelude.{◌≡◌, ◌⊎◌, ℕ, zero, suc, List, [], ◌∷◌, map, Option, None, Some, Ok, Err}
+use Rattle.std.specs.Prelude.{◌≡◌, ◌⊎◌, ℕ, zero, suc, List, [], ◌∷◌, map, take, Option, None, Some, Ok, Err}
 use Rattle.gate_io.specs.Paths.{told_at}
-use Rattle.gate_io.specs.Told.{GainsFront}
+use Rattle.gate_io.specs.Told.{Gains, GainsFront}
 use Rattle.wasm_syntax.specs.declared.module.Module.{Module}
 use Rattle.gate_config.specs.declared.entries.VmEntry.{VmEntry}
 use Rattle.gate_config.specs.Given.{Given, with_code}
@@ -159,8 +159,87 @@ abbrev pub paths_of : List ℕ → Judged → List (List ℕ)
 paths_of path (Ok said) = path ∷ modules_of said.vms
 paths_of path (Err refusal) = path ∷ []
 
--- a front of these paths was read
+-- the file of this VM is a module that it can run, where it is told
+abbrev pub HasCode : Told → VmEntry → Type 0
+HasCode files vm = (m : Module) × IsCode files vm.«module» vm.pages m
+
+-- these are reads for the first of these VMs, in their order, and none stands behind a refusal: behind the read for a VM comes another
+-- only where its file is a module that it can run
+abbrev pub NoneBehind : Told → List VmEntry → (reads : List (List ℕ)) → Type 0
+NoneBehind files vms [] = Unit {0}
+NoneBehind files vms (read ∷ []) = Unit {0}
+NoneBehind files [] (read ∷ next ∷ reads) = Unit {0}
+NoneBehind files (vm ∷ vms) (read ∷ next ∷ reads) = HasCode files vm × NoneBehind files vms (next ∷ reads)
+
+-- the same of reads of which the first is that of the configuration
+abbrev pub NoneBehindConfig : Told → Judged → (reads : List (List ℕ)) → Type 0
+NoneBehindConfig files judged [] = Unit {0}
+NoneBehindConfig files (Ok said) (read ∷ reads) = NoneBehind files said.vms reads
+NoneBehindConfig files (Err refusal) (read ∷ reads) = reads ≡ []
+
+-- THE FILES THAT ARE READ, on every end: those of a front of these paths, each once and in their order, and none behind a refusal
 pub record ReadsInOrder (files : Told) (path : List ℕ) (old new : Option (List (List ℕ))) : Type 0 where
   pub judged : Judged
   pub told : (text : List ℕ) → told_at files path ≡ Some text → judged ≡ config_of text
   pub gained : GainsFront old (paths_of path judged) new
+  pub none_behind : NoneBehindConfig files judged gained.front
+
+-- the VM of this place has this name, its file has this fault, and those of the VMs before it are modules that they can run
+abbrev pub IsFirstBadAt : Told → (place : ℕ) → List VmEntry → List ℕ → ModuleFault → Type 0
+IsFirstBadAt files place [] name fault = ⊥
+IsFirstBadAt files zero (vm ∷ vms) name fault = (vm.name ≡ name) × HasFaultAt files vm.«module» vm.pages fault
+IsFirstBadAt files (suc place) (vm ∷ vms) name fault = HasCode files vm × IsFirstBadAt files place vms name fault
+
+-- exactly the modules up to and with the first bad one were read
+pub record StopsAtBad (files : Told) (vms : List VmEntry) (name : List ℕ) (fault : ModuleFault) (old new : Option (List (List ℕ))) : Type 0 where
+  pub place : ℕ
+  pub first : IsFirstBadAt files place vms name fault
+  pub gained : Gains old (modules_of (take (suc place) vms)) new
+
+-- exactly the configuration and its modules up to and with the first bad one were read
+pub record StopsAtModule (files : Told) (path name : List ℕ) (fault : ModuleFault) (old new : Option (List (List ℕ))) : Type 0 where
+  pub said : Given
+  pub read : (text : List ℕ) → told_at files path ≡ Some text → config_of text ≡ Ok said
+  pub place : ℕ
+  pub first : IsFirstBadAt files place said.vms name fault
+  pub gained : Gains old (path ∷ modules_of (take (suc place) said.vms)) new
+
+-- WHERE READING STOPS at a refusal: behind the refused file nothing was read. At other ends any read may be the last.
+abbrev pub StopsAt : Told → (path : List ℕ) → LoadEnd → (old new : Option (List (List ℕ))) → Type 0
+StopsAt files path (NoConfig number key) old new = Gains old (path ∷ []) new
+StopsAt files path (NoModule name fault) old new = StopsAtModule files path name fault old new
+StopsAt files path FileFault old new = Unit {0}
+StopsAt files path OutOfMemory old new = Unit {0}
+
+-- the same where the modules of these VMs alone are read
+abbrev pub StopsIn : Told → List VmEntry → LoadEnd → (old new : Option (List (List ℕ))) → Type 0
+StopsIn files vms (NoConfig number key) old new = ⊥
+StopsIn files vms (NoModule name fault) old new = StopsAtBad files vms name fault old new
+StopsIn files vms FileFault old new = Unit {0}
+StopsIn files vms OutOfMemory old new = Unit {0}
+
+-- ---- the steps on the way to them
+
+-- a front of the modules of these VMs was read, and none behind a refusal
+pub record ReadsModules (files : Told) (vms : List VmEntry) (old new : Option (List (List ℕ))) : Type 0 where
+  pub gained : GainsFront old (modules_of vms) new
+  pub none_behind : NoneBehind files vms gained.front
+
+-- the refusal of a configuration, or want of memory
+abbrev pub IsConfigEnd : LoadEnd → Type 0
+IsConfigEnd (NoConfig number key) = Unit {0}
+IsConfigEnd (NoModule vm fault) = ⊥
+IsConfigEnd FileFault = ⊥
+IsConfigEnd OutOfMemory = Unit {0}
+
+-- where the file of this path is refused it was read
+abbrev pub ReadsRefused : (path : List ℕ) → LoadEnd → (old new : Option (List (List ℕ))) → Type 0
+ReadsRefused path (NoConfig number key) old new = Gains old (path ∷ []) new
+ReadsRefused path (NoModule vm fault) old new = Gains old (path ∷ []) new
+ReadsRefused path FileFault old new = Unit {0}
+ReadsRefused path OutOfMemory old new = Unit {0}
+
+abbrev pub ReadsNoCode : (path : List ℕ) → CodeEnd → (old new : Option (List (List ℕ))) → Type 0
+ReadsNoCode path (code.Refused fault) old new = Gains old (path ∷ []) new
+ReadsNoCode path code.FileFault old new = Unit {0}
+ReadsNoCode path code.OutOfMemory old new = Unit {0}

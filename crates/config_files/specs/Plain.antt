@@ -1,10 +1,11 @@
 -- The plain configuration over modules: that of so many VMs, each of which has the path of its module.
-use Rattle.std.specs.Prelude.{◌≡◌, ℕ, zero, suc, ◌+◌, List, [], ◌∷◌, length, codes}
+use Rattle.std.specs.Prelude.{◌≡◌, ℕ, zero, suc, ◌+◌, List, [], ◌∷◌, length, codes, Option}
 use Rattle.gate_base.specs.declared.level.Level.TheVariants.{Info}
 use Rattle.gate_config.specs.declared.entries.VmEntry.{VmEntry}
+use Rattle.gate_io.specs.Told.{GainsFront}
 use Rattle.gate_config.specs.Given.{Given}
 use Rattle.gate_config.specs.Plain.{first_n, plain_plugin, plain_routes, plain_vm}
-use Rattle.config_files.specs.Loading.{Told, HoldsAll, IsBadIn}
+use Rattle.config_files.specs.Loading.{Told, HoldsAll, IsBadIn, NoneBehind, StopsIn}
 use Rattle.config_files.specs.declared.reading.LoadEnd.{LoadEnd}
 
 -- the VM of a number, whose module this path has
@@ -45,6 +46,15 @@ IsPlainLoaded files paths config = HoldsAll files (plain_over paths) config
 -- why it was not loaded: the first bad module in the order of the paths
 abbrev pub IsNoPlain : Told → List (List ℕ) → LoadEnd → Type 0
 IsNoPlain files paths end = IsBadIn files (vms_over 0 paths) end
+
+-- THE FILES THAT ARE READ, on every end: those of a front of these paths, each once and in their order, and none behind a refusal
+pub record ReadsPlain (files : Told) (paths : List (List ℕ)) (old new : Option (List (List ℕ))) : Type 0 where
+  pub gained : GainsFront old paths new
+  pub none_behind : NoneBehind files (vms_over 0 paths) gained.front
+
+-- where reading stops at a refusal: behind the refused file nothing was read
+abbrev pub StopsPlain : Told → List (List ℕ) → LoadEnd → (old new : Option (List (List ℕ))) → Type 0
+StopsPlain files paths end old new = StopsIn files (vms_over 0 paths) end old new
 
 -- ---- a step on the way
 

@@ -1,10 +1,10 @@
 // The plain configuration over modules of files.
-ghost use Rattle.std.specs.Prelude.{◌≡◌, ◌≤◌, ◌<◌, Err, All, IfOk, IfErr, OnOk, OnErr, length, map, string_bytes};
+ghost use Rattle.std.specs.Prelude.{◌≡◌, ◌≤◌, ◌<◌, Err, All, IfOk, IfErr, OnOk, length, map, string_bytes};
 ghost use Rattle.gate_config.specs.Given.{given};
-ghost use Rattle.gate_io.specs.Told.{Gains, GainsFront, Rose};
+ghost use Rattle.gate_io.specs.Told.{Gains, Rose};
 ghost use Rattle.machines.specs.Making.{HasFilter};
 ghost use Rattle.config_files.specs.Loading.{HasModule};
-ghost use Rattle.config_files.specs.Plain.{IsNoPlain, IsPlainLoaded, IsPlainOf, with_module};
+ghost use Rattle.config_files.specs.Plain.{IsNoPlain, IsPlainLoaded, IsPlainOf, ReadsPlain, StopsPlain, with_module};
 
 use crate::reading::{LoadEnd, load_modules};
 use gate_base::{OutOfMemory, Text};
@@ -25,7 +25,8 @@ pub fn load_plain<F: Files>(
     ensures modules { IfOk result (λ c. All HasModule c.vms) }
     ensures filters { IfOk result (λ c. All HasFilter c.vms) }
     ensures all_read { OnOk result (Gains (F.paths files.old) (map string_bytes paths.now) (F.paths files.new)) }
-    ensures front { OnErr result (GainsFront (F.paths files.old) (map string_bytes paths.now) (F.paths files.new)) }
+    ensures paths { ReadsPlain (F.holds files.old) (map string_bytes paths.now) (F.paths files.old) (F.paths files.new) }
+    ensures stopped { IfErr result (λ e. StopsPlain (F.holds files.old) (map string_bytes paths.now) e (F.paths files.old) (F.paths files.new)) }
     ensures holds { F.holds files.new ≡ F.holds files.old }
     ensures faults { F.faults files.old ≤ F.faults files.new }
     ensures fault { result ≡ Err LoadEnd.FileFault → Rose (F.faults files.old) (F.faults files.new) }

@@ -6,7 +6,7 @@ ghost use Rattle.gate_io.specs.Told.{Gains, GainsFront, Rose};
 ghost use Rattle.read_config.specs.Whole.{config_of};
 ghost use Rattle.machines.specs.Making.{HasFilter};
 ghost use Rattle.config_files.specs.Modules.{IsFilter};
-ghost use Rattle.config_files.specs.Loading.{HasModule, HoldsAll, HoldsAt, IsBad, IsBadAt, IsBadIn, IsCode, IsLoaded, IsModuleEnd, IsNoCode, IsNoCodeOf, IsNoConfig, IsNotLoaded, ReadsInOrder, module_at, modules_of, refusal_of};
+ghost use Rattle.config_files.specs.Loading.{HasModule, HoldsAll, HoldsAt, IsBad, IsBadAt, IsBadIn, IsCode, IsConfigEnd, IsLoaded, IsModuleEnd, IsNoCode, IsNoCodeOf, IsNoConfig, IsNotLoaded, ReadsInOrder, ReadsModules, ReadsNoCode, ReadsRefused, StopsAt, StopsIn, module_at, modules_of, refusal_of};
 
 use crate::modules::{ModuleEnd, ModuleFault, read_code};
 use gate_base::{Octets, Text, VmNo};
@@ -55,6 +55,7 @@ pub fn load<F: Files>(alloc: Global, path: &str, files: &mut F) -> Result<Config
     ensures filters { IfOk result (λ c. All HasFilter c.vms) }
     ensures all_read { IfOk result (λ c. Gains (F.paths files.old) (path.now ∷ modules_of c.vms) (F.paths files.new)) }
     ensures paths { ReadsInOrder (F.holds files.old) path.now (F.paths files.old) (F.paths files.new) }
+    ensures stopped { IfErr result (λ e. StopsAt (F.holds files.old) path.now e (F.paths files.old) (F.paths files.new)) }
     ensures holds { F.holds files.new ≡ F.holds files.old }
     ensures faults { F.faults files.old ≤ F.faults files.new }
     ensures fault { result ≡ Err LoadEnd.FileFault → Rose (F.faults files.old) (F.faults files.new) }
@@ -75,6 +76,7 @@ fn read_text<F: Files>(alloc: Global, path: &str, files: &mut F) -> Result<Confi
     ensures refused { IfErr result (λ e. (text : List ℕ) → told_at (F.holds files.old) path.now ≡ Some text → IsNoConfig text e) }
     ensures one { OnOk result (Gains (F.paths files.old) (path.now ∷ []) (F.paths files.new)) }
     ensures front { OnErr result (GainsFront (F.paths files.old) (path.now ∷ []) (F.paths files.new)) }
+    ensures stopped { IfErr result (λ e. StopsAt (F.holds files.old) path.now e (F.paths files.old) (F.paths files.new)) }
     ensures holds { F.holds files.new ≡ F.holds files.old }
     ensures faults { F.faults files.old ≤ F.faults files.new }
     ensures fault { result ≡ Err LoadEnd.FileFault → Rose (F.faults files.old) (F.faults files.new) }
@@ -90,6 +92,7 @@ fn read_text<F: Files>(alloc: Global, path: &str, files: &mut F) -> Result<Confi
 /// The refusal of a configuration that is too long.
 fn too_long(alloc: Global) -> LoadEnd
     ensures refusal { (text : List ℕ) → 1048576 < length text → IsNoConfig text result }
+    ensures config { IsConfigEnd result }
     ensures no_fault { result ≢ LoadEnd.FileFault }
 {
     match Text::of(alloc, "-") {
@@ -131,7 +134,8 @@ pub(crate) fn load_modules<F: Files>(
     ensures filters { OnOk result (All HasFilter config.new.vms) }
     ensures refused { IfErr result (IsBadIn (F.holds files.old) config.old.vms) }
     ensures all_read { OnOk result (Gains (F.paths files.old) (modules_of config.old.vms) (F.paths files.new)) }
-    ensures front { OnErr result (GainsFront (F.paths files.old) (modules_of config.old.vms) (F.paths files.new)) }
+    ensures paths { ReadsModules (F.holds files.old) config.old.vms (F.paths files.old) (F.paths files.new) }
+    ensures stopped { IfErr result (λ e. StopsIn (F.holds files.old) config.old.vms e (F.paths files.old) (F.paths files.new)) }
     ensures holds { F.holds files.new ≡ F.holds files.old }
     ensures faults { F.faults files.old ≤ F.faults files.new }
     ensures fault { result ≡ Err LoadEnd.FileFault → Rose (F.faults files.old) (F.faults files.new) }
@@ -157,6 +161,7 @@ fn load_vm<F: Files>(
     ensures refused { IfErr result (IsBadAt (F.holds files.old) place config.old.vms) }
     ensures one { OnOk result (Gains (F.paths files.old) (module_at place config.old.vms ∷ []) (F.paths files.new)) }
     ensures front { OnErr result (GainsFront (F.paths files.old) (module_at place config.old.vms ∷ []) (F.paths files.new)) }
+    ensures refused_read { IfErr result (λ e. ReadsRefused (module_at place config.old.vms) e (F.paths files.old) (F.paths files.new)) }
     ensures holds { F.holds files.new ≡ F.holds files.old }
     ensures faults { F.faults files.old ≤ F.faults files.new }
     ensures fault { result ≡ Err LoadEnd.FileFault → Rose (F.faults files.old) (F.faults files.new) }
@@ -179,6 +184,7 @@ fn vm_code<F: Files>(alloc: Global, vm: &VmEntry, files: &mut F) -> Result<Valid
     ensures refused { IfErr result (IsBad (F.holds files.old) vm.now) }
     ensures one { OnOk result (Gains (F.paths files.old) (vm.now.«module» ∷ []) (F.paths files.new)) }
     ensures front { OnErr result (GainsFront (F.paths files.old) (vm.now.«module» ∷ []) (F.paths files.new)) }
+    ensures refused_read { IfErr result (λ e. ReadsRefused vm.now.«module» e (F.paths files.old) (F.paths files.new)) }
     ensures holds { F.holds files.new ≡ F.holds files.old }
     ensures faults { F.faults files.old ≤ F.faults files.new }
     ensures fault { result ≡ Err LoadEnd.FileFault → Rose (F.faults files.old) (F.faults files.new) }
@@ -212,6 +218,7 @@ fn code_at<F: Files>(
     ensures refused { IfErr result (IsNoCode (F.holds files.old) path.now pages) }
     ensures one { OnOk result (Gains (F.paths files.old) (path.now ∷ []) (F.paths files.new)) }
     ensures front { OnErr result (GainsFront (F.paths files.old) (path.now ∷ []) (F.paths files.new)) }
+    ensures refused_read { IfErr result (λ e. ReadsNoCode path.now e (F.paths files.old) (F.paths files.new)) }
     ensures holds { F.holds files.new ≡ F.holds files.old }
     ensures faults { F.faults files.old ≤ F.faults files.new }
     ensures fault { result ≡ Err CodeEnd.FileFault → Rose (F.faults files.old) (F.faults files.new) }
@@ -253,6 +260,7 @@ fn read_file<F: Files>(
     ensures long { result ≡ Err FileEnd.TooLong → (text : List ℕ) → told_at (F.holds files.old) path.now ≡ Some text → most < length text }
     ensures one { OnOk result (Gains (F.paths files.old) (path.now ∷ []) (F.paths files.new)) }
     ensures front { OnErr result (GainsFront (F.paths files.old) (path.now ∷ []) (F.paths files.new)) }
+    ensures long_read { result ≡ Err FileEnd.TooLong → Gains (F.paths files.old) (path.now ∷ []) (F.paths files.new) }
     ensures holds { F.holds files.new ≡ F.holds files.old }
     ensures faults { F.faults files.old ≤ F.faults files.new }
     ensures failed { result ≡ Err FileEnd.Failed → Rose (F.faults files.old) (F.faults files.new) }

@@ -1,9 +1,8 @@
-use Rattle.std.proofs.Common.{List, ℕ, [], ◌∷◌, Ok, sym, subst}
+use Rattle.std.proofs.Common.{List, ℕ, [], ◌∷◌, sym, subst}
 use Rattle.gate_config.specs.Given.{given}
-use Rattle.gate_io.specs.Told.{Gains, gains_more, gains_then_front}
-use Rattle.config_files.specs.Loading.{Told, HoldsAll, IsBadIn, modules_of}
-use Rattle.config_files.proofs.Read.{all_is_a_front}
-use Rattle.config_files.proofs.Steps.{first_read, modules_held, not_loaded}
+use Rattle.gate_io.specs.Told.{Gains, gains_more}
+use Rattle.config_files.specs.Loading.{Told, HoldsAll, IsBadIn, ReadsModules, StopsIn, modules_of}
+use Rattle.config_files.proofs.Steps.{first_read, modules_held, not_loaded, then_read, then_stops}
 use Rattle.config_files.proofs.reading.load.Goals as goal
 
 pub returns-in-Err-clause-paths : goal.returns-in-Err-clause-paths
@@ -23,12 +22,11 @@ returns-in-Ok-load_modules-clause-all_read g c =
     subst (λ (l : List (List ℕ)). Gains (g.F.Files.paths c.args.files.now) (c.args.path.now ∷ l) (g.F.Files.paths c.load_modules.new.files)) (sym same) whole
 
 pub returns-in-Ok-load_modules-clause-paths : goal.returns-in-Ok-load_modules-clause-paths
-returns-in-Ok-load_modules-clause-paths g c = record {
-  judged = Ok (given c.in-Ok.config);
-  told = λ text told. sym (c.in-Ok.ensures.read text told);
-  gained = all_is_a_front (g.F.Files.paths c.args.files.now) (c.args.path.now ∷ modules_of c.in-Ok.config.vms) (g.F.Files.paths c.load_modules.new.files)
-      (gains_more (g.F.Files.paths c.args.files.now) (c.args.path.now ∷ []) (g.F.Files.paths c.read_text.new.files) (modules_of c.in-Ok.config.vms) (g.F.Files.paths c.load_modules.new.files) c.in-Ok.ensures.one c.in-Ok-load_modules.ensures.all_read);
-}
+returns-in-Ok-load_modules-clause-paths g c =
+    let mid = g.F.Files.paths c.read_text.new.files in
+    let new = g.F.Files.paths c.load_modules.new.files in
+    let reads = subst (λ (t : Told). ReadsModules t c.in-Ok.config.vms mid new) c.read_text.ensures.holds c.load_modules.ensures.paths in
+    then_read (g.F.Files.holds c.args.files.now) c.args.path.now (given c.in-Ok.config) (g.F.Files.paths c.args.files.now) mid new c.in-Ok.ensures.read c.in-Ok.ensures.one reads
 
 pub returns-in-Err-load_modules-clause-refused : goal.returns-in-Err-load_modules-clause-refused
 returns-in-Err-load_modules-clause-refused g c text told =
@@ -36,8 +34,15 @@ returns-in-Err-load_modules-clause-refused g c text told =
     (subst (λ (t : Told). IsBadIn t c.in-Ok.config.vms c.in-Err-load_modules.end) c.read_text.ensures.holds c.in-Err-load_modules.ensures.refused)
 
 pub returns-in-Err-load_modules-clause-paths : goal.returns-in-Err-load_modules-clause-paths
-returns-in-Err-load_modules-clause-paths g c = record {
-  judged = Ok (given c.in-Ok.config);
-  told = λ text told. sym (c.in-Ok.ensures.read text told);
-  gained = gains_then_front (g.F.Files.paths c.args.files.now) (c.args.path.now ∷ []) (g.F.Files.paths c.read_text.new.files) (modules_of c.in-Ok.config.vms) (g.F.Files.paths c.load_modules.new.files) c.in-Ok.ensures.one c.in-Err-load_modules.ensures.front;
-}
+returns-in-Err-load_modules-clause-paths g c =
+    let mid = g.F.Files.paths c.read_text.new.files in
+    let new = g.F.Files.paths c.load_modules.new.files in
+    let reads = subst (λ (t : Told). ReadsModules t c.in-Ok.config.vms mid new) c.read_text.ensures.holds c.load_modules.ensures.paths in
+    then_read (g.F.Files.holds c.args.files.now) c.args.path.now (given c.in-Ok.config) (g.F.Files.paths c.args.files.now) mid new c.in-Ok.ensures.read c.in-Ok.ensures.one reads
+
+pub returns-in-Err-load_modules-clause-stopped : goal.returns-in-Err-load_modules-clause-stopped
+returns-in-Err-load_modules-clause-stopped g c =
+    let mid = g.F.Files.paths c.read_text.new.files in
+    let new = g.F.Files.paths c.load_modules.new.files in
+    let stops = subst (λ (t : Told). StopsIn t c.in-Ok.config.vms c.in-Err-load_modules.end mid new) c.read_text.ensures.holds c.in-Err-load_modules.ensures.stopped in
+    then_stops (g.F.Files.holds c.args.files.now) c.args.path.now (given c.in-Ok.config) c.in-Err-load_modules.end (g.F.Files.paths c.args.files.now) mid new c.in-Ok.ensures.read c.in-Ok.ensures.one stops

@@ -3,8 +3,8 @@ use Rattle.std.proofs.lemmas.List.{take_all}
 use Rattle.gate_config.specs.declared.entries.VmEntry.{VmEntry}
 use Rattle.gate_config.specs.Given.{Given, given}
 use Rattle.gate_io.specs.Told.{Gains, GainsFront, gains_nothing}
-use Rattle.config_files.specs.Loading.{Told, Holding, HoldsAt, IsBadAt, modules_of}
-use Rattle.config_files.proofs.Steps.{all_held, bad_in, code_next, filters_there, module_same, modules_there, one_more, others_same, read_front, read_more, same_length}
+use Rattle.config_files.specs.Loading.{Told, Holding, HoldsAt, IsBadAt, ReadsRefused, modules_of}
+use Rattle.config_files.proofs.Steps.{all_held, bad_in, code_next, filters_there, module_same, modules_there, one_more, others_same, read_all, read_more, read_some, same_length, stops_in}
 use Rattle.config_files.proofs.reading.load_modules.Goals as goal
 
 pub loop-place-init : goal.loop-place-init
@@ -69,12 +69,35 @@ returns-in-Err-clause-refused g c =
     let now = c.loop-place.config.vms in
     bad_in (g.F.Files.holds c.args.files.now) c.loop-place.place c.args.config.now.vms now c.in-Err.end inv.0 (subst (λ (t : Told). IsBadAt t c.loop-place.place now c.in-Err.end) inv.3 c.in-Err.ensures.refused)
 
-pub returns-in-Err-clause-front : goal.returns-in-Err-clause-front
-returns-in-Err-clause-front g c =
+pub returns-clause-paths : goal.returns-clause-paths
+returns-clause-paths g c =
+    let files = g.F.Files.holds c.args.files.now in
+    let old = c.args.config.now.vms in
+    let now = c.loop-place.config.vms in
+    let all : c.loop-place.place ≡ length old = omega (arith, c.len-place-end.ensures, c.loop-place-test.false) in
+    let past : length old ≤ c.loop-place.place = omega (arith, all) in
+    let reads = subst (λ (l : List VmEntry). Gains (g.F.Files.paths c.args.files.now) (modules_of l) (g.F.Files.paths c.loop-place.files)) (take_all c.loop-place.place old past) c.loop-place.invariant.2 in
+    read_all files old now (g.F.Files.paths c.args.files.now) (g.F.Files.paths c.loop-place.files) (all_held files old now (subst (λ (n : ℕ). Holding files n old now) all c.loop-place.invariant.0)) reads
+
+pub returns-in-Err-clause-paths : goal.returns-in-Err-clause-paths
+returns-in-Err-clause-paths g c =
     let files = g.F.Files.holds c.args.files.now in
     let n = c.loop-place.place in
     let old = c.args.config.now.vms in
+    let now = c.loop-place.config.vms in
     let inv = c.loop-place.invariant in
     let low : n < length old = omega (arith, c.len-place-end.ensures, c.loop-place-test.true) in
-    let front = subst (λ (p : List ℕ). GainsFront (g.F.Files.paths c.loop-place.files) (p ∷ []) (g.F.Files.paths c.load_vm.new.files)) (module_same files n old c.loop-place.config.vms inv.0) c.in-Err.ensures.front in
-    read_front n old (g.F.Files.paths c.args.files.now) (g.F.Files.paths c.loop-place.files) (g.F.Files.paths c.load_vm.new.files) low inv.2 front
+    let front = subst (λ (p : List ℕ). GainsFront (g.F.Files.paths c.loop-place.files) (p ∷ []) (g.F.Files.paths c.load_vm.new.files)) (module_same files n old now inv.0) c.in-Err.ensures.front in
+    read_some files n old now (g.F.Files.paths c.args.files.now) (g.F.Files.paths c.loop-place.files) (g.F.Files.paths c.load_vm.new.files) low inv.0 inv.2 front
+
+pub returns-in-Err-clause-stopped : goal.returns-in-Err-clause-stopped
+returns-in-Err-clause-stopped g c =
+    let files = g.F.Files.holds c.args.files.now in
+    let n = c.loop-place.place in
+    let old = c.args.config.now.vms in
+    let now = c.loop-place.config.vms in
+    let inv = c.loop-place.invariant in
+    let low : n < length old = omega (arith, c.len-place-end.ensures, c.loop-place-test.true) in
+    let bad = subst (λ (t : Told). IsBadAt t n now c.in-Err.end) inv.3 c.in-Err.ensures.refused in
+    let last = subst (λ (p : List ℕ). ReadsRefused p c.in-Err.end (g.F.Files.paths c.loop-place.files) (g.F.Files.paths c.load_vm.new.files)) (module_same files n old now inv.0) c.in-Err.ensures.refused_read in
+    stops_in files n old now c.in-Err.end (g.F.Files.paths c.args.files.now) (g.F.Files.paths c.loop-place.files) (g.F.Files.paths c.load_vm.new.files) low inv.0 bad inv.2 last

@@ -2,7 +2,7 @@ use Rattle.std.proofs.Common.{◌≡◌, List, ℕ, [], ◌∷◌, ap, sym, subs
 use Rattle.gate_config.specs.declared.entries.VmEntry.{VmEntry}
 use Rattle.gate_config.specs.Given.{given, with_code}
 use Rattle.gate_io.specs.Told.{Gains, GainsFront}
-use Rattle.config_files.specs.Loading.{IsBad, IsCode}
+use Rattle.config_files.specs.Loading.{IsBad, IsCode, ReadsRefused}
 use Rattle.config_files.proofs.Steps.{code_here, module_is, bad_at}
 use Rattle.config_files.proofs.reading.load_vm.Goals as goal
 
@@ -35,3 +35,10 @@ returns-in-Err-clause-front g c =
     let vm = c.get.result.now in
     let same = module_is c.args.place vms vm c.requires ∙ ap (λ (v : VmEntry). v.«module») (sym c.get.ensures) in
     subst (λ (p : List ℕ). GainsFront (g.F.Files.paths c.args.files.now) (p ∷ []) (g.F.Files.paths c.vm_code.new.files)) (sym same) c.in-Err.ensures.front
+
+pub returns-in-Err-clause-refused_read : goal.returns-in-Err-clause-refused_read
+returns-in-Err-clause-refused_read g c =
+    let vms = c.args.config.now.vms in
+    let vm = c.get.result.now in
+    let same = module_is c.args.place vms vm c.requires ∙ ap (λ (v : VmEntry). v.«module») (sym c.get.ensures) in
+    subst (λ (p : List ℕ). ReadsRefused p c.in-Err.end (g.F.Files.paths c.args.files.now) (g.F.Files.paths c.vm_code.new.files)) (sym same) c.in-Err.ensures.refused_read
