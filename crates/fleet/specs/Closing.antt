@@ -24,15 +24,16 @@ is_side Up Up = true
 abbrev pub is_one : Connection → Connection → Bool
 is_one c d = (c.line == d.line) && is_side c.side d.side
 
--- whether the connection stands after an event: one to a client once its line is opened, and until it is gone; one to the server until it is
--- gone or refused
+-- whether the connection stands after an event: one to a client once its line is opened, and until it is gone. No event ends one to the server:
+-- one that is gone or refused is to be closed too.
 abbrev pub after_event : Connection → Bool → What → Bool
 after_event c now (whats.Opened line) = now || is_one c (connection line Down)
 after_event c now (whats.Bytes line side bytes) = now
 after_event c now (whats.End line side) = now
-after_event c now (whats.Gone line side) = not (is_one c (connection line side)) && now
+after_event c now (whats.Gone line Down) = not (is_one c (connection line Down)) && now
+after_event c now (whats.Gone line Up) = now
 after_event c now (whats.Joined line) = now
-after_event c now (whats.Refused line) = not (is_one c (connection line Up)) && now
+after_event c now (whats.Refused line) = now
 after_event c now (whats.Room line side) = now
 after_event c now whats.Clock = now
 after_event c now whats.Stop = now

@@ -61,9 +61,13 @@ fn note(list: &mut Vec<Connection>, what: &What)
 {
     match what {
         What::Opened { line } => put(list, *line, Side::Down),
-        What::Gone { line, side } => take_out(list, *line, *side),
-        What::Refused { line } => take_out(list, *line, Side::Up),
-        What::Bytes { .. }
+        What::Gone {
+            line,
+            side: Side::Down,
+        } => take_out(list, *line, Side::Down),
+        What::Gone { side: Side::Up, .. }
+        | What::Refused { .. }
+        | What::Bytes { .. }
         | What::End { .. }
         | What::Joined { .. }
         | What::Room { .. }
@@ -89,8 +93,8 @@ fn first_of(list: &[Connection]) -> Option<Connection>
     Some(first)
 }
 
-/// A world, and which of its connections stand: those to clients that were opened, and those to the server that it was told to make, until
-/// they are gone or closed.
+/// A world, and which of its connections stand: those to clients that were opened, until they are gone or closed, and those to the server
+/// that it was told to make, until they are closed.
 #[derive(Drop)]
 pub struct Watched<W: World> {
     world: W,

@@ -17,5 +17,5 @@ returns-in_default g c = record {
   nature = c.turn.ensures.nature ∙ c.turns.invariant.nature;
   faults = omega (arith, c.turns.invariant.faults, c.turn.ensures.faults);
   fault = λ e h. omega (arith, c.turns.invariant.faults, c.turn.ensures.fault e h);
-  life = record { count = c.turns.invariant.went.0; before = c.turns.worker; at = c.turns.shared; mid = g.W.World.trace c.turns.world; went = c.turns.invariant.went.1; last = c.turn.ensures.turned };
+  life = record { count = c.turns.invariant.went.0; before = c.turns.worker; at = c.turns.shared; mid = g.W.World.trace c.turns.world; went = c.turns.invariant.went.1; last = c.turn.ensures.turned; ended = c.in_default.not-Went };
 }
