@@ -1,0 +1,4 @@
+mod Tallies
+mod Sharing
+mod Lines
+mod Validity

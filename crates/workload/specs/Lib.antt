@@ -1,0 +1,4 @@
+pub mod Events
+pub mod Filter
+pub mod Tallies
+pub mod Examples
