@@ -379,12 +379,24 @@ def stray(gateway, upstream):
         expect(reader.body(fields), b"/next")
 
 
+def settled(gateway):
+    """Its memory once it grows no more: the same, within 256 kB, at five looks, or what it is after fifteen seconds."""
+    last, same = gateway.rss(), 0
+    for _ in range(75):
+        time.sleep(0.2)
+        now = gateway.rss()
+        same = same + 1 if abs(now - last) <= 256 else 0
+        last = now
+        if same == 5:
+            break
+    return last
+
+
 def stalled(gateway, upstream):
     """A client that does not read keeps nobody else waiting, and the gateway does not keep what it does not take."""
     slow = gateway.connect()
     slow.sendall(request("/big/20000000"))
-    time.sleep(0.5)
-    before = gateway.rss()
+    before = settled(gateway)
     with gateway.connect() as s:
         reader = Reader(s)
         for n in range(30):

@@ -1,6 +1,0 @@
-mod Answered
-mod Fault
-mod Progresses
-mod Fronts
-mod Turns
-mod Once

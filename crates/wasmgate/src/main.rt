@@ -1,15 +1,9 @@
 //! An HTTP/1.1 gateway whose messages pass through WebAssembly filters.
 #![tactic(auto)]
 
-mod call;
-mod laws;
-mod replay;
-mod run;
-mod status;
-mod words;
-
-use gate_io::{HostFiles, HostSink};
-use run::run;
+use commands::run;
+use gate_io::{HostFiles, HostSink, NoGate};
+use gate_live::LiveSite;
 use std::alloc::{AllocError, Global};
 use std::process::ExitCode;
 use std::{env, io};
@@ -21,11 +15,14 @@ fn main(rt: HostRuntime) -> ExitCode {
     };
     let stderr = rt.stderr();
     let status = run(
+        &rt,
         rt.alloc(),
         words.as_slice(),
         &mut HostFiles::new(&rt),
+        &mut LiveSite::new(rt.alloc(), rt),
         &mut HostSink::new(&rt, io::writer(&rt)),
         &mut HostSink::new(&rt, io::writer(&stderr)),
+        &NoGate,
     );
     ExitCode::from(status.number())
 }

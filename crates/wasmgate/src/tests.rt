@@ -1,9 +1,8 @@
 // What no clause says: that ample memory suffices, and runs with a fault in their midst.
 
-use crate::run::run;
-use crate::status::Status;
+use commands::run;
 use gate_base::{CallNos, Members, Octets, OutOfMemory};
-use gate_io::{FileEnd, Files, MemFiles, MemSink, MemSource, read_whole};
+use gate_io::{FileEnd, Files, MemFiles, MemSink, MemSite, MemSource, NoGate, read_whole};
 use std::alloc::Global;
 use std::test::Fail;
 
@@ -32,95 +31,80 @@ fn words(alloc: Global, all: &[&str]) -> Result<Vec<String>, OutOfMemory> {
     Ok(words)
 }
 
-/// A sink of which the calls with these numbers fail.
-fn sink(alloc: Global, fails: &[u64]) -> Result<MemSink, OutOfMemory> {
-    Ok(MemSink::new(Octets::new(alloc), calls(alloc, fails)?))
+/// A sink of which the call of this number fails.
+fn sink(alloc: Global, fails: u64) -> Result<MemSink, OutOfMemory> {
+    Ok(MemSink::new(Octets::new(alloc), calls(alloc, &[fails])?))
 }
 
-/// The file `s`, of which the reads with these numbers fail.
-fn files(alloc: Global, script: &[u8], fails: &[u64]) -> Result<MemFiles, OutOfMemory> {
+/// The file `s`, of which the read of this number fails.
+fn files(alloc: Global, script: &[u8], fails: u64) -> Result<MemFiles, OutOfMemory> {
     let mut files = Members::new(alloc);
     files.push((
         Octets::from_slice(alloc, b"s")?,
         Octets::from_slice(alloc, script)?,
     ))?;
-    Ok(MemFiles::new(alloc, files, calls(alloc, fails)?))
+    Ok(MemFiles::new(alloc, files, calls(alloc, &[fails])?))
+}
+
+/// Whether a run over these files ends with this status, output and line, where this write of the output and that of the line fail.
+fn ends<F: Files>(
+    rt: &HostRuntime,
+    command: &[&str],
+    files: &mut F,
+    writes: (u64, u64),
+    status: u8,
+    output: &[u8],
+    line: &[u8],
+) -> Result<bool, OutOfMemory> {
+    let alloc = rt.alloc();
+    let words = words(alloc, command)?;
+    let mut site = MemSite::new(alloc, Vec::new(alloc), calls(alloc, &[])?);
+    let mut out = sink(alloc, writes.0)?;
+    let mut err = sink(alloc, writes.1)?;
+    let got = run(
+        rt,
+        alloc,
+        words.as_slice(),
+        files,
+        &mut site,
+        &mut out,
+        &mut err,
+        &NoGate,
+    );
+    Ok(got.number() == status && out.as_slice() == output && err.as_slice() == line)
 }
 
 #[test]
 fn runs_end_with_their_status(rt: HostRuntime) -> Result<(), Fail> {
     let alloc = rt.alloc();
-    // The words, the script, which read and which write fail, the status, the output and the status's line.
-    for (command, script, reads, writes, status, output, line) in [
+    let usage: &[u8] = b"wasmgate: usage\n";
+    // The words, the script, which read, which write of the output and which of the line fails, the status, the output, the line.
+    for (command, script, read, writes, status, output, line) in [
         (
             &["replay", "s"].as_slice(),
             SCRIPT,
             0u64,
-            0u64,
-            Status::Done,
+            (0u64, 0u64),
+            0u8,
             OUTPUT,
             b"".as_slice(),
         ),
+        (&["replay"].as_slice(), SCRIPT, 0, (0, 0), 2, b"", usage),
         (
-            &["replay", "s"].as_slice(),
-            b"",
-            0,
-            0,
-            Status::Done,
-            b"",
-            b"",
-        ),
-        (
-            &["replay"].as_slice(),
+            &["replay", "s", "-"].as_slice(),
             SCRIPT,
             0,
-            0,
-            Status::Usage,
+            (0, 0),
+            2,
             b"",
-            b"wasmgate: usage\n",
-        ),
-        (
-            &["replay", "-", "x"].as_slice(),
-            SCRIPT,
-            0,
-            0,
-            Status::Usage,
-            b"",
-            b"wasmgate: usage\n",
-        ),
-        (
-            &["replay", ""].as_slice(),
-            SCRIPT,
-            0,
-            0,
-            Status::Usage,
-            b"",
-            b"wasmgate: usage\n",
-        ),
-        (
-            &["replay", "--x"].as_slice(),
-            SCRIPT,
-            0,
-            0,
-            Status::Usage,
-            b"",
-            b"wasmgate: usage\n",
-        ),
-        (
-            &["Replay", "s"].as_slice(),
-            SCRIPT,
-            0,
-            0,
-            Status::Usage,
-            b"",
-            b"wasmgate: usage\n",
+            usage,
         ),
         (
             &["replay", "s"].as_slice(),
             SCRIPT,
             1,
-            0,
-            Status::FileFault,
+            (0, 0),
+            5,
             b"",
             b"wasmgate: file\n",
         ),
@@ -128,8 +112,8 @@ fn runs_end_with_their_status(rt: HostRuntime) -> Result<(), Fail> {
             &["replay", "t"].as_slice(),
             SCRIPT,
             0,
-            0,
-            Status::FileFault,
+            (0, 0),
+            5,
             b"",
             b"wasmgate: file\n",
         ),
@@ -137,8 +121,8 @@ fn runs_end_with_their_status(rt: HostRuntime) -> Result<(), Fail> {
             &["replay", "s"].as_slice(),
             SCRIPT,
             0,
-            1,
-            Status::OutFault,
+            (1, 0),
+            7,
             b"",
             b"wasmgate: out\n",
         ),
@@ -146,29 +130,33 @@ fn runs_end_with_their_status(rt: HostRuntime) -> Result<(), Fail> {
             &["replay", "s"].as_slice(),
             b"open 1\nbytes 1 4\n",
             0,
-            0,
-            Status::Script { line: 2 },
+            (0, 0),
+            9,
             b"",
             b"wasmgate: script 2\n",
         ),
         (
-            &["replay", "s"].as_slice(),
-            b"open 1\nend 1\nclock\nopen 1\ngone 1\nupbytes 1 0a\n",
+            &["check", "s"].as_slice(),
+            b"[gateway]\nworkers = 9\n",
             0,
-            0,
-            Status::Done,
-            b"close 1\n",
+            (0, 2),
+            3,
             b"",
+            b"wasmgate: config ",
+        ),
+        (
+            &["replay", "s", "s"].as_slice(),
+            SCRIPT,
+            0,
+            (0, 0),
+            4,
+            b"",
+            b"wasmgate: module m1 BadHeader 0\n",
         ),
     ] {
-        let words = words(alloc, command)?;
-        let mut files = files(alloc, script, &[reads])?;
-        let mut out = sink(alloc, &[writes])?;
-        let mut err = sink(alloc, &[])?;
-        let got = run(alloc, words.as_slice(), &mut files, &mut out, &mut err);
-        assert_eq!(rt; got, status, "{command:?}");
-        assert_eq!(rt; out.as_slice(), output);
-        assert_eq!(rt; err.as_slice(), line);
+        let mut files = files(alloc, script, read)?;
+        let is_well = ends(&rt, command, &mut files, writes, status, output, line)?;
+        assert!(rt; is_well);
     }
     Ok(())
 }
@@ -195,27 +183,18 @@ impl Files for Stream {
 fn a_read_that_fails_in_mid_stream_is_a_file_fault(rt: HostRuntime) -> Result<(), Fail> {
     let alloc = rt.alloc();
     // The first read brings the script, the second finds its end.
-    for (fails, status) in [(2u64, Status::FileFault), (3, Status::Done)] {
-        let bytes = Octets::from_slice(alloc, SCRIPT)?;
-        let mut stream = Stream(MemSource::new(bytes, calls(alloc, &[fails])?));
-        let mut out = sink(alloc, &[])?;
-        let mut err = sink(alloc, &[])?;
-        let words = words(alloc, &["replay", "-"])?;
-        let got = run(alloc, words.as_slice(), &mut stream, &mut out, &mut err);
-        assert_eq!(rt; got, status);
-    }
-    Ok(())
-}
-
-#[test]
-fn a_line_that_fails_to_be_written_changes_no_status(rt: HostRuntime) -> Result<(), Fail> {
-    let alloc = rt.alloc();
-    let mut files = files(alloc, b"x", &[])?;
-    let mut out = sink(alloc, &[])?;
-    let mut err = sink(alloc, &[2])?;
-    let words = words(alloc, &["replay", "s"])?;
-    let got = run(alloc, words.as_slice(), &mut files, &mut out, &mut err);
-    assert_eq!(rt; got.number(), 9);
-    assert_eq!(rt; err.as_slice(), b"wasmgate: script ".as_slice());
+    let bytes = Octets::from_slice(alloc, SCRIPT)?;
+    let mut stream = Stream(MemSource::new(bytes, calls(alloc, &[2])?));
+    let command = ["replay", "-"];
+    let is_well = ends(
+        &rt,
+        &command,
+        &mut stream,
+        (0, 0),
+        5,
+        b"",
+        b"wasmgate: file\n",
+    )?;
+    assert!(rt; is_well);
     Ok(())
 }

@@ -1,0 +1,4 @@
+mod Answered
+mod Fault
+mod Commands
+mod Loaded

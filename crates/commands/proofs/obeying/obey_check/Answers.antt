@@ -1,0 +1,10 @@
+use Rattle.serving.specs.Serving.{Eyes, Seen}
+use Rattle.commands.proofs.Commands.{obeys_check}
+use Rattle.commands.proofs.obeying.obey_check.Goals as goal
+
+pub returns-clause-obeys : goal.returns-clause-obeys
+returns-clause-obeys g c =
+    let W : Type 0 = g.row.S-W.Denot in
+    let eyes : Eyes W = record { trace = g.S.W.World.trace; last = g.S.W.World.last; nature = g.S.W.World.nature; faults = g.S.W.World.faults } in
+    let site : Seen W = record { started = g.S.Site.started c.args.site.now; seeds = g.S.Site.seeds c.args.site.now; returned = g.S.Site.returned c.args.site.now; faults = g.S.Site.faults c.args.site.now } in
+    obeys_check eyes (g.F.Files.holds c.args.files.now) c.args.config.now c.check_file.result site (g.O.Sink.taken c.args.out.now) (g.O.Sink.taken c.check_file.new.out) c.check_file.ensures.checks

@@ -1,0 +1,14 @@
+use Rattle.std.proofs.Common.{map, string_bytes}
+use Rattle.serving.specs.Serving.{Eyes, Seen}
+use Rattle.commands.proofs.Commands.{obeys_invoke, reads_invoke}
+use Rattle.commands.proofs.obeying.obey_invoke.Goals as goal
+
+pub returns-clause-obeys : goal.returns-clause-obeys
+returns-clause-obeys g c =
+    let W : Type 0 = g.row.S-W.Denot in
+    let eyes : Eyes W = record { trace = g.S.W.World.trace; last = g.S.W.World.last; nature = g.S.W.World.nature; faults = g.S.W.World.faults } in
+    let site : Seen W = record { started = g.S.Site.started c.args.site.now; seeds = g.S.Site.seeds c.args.site.now; returned = g.S.Site.returned c.args.site.now; faults = g.S.Site.faults c.args.site.now } in
+    obeys_invoke eyes (g.F.Files.holds c.args.files.now) c.args.«module».now c.args.export.now (map string_bytes c.args.arguments.now) c.call.result site (g.O.Sink.taken c.args.out.now) (g.O.Sink.taken c.call.new.out) c.call.ensures.calls
+
+pub returns-clause-reads : goal.returns-clause-reads
+returns-clause-reads g c = reads_invoke (g.F.Files.holds c.args.files.now) c.args.«module».now c.args.export.now (map string_bytes c.args.arguments.now) (g.F.Files.paths c.args.files.now) (g.F.Files.paths c.call.new.files) c.call.ensures.paths

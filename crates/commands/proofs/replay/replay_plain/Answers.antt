@@ -1,0 +1,32 @@
+use Rattle.std.proofs.Common.{inl, inr, subst, sym, map, string_bytes}
+use Rattle.config_files.specs.Plain.{IsNoPlain}
+use Rattle.gate_io.specs.Told.{gains_nothing}
+use Rattle.statuses.specs.declared.status.Status.{Status}
+use Rattle.commands.specs.Scripts.{IsUnloaded, Plays}
+use Rattle.commands.proofs.Loaded.{unloaded}
+use Rattle.commands.proofs.Commands.{reads_plain, reads_plain_front}
+use Rattle.commands.proofs.replay.replay_plain.Goals as goal
+
+pub returns-in-Ok-clause-replays : goal.returns-in-Ok-clause-replays
+returns-in-Ok-clause-replays g c =
+    inr (
+      c.in-Ok.config,
+      c.in-Ok.ensures.loaded,
+      subst (λ h. Plays h c.args.script.now c.in-Ok.config c.play_file.result (g.O.Sink.taken c.args.out.now) (g.O.Sink.taken c.play_file.new.out)) c.load_plain.ensures.holds c.play_file.ensures.plays,
+    )
+
+pub returns-in-Err-clause-replays : goal.returns-in-Err-clause-replays
+returns-in-Err-clause-replays g c =
+    inl (
+      subst (λ (s : Status). IsUnloaded (IsNoPlain (g.F.Files.holds c.args.files.now) (map string_bytes c.args.modules.now)) s) (sym c.of_load.ensures)
+          (unloaded (IsNoPlain (g.F.Files.holds c.args.files.now) (map string_bytes c.args.modules.now)) c.in-Err.end c.in-Err.ensures.refused),
+      gains_nothing (g.O.Sink.taken c.args.out.now),
+    )
+
+pub returns-in-Ok-clause-reads : goal.returns-in-Ok-clause-reads
+returns-in-Ok-clause-reads g c =
+    reads_plain (g.F.Files.holds c.args.files.now) c.args.script.now (map string_bytes c.args.modules.now) _ _ _ c.in-Ok.ensures.all_read c.play_file.ensures.front
+
+pub returns-in-Err-clause-reads : goal.returns-in-Err-clause-reads
+returns-in-Err-clause-reads g c =
+    reads_plain_front (g.F.Files.holds c.args.files.now) c.args.script.now (map string_bytes c.args.modules.now) _ _ c.load_plain.ensures.paths.gained

@@ -1,0 +1,3 @@
+pub mod Call
+pub mod Scripts
+pub mod Doing

@@ -1,0 +1,11 @@
+//! The commands of the program: what its words ask for, done over the files, the sockets and the output that it is given.
+#![tactic(auto)]
+
+mod call;
+mod check;
+mod obeying;
+mod replay;
+mod serve;
+mod top_call;
+
+pub use top_call::run;
