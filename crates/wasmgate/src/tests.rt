@@ -4,7 +4,9 @@ use commands::run;
 use gate_base::{CallNos, Members, Octets, OutOfMemory};
 use gate_io::{FileEnd, Files, MemFiles, MemSink, MemSite, MemSource, NoGate, read_whole};
 use std::alloc::Global;
+use std::sync::Wait;
 use std::test::Fail;
+use std::thread::Threads;
 
 /// The script of the first worked row, and what it gives.
 const SCRIPT: &[u8] =
@@ -47,8 +49,9 @@ fn files(alloc: Global, script: &[u8], fails: u64) -> Result<MemFiles, OutOfMemo
 }
 
 /// Whether a run over these files ends with this status, output and line, where this write of the output and that of the line fail.
-fn ends<F: Files>(
-    rt: &HostRuntime,
+fn ends<R: Threads + Wait + Sync, F: Files>(
+    rt: &R,
+    alloc: Global,
     command: &[&str],
     files: &mut F,
     writes: (u64, u64),
@@ -56,7 +59,6 @@ fn ends<F: Files>(
     output: &[u8],
     line: &[u8],
 ) -> Result<bool, OutOfMemory> {
-    let alloc = rt.alloc();
     let words = words(alloc, command)?;
     let mut site = MemSite::new(alloc, Vec::new(alloc), calls(alloc, &[])?);
     let mut out = sink(alloc, writes.0)?;
@@ -155,7 +157,9 @@ fn runs_end_with_their_status(rt: HostRuntime) -> Result<(), Fail> {
         ),
     ] {
         let mut files = files(alloc, script, read)?;
-        let is_well = ends(&rt, command, &mut files, writes, status, output, line)?;
+        let is_well = ends(
+            &rt, alloc, command, &mut files, writes, status, output, line,
+        )?;
         assert!(rt; is_well);
     }
     Ok(())
@@ -188,6 +192,7 @@ fn a_read_that_fails_in_mid_stream_is_a_file_fault(rt: HostRuntime) -> Result<()
     let command = ["replay", "-"];
     let is_well = ends(
         &rt,
+        alloc,
         &command,
         &mut stream,
         (0, 0),
