@@ -130,6 +130,13 @@ fn copy_small(instr: &Instr) -> Instr
         Instr::I32WrapI64 => Instr::I32WrapI64,
         Instr::I64ExtendI32S => Instr::I64ExtendI32S,
         Instr::I64ExtendI32U => Instr::I64ExtendI32U,
+        Instr::I32Extend8S => Instr::I32Extend8S,
+        Instr::I32Extend16S => Instr::I32Extend16S,
+        Instr::I64Extend8S => Instr::I64Extend8S,
+        Instr::I64Extend16S => Instr::I64Extend16S,
+        Instr::I64Extend32S => Instr::I64Extend32S,
+        Instr::MemoryCopy => Instr::MemoryCopy,
+        Instr::MemoryFill => Instr::MemoryFill,
         Instr::BrTable { .. } => unreachable!(),
     }
 }

@@ -12,6 +12,7 @@ pub mod Valid
 pub mod Unstuck
 pub mod Made
 pub mod WorkedThreads
+pub mod Counted
 pub mod Carries
 pub mod Exits
 pub mod Follows

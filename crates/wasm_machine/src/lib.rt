@@ -2,6 +2,7 @@
 #![tactic(auto)]
 
 mod access;
+mod bulk;
 mod control;
 mod jumps;
 pub mod laws;

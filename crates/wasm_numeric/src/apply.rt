@@ -2,7 +2,8 @@
 
 ghost use Rattle.std.specs.Prelude.{◌≡◌};
 ghost use Rattle.wasm_syntax.specs.declared.types.ValueType.TheVariants.{I32, I64};
-ghost use Rattle.wasm_syntax.specs.Operators.{extend_s};
+ghost use Rattle.std.specs.Int.{w8, w16, w32};
+ghost use Rattle.wasm_syntax.specs.Operators.{extend_s, extend_low};
 ghost use Rattle.wasm_numeric.specs.Applied.{type_of, number_of, truth as truth_of, Takes1, value1, Takes2, value2, made};
 
 use crate::op::{NumTrap, Op1, Op2};
@@ -27,6 +28,11 @@ pub fn apply1(op: Op1, a: Value) -> Value
         Op1::I32WrapI64 => Value::I32((as_wide(a) % 0x1_0000_0000) as u32),
         Op1::I64ExtendI32S => Value::I64(extend_signed(as_narrow(a))),
         Op1::I64ExtendI32U => Value::I64(as_narrow(a) as u64),
+        Op1::I32Extend8S => Value::I32(extend_low_8(as_narrow(a))),
+        Op1::I32Extend16S => Value::I32(extend_low_16(as_narrow(a))),
+        Op1::I64Extend8S => Value::I64(extend_long_8(as_wide(a))),
+        Op1::I64Extend16S => Value::I64(extend_long_16(as_wide(a))),
+        Op1::I64Extend32S => Value::I64(extend_long_32(as_wide(a))),
     }
 }
 
@@ -81,6 +87,46 @@ fn extend_signed(x: u32) -> u64
     ensures { result ≡ extend_s x }
 {
     (x.cast_signed() as i64).cast_unsigned()
+}
+
+/// The number of 32 bits with the signed reading of the lowest 8.
+fn extend_low_8(x: u32) -> u32
+    ensures { result ≡ extend_low I32 w8 x }
+{
+    let low = (x % 0x100) as u8;
+    (low.cast_signed() as i32).cast_unsigned()
+}
+
+/// The number of 32 bits with the signed reading of the lowest 16.
+fn extend_low_16(x: u32) -> u32
+    ensures { result ≡ extend_low I32 w16 x }
+{
+    let low = (x % 0x1_0000) as u16;
+    (low.cast_signed() as i32).cast_unsigned()
+}
+
+/// The number of 64 bits with the signed reading of the lowest 8.
+fn extend_long_8(x: u64) -> u64
+    ensures { result ≡ extend_low I64 w8 x }
+{
+    let low = (x % 0x100) as u8;
+    (low.cast_signed() as i64).cast_unsigned()
+}
+
+/// The number of 64 bits with the signed reading of the lowest 16.
+fn extend_long_16(x: u64) -> u64
+    ensures { result ≡ extend_low I64 w16 x }
+{
+    let low = (x % 0x1_0000) as u16;
+    (low.cast_signed() as i64).cast_unsigned()
+}
+
+/// The number of 64 bits with the signed reading of the lowest 32.
+fn extend_long_32(x: u64) -> u64
+    ensures { result ≡ extend_low I64 w32 x }
+{
+    let low = (x % 0x1_0000_0000) as u32;
+    (low.cast_signed() as i64).cast_unsigned()
 }
 
 /// The bits of a value of 32 bits.

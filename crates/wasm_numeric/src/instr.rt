@@ -88,6 +88,11 @@ pub fn operator_of(i: &Instr) -> Numeric
         Instr::I32WrapI64 => Numeric::One(Op1::I32WrapI64),
         Instr::I64ExtendI32S => Numeric::One(Op1::I64ExtendI32S),
         Instr::I64ExtendI32U => Numeric::One(Op1::I64ExtendI32U),
+        Instr::I32Extend8S => Numeric::One(Op1::I32Extend8S),
+        Instr::I32Extend16S => Numeric::One(Op1::I32Extend16S),
+        Instr::I64Extend8S => Numeric::One(Op1::I64Extend8S),
+        Instr::I64Extend16S => Numeric::One(Op1::I64Extend16S),
+        Instr::I64Extend32S => Numeric::One(Op1::I64Extend32S),
         Instr::Unreachable
         | Instr::Nop
         | Instr::Block(_)
@@ -129,6 +134,8 @@ pub fn operator_of(i: &Instr) -> Numeric
         | Instr::I64Store32(_)
         | Instr::MemorySize
         | Instr::MemoryGrow
+        | Instr::MemoryCopy
+        | Instr::MemoryFill
         | Instr::I32Const(_)
         | Instr::I64Const(_) => Numeric::Other,
     }

@@ -15,7 +15,7 @@ pub enum NumTrap {
     Overflow,
 }
 
-/// An operator with one operand (Core 1.0 section 5.4.5, opcodes from 0x45 on).
+/// An operator with one operand (Core 1.0 section 5.4.5, opcodes from 0x45 on, and Core 2.0 section 5.4.7, from 0xC0 on).
 #[derive(Clone, Copy, Debug, PartialEq, Eq)]
 pub enum Op1 {
     I32Eqz,
@@ -29,6 +29,11 @@ pub enum Op1 {
     I32WrapI64,
     I64ExtendI32S,
     I64ExtendI32U,
+    I32Extend8S,
+    I32Extend16S,
+    I64Extend8S,
+    I64Extend16S,
+    I64Extend32S,
 }
 
 /// An operator with two operands (Core 1.0 section 5.4.5, opcodes from 0x46 on).
@@ -103,6 +108,11 @@ impl Op1 {
             Op1::I32WrapI64 => ValueType::I64,
             Op1::I64ExtendI32S => ValueType::I32,
             Op1::I64ExtendI32U => ValueType::I32,
+            Op1::I32Extend8S => ValueType::I32,
+            Op1::I32Extend16S => ValueType::I32,
+            Op1::I64Extend8S => ValueType::I64,
+            Op1::I64Extend16S => ValueType::I64,
+            Op1::I64Extend32S => ValueType::I64,
         }
     }
 }

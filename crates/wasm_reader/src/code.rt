@@ -1,21 +1,24 @@
 //! Instructions and expressions.
 
 ghost use Rattle.std.specs.Prelude.{◌≡◌, ◌≤◌, ◌<◌, ◌-◌, length, reverse, drop, IfOk, Some, None, if◌then◌else◌};
-ghost use Rattle.wasm_syntax.specs.Opcodes.{shape_of};
+ghost use Rattle.wasm_syntax.specs.Opcodes.{shape_of, prefixed_instr as instr_of};
 ghost use Rattle.wasm_syntax.specs.Items.{byte_as};
 ghost use Rattle.wasm_syntax.specs.Format.{bounded};
-ghost use Rattle.wasm_syntax.specs.Grammar.{is_placed, has_room, open_after, opcode_said, opcode_judged, memory_argument as memory_argument_format, operands as operands_format, instruction as instruction_format, expression as expression_format};
+ghost use Rattle.wasm_syntax.specs.Grammar.{is_placed, has_room, open_after, opcode_said, opcode_judged, memory_argument as memory_argument_format, reserved as reserved_format, operands as operands_format, instruction as instruction_format, expression as expression_format};
 ghost use Rattle.wasm_reader.specs.Steps.{AreWithin, Reads};
 
 use crate::ends::{Bounds, ReadEnd};
 use crate::items::{
-    BAD_OPCODE, FLOAT, OVER_LIMIT, block_type, cut_off, exactly, index, judged, long, word,
+    BAD_OPCODE, FLOAT, OVER_LIMIT, block_type, cut_off, exactly, index, judged, long,
+    prefixed_number, word,
 };
 use crate::rules::vector;
 use crate::types::Numbers;
 use gate_base::{Members, OutOfMemory};
 use std::alloc::Global;
-use wasm_syntax::{Expression, Instr, MemoryArgument, Opcode, OpcodeByte, Open, opcode_at};
+use wasm_syntax::{
+    Expression, Instr, MemoryArgument, Opcode, OpcodeByte, Open, Prefixed, opcode_at,
+};
 
 /// The blocks that are open, the innermost last.
 type Blocks = Members<Open>;
@@ -91,7 +94,8 @@ fn opcode_of(blocks: &Blocks, said: OpcodeByte) -> Result<Opcode, u8>
 fn opcode_byte(b: &[u8], at: usize, k: Bounds, blocks: &Blocks) -> Result<(Opcode, usize), ReadEnd>
     requires place { at ≤ length b.now }
     requires bounds { AreWithin b.now k }
-    ensures { Reads (byte_as (opcode_judged (reverse blocks.now))) b.now at k result }
+    ensures read { Reads (byte_as (opcode_judged (reverse blocks.now))) b.now at k result }
+    ensures behind { IfOk result (λ x. 0 < x.1) }
 {
     if at == b.len() {
         return Err(cut_off(b));
@@ -103,7 +107,8 @@ fn opcode_byte(b: &[u8], at: usize, k: Bounds, blocks: &Blocks) -> Result<(Opcod
 fn opcode(b: &[u8], at: usize, k: Bounds, blocks: &Blocks) -> Result<(Opcode, usize), ReadEnd>
     requires place { at ≤ length b.now }
     requires bounds { AreWithin b.now k }
-    ensures { Reads (bounded (has_room (reverse blocks.now)) (byte_as (opcode_judged (reverse blocks.now)))) b.now at k result }
+    ensures read { Reads (bounded (has_room (reverse blocks.now)) (byte_as (opcode_judged (reverse blocks.now)))) b.now at k result }
+    ensures behind { IfOk result (λ x. 0 < x.1) }
 {
     let (opcode, behind) = opcode_byte(b, at, k, blocks)?;
     if !room_for(blocks, opcode) {
@@ -127,6 +132,31 @@ fn memory_argument(b: &[u8], at: usize, k: Bounds) -> Result<(MemoryArgument, us
     Ok((MemoryArgument { align, offset }, at))
 }
 
+/// Reads the bytes 0 that name the memories of a copy or a fill.
+fn reserved(b: &[u8], at: usize, k: Bounds, which: Prefixed) -> Result<(u8, usize), ReadEnd>
+    requires place { at ≤ length b.now }
+    requires bounds { AreWithin b.now k }
+    ensures { Reads (reserved_format which) b.now at k result }
+{
+    match which {
+        Prefixed::MemoryCopy => {
+            let (_to, at) = exactly(b, at, k, 0)?;
+            exactly(b, at, k, 0)
+        }
+        Prefixed::MemoryFill => exactly(b, at, k, 0),
+    }
+}
+
+/// The instruction of such a number.
+fn prefixed_instr(which: Prefixed) -> Instr
+    ensures { result ≡ instr_of which }
+{
+    match which {
+        Prefixed::MemoryCopy => Instr::MemoryCopy,
+        Prefixed::MemoryFill => Instr::MemoryFill,
+    }
+}
+
 /// Reads what stands behind an opcode.
 #[tactic(auto, unfolding(wasm_syntax::specs::Grammar::operands))]
 fn operands(
@@ -137,6 +167,7 @@ fn operands(
     opcode: Opcode,
 ) -> Result<(Instr, usize), ReadEnd>
     requires place { at ≤ length b.now }
+    requires behind { 0 < at }
     requires bounds { AreWithin b.now k }
     ensures { Reads (operands_format (shape_of opcode)) b.now at k result }
 {
@@ -355,6 +386,16 @@ fn operands(
         Opcode::I32WrapI64 => Ok((Instr::I32WrapI64, at)),
         Opcode::I64ExtendI32S => Ok((Instr::I64ExtendI32S, at)),
         Opcode::I64ExtendI32U => Ok((Instr::I64ExtendI32U, at)),
+        Opcode::I32Extend8S => Ok((Instr::I32Extend8S, at)),
+        Opcode::I32Extend16S => Ok((Instr::I32Extend16S, at)),
+        Opcode::I64Extend8S => Ok((Instr::I64Extend8S, at)),
+        Opcode::I64Extend16S => Ok((Instr::I64Extend16S, at)),
+        Opcode::I64Extend32S => Ok((Instr::I64Extend32S, at)),
+        Opcode::Prefix => {
+            let (which, at) = prefixed_number(b, at, k)?;
+            let (_zero, at) = reserved(b, at, k, which)?;
+            Ok((prefixed_instr(which), at))
+        }
     }
 }
 

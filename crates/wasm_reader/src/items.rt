@@ -5,12 +5,13 @@ ghost use Rattle.std.specs.Prelude.{◌≡◌, ◌≤◌, ◌<◌, ◌-◌, ◌+
 ghost use Rattle.wasm_syntax.specs.declared.leb.LebEnd.{LebEnd as LebEnds};
 ghost use Rattle.wasm_syntax.specs.Format.{and_then, fenced, bounded};
 ghost use Rattle.wasm_syntax.specs.Items.{judged_as, byte_as, u32 as u32_format, s32 as s32_format, s64 as s64_format, agreed_u32, agrees, at_most};
-ghost use Rattle.wasm_syntax.specs.Grammar.{value_type_of, block_type_of, flag_of, only, external_kind_of};
+ghost use Rattle.wasm_syntax.specs.Grammar.{value_type_of, block_type_of, flag_of, only, external_kind_of, prefixed_number as prefixed_format};
 ghost use Rattle.wasm_reader.specs.Steps.{fence_of, AreWithin, Gives, Reads, IsInside, IsPast, numbered};
 
 use crate::ends::{Bounds, ReadEnd};
 use wasm_syntax::{
-    BlockType, EXTERNAL_KINDS, ExternalKind, LebEnd, ValueType, read_s32, read_s64, read_u32,
+    BlockType, EXTERNAL_KINDS, ExternalKind, LebEnd, Prefixed, PrefixedNumber, ValueType,
+    prefixed_at, read_s32, read_s64, read_u32,
 };
 
 /// The input ends inside an item.
@@ -59,7 +60,8 @@ pub(crate) fn judged<T: Drop>(
 ) -> Result<(T, usize), ReadEnd>
     requires place { at < length b.now }
     requires bounds { AreWithin b.now k }
-    ensures { Gives b.now result (and_then (judged_as said (length b.now - at) (drop (at + 1) b.now)) (fenced (fence_of b.now k))) }
+    ensures given { Gives b.now result (and_then (judged_as said (length b.now - at) (drop (at + 1) b.now)) (fenced (fence_of b.now k))) }
+    ensures behind { IfOk result (λ x. x.1 ≡ at + 1) }
 {
     match said {
         Ok(value) => {
@@ -307,4 +309,28 @@ pub(crate) fn code_count(
         });
     }
     Ok((n, place))
+}
+
+/// Reads the number behind the byte 0xFC. One of floating point is at fault at that byte.
+pub(crate) fn prefixed_number(b: &[u8], at: usize, k: Bounds) -> Result<(Prefixed, usize), ReadEnd>
+    requires place { at ≤ length b.now }
+    requires behind { 0 < at }
+    requires bounds { AreWithin b.now k }
+    ensures { Reads prefixed_format b.now at k result }
+{
+    let (n, place) = number(b, at, read_u32(b, at))?;
+    match prefixed_at(n) {
+        PrefixedNumber::Known(which) => {
+            check(place, k)?;
+            Ok((which, place))
+        }
+        PrefixedNumber::Float => Err(ReadEnd::Refused {
+            number: FLOAT,
+            place: at - 1,
+        }),
+        PrefixedNumber::Unknown => Err(ReadEnd::Refused {
+            number: BAD_OPCODE,
+            place: at,
+        }),
+    }
 }

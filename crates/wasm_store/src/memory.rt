@@ -1,7 +1,7 @@
 //! Memories (WebAssembly Core 1.0 section 4.2.8).
 
-ghost use Rattle.std.specs.Prelude.{◌≡◌, ◌≤◌, ◌<◌, ◌+◌, ◌*◌, length, replicate, Some, None, IfOk, IfSome, IfNone};
-ghost use Rattle.wasm_syntax.specs.Memory.{load, store, written, page, pages_of, grow_answer, grown};
+ghost use Rattle.std.specs.Prelude.{◌≡◌, ◌≤◌, ◌<◌, ◌+◌, ◌*◌, ◌%◌, length, replicate, Some, None, IfOk, IfSome, IfNone};
+ghost use Rattle.wasm_syntax.specs.Memory.{load, store, written, bytes_at, copied, filled, page, pages_of, grow_answer, grown};
 ghost use Rattle.wasm_store.specs.Memories.{IsWidth, IsWhole};
 
 use gate_base::OutOfMemory;
@@ -29,6 +29,32 @@ impl Model for Memory {
     ghost view = { λ a. record { bytes = a.bytes.items; most = a.most } };
 
     ghost invariant = { λ a. IsWhole (record { bytes = a.bytes.items; most = a.most }) × (65536 * a.most ≤ vec_capacity a.bytes) };
+}
+
+/// Makes the range of so many bytes from `to` on what the range from `from` on is. What does not overlap is moved as a
+/// whole.
+fn move_range(bytes: &mut [u8], to: usize, from: usize, count: usize)
+    requires source { from + count ≤ length bytes.old }
+    requires destination { to + count ≤ length bytes.old }
+    ensures { bytes.new ≡ written bytes.old to (bytes_at bytes.old from count) }
+{
+    if from + count <= to {
+        let (low, high) = bytes.split_at_mut(to);
+        high[..count].copy_from_slice(&low[from..from + count]);
+    } else if to + count <= from {
+        let (low, high) = bytes.split_at_mut(from);
+        low[to..to + count].copy_from_slice(&high[..count]);
+    } else {
+        bytes.copy_within(from..from + count, to);
+    }
+}
+
+/// Writes a byte so many times from a place on.
+fn fill_range(bytes: &mut [u8], at: usize, v: u8, count: usize)
+    requires { at + count ≤ length bytes.old }
+    ensures { bytes.new ≡ written bytes.old at (replicate count v) }
+{
+    bytes[at..at + count].fill(v);
 }
 
 impl Memory {
@@ -109,6 +135,39 @@ impl Memory {
             return None;
         }
         self.bytes.as_mut_slice()[from..from + bytes.len()].copy_from_slice(bytes);
+        Some(())
+    }
+
+    /// Copies so many bytes from one place on to another, where the two ranges may overlap: none, with nothing changed,
+    /// exactly where one of them is not all inside (Core 2.0 section 4.4.7). It takes no memory.
+    pub fn copy(&mut self, to: u32, from: u32, count: u32) -> Option<()>
+        ensures some { IfSome result (λ _. copied self.old.bytes to from count ≡ Some self.new.bytes) }
+        ensures none { IfNone result ((copied self.old.bytes to from count ≡ None) × (self.new.bytes ≡ self.old.bytes)) }
+        ensures most { self.new.most ≡ self.old.most }
+        ensures whole { IsWhole self.new }
+    {
+        let (to, from, count) = (to as usize, from as usize, count as usize);
+        let size = self.bytes.len();
+        if from + count > size || to + count > size {
+            return None;
+        }
+        move_range(self.bytes.as_mut_slice(), to, from, count);
+        Some(())
+    }
+
+    /// Writes the lowest byte of a number so many times from a place on: none, with nothing changed, exactly where the
+    /// range is not all inside (Core 2.0 section 4.4.7). It takes no memory.
+    pub fn fill(&mut self, at: u32, v: u32, count: u32) -> Option<()>
+        ensures some { IfSome result (λ _. filled self.old.bytes at v count ≡ Some self.new.bytes) }
+        ensures none { IfNone result ((filled self.old.bytes at v count ≡ None) × (self.new.bytes ≡ self.old.bytes)) }
+        ensures most { self.new.most ≡ self.old.most }
+        ensures whole { IsWhole self.new }
+    {
+        let (at, count) = (at as usize, count as usize);
+        if at + count > self.bytes.len() {
+            return None;
+        }
+        fill_range(self.bytes.as_mut_slice(), at, (v % 256) as u8, count);
         Some(())
     }
 

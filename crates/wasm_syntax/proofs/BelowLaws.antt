@@ -1,15 +1,15 @@
 -- A run never touches the calls below the topmost one, and an answer leaves no more to run.
-use Rattle.std.proofs.Common.{◌≡◌, ℕ, zero, suc, ◌+◌, ◌*◌, Bool, true, false, List, [], ◌∷◌, Option, refl, sym, ap, subst}
+use Rattle.std.proofs.Common.{◌≡◌, ℕ, zero, suc, ◌+◌, ◌-◌, ◌*◌, Bool, true, false, List, [], ◌∷◌, Option, refl, sym, ap, subst}
 use Rattle.wasm_syntax.specs.declared.types.Value.{Value}
 use Rattle.wasm_syntax.specs.Stores.{Stores}
-use Rattle.wasm_syntax.specs.Reduction.{Program, Thread, code, label, frame, at_host, Cost, free, paid, paid_over, Reduced, goes, ended, leaving, returning, asking, trapping, stuck, reduce}
+use Rattle.wasm_syntax.specs.Reduction.{Program, Thread, code, label, frame, at_host, Cost, free, paid, paid_over, paid_more, Reduced, goes, ended, leaving, returning, asking, trapping, stuck, reduce}
 use Rattle.wasm_syntax.specs.ReductionSteps.{Calling, calling, Config, config, Stepped, moves, finished, asks_host, traps, overflows, no_step, moved_over, moved, ending_call, stepped_by, step_if, is_within, step, answered, answer_first, all_values, most_values}
-use Rattle.std.specs.Prelude.{nat_lt}
+use Rattle.std.specs.Prelude.{nat_le, nat_lt, if◌then◌else◌}
 use Rattle.wasm_syntax.specs.ReductionLaws.{StandsOn, LeavesBelow, CallsBelowStay, AnswersStayAbove, AnswersKeepDepth}
-use Rattle.wasm_syntax.specs.ReductionRuns.{Stopped, has_asked, has_trapped, pay, walk_by, walk, enough, depth_in, all_depth}
+use Rattle.wasm_syntax.specs.ReductionRuns.{Stopped, has_asked, has_trapped, has_spent, pay, unit_if, walk_by, walk, enough, depth_in, all_depth}
 
 abbrev StepKeeps : List Calling → Stepped → Type 0
-StepKeeps below (moves is_paid d) = StandsOn below d
+StepKeeps below (moves units d) = StandsOn below d
 StepKeeps below (finished v d) = d.calls ≡ below
 StepKeeps below (asks_host is_paid x args d) = StandsOn below d
 StepKeeps below (traps c) = Unit {0}
@@ -23,6 +23,7 @@ over_keeps below false d h = tt
 moved_keeps : (below : List Calling) (cost : Cost) (d : Config) → StandsOn below d → StepKeeps below (moved cost d)
 moved_keeps below free d h = h
 moved_keeps below paid d h = h
+moved_keeps below (paid_more further) d h = h
 moved_keeps below paid_over d h = over_keeps below (nat_lt (all_values d.calls) most_values) d h
 
 ending_keeps : (s : Stores) (vs : List Value) (below : List Calling) → StepKeeps below (ending_call s vs below)
@@ -45,16 +46,18 @@ if_keeps below false x h = tt
 step_keeps : (p : Program) (below : List Calling) (s : Stores) (c : Calling) → StepKeeps below (step p (config s (c ∷ below)))
 step_keeps p below s c = if_keeps below (is_within (config s (c ∷ below))) (stepped_by s below (reduce p s c.own c.thread)) (stepped_keeps s below (reduce p s c.own c.thread))
 
-pay_keeps : (below : List Calling) (b : Bool) (n : ℕ) (go : ℕ → Stopped) → ((m : ℕ) → LeavesBelow below (go m)) → LeavesBelow below (pay b n go)
-pay_keeps below false n go h = h n
-pay_keeps below true zero go h = tt
-pay_keeps below true (suc n) go h = h n
+paid_keeps : (below : List Calling) (b : Bool) (n left : ℕ) (go : ℕ → Stopped) → LeavesBelow below (go left) → LeavesBelow below (if b then go left else has_spent n)
+paid_keeps below true n left go h = h
+paid_keeps below false n left go h = tt
+
+pay_keeps : (below : List Calling) (units n : ℕ) (go : ℕ → Stopped) → ((m : ℕ) → LeavesBelow below (go m)) → LeavesBelow below (pay units n go)
+pay_keeps below units n go h = paid_keeps below (nat_le units n) n (n - units) go (h (n - units))
 
 by_keeps : (below : List Calling) (x : Stepped) (n : ℕ) (go : ℕ → Config → Stopped) → StepKeeps below x → ((m : ℕ) (d : Config) → StandsOn below d → LeavesBelow below (go m d)) → LeavesBelow below (walk_by x n go)
-by_keeps below (moves is_paid d) n go kept ih = pay_keeps below is_paid n (λ m. go m d) (λ m. ih m d kept)
+by_keeps below (moves units d) n go kept ih = pay_keeps below units n (λ m. go m d) (λ m. ih m d kept)
 by_keeps below (finished v d) n go kept ih = kept
-by_keeps below (asks_host is_paid x args d) n go kept ih = pay_keeps below is_paid n (λ m. has_asked x args d m) (λ m. kept)
-by_keeps below (traps c) n go kept ih = pay_keeps below true n (λ m. has_trapped c m) (λ m. tt)
+by_keeps below (asks_host is_paid x args d) n go kept ih = pay_keeps below (unit_if is_paid) n (λ m. has_asked x args d m) (λ m. kept)
+by_keeps below (traps c) n go kept ih = pay_keeps below 1 n (λ m. has_trapped c m) (λ m. tt)
 by_keeps below overflows n go kept ih = tt
 by_keeps below no_step n go kept ih = tt
 

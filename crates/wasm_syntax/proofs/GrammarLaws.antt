@@ -1,5 +1,5 @@
 -- Each rule of the grammar is lawful.
-use Rattle.std.proofs.Common.{ℕ, ◌+◌, ◌<◌, zero, suc, Bool, true, false, Option, Some, None, List, [], length, ap, arith}
+use Rattle.std.proofs.Common.{◌≡◌, ℕ, ◌+◌, ◌<◌, zero, suc, Bool, true, false, Option, Some, None, List, [], ◌++◌, length, ap, ◌∙◌, arith}
 use Rattle.std.specs.Str.{is_utf8}
 use Rattle.std.proofs.lemmas.List.{length-append}
 use Rattle.wasm_syntax.specs.declared.instr.Instr.{Instr}
@@ -10,12 +10,17 @@ use Rattle.wasm_syntax.specs.declared.kinds.ExternalKind.TheVariants as external
 use Rattle.wasm_syntax.specs.declared.instr.Open.{Open}
 use Rattle.wasm_syntax.specs.declared.section.Section.{Section}
 use Rattle.wasm_syntax.specs.declared.section.Before.{Before}
-use Rattle.wasm_syntax.specs.Opcodes.{Shape, Plain, WithBlock, WithIndex, WithLabels, WithTypeAndZero, WithMemory, WithZero, WithWord, WithLong, shape_of, opcode_of}
-use Rattle.wasm_syntax.specs.Format.{Format, done, ◌>>=◌}
-use Rattle.wasm_syntax.specs.Items.{u32, s32, s64, bytes_of}
-use Rattle.wasm_syntax.specs.Grammar.{only, value_type_of, block_type_of, flag_of, external_kind_of, function_type, maximum, limits, table_type, memory_type, global_type, name, octets, has_room, opcode_judged, open_after, memory_argument, operands, instruction, expression, import_kind, import, export, global, element, segment, local_group, local_groups, function_body, code, code_vector, section_kind_of, section_of, section}
-use Rattle.wasm_syntax.proofs.FormatLaws.{IsLawful, done_lawful, then_lawful, bounded_lawful, repeated_lawful}
-use Rattle.wasm_syntax.proofs.ItemLaws.{byte_lawful, u32_lawful, s32_lawful, s64_lawful, agreed_u32_lawful, bytes_lawful, vector_lawful, sized_lawful, sized_with_tail_lawful}
+use Rattle.wasm_syntax.specs.Opcodes.{Shape, Plain, WithBlock, WithIndex, WithLabels, WithTypeAndZero, WithMemory, WithZero, WithWord, WithLong, WithNumber, shape_of, opcode_of, said_by}
+use Rattle.wasm_syntax.specs.declared.opcode.Prefixed.{Prefixed}
+use Rattle.wasm_syntax.specs.declared.opcode.Prefixed.TheVariants as prefixed
+use Rattle.wasm_syntax.specs.declared.opcode.PrefixedNumber.{PrefixedNumber}
+use Rattle.wasm_syntax.specs.declared.opcode.PrefixedNumber.TheVariants as number
+use Rattle.wasm_syntax.specs.Numbers.{u32_at}
+use Rattle.wasm_syntax.specs.Format.{ok, and_then, Format, done, ◌>>=◌}
+use Rattle.wasm_syntax.specs.Items.{number_or_fault, u32, s32, s64, bytes_of}
+use Rattle.wasm_syntax.specs.Grammar.{only, value_type_of, block_type_of, flag_of, external_kind_of, function_type, maximum, limits, table_type, memory_type, global_type, name, octets, has_room, opcode_judged, open_after, memory_argument, prefixed_or_fault, prefixed_number, reserved, operands, instruction, expression, import_kind, import, export, global, element, segment, local_group, local_groups, function_body, code, code_vector, section_kind_of, section_of, section}
+use Rattle.wasm_syntax.proofs.FormatLaws.{IsLawful, and_then_ok, ok_first, ok_rest, done_lawful, then_lawful, item_lawful, bounded_lawful, repeated_lawful}
+use Rattle.wasm_syntax.proofs.ItemLaws.{byte_lawful, u32_item, u32_lawful, s32_lawful, s64_lawful, agreed_u32_lawful, bytes_lawful, vector_lawful, sized_lawful, sized_with_tail_lawful}
 use Rattle.wasm_syntax.proofs.ChainLaws.{chained_lawful}
 
 -- a value that is made of one other
@@ -60,6 +65,26 @@ pub memory_argument_lawful : IsLawful memory_argument
 unfolding memory_argument
 memory_argument_lawful = then_lawful _ _ u32_lawful (λ a. made_lawful _ _ u32_lawful)
 
+said_ok : (p : PrefixedNumber) (left : ℕ) (bs : List ℕ) (x : Prefixed) (rest : List ℕ) → prefixed_or_fault p left bs ≡ ok x rest → (p ≡ number.Known x) × (bs ≡ rest)
+said_ok (number.Known y) left bs x rest e = (ap number.Known (ok_first y x bs rest e), ok_rest y x bs rest e)
+said_ok number.Float left bs x rest e = absurd cc
+said_ok number.Unknown left bs x rest e = absurd cc
+
+pub prefixed_number_lawful : IsLawful prefixed_number
+prefixed_number_lawful = item_lawful _ _ (record {
+  takes = λ bytes x rest e.
+      let p = and_then_ok (number_or_fault (length bytes) (u32_at bytes)) (λ n r. prefixed_or_fault (said_by n) (length bytes) r) x rest e in
+      let f = said_ok (said_by p.0) (length bytes) p.1 x rest p.3 in
+      let t = u32_item.takes bytes p.0 rest (p.2 ∙ ap (ok p.0) f.1) in
+      record { text = t.text; spelled = record { value = p.0; spelled = t.spelled; said = f.0 }; parts = t.parts; within = t.within };
+  again = λ text x rest s.
+      ap (λ r. and_then r (λ n r. prefixed_or_fault (said_by n) (length (text ++ rest)) r)) (u32_item.again text s.value rest s.spelled) ∙ ap (λ p. prefixed_or_fault p (length (text ++ rest)) rest) s.said;
+})
+
+pub reserved_lawful : (x : Prefixed) → IsLawful (reserved x)
+reserved_lawful prefixed.MemoryCopy = then_lawful _ _ (byte_lawful (only 0)) (λ z. byte_lawful (only 0))
+reserved_lawful prefixed.MemoryFill = byte_lawful (only 0)
+
 pub operands_lawful : (s : Shape) → IsLawful (operands s)
 unfolding operands
 operands_lawful (Plain i) = done_lawful i
@@ -71,6 +96,7 @@ operands_lawful (WithMemory f) = made_lawful memory_argument f memory_argument_l
 operands_lawful (WithZero i) = made_lawful _ (λ z. i) (byte_lawful (only 0))
 operands_lawful (WithWord f) = made_lawful s32 f s32_lawful
 operands_lawful (WithLong f) = made_lawful s64 f s64_lawful
+operands_lawful (WithNumber f) = then_lawful _ _ prefixed_number_lawful (λ x. made_lawful _ (λ z. f x) (reserved_lawful x))
 
 pub instruction_lawful : (blocks : List Open) → IsLawful (instruction blocks)
 unfolding instruction

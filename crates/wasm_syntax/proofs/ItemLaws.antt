@@ -40,7 +40,7 @@ number_ok left (Err UnusedBits) x rest e = absurd cc
 from_fronts : {A : Type 0} (spells : A → List ℕ → Type 0) (x : A) (bytes rest : List ℕ) → Fronts (spells x) bytes rest → Takes spells 0 x bytes rest
 from_fronts spells x bytes rest f = record { text = f.text; spelled = f.spelled; parts = f.parts; within = omega arith }
 
-u32_item : IsLawfulItem (λ v text. IsUnsigned 32 text v) (λ bytes. number_or_fault (length bytes) (u32_at bytes))
+pub u32_item : IsLawfulItem (λ v text. IsUnsigned 32 text v) (λ bytes. number_or_fault (length bytes) (u32_at bytes))
 u32_item = record {
   takes = λ bytes x rest e. from_fronts (λ v text. IsUnsigned 32 text v) x bytes rest (unsigned_takes 4 4 32 bytes x rest (omega arith) refl (number_ok (length bytes) (u32_at bytes) x rest e));
   again = λ text x rest s. ap (number_or_fault (length (text ++ rest))) (unsigned_again 4 4 32 text x rest (omega arith) refl s);

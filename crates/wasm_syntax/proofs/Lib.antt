@@ -20,7 +20,9 @@ pub mod WorkedBodies
 pub mod WorkedRuns
 pub mod WorkedCases
 pub mod RunLaws
+pub mod SpentLaws
 pub mod BelowLaws
 pub mod WorkedValidity
 pub mod OperandTable
 pub mod MemoryLaws
+pub mod SignLaws

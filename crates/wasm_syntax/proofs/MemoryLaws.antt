@@ -1,12 +1,12 @@
 -- What is stored is loaded again, and growth adds its pages.
-use Rattle.std.proofs.Common.{◌≡◌, refl, ◌∙◌, ap, sym, subst, ℕ, zero, suc, ◌+◌, ◌*◌, ◌/◌, ◌%◌, ◌^◌, ◌<◌, ◌≤◌, Bool, true, false, List, [], ◌∷◌, ◌++◌, length, take, drop, replicate, Some, None, if◌then◌else◌, arith, append_assoc}
-use Rattle.std.specs.Prelude.{◌↔◌, nat_le}
+use Rattle.std.proofs.Common.{◌≡◌, refl, ◌∙◌, ap, sym, subst, ℕ, zero, suc, ◌+◌, ◌*◌, ◌/◌, ◌%◌, ◌^◌, ◌<◌, ◌≤◌, Bool, true, false, List, ◌++◌, length, take, drop, replicate, Some, None, if◌then◌else◌, arith, append_assoc}
+use Rattle.std.specs.Prelude.{◌↔◌, ◌&&◌, nat_le}
 use Rattle.std.proofs.lemmas.List.{length-replicate, length-append, length-take-le, length-drop}
 use Rattle.std.proofs.lemmas.Bool.{leb-true, le-leb, lt-leb}
 use Rattle.std.proofs.lemmas.Nat.{mod-pow-add}
 use Rattle.std.proofs.lemmas.Option.{none-some}
 use Rattle.std.proofs.Math.Seq.{take-append_seam, drop-append_seam}
-use Rattle.wasm_syntax.specs.Memory.{number_in, bytes_of, bytes_at, written, is_inside, load, store, page, pages_of, can_grow, grow_answer, grown, not_grown}
+use Rattle.wasm_syntax.specs.Memory.{number_in, bytes_of, bytes_at, written, is_inside, copied, load, store, page, pages_of, can_grow, grow_answer, grown, not_grown}
 
 some_same : {A : Type 0} (x y : A) → Some x ≡ Some y → x ≡ y
 some_same x y e = cc
@@ -75,17 +75,20 @@ below_stays old new at width v e =
     let rest = bytes_of width v ++ drop (at + length (bytes_of width v)) old in
     ap (take at) w.1 ∙ subst (λ n. take n (take at old ++ rest) ≡ take at old) front (take-append_seam (take at old) rest)
 
+-- what stands behind what is written
+above_written : (old bytes : List ℕ) (at n : ℕ) → length bytes ≡ n → at + n ≤ length old → drop (at + n) (written old at bytes) ≡ drop (at + n) old
+above_written old bytes at n len le =
+    let front = long_front old at n le in
+    let both = take at old ++ bytes in
+    let long : length both ≡ at + n = let l = length-append (take at old) bytes in omega (arith, l, len, front) in
+    ap (drop (at + n)) (sym (append_assoc (take at old) bytes (drop (at + length bytes) old)))
+    ∙ subst (λ k. drop k (both ++ drop (at + length bytes) old) ≡ drop (at + length bytes) old) long (drop-append_seam both (drop (at + length bytes) old))
+    ∙ ap (λ k. drop (at + k) old) len
+
 pub above_stays : (old new : List ℕ) (at width v : ℕ) → store old at width v ≡ Some new → drop (at + width) new ≡ drop (at + width) old
 above_stays old new at width v e =
     let w = is_written old new at width v e in
-    let bytes = bytes_of width v in
-    let n = length-bytes width v in
-    let front = long_front old at width w.0 in
-    let both = take at old ++ bytes in
-    let long : length both ≡ at + width = let l = length-append (take at old) bytes in omega (arith, l, n, front) in
-    ap (drop (at + width)) (w.1 ∙ sym (append_assoc (take at old) bytes (drop (at + length bytes) old)))
-    ∙ subst (λ k. drop k (both ++ drop (at + length bytes) old) ≡ drop (at + length bytes) old) long (drop-append_seam both (drop (at + length bytes) old))
-    ∙ ap (λ k. drop (at + k) old) n
+    ap (drop (at + width)) w.1 ∙ above_written old (bytes_of width v) at width (length-bytes width v) w.0
 
 bytes_back : (old bytes : List ℕ) (at n : ℕ) → length bytes ≡ n → at + n ≤ length old → bytes_at (written old at bytes) at n ≡ bytes
 bytes_back old bytes at n long le =
@@ -102,6 +105,30 @@ loaded_back old new at width v e =
     let inside : is_inside new at width ≡ true = le-leb (at + width) (length new) (let le = w.0 in omega (arith, same, le)) in
     let back : bytes_at new at width ≡ bytes = ap (λ m. bytes_at m at width) w.1 ∙ bytes_back old bytes at width (length-bytes width v) w.0 in
     ap (λ b. if b then Some (number_in (bytes_at new at width)) else None) inside ∙ ap (λ bs. Some (number_in bs)) back ∙ ap (λ n. Some n) (number-bytes width v)
+
+-- ---- copies
+
+within-both : (a b : Bool) (xs new : List ℕ) → (if a && b then Some xs else None) ≡ Some new → (a ≡ true) × (b ≡ true) × (new ≡ xs)
+within-both true b xs new e = let h = within-step b xs new e in (refl, h.0, h.1)
+within-both false b xs new e = absurd (none-some new e)
+
+is_copied : (old new : List ℕ) (to from count : ℕ) → copied old to from count ≡ Some new → (from + count ≤ length old) × (to + count ≤ length old) × (new ≡ written old to (bytes_at old from count))
+is_copied old new to from count e =
+    let h = within-both (is_inside old from count) (is_inside old to count) (written old to (bytes_at old from count)) new e in
+    (leb-true (from + count) (length old) h.0, leb-true (to + count) (length old) h.1, h.2)
+
+length-range : (old : List ℕ) (from count : ℕ) → from + count ≤ length old → length (bytes_at old from count) ≡ count
+length-range old from count le = let d = length-drop from old in length-take-le count (drop from old) (omega (arith, d, le))
+
+pub above_copied : (old new : List ℕ) (to from count : ℕ) → copied old to from count ≡ Some new → drop (to + count) new ≡ drop (to + count) old
+above_copied old new to from count e =
+    let h = is_copied old new to from count e in
+    ap (drop (to + count)) h.2 ∙ above_written old (bytes_at old from count) to count (length-range old from count h.0) h.1
+
+pub moved_back : (old new : List ℕ) (to from count : ℕ) → copied old to from count ≡ Some new → bytes_at new to count ≡ bytes_at old from count
+moved_back old new to from count e =
+    let h = is_copied old new to from count e in
+    ap (λ m. bytes_at m to count) h.2 ∙ bytes_back old (bytes_at old from count) to count (length-range old from count h.0) h.1
 
 none-step : {A B : Type 0} (b : Bool) (x : A) (y : B) → (if b then Some x else None) ≡ None → (if b then Some y else None) ≡ None
 none-step true x y e = absurd (none-some x (sym e))

@@ -2,6 +2,7 @@
 use Rattle.std.proofs.Common.{refl}
 use Rattle.wasm_syntax.specs.declared.instr.Instr.{Instr}
 use Rattle.wasm_syntax.specs.declared.instr.Instr.TheVariants as instr
+use Rattle.wasm_syntax.specs.declared.opcode.Prefixed.TheVariants as prefixed
 use Rattle.wasm_syntax.specs.Opcodes.{byte_of, opcode_of, shape_of}
 use Rattle.wasm_syntax.specs.RowsByBytes.{form_at, HasRow}
 
@@ -110,3 +111,10 @@ rows_of_bytes instr.I64Rotr = (refl, refl)
 rows_of_bytes instr.I32WrapI64 = (refl, refl)
 rows_of_bytes instr.I64ExtendI32S = (refl, refl)
 rows_of_bytes instr.I64ExtendI32U = (refl, refl)
+rows_of_bytes instr.I32Extend8S = (refl, refl)
+rows_of_bytes instr.I32Extend16S = (refl, refl)
+rows_of_bytes instr.I64Extend8S = (refl, refl)
+rows_of_bytes instr.I64Extend16S = (refl, refl)
+rows_of_bytes instr.I64Extend32S = (refl, refl)
+rows_of_bytes instr.MemoryCopy = (prefixed.MemoryCopy, refl, refl)
+rows_of_bytes instr.MemoryFill = (prefixed.MemoryFill, refl, refl)

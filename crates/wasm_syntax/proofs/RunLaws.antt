@@ -1,15 +1,16 @@
 -- Runs take as many steps as they need, and each instruction has its rule.
-use Rattle.std.proofs.Common.{◌≡◌, ℕ, zero, suc, ◌+◌, ◌*◌, ◌<◌, ◌≤◌, Bool, true, false, List, [], ◌∷◌, length, Option, Some, None, refl, ap, subst, ◌∙◌, arith}
+use Rattle.std.proofs.Common.{◌≡◌, ℕ, zero, suc, ◌+◌, ◌-◌, ◌*◌, ◌<◌, ◌≤◌, Bool, true, false, List, [], ◌∷◌, length, Option, Some, None, refl, sym, ap, subst, ◌∙◌, arith, inl, inr}
 use Rattle.std.specs.Prelude.{nat_le, nat_lt, nat_eq, slice_get, if◌then◌else◌}
+use Rattle.std.proofs.lemmas.Bool.{cases_lt, le-leb, lt-leb}
 use Rattle.wasm_syntax.specs.declared.types.Value.{Value}
 use Rattle.wasm_syntax.specs.declared.instr.Instr.TheVariants as instr
 use Rattle.wasm_syntax.specs.declared.instr.BlockType.{BlockType}
 use Rattle.wasm_syntax.specs.Nested.{Nested, nothing, simple, block, loop, choice}
 use Rattle.wasm_syntax.specs.Stores.{Stores}
-use Rattle.wasm_syntax.specs.ReductionRows.{Done, gives, faults, lacks, Act, does, does_over, traps_with, branches, branches_if, branches_by, leaves, calls, calls_element, holds, act_of}
-use Rattle.wasm_syntax.specs.Reduction.{Function, imported, inside, Program, Thread, code, label, frame, at_host, Cost, free, paid, paid_over, Reduced, goes, ended, leaving, returning, asking, trapping, stuck, after_doing, doing, topmost, branching_if, branching_by, choosing, invoking, Found, found, fails, unknown, called_by, invoking_found, flows, in_label, in_frame, in_host, reduce}
+use Rattle.wasm_syntax.specs.ReductionRows.{Done, gives, faults, lacks, Act, does, does_over, does_bytes, traps_with, branches, branches_if, branches_by, leaves, calls, calls_element, holds, act_of}
+use Rattle.wasm_syntax.specs.Reduction.{Function, imported, inside, Program, Thread, code, label, frame, at_host, Cost, free, paid, paid_over, paid_more, Reduced, goes, ended, leaving, returning, asking, trapping, stuck, after_doing, doing, topmost, cost_of_bytes, branching_if, branching_by, choosing, invoking, Found, found, fails, unknown, called_by, invoking_found, flows, in_label, in_frame, in_host, reduce}
 use Rattle.wasm_syntax.specs.ReductionSteps.{Calling, calling, Config, config, Stepped, moves, finished, asks_host, traps, overflows, no_step, moved, moved_over, is_paid_by, most_values, all_values, ending_call, stepped_by, step_calls, step_if, is_within, step, answered, answer_first, answered_config}
-use Rattle.wasm_syntax.specs.ReductionRuns.{Stopped, has_finished, has_asked, has_trapped, has_spent, goes_on, is_stuck, pay, walk_by, walk, depth_in, all_depth, enough, run, Answer, answers, ends, waits, Host, Ran, hosted, hosted_by, walk_hosted}
+use Rattle.wasm_syntax.specs.ReductionRuns.{Stopped, has_finished, has_asked, has_trapped, has_spent, goes_on, is_stuck, pay, unit_if, walk_by, walk, depth_in, all_depth, enough, run, Answer, answers, ends, waits, Host, Ran, hosted, hosted_by, walk_hosted}
 use Rattle.wasm_syntax.specs.ReductionLaws.{IsCutShort, RunsToItsEnd, GivesBack, IsWithin, HostedRunsToItsEnd, EachHasItsRule, HasMore, FuelOnlyBounds}
 
 -- ---- each instruction has its rule
@@ -28,6 +29,7 @@ abbrev Deepens : ℕ → Cost → ℕ → Type 0
 Deepens d free e = e < d
 Deepens d paid e = e ≤ d + 2
 Deepens d paid_over e = e ≤ d + 2
+Deepens d (paid_more k) e = e ≤ d + 2
 
 abbrev Leads : ℕ → Reduced → Type 0
 Leads d (goes cost s own t) = Deepens d cost (depth_in t)
@@ -42,6 +44,7 @@ deeper : (d e : ℕ) (cost : Cost) → Deepens d cost e → Deepens (d + 1) cost
 deeper d e free h = omega (arith, h)
 deeper d e paid h = omega (arith, h)
 deeper d e paid_over h = omega (arith, h)
+deeper d e (paid_more k) h = omega (arith, h)
 
 either : (d : ℕ) (r : Reduced) (b : Bool) → Leads d r → Leads d (if b then r else stuck)
 either d r true h = h
@@ -56,6 +59,12 @@ over_after : (x : Done) (rest : Nested) → Leads 0 (after_doing paid_over x res
 over_after (gives vs s own) rest = omega arith
 over_after (faults c) rest = tt
 over_after lacks rest = tt
+
+bytes_after : (o : Option ℕ) (x : Done) (rest : Nested) → Leads 0 (after_doing (cost_of_bytes o) x rest)
+bytes_after None x rest = paid_after x rest
+bytes_after (Some n) (gives vs s own) rest = omega arith
+bytes_after (Some n) (faults c) rest = tt
+bytes_after (Some n) lacks rest = tt
 
 if_leads : (l : ℕ) (o : Option ℕ) (s : Stores) (own vs : List Value) (rest : Nested) → Leads 0 (branching_if l o s own vs rest)
 if_leads l None s own vs rest = tt
@@ -84,6 +93,7 @@ found_leads p unknown s own vs rest = tt
 flow_leads : (p : Program) (a : Act) (s : Stores) (own vs : List Value) (rest : Nested) → Leads 0 (flows p a s own vs rest)
 flow_leads p (does x) s own vs rest = paid_after (doing x s own vs) rest
 flow_leads p (does_over x) s own vs rest = over_after (doing x s own vs) rest
+flow_leads p (does_bytes x) s own vs rest = bytes_after (topmost vs) (doing x s own vs) rest
 flow_leads p (traps_with c) s own vs rest = tt
 flow_leads p (branches l) s own vs rest = tt
 flow_leads p (branches_if l) s own [] rest = tt
@@ -138,8 +148,8 @@ leads p s own (at_host x t) = host_leads (depth_in t) x own (reduce p s own t) (
 -- ---- and a step
 
 abbrev StepLeads : ℕ → Stepped → Type 0
-StepLeads d (moves true c) = all_depth c.calls ≤ d + 2
-StepLeads d (moves false c) = all_depth c.calls < d
+StepLeads d (moves zero c) = all_depth c.calls < d
+StepLeads d (moves (suc k) c) = all_depth c.calls ≤ d + 2
 StepLeads d (finished v c) = Unit {0}
 StepLeads d (asks_host true x args c) = all_depth c.calls ≤ d + 2
 StepLeads d (asks_host false x args c) = all_depth c.calls < d
@@ -155,6 +165,7 @@ moved_leads : (d e : ℕ) (cost : Cost) (s : Stores) (own : List Value) (t : Thr
     StepLeads (d + (1 + all_depth below)) (moved cost (config s (calling own t ∷ below)))
 moved_leads d e free s own t below h = omega (arith, h)
 moved_leads d e paid s own t below h = omega (arith, h)
+moved_leads d e (paid_more k) s own t below h = omega (arith, h)
 moved_leads d e paid_over s own t below h = over_leads (d + (1 + all_depth below)) (config s (calling own t ∷ below)) (nat_lt (all_values (calling own t ∷ below)) most_values) (omega (arith, h))
 
 asked_leads : (d : ℕ) (cost : Cost) (s : Stores) (own : List Value) (t : Thread) (below : List Calling) (x : ℕ) (args : List Value) → Deepens d cost (depth_in t) →
@@ -162,6 +173,7 @@ asked_leads : (d : ℕ) (cost : Cost) (s : Stores) (own : List Value) (t : Threa
 asked_leads d free s own t below x args h = omega (arith, h)
 asked_leads d paid s own t below x args h = omega (arith, h)
 asked_leads d paid_over s own t below x args h = omega (arith, h)
+asked_leads d (paid_more k) s own t below x args h = omega (arith, h)
 
 ending_leads : (d : ℕ) (s : Stores) (vs : List Value) (below : List Calling) → StepLeads d (ending_call s vs below)
 ending_leads d s vs [] = tt
@@ -187,6 +199,20 @@ if_within d false x h = tt
 step_leads : (p : Program) (c : Config) → StepLeads (all_depth c.calls) (step p c)
 step_leads p c = if_within (all_depth c.calls) (is_within c) (step_calls p c.store c.calls) (calls_lead p c.store c.calls)
 
+-- ---- what is paid
+
+pub pay_spent : (units n : ℕ) (go : ℕ → Stopped) → n < units → pay units n go ≡ has_spent n
+pay_spent units n go lt = ap (λ (b : Bool). if b then go (n - units) else has_spent n) (lt-leb units n lt)
+
+pub pay_goes : (units n : ℕ) (go : ℕ → Stopped) → units ≤ n → pay units n go ≡ go (n - units)
+pay_goes units n go le = ap (λ (b : Bool). if b then go (n - units) else has_spent n) (le-leb units n le)
+
+pub pay_either : (P : Stopped → Type 0) (units n : ℕ) (go : ℕ → Stopped) → (n < units → P (has_spent n)) → (units ≤ n → P (go (n - units))) → P (pay units n go)
+pay_either P units n go short there = elim (cases_lt n units) [
+  | inl lt ↦ subst P (sym (pay_spent units n go lt)) (short lt)
+  | inr le ↦ subst P (sym (pay_goes units n go le)) (there le)
+]
+
 -- ---- a walk that is long enough
 
 -- it is not cut short, and where it asks the host there is less to come
@@ -206,18 +232,24 @@ wider k m (has_trapped c n) le h = tt
 wider k m (has_spent n) le h = tt
 wider k m is_stuck le h = tt
 
+less_to_come : (n d units : ℕ) (c : Config) → StepLeads d (moves units c) → units ≤ n → 3 * (n - units) + all_depth c.calls < 3 * n + d
+less_to_come n d zero c h le = omega (arith, h)
+less_to_come n d (suc k) c h le = omega (arith, h, le)
+
+less_to_ask : (n d x : ℕ) (is_paid : Bool) (args : List Value) (c : Config) → StepLeads d (asks_host is_paid x args c) → unit_if is_paid ≤ n → 3 * (n - unit_if is_paid) + all_depth c.calls < 3 * n + d
+less_to_ask n d x false args c h le = omega (arith, h)
+less_to_ask n d x true args c h le = omega (arith, h, le)
+
 walked_by : (p : Program) (g n d : ℕ) (x : Stepped) → StepLeads d x → 3 * n + d < suc g →
     ((m : ℕ) (c : Config) → 3 * m + all_depth c.calls < g → Ends (3 * m + all_depth c.calls) (walk p g m c)) →
     Ends (3 * n + d) (walk_by x n (λ m c. walk p g m c))
-walked_by p g zero d (moves true c) h lt ih = tt
-walked_by p g (suc m) d (moves true c) h lt ih = wider (3 * m + all_depth c.calls) (3 * suc m + d) (walk p g m c) (omega (arith, h)) (ih m c (omega (arith, h, lt)))
-walked_by p g n d (moves false c) h lt ih = wider (3 * n + all_depth c.calls) (3 * n + d) (walk p g n c) (omega (arith, h)) (ih n c (omega (arith, h, lt)))
+walked_by p g n d (moves units c) h lt ih = pay_either (λ x. Ends (3 * n + d) x) units n (λ m. walk p g m c) (λ short. tt) (λ le.
+    let less = less_to_come n d units c h le in
+    wider (3 * (n - units) + all_depth c.calls) (3 * n + d) (walk p g (n - units) c) (omega (arith, less)) (ih (n - units) c (omega (arith, less, lt))))
 walked_by p g n d (finished v c) h lt ih = tt
-walked_by p g zero d (asks_host true x args c) h lt ih = tt
-walked_by p g (suc m) d (asks_host true x args c) h lt ih = omega (arith, h)
-walked_by p g n d (asks_host false x args c) h lt ih = omega (arith, h)
-walked_by p g zero d (traps c) h lt ih = tt
-walked_by p g (suc m) d (traps c) h lt ih = tt
+walked_by p g n d (asks_host is_paid x args c) h lt ih =
+    pay_either (λ x. Ends (3 * n + d) x) (unit_if is_paid) n (λ m. has_asked x args c m) (λ short. tt) (λ le. less_to_ask n d x is_paid args c h le)
+walked_by p g n d (traps c) h lt ih = pay_either (λ x. Ends (3 * n + d) x) 1 n (λ m. has_trapped c m) (λ short. tt) (λ le. tt)
 walked_by p g n d overflows h lt ih = tt
 walked_by p g n d no_step h lt ih = tt
 
@@ -279,20 +311,17 @@ hosted_runs_to_its_end H host p n h c within = let lt : 3 * n + all_depth c.call
 
 -- ---- more fuel
 
-paid_more : (k : ℕ) (m : ℕ) (go more : ℕ → Stopped) → HasMore k (go m) (more (m + k)) → HasMore k (pay true (suc m) go) (pay true (suc m + k) more)
-paid_more k m go more h = let e : suc (m + k) ≡ suc m + k = omega arith in subst (λ (n : ℕ). HasMore k (go m) (pay true n more)) e h
+pay_more : (k units n : ℕ) (go more : ℕ → Stopped) → ((m : ℕ) → HasMore k (go m) (more (m + k))) → HasMore k (pay units n go) (pay units (n + k) more)
+pay_more k units n go more h = pay_either (λ x. HasMore k x (pay units (n + k) more)) units n go (λ short. tt) (λ le.
+    let e : n - units + k ≡ n + k - units = omega (arith, le) in
+    subst (λ (y : Stopped). HasMore k (go (n - units)) y) (sym (pay_goes units (n + k) more (omega (arith, le)))) (subst (λ (m : ℕ). HasMore k (go (n - units)) (more m)) e (h (n - units))))
 
 more_by : (p : Program) (g more n k : ℕ) (s : Stepped) → ((m : ℕ) (c : Config) → HasMore k (walk p g m c) (walk p more (m + k) c)) →
     HasMore k (walk_by s n (λ m d. walk p g m d)) (walk_by s (n + k) (λ m d. walk p more m d))
-more_by p g more n k (moves false d) ih = ih n d
-more_by p g more zero k (moves true d) ih = tt
-more_by p g more (suc m) k (moves true d) ih = paid_more k m (λ n. walk p g n d) (λ n. walk p more n d) (ih m d)
+more_by p g more n k (moves units d) ih = pay_more k units n (λ m. walk p g m d) (λ m. walk p more m d) (λ m. ih m d)
 more_by p g more n k (finished v d) ih = refl
-more_by p g more n k (asks_host false x args d) ih = refl
-more_by p g more zero k (asks_host true x args d) ih = tt
-more_by p g more (suc m) k (asks_host true x args d) ih = paid_more k m (λ n. has_asked x args d n) (λ n. has_asked x args d n) refl
-more_by p g more zero k (traps c) ih = tt
-more_by p g more (suc m) k (traps c) ih = paid_more k m (λ n. has_trapped c n) (λ n. has_trapped c n) refl
+more_by p g more n k (asks_host is_paid x args d) ih = pay_more k (unit_if is_paid) n (λ m. has_asked x args d m) (λ m. has_asked x args d m) (λ m. refl)
+more_by p g more n k (traps c) ih = pay_more k 1 n (λ m. has_trapped c m) (λ m. has_trapped c m) (λ m. refl)
 more_by p g more n k overflows ih = refl
 more_by p g more n k no_step ih = refl
 

@@ -13,7 +13,7 @@ use Rattle.wasm_syntax.specs.declared.instr.Instr.TheVariants as instr
 use Rattle.wasm_syntax.specs.declared.instr.BlockType.{BlockType}
 use Rattle.wasm_syntax.specs.declared.instr.Open.{Open}
 use Rattle.wasm_syntax.specs.declared.instr.Open.TheVariants.{InThen, InOther}
-use Rattle.wasm_syntax.specs.Opcodes.{Shape, Plain, WithBlock, WithIndex, WithLabels, WithTypeAndZero, WithMemory, WithZero, WithWord, WithLong, shape_of, opcode_of, MakesOpcode}
+use Rattle.wasm_syntax.specs.Opcodes.{Shape, Plain, WithBlock, WithIndex, WithLabels, WithTypeAndZero, WithMemory, WithZero, WithWord, WithLong, WithNumber, shape_of, opcode_of, MakesOpcode}
 use Rattle.wasm_syntax.specs.Rows.{row_of}
 use Rattle.wasm_syntax.specs.Nested.{Nested, nothing, simple, block, loop, choice, Cut, whole, ended, parted, broken, first_as, closed_by, chosen_by, Mark, begins_block, begins_loop, begins_if, at_else, at_end, stands_alone, mark_of, in_front, nests, NestsAs, depth_of}
 use Rattle.wasm_syntax.specs.Format.{Format, goes_on, IsLast, ChainSpells}
@@ -96,6 +96,7 @@ operands_opcode (WithMemory f) o h i text s = ap opcode_of s.second_spelled.0 �
 operands_opcode (WithZero j) o h i text s = ap opcode_of s.second_spelled.0 ∙ h
 operands_opcode (WithWord f) o h i text s = ap opcode_of s.second_spelled.0 ∙ h s.value
 operands_opcode (WithLong f) o h i text s = ap opcode_of s.second_spelled.0 ∙ h s.value
+operands_opcode (WithNumber f) o h i text s = ap opcode_of s.second_spelled.second_spelled.0 ∙ h s.value
 
 record IsAllowed (blocks : List Open) (i : Instr) (text : List ℕ) : Type 0 where
   room : room_at blocks (mark_of (row_of i)) ≡ true

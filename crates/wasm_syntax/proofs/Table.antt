@@ -1,8 +1,14 @@
 -- The rule of the table: each row makes instructions of its opcode.
-use Rattle.std.proofs.Common.{refl}
+use Rattle.std.proofs.Common.{◌≡◌, refl}
 use Rattle.wasm_syntax.specs.declared.opcode.Opcode.{Opcode}
 use Rattle.wasm_syntax.specs.declared.opcode.Opcode.TheVariants as op
-use Rattle.wasm_syntax.specs.Opcodes.{shape_of, MakesOpcode}
+use Rattle.wasm_syntax.specs.declared.opcode.Prefixed.{Prefixed}
+use Rattle.wasm_syntax.specs.declared.opcode.Prefixed.TheVariants as prefixed
+use Rattle.wasm_syntax.specs.Opcodes.{shape_of, opcode_of, prefixed_instr, MakesOpcode}
+
+prefixed_make_it : (x : Prefixed) → opcode_of (prefixed_instr x) ≡ op.Prefix
+prefixed_make_it prefixed.MemoryCopy = refl
+prefixed_make_it prefixed.MemoryFill = refl
 
 pub rows_make_their_opcodes : (o : Opcode) → MakesOpcode o (shape_of o)
 rows_make_their_opcodes op.Unreachable = refl
@@ -109,3 +115,9 @@ rows_make_their_opcodes op.I64Rotr = refl
 rows_make_their_opcodes op.I32WrapI64 = refl
 rows_make_their_opcodes op.I64ExtendI32S = refl
 rows_make_their_opcodes op.I64ExtendI32U = refl
+rows_make_their_opcodes op.I32Extend8S = refl
+rows_make_their_opcodes op.I32Extend16S = refl
+rows_make_their_opcodes op.I64Extend8S = refl
+rows_make_their_opcodes op.I64Extend16S = refl
+rows_make_their_opcodes op.I64Extend32S = refl
+rows_make_their_opcodes op.Prefix = prefixed_make_it

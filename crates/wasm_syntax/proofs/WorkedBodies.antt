@@ -8,7 +8,7 @@ use Rattle.wasm_syntax.specs.declared.instr.BlockType.TheVariants as block_type
 use Rattle.wasm_syntax.specs.Rows.{row_of, labels_of}
 use Rattle.wasm_syntax.specs.Nested.{Nested, nothing, simple, block, loop, choice, nests, NestsAs}
 use Rattle.wasm_syntax.specs.Typing.{Context, inside, Takes, Leads, Typed, IsTypedBody}
-use Rattle.wasm_syntax.specs.ValidExamples.{nowhere, with_memory, unreachable_add, branch_in_loop, branch_in_block, branch_with_result, both_branches, one_branch, drop_from_below, load_aligned}
+use Rattle.wasm_syntax.specs.ValidExamples.{nowhere, with_memory, unreachable_add, branch_in_loop, branch_in_block, branch_with_result, both_branches, one_branch, drop_from_below, load_aligned, copy_words, fill_long}
 use Rattle.wasm_syntax.proofs.NestingLaws.{one_nesting}
 use Rattle.wasm_syntax.proofs.TypingLaws.{same_some}
 
@@ -164,3 +164,57 @@ no_memory t =
     let l : Leads at_start (loads 2) u.0 u.2.0 = u.2.1 in
     let some : 0 < 0 = l.may.0 in
     omega arith
+
+-- ---- copies and fills
+
+abbrev bulk_code : (length bulk : Instr) → Nested
+bulk_code n bulk = simple (constant 0) (simple (constant 8) (simple n (simple bulk nothing)))
+
+copy_nests : NestsAs copy_words (bulk_code (constant 4) instr.MemoryCopy)
+unfolding nests
+copy_nests = refl
+
+fill_nests : NestsAs fill_long (bulk_code (instr.I64Const (pos 4)) instr.MemoryFill)
+unfolding nests
+fill_nests = refl
+
+pub copies : IsTypedBody with_memory copy_words
+copies = (
+  bulk_code (constant 4) instr.MemoryCopy,
+  copy_nests,
+  (
+    I32 ∷ [],
+    step (inside [] with_memory) (constant 0) [] (I32 ∷ []) [] (refl, refl),
+    (
+      I32 ∷ I32 ∷ [],
+      step (inside [] with_memory) (constant 8) [] (I32 ∷ []) (I32 ∷ []) (refl, refl),
+      (
+        I32 ∷ I32 ∷ I32 ∷ [],
+        step (inside [] with_memory) (constant 4) [] (I32 ∷ []) (I32 ∷ I32 ∷ []) (refl, refl),
+        ([], step (inside [] with_memory) instr.MemoryCopy (I32 ∷ I32 ∷ I32 ∷ []) [] [] (omega arith, (refl, refl)), refl),
+      ),
+    ),
+  ),
+)
+
+pub no_memory_to_copy : IsTypedBody nowhere copy_words → ⊥
+no_memory_to_copy t =
+    let u : Typed at_start (bulk_code (constant 4) instr.MemoryCopy) [] [] = typed_as nowhere copy_words (bulk_code (constant 4) instr.MemoryCopy) copy_nests t in
+    let l : Leads at_start instr.MemoryCopy u.2.2.0 u.2.2.2.0 = u.2.2.2.1 in
+    let some : 0 < 0 = l.may.0 in
+    omega arith
+
+-- a constant of 64 bits stands topmost behind it
+long_topmost : (c : Context) (before after : List ValueType) → Leads c (instr.I64Const (pos 4)) before after → after ≡ I64 ∷ before
+long_topmost c before after l =
+    let none : before ≡ l.below = l.from ∙ ap (λ (x : List ValueType). x ++ l.below) l.may.0 in
+    l.to ∙ ap (λ (x : List ValueType). x ++ l.below) l.may.1 ∙ ap (λ (x : List ValueType). I64 ∷ x) (sym none)
+
+pub length_of_64_bits : IsTypedBody with_memory fill_long → ⊥
+length_of_64_bits t =
+    let u : Typed (inside [] with_memory) (bulk_code (instr.I64Const (pos 4)) instr.MemoryFill) [] [] = typed_as with_memory fill_long (bulk_code (instr.I64Const (pos 4)) instr.MemoryFill) fill_nests t in
+    let long : u.2.2.0 ≡ I64 ∷ u.2.0 = long_topmost (inside [] with_memory) u.2.0 u.2.2.0 u.2.2.1 in
+    let l : Leads (inside [] with_memory) instr.MemoryFill u.2.2.0 u.2.2.2.0 = u.2.2.2.1 in
+    let words : u.2.2.0 ≡ (I32 ∷ I32 ∷ I32 ∷ []) ++ l.below = l.from ∙ ap (λ (x : List ValueType). x ++ l.below) l.may.1.0 in
+    let same : I64 ∷ u.2.0 ≡ (I32 ∷ I32 ∷ I32 ∷ []) ++ l.below = sym long ∙ words in
+    absurd cc

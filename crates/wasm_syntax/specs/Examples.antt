@@ -1,5 +1,6 @@
 -- Worked examples of the grammar: a module with one function, which does nothing, and a memory.
 use Rattle.std.specs.Prelude.{ℕ, pos, List, [], ◌∷◌, ◌++◌, Result, Err, None}
+use Rattle.wasm_syntax.specs.declared.instr.Instr.{Instr}
 use Rattle.wasm_syntax.specs.declared.instr.Instr.TheVariants as instr
 use Rattle.wasm_syntax.specs.declared.module.Module.{Module}
 use Rattle.wasm_syntax.specs.Format.{Fault}
@@ -25,6 +26,10 @@ code_section = 0x0a ∷ 0x04 ∷ 0x01 ∷ 0x02 ∷ 0x00 ∷ 0x0b ∷ []
 -- the body is f32.add and end
 abbrev pub float_section : List ℕ
 float_section = 0x0a ∷ 0x05 ∷ 0x01 ∷ 0x03 ∷ 0x00 ∷ 0x92 ∷ 0x0b ∷ []
+
+-- one function that does nothing but this, and then the `end`
+abbrev pub in_body : List Instr → Module
+in_body is = record empty_module { types = record { parameters = []; results = [] } ∷ []; functions = 0 ∷ []; codes = record { locals = []; body = is ++ instr.End ∷ [] } ∷ [] }
 
 abbrev pub before_code : List ℕ
 before_code = header ++ type_section ++ function_section

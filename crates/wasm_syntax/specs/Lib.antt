@@ -27,3 +27,4 @@ pub mod Numeric
 pub mod Stores
 pub mod StoreExamples
 pub mod OperandRows
+pub mod Extensions

@@ -1,9 +1,14 @@
--- The opcodes of the profile, and what stands behind each (WebAssembly Core 1.0 section 5.4).
-use Rattle.std.specs.Prelude.{◌≡◌, ℕ, ℤ, Bool, true, false, List, [], ◌∷◌, nat_eq, suc, if◌then◌else◌}
+-- The opcodes of the profile, and what stands behind each (WebAssembly Core 1.0 section 5.4, and Core 2.0 section 5.4 for
+-- sign extension and the byte 0xFC).
+use Rattle.std.specs.Prelude.{◌≡◌, ℕ, ℤ, Bool, true, false, List, [], ◌∷◌, nat_eq, nat_lt, suc, if◌then◌else◌}
 use Rattle.wasm_syntax.specs.declared.opcode.Opcode.{Opcode}
 use Rattle.wasm_syntax.specs.declared.opcode.Opcode.TheVariants as op
 use Rattle.wasm_syntax.specs.declared.opcode.OpcodeByte.{OpcodeByte}
 use Rattle.wasm_syntax.specs.declared.opcode.OpcodeByte.TheVariants.{Known, Float, Unknown}
+use Rattle.wasm_syntax.specs.declared.opcode.Prefixed.{Prefixed}
+use Rattle.wasm_syntax.specs.declared.opcode.Prefixed.TheVariants as prefixed
+use Rattle.wasm_syntax.specs.declared.opcode.PrefixedNumber.{PrefixedNumber}
+use Rattle.wasm_syntax.specs.declared.opcode.PrefixedNumber.TheVariants as number
 use Rattle.wasm_syntax.specs.declared.instr.Instr.{Instr}
 use Rattle.wasm_syntax.specs.declared.instr.Instr.TheVariants as instr
 use Rattle.wasm_syntax.specs.declared.instr.BlockType.{BlockType}
@@ -115,6 +120,30 @@ byte_of op.I64Rotr = 0x8A
 byte_of op.I32WrapI64 = 0xA7
 byte_of op.I64ExtendI32S = 0xAC
 byte_of op.I64ExtendI32U = 0xAD
+byte_of op.I32Extend8S = 0xC0
+byte_of op.I32Extend16S = 0xC1
+byte_of op.I64Extend8S = 0xC2
+byte_of op.I64Extend16S = 0xC3
+byte_of op.I64Extend32S = 0xC4
+byte_of op.Prefix = 0xFC
+
+-- ---- the numbers behind the byte 0xFC
+
+abbrev pub number_of : Prefixed → ℕ
+number_of prefixed.MemoryCopy = 10
+number_of prefixed.MemoryFill = 11
+
+abbrev pub prefixed_instr : Prefixed → Instr
+prefixed_instr prefixed.MemoryCopy = instr.MemoryCopy
+prefixed_instr prefixed.MemoryFill = instr.MemoryFill
+
+-- what a number says there: from 0 to 7 stand conversions of floating point
+abbrev pub said_by : ℕ → PrefixedNumber
+said_by n =
+    if nat_lt n 8 then number.Float
+    else (if nat_eq n 10 then number.Known prefixed.MemoryCopy else (if nat_eq n 11 then number.Known prefixed.MemoryFill else number.Unknown))
+
+-- ---- what stands behind an opcode
 
 -- What stands behind an opcode, with the instruction that it makes.
 pub data Shape : Type 0 where
@@ -136,6 +165,8 @@ pub data Shape : Type 0 where
   WithWord : (ℤ → Instr) → Shape
   -- a signed number of 64 bits
   WithLong : (ℤ → Instr) → Shape
+  -- a number that says which of these it is, and its reserved bytes
+  WithNumber : (Prefixed → Instr) → Shape
 
 -- the table
 abbrev pub shape_of : Opcode → Shape
@@ -243,6 +274,12 @@ shape_of op.I64Rotr = Plain instr.I64Rotr
 shape_of op.I32WrapI64 = Plain instr.I32WrapI64
 shape_of op.I64ExtendI32S = Plain instr.I64ExtendI32S
 shape_of op.I64ExtendI32U = Plain instr.I64ExtendI32U
+shape_of op.I32Extend8S = Plain instr.I32Extend8S
+shape_of op.I32Extend16S = Plain instr.I32Extend16S
+shape_of op.I64Extend8S = Plain instr.I64Extend8S
+shape_of op.I64Extend16S = Plain instr.I64Extend16S
+shape_of op.I64Extend32S = Plain instr.I64Extend32S
+shape_of op.Prefix = WithNumber prefixed_instr
 
 -- the opcode of an instruction
 abbrev pub opcode_of : Instr → Opcode
@@ -350,6 +387,13 @@ opcode_of instr.I64Rotr = op.I64Rotr
 opcode_of instr.I32WrapI64 = op.I32WrapI64
 opcode_of instr.I64ExtendI32S = op.I64ExtendI32S
 opcode_of instr.I64ExtendI32U = op.I64ExtendI32U
+opcode_of instr.I32Extend8S = op.I32Extend8S
+opcode_of instr.I32Extend16S = op.I32Extend16S
+opcode_of instr.I64Extend8S = op.I64Extend8S
+opcode_of instr.I64Extend16S = op.I64Extend16S
+opcode_of instr.I64Extend32S = op.I64Extend32S
+opcode_of instr.MemoryCopy = op.Prefix
+opcode_of instr.MemoryFill = op.Prefix
 
 -- An instruction that a row makes has the row's opcode.
 abbrev pub MakesOpcode : Opcode → Shape → Type 0
@@ -362,6 +406,7 @@ MakesOpcode o (WithMemory f) = (a : MemoryArgument) → opcode_of (f a) ≡ o
 MakesOpcode o (WithZero i) = opcode_of i ≡ o
 MakesOpcode o (WithWord f) = (v : ℤ) → opcode_of (f v) ≡ o
 MakesOpcode o (WithLong f) = (v : ℤ) → opcode_of (f v) ≡ o
+MakesOpcode o (WithNumber f) = (x : Prefixed) → opcode_of (f x) ≡ o
 
 -- The entries from a byte on stand at the bytes of their opcodes.
 abbrev pub stand_from : ℕ → List OpcodeByte → Bool

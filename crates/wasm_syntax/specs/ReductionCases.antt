@@ -1,5 +1,5 @@
 -- More worked examples of runs: the order of operands and arguments, each kind of instruction, and the bound on values.
-use Rattle.std.specs.Prelude.{ℕ, pos, negsuc, List, [], ◌∷◌, Option, Some, None, slice_get, replicate}
+use Rattle.std.specs.Prelude.{ℕ, pos, negsuc, List, [], ◌∷◌, ◌++◌, Option, Some, None, slice_get, replicate}
 use Rattle.wasm_syntax.specs.declared.types.Value.{Value}
 use Rattle.wasm_syntax.specs.declared.types.Value.TheVariants as value
 use Rattle.wasm_syntax.specs.declared.types.ValueType.TheVariants.{I32, I64}
@@ -118,6 +118,40 @@ store_body at = word at ∷ instr.I64Const (pos 0x1234567) ∷ instr.I64Store16 
 -- the memory never grows here
 abbrev pub grow_body : List Instr
 grow_body = word 0 ∷ instr.MemoryGrow ∷ word 1 ∷ instr.MemoryGrow ∷ instr.Drop ∷ instr.End ∷ []
+
+-- ---- copies, fills and the extension of a sign
+
+-- a memory of 128 bytes, the lower half of ones
+abbrev pub wide : Stores
+wide = record { memory = replicate 64 1 ++ replicate 64 2; table = []; globals = [] }
+
+abbrev pub run_wide : List Instr → ℕ → Stopped
+run_wide body n = run (program_of (one_module body) 1) n (invoked_config 0 (slice_get (program_of (one_module body) 1).functions 0) [] (idle_config wide))
+
+-- a range of so many bytes, and then a word: with the units of the range 4 more are paid
+abbrev pub copy_body : (to from count : ℕ) → List Instr
+copy_body to from count = word to ∷ word from ∷ word count ∷ instr.MemoryCopy ∷ word 0 ∷ instr.End ∷ []
+
+abbrev pub fill_body : (at v count : ℕ) → List Instr
+fill_body at v count = word at ∷ word v ∷ word count ∷ instr.MemoryFill ∷ word 0 ∷ instr.End ∷ []
+
+-- the last byte of a range that was filled
+abbrev pub filled_body : List Instr
+filled_body = word 0 ∷ word 171 ∷ word 128 ∷ instr.MemoryFill ∷ word 127 ∷ instr.I32Load8U (record { align = 0; offset = 0 }) ∷ instr.End ∷ []
+
+-- it has finished with 0 and no unit left, over a memory with these bytes
+abbrev pub left_small : List ℕ → Stopped
+left_small bytes = gave 0 (record small { memory = bytes })
+
+abbrev pub left_wide : List ℕ → Stopped
+left_wide bytes = gave 0 (record wide { memory = bytes })
+
+abbrev pub extend_body : ℕ → Instr → List Instr
+extend_body n extend = word n ∷ extend ∷ instr.End ∷ []
+
+-- of 64 bits, of which the lower 32 are given
+abbrev pub long_extend_body : ℕ → Instr → List Instr
+long_extend_body n extend = instr.I64Const (pos n) ∷ extend ∷ instr.I64Const (pos 32) ∷ instr.I64ShrU ∷ instr.I32WrapI64 ∷ instr.End ∷ []
 
 -- ---- the bound on values
 

@@ -1,4 +1,4 @@
--- The table of opcodes as typing reads it (WebAssembly Core 1.0 section 3.3): in which row an instruction
+-- The table of opcodes as typing reads it (WebAssembly Core section 3.3): in which row an instruction
 -- stands. The operators are told apart by their types alone.
 use Rattle.std.specs.Prelude.{ℕ, List, []}
 use Rattle.wasm_syntax.specs.declared.types.ValueType.TheVariants.{I32, I64}
@@ -113,6 +113,13 @@ row_of instr.I64Rotr = row.Binary I64 I64
 row_of instr.I32WrapI64 = row.Unary I64 I32
 row_of instr.I64ExtendI32S = row.Unary I32 I64
 row_of instr.I64ExtendI32U = row.Unary I32 I64
+row_of instr.I32Extend8S = row.Unary I32 I32
+row_of instr.I32Extend16S = row.Unary I32 I32
+row_of instr.I64Extend8S = row.Unary I64 I64
+row_of instr.I64Extend16S = row.Unary I64 I64
+row_of instr.I64Extend32S = row.Unary I64 I64
+row_of instr.MemoryCopy = row.BulkMemory
+row_of instr.MemoryFill = row.BulkMemory
 
 -- the labels of a `br_table` but its last; none of every other
 abbrev pub labels_of : Instr → List ℕ

@@ -10,7 +10,8 @@ use Rattle.wasm_syntax.specs.declared.instr.BlockType.{BlockType}
 use Rattle.wasm_syntax.specs.declared.instr.MemoryArgument.{MemoryArgument}
 use Rattle.wasm_syntax.specs.declared.row.Row.{Row}
 use Rattle.wasm_syntax.specs.declared.row.Row.TheVariants as row
-use Rattle.wasm_syntax.specs.Opcodes.{Shape, Plain, WithBlock, WithIndex, WithLabels, WithTypeAndZero, WithMemory, WithZero, WithWord, WithLong}
+use Rattle.wasm_syntax.specs.declared.opcode.Prefixed.{Prefixed}
+use Rattle.wasm_syntax.specs.Opcodes.{Shape, Plain, WithBlock, WithIndex, WithLabels, WithTypeAndZero, WithMemory, WithZero, WithWord, WithLong, WithNumber}
 use Rattle.wasm_syntax.specs.Rows.{row_of}
 
 -- The row of a byte, before what the instruction adds to it.
@@ -99,6 +100,11 @@ ranges =
     -- the conversions between integers
     ∷ one 0xA7 (exactly (row.Unary I64 I32))
     ∷ from_to 0xAC 0xAD (exactly (row.Unary I32 I64))
+    -- the extensions of the sign, of i32 and of i64
+    ∷ from_to 0xC0 0xC1 (exactly (row.Unary I32 I32))
+    ∷ from_to 0xC2 0xC4 (exactly (row.Unary I64 I64))
+    -- what a number behind it says, each of the same types
+    ∷ one 0xFC (exactly row.BulkMemory)
     ∷ []
 
 abbrev pub form_in : List Range → ℕ → Form
@@ -114,6 +120,7 @@ HasRow (Plain j) (exactly r) i = (i ≡ j) × (row_of i ≡ r)
 HasRow (WithZero j) (exactly r) i = (i ≡ j) × (row_of i ≡ r)
 HasRow (WithWord f) (exactly r) i = (v : ℤ) × (i ≡ f v) × (row_of i ≡ r)
 HasRow (WithLong f) (exactly r) i = (v : ℤ) × (i ≡ f v) × (row_of i ≡ r)
+HasRow (WithNumber f) (exactly r) i = (x : Prefixed) × (i ≡ f x) × (row_of i ≡ r)
 HasRow (WithBlock f) (by_block g) i = (t : BlockType) × (i ≡ f t) × (row_of i ≡ g t)
 HasRow (WithIndex f) (by_index g) i = (x : ℕ) × (i ≡ f x) × (row_of i ≡ g x)
 HasRow (WithTypeAndZero f) (by_index g) i = (x : ℕ) × (i ≡ f x) × (row_of i ≡ g x)

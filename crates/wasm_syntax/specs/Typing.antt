@@ -67,6 +67,7 @@ Takes c (row.Load t width align) ls takes gives = (0 < c.memories) × (align ≤
 Takes c (row.Store t width align) ls takes gives = (0 < c.memories) × (align ≤ width) × Gives (t ∷ I32 ∷ []) [] takes gives
 Takes c row.MemorySize ls takes gives = (0 < c.memories) × Gives [] (I32 ∷ []) takes gives
 Takes c row.MemoryGrow ls takes gives = (0 < c.memories) × Gives (I32 ∷ []) (I32 ∷ []) takes gives
+Takes c row.BulkMemory ls takes gives = (0 < c.memories) × Gives (I32 ∷ I32 ∷ I32 ∷ []) [] takes gives
 Takes c (row.Call x) ls takes gives = (f : ℕ) × (t : FunctionType) × Is c.functions x f × Is c.types f t × Applies t takes gives
 -- the operand that says which element stands above the arguments
 Takes c (row.CallIndirect x) ls takes gives = (t : FunctionType) × (arguments : List ValueType) × (0 < c.tables) × Is c.types x t × Applies t arguments gives × (takes ≡ I32 ∷ arguments)

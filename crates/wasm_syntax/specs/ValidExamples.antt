@@ -53,6 +53,13 @@ drop_from_below = instr.I32Const (pos 1) ∷ instr.Block block_type.Empty ∷ in
 abbrev pub load_aligned : ℕ → List Instr
 load_aligned align = instr.I32Const (pos 0) ∷ instr.I32Load (record { align = align; offset = 0 }) ∷ instr.Drop ∷ instr.End ∷ []
 
+abbrev pub copy_words : List Instr
+copy_words = instr.I32Const (pos 0) ∷ instr.I32Const (pos 8) ∷ instr.I32Const (pos 4) ∷ instr.MemoryCopy ∷ instr.End ∷ []
+
+-- the length is of 64 bits
+abbrev pub fill_long : List Instr
+fill_long = instr.I32Const (pos 0) ∷ instr.I32Const (pos 8) ∷ instr.I64Const (pos 4) ∷ instr.MemoryFill ∷ instr.End ∷ []
+
 -- ---- modules
 
 abbrev pub nothing_to_nothing : FunctionType

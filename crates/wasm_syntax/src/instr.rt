@@ -1,4 +1,4 @@
-//! Instructions (WebAssembly Core 1.0 section 5.4).
+//! Instructions (WebAssembly Core 1.0 section 5.4, and of Core 2.0 sign extension, `memory.copy` and `memory.fill`).
 
 ghost use Rattle.std.specs.Prelude.{◌≡◌};
 
@@ -39,7 +39,7 @@ pub type Indices = Members<u32>;
 /// The instructions of a body, an initial value or an offset, the last `End` included.
 pub type Expression = Members<Instr>;
 
-/// An instruction, one variant an opcode. Nested instructions stand in one flat list, in which
+/// An instruction, one variant an opcode, or a number behind the byte 0xFC. Nested instructions stand in one flat list, in which
 /// `Else` and `End` are members, the last `End` of the whole included.
 #[derive(Debug, Drop)]
 pub enum Instr {
@@ -251,6 +251,20 @@ pub enum Instr {
     I64ExtendI32S,
     /// `i64.extend_i32_u` (0xAD).
     I64ExtendI32U,
+    /// `i32.extend8_s` (0xC0).
+    I32Extend8S,
+    /// `i32.extend16_s` (0xC1).
+    I32Extend16S,
+    /// `i64.extend8_s` (0xC2).
+    I64Extend8S,
+    /// `i64.extend16_s` (0xC3).
+    I64Extend16S,
+    /// `i64.extend32_s` (0xC4).
+    I64Extend32S,
+    /// `memory.copy` (0xFC and the number 10).
+    MemoryCopy,
+    /// `memory.fill` (0xFC and the number 11).
+    MemoryFill,
 }
 
 impl Instr {
@@ -365,6 +379,13 @@ impl Instr {
             Instr::I32WrapI64 => Opcode::I32WrapI64,
             Instr::I64ExtendI32S => Opcode::I64ExtendI32S,
             Instr::I64ExtendI32U => Opcode::I64ExtendI32U,
+            Instr::I32Extend8S => Opcode::I32Extend8S,
+            Instr::I32Extend16S => Opcode::I32Extend16S,
+            Instr::I64Extend8S => Opcode::I64Extend8S,
+            Instr::I64Extend16S => Opcode::I64Extend16S,
+            Instr::I64Extend32S => Opcode::I64Extend32S,
+            Instr::MemoryCopy => Opcode::Prefix,
+            Instr::MemoryFill => Opcode::Prefix,
         }
     }
 }

@@ -1,11 +1,13 @@
 //! Laws over all numbers and byte lists. The functions have nothing to do: their contracts are the laws.
 
-ghost use Rattle.std.specs.Prelude.{◌≡◌, ℕ, ◌<◌, ◌^◌, ◌-◌, ℤ, pos, negsuc, List, [], ◌∷◌, ◌++◌, Ok, Err, FitsSigned, IsTrue, slice_get, slice_index_or, Some};
+ghost use Rattle.std.specs.Prelude.{◌≡◌, ◌↔◌, ℕ, ◌<◌, ◌^◌, ◌-◌, ℤ, pos, negsuc, List, [], ◌∷◌, ◌++◌, Ok, Err, FitsSigned, IsTrue, slice_get, slice_index_or, Some};
 ghost use Rattle.std.specs.Int.{w32, w64};
 ghost use Rattle.wasm_syntax.specs.Kinds.{id_of, byte_of_kind};
 ghost use Rattle.wasm_syntax.specs.declared.kinds.SectionKind.{SectionKind as SectionKinds};
 ghost use Rattle.wasm_syntax.specs.declared.kinds.ExternalKind.{ExternalKind as ExternalKinds};
-ghost use Rattle.wasm_syntax.specs.Opcodes.{byte_of, shape_of, stand_from, MakesOpcode};
+ghost use Rattle.wasm_syntax.specs.Opcodes.{byte_of, shape_of, stand_from, MakesOpcode, number_of, said_by};
+ghost use Rattle.wasm_syntax.specs.declared.opcode.Prefixed.{Prefixed};
+ghost use Rattle.wasm_syntax.specs.declared.opcode.PrefixedNumber.TheVariants as number;
 ghost use Rattle.wasm_syntax.specs.declared.opcode.Opcode.{Opcode};
 ghost use Rattle.wasm_syntax.specs.declared.opcode.OpcodeByte.TheVariants.{Known, Unknown};
 ghost use Rattle.wasm_syntax.specs.declared.leb.LebEnd.TheVariants.{Truncated, TooLong, UnusedBits};
@@ -42,6 +44,13 @@ pub fn table_is_exact()
     ensures entries { IsTrue (stand_from 0 OPCODES) }
     ensures opcodes { (o : Opcode) → slice_index_or OPCODES (byte_of o) Unknown ≡ Known o }
     ensures rows { (o : Opcode) → MakesOpcode o (shape_of o) }
+{}
+
+/// Behind the byte 0xFC each instruction is said by its number, and by no other.
+pub fn prefixed_numbers_are_exact()
+    ensures said { (x : Prefixed) → said_by (number_of x) ≡ number.Known x }
+    ensures alone { (n : ℕ) (x : Prefixed) → said_by n ≡ number.Known x → n ≡ number_of x }
+    ensures float { (n : ℕ) → (said_by n ≡ number.Float) ↔ (n < 8) }
 {}
 
 /// What is written is read again, whatever stands behind it.

@@ -22,7 +22,7 @@ pub use instr::{BlockType, Expression, Indices, Instr, MemoryArgument, Open};
 pub use kinds::{EXTERNAL_KINDS, ExternalKind, SECTIONS, SectionKind};
 pub use leb::{LebEnd, read_s32, read_s64, read_u32};
 pub use module::{Code, Element, Export, ExportKind, Global, Import, ImportKind, Module, Segment};
-pub use opcode::{OPCODES, Opcode, OpcodeByte, opcode_at};
+pub use opcode::{OPCODES, Opcode, OpcodeByte, Prefixed, PrefixedNumber, opcode_at, prefixed_at};
 pub use row::Row;
 pub use section::{Before, Section};
 pub use types::{FunctionType, GlobalType, Limits, Value, ValueType, ValueTypes};

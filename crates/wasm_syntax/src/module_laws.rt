@@ -3,7 +3,8 @@
 ghost use Rattle.std.specs.Prelude.{◌≡◌, ◌⊎◌, ◌↔◌, ℕ, List, [], ◌∷◌, ◌++◌, Ok, Err, Some, None};
 ghost use Rattle.wasm_syntax.specs.declared.module.Module.{Module as Modules};
 ghost use Rattle.wasm_syntax.specs.Grammar.{Spells, FirstFault, module_read, empty_module, header};
-ghost use Rattle.wasm_syntax.specs.Examples.{type_section, long_type_section, function_section, memory_section, code_section, data_section, float_section, padded_type_section, before_code, bytes_of_example, example, at_fault};
+ghost use Rattle.wasm_syntax.specs.Examples.{type_section, long_type_section, function_section, memory_section, code_section, data_section, float_section, padded_type_section, before_code, bytes_of_example, example, in_body, at_fault};
+ghost use Rattle.wasm_syntax.specs.declared.instr.Instr.TheVariants as instr;
 
 /// Reading gives a module exactly where the bytes spell it.
 pub fn read_is_spelled()
@@ -44,4 +45,26 @@ pub fn worked_modules()
     ensures size_past_the_input { module_read (header ++ 0x01 ∷ 0x09 ∷ 0x01 ∷ 0x60 ∷ 0x00 ∷ 0x00 ∷ 0x07 ∷ []) ≡ at_fault 2 0 }
     ensures counts_differ { module_read (before_code ++ 0x0a ∷ 0x01 ∷ 0x00 ∷ []) ≡ at_fault 4 1 }
     ensures padded { module_read (header ++ padded_type_section) ≡ at_fault 8 6 }
+{}
+
+/// What the byte 0xFC and a number behind it spell, and at which place each of them is at fault, worked out by hand.
+pub fn worked_prefixes()
+    ensures copy { module_read (before_code ++ 0x0a ∷ 0x08 ∷ 0x01 ∷ 0x06 ∷ 0x00 ∷ 0xfc ∷ 0x0a ∷ 0x00 ∷ 0x00 ∷ 0x0b ∷ []) ≡ Ok (in_body (instr.MemoryCopy ∷ [])) }
+    ensures long_fill { module_read (before_code ++ 0x0a ∷ 0x09 ∷ 0x01 ∷ 0x07 ∷ 0x00 ∷ 0xfc ∷ 0x8b ∷ 0x80 ∷ 0x00 ∷ 0x00 ∷ 0x0b ∷ []) ≡ Ok (in_body (instr.MemoryFill ∷ [])) }
+    ensures extension { module_read (before_code ++ 0x0a ∷ 0x05 ∷ 0x01 ∷ 0x03 ∷ 0x00 ∷ 0xc4 ∷ 0x0b ∷ []) ≡ Ok (in_body (instr.I64Extend32S ∷ [])) }
+    ensures behind_extensions { module_read (before_code ++ 0x0a ∷ 0x05 ∷ 0x01 ∷ 0x03 ∷ 0x00 ∷ 0xc5 ∷ 0x0b ∷ []) ≡ at_fault 5 2 }
+    ensures first_float { module_read (before_code ++ 0x0a ∷ 0x06 ∷ 0x01 ∷ 0x04 ∷ 0x00 ∷ 0xfc ∷ 0x00 ∷ 0x0b ∷ []) ≡ at_fault 6 3 }
+    ensures last_float { module_read (before_code ++ 0x0a ∷ 0x06 ∷ 0x01 ∷ 0x04 ∷ 0x00 ∷ 0xfc ∷ 0x07 ∷ 0x0b ∷ []) ≡ at_fault 6 3 }
+    ensures long_float { module_read (before_code ++ 0x0a ∷ 0x07 ∷ 0x01 ∷ 0x05 ∷ 0x00 ∷ 0xfc ∷ 0x87 ∷ 0x00 ∷ 0x0b ∷ []) ≡ at_fault 6 4 }
+    ensures behind_floats { module_read (before_code ++ 0x0a ∷ 0x06 ∷ 0x01 ∷ 0x04 ∷ 0x00 ∷ 0xfc ∷ 0x08 ∷ 0x0b ∷ []) ≡ at_fault 5 2 }
+    ensures before_copy { module_read (before_code ++ 0x0a ∷ 0x06 ∷ 0x01 ∷ 0x04 ∷ 0x00 ∷ 0xfc ∷ 0x09 ∷ 0x0b ∷ []) ≡ at_fault 5 2 }
+    ensures behind_fill { module_read (before_code ++ 0x0a ∷ 0x07 ∷ 0x01 ∷ 0x05 ∷ 0x00 ∷ 0xfc ∷ 0x8c ∷ 0x00 ∷ 0x0b ∷ []) ≡ at_fault 5 3 }
+    ensures too_large { module_read (before_code ++ 0x0a ∷ 0x0a ∷ 0x01 ∷ 0x08 ∷ 0x00 ∷ 0xfc ∷ 0xff ∷ 0xff ∷ 0xff ∷ 0xff ∷ 0x1f ∷ 0x0b ∷ []) ≡ at_fault 3 6 }
+    ensures cut_off { module_read (before_code ++ 0x0a ∷ 0x06 ∷ 0x01 ∷ 0x04 ∷ 0x00 ∷ 0xfc ∷ 0x8a ∷ []) ≡ at_fault 2 0 }
+    ensures no_number { module_read (before_code ++ 0x0a ∷ 0x06 ∷ 0x01 ∷ 0x04 ∷ 0x00 ∷ 0xfc ∷ []) ≡ at_fault 2 0 }
+    ensures first_reserved { module_read (before_code ++ 0x0a ∷ 0x08 ∷ 0x01 ∷ 0x06 ∷ 0x00 ∷ 0xfc ∷ 0x0a ∷ 0x01 ∷ 0x00 ∷ 0x0b ∷ []) ≡ at_fault 5 3 }
+    ensures second_reserved { module_read (before_code ++ 0x0a ∷ 0x08 ∷ 0x01 ∷ 0x06 ∷ 0x00 ∷ 0xfc ∷ 0x0a ∷ 0x00 ∷ 0x01 ∷ 0x0b ∷ []) ≡ at_fault 5 2 }
+    ensures fill_reserved { module_read (before_code ++ 0x0a ∷ 0x07 ∷ 0x01 ∷ 0x05 ∷ 0x00 ∷ 0xfc ∷ 0x0b ∷ 0x01 ∷ 0x0b ∷ []) ≡ at_fault 5 2 }
+    ensures past_its_body { module_read (before_code ++ 0x0a ∷ 0x06 ∷ 0x01 ∷ 0x02 ∷ 0x00 ∷ 0xfc ∷ 0x0b ∷ 0x00 ∷ []) ≡ at_fault 8 5 }
+    ensures float_past_its_body { module_read (before_code ++ 0x0a ∷ 0x06 ∷ 0x01 ∷ 0x02 ∷ 0x00 ∷ 0xfc ∷ 0x07 ∷ 0x00 ∷ []) ≡ at_fault 6 3 }
 {}

@@ -1,6 +1,8 @@
-//! The opcodes of the profile: WebAssembly Core 1.0 section 5.4 without floating point.
+//! The opcodes of the profile: WebAssembly Core 1.0 section 5.4 without floating point, and of Core 2.0 section 5.4
+//! sign extension, `memory.copy` and `memory.fill`.
 
 ghost use Rattle.std.specs.Prelude.{◌≡◌, ◌≤◌, length, slice_index_or};
+ghost use Rattle.wasm_syntax.specs.Opcodes.{said_by};
 
 /// An opcode of one byte. Its number is that byte.
 #[derive(Clone, Copy, Debug, PartialEq, Eq)]
@@ -109,6 +111,13 @@ pub enum Opcode {
     I32WrapI64 = 0xA7,
     I64ExtendI32S = 0xAC,
     I64ExtendI32U = 0xAD,
+    I32Extend8S = 0xC0,
+    I32Extend16S = 0xC1,
+    I64Extend8S = 0xC2,
+    I64Extend16S = 0xC3,
+    I64Extend32S = 0xC4,
+    /// Behind it a number says which instruction it is.
+    Prefix = 0xFC,
 }
 
 /// What a byte says where an opcode stands.
@@ -318,6 +327,11 @@ pub static OPCODES: [OpcodeByte; 256] = [
     Float,
     Float,
     Float,
+    Known(Opcode::I32Extend8S),
+    Known(Opcode::I32Extend16S),
+    Known(Opcode::I64Extend8S),
+    Known(Opcode::I64Extend16S),
+    Known(Opcode::I64Extend32S),
     Unknown,
     Unknown,
     Unknown,
@@ -373,12 +387,7 @@ pub static OPCODES: [OpcodeByte; 256] = [
     Unknown,
     Unknown,
     Unknown,
-    Unknown,
-    Unknown,
-    Unknown,
-    Unknown,
-    Unknown,
-    Unknown,
+    Known(Opcode::Prefix),
     Unknown,
     Unknown,
     Unknown,
@@ -408,4 +417,45 @@ pub fn opcode_at(byte: u8) -> OpcodeByte
     ensures { result ≡ slice_index_or OPCODES byte OpcodeByte.Unknown }
 {
     entry(&OPCODES, byte)
+}
+
+/// An instruction behind the byte 0xFC. Its number is the one that stands there (Core 2.0 section 5.4.6).
+#[derive(Clone, Copy, Debug, PartialEq, Eq)]
+pub enum Prefixed {
+    MemoryCopy = 10,
+    MemoryFill = 11,
+}
+
+impl Prefixed {
+    ghost use Rattle.wasm_syntax.specs.Opcodes.{number_of};
+
+    /// The number.
+    pub fn number(self) -> u32
+        ensures { result ≡ number_of self }
+    {
+        self as u32
+    }
+}
+
+/// What a number says behind the byte 0xFC.
+#[derive(Clone, Copy, Debug, PartialEq, Eq)]
+pub enum PrefixedNumber {
+    /// An instruction of the profile.
+    Known(Prefixed),
+    /// An instruction of floating point.
+    Float,
+    /// No instruction of the profile.
+    Unknown,
+}
+
+/// What a number says behind the byte 0xFC.
+pub fn prefixed_at(number: u32) -> PrefixedNumber
+    ensures { result ≡ said_by number }
+{
+    match number {
+        0..=7 => PrefixedNumber::Float,
+        10 => PrefixedNumber::Known(Prefixed::MemoryCopy),
+        11 => PrefixedNumber::Known(Prefixed::MemoryFill),
+        _ => PrefixedNumber::Unknown,
+    }
 }

@@ -1,14 +1,14 @@
 //! Runs that were worked out by hand. The functions have nothing to do: their contracts are the laws.
 
-ghost use Rattle.std.specs.Prelude.{◌≡◌, pos, List, [], ◌∷◌, Some};
+ghost use Rattle.std.specs.Prelude.{◌≡◌, pos, List, [], ◌∷◌, ◌++◌, replicate, Some};
 ghost use Rattle.gate_base.specs.declared.cause.Cause.TheVariants as cause;
 ghost use Rattle.wasm_syntax.specs.declared.types.Value.TheVariants as value;
 ghost use Rattle.wasm_syntax.specs.ReductionRuns.{has_finished, has_asked, has_trapped, has_spent, ran};
 ghost use Rattle.wasm_syntax.specs.declared.instr.Instr.TheVariants as instr;
 ghost use Rattle.wasm_syntax.specs.ReductionSteps.{answered_config, idle_config};
 ghost use Rattle.wasm_syntax.specs.ReductionRuns.{run};
-ghost use Rattle.wasm_syntax.specs.ReductionCases.{pair_module, run_pair, asked_of, calls_pair, calls_element, asks_pair, resumed, called_while, then_resumed, small, run_small, gave, select_body, shift_body, quotient_body, lone_if_body, dropping_body, tee_body, globals_body, load_body, store_body, grow_body, standing, none};
-ghost use Rattle.wasm_syntax.specs.ReductionLaws.{RunsToItsEnd, HostedRunsToItsEnd, FuelOnlyBounds, CallsBelowStay, AnswersStayAbove, AnswersKeepDepth, EachHasItsRule};
+ghost use Rattle.wasm_syntax.specs.ReductionCases.{pair_module, run_pair, asked_of, calls_pair, calls_element, asks_pair, resumed, called_while, then_resumed, small, run_small, gave, select_body, shift_body, quotient_body, lone_if_body, dropping_body, tee_body, globals_body, load_body, store_body, grow_body, wide, run_wide, copy_body, fill_body, filled_body, left_small, left_wide, extend_body, long_extend_body, standing, none};
+ghost use Rattle.wasm_syntax.specs.ReductionLaws.{RunsToItsEnd, HostedRunsToItsEnd, FuelOnlyBounds, CallsBelowStay, AnswersStayAbove, AnswersKeepDepth, EachHasItsRule, SpentByNeed};
 ghost use Rattle.wasm_syntax.specs.ReductionPrograms.{first_config, program_of};
 ghost use Rattle.wasm_syntax.specs.ReductionExamples.{call, sum_module, run_body, rests, unreachable_body, divide_body, overflow_body, memory_body, element_body, endless_body, if_body, table_body, return_body, asking_module, echo, exit, ask};
 
@@ -90,6 +90,70 @@ pub fn worked_instructions()
     ensures grow { run_small grow_body 5 ≡ gave 0 small }
 {}
 
+/// Copies: what overlaps in both directions, ranges that end at the end and one past it, and none that is past it. Nothing is
+/// written by what traps, and it pays one unit.
+pub fn worked_copies()
+    ensures apart { run_small (copy_body 4 0 3) 5 ≡ left_small (1 ∷ 2 ∷ 3 ∷ 0x84 ∷ 1 ∷ 2 ∷ 3 ∷ 0xff ∷ []) }
+    ensures upward { run_small (copy_body 2 0 5) 5 ≡ left_small (1 ∷ 2 ∷ 1 ∷ 2 ∷ 3 ∷ 0x84 ∷ 5 ∷ 0xff ∷ []) }
+    ensures downward { run_small (copy_body 0 2 5) 5 ≡ left_small (3 ∷ 0x84 ∷ 5 ∷ 6 ∷ 7 ∷ 6 ∷ 7 ∷ 0xff ∷ []) }
+    ensures onto_itself { run_small (copy_body 0 0 8) 5 ≡ gave 0 small }
+    ensures to_the_end { run_small (copy_body 5 0 3) 5 ≡ left_small (1 ∷ 2 ∷ 3 ∷ 0x84 ∷ 5 ∷ 1 ∷ 2 ∷ 3 ∷ []) }
+    ensures from_the_end { run_small (copy_body 0 5 3) 5 ≡ left_small (6 ∷ 7 ∷ 0xff ∷ 0x84 ∷ 5 ∷ 6 ∷ 7 ∷ 0xff ∷ []) }
+    ensures past_the_end { run_small (copy_body 6 0 3) 4 ≡ has_trapped cause.Memory 0 }
+    ensures from_past_the_end { run_small (copy_body 0 6 3) 4 ≡ has_trapped cause.Memory 0 }
+    ensures none_at_the_end { run_small (copy_body 8 8 0) 5 ≡ gave 0 small }
+    ensures none_past_the_end { run_small (copy_body 9 0 0) 4 ≡ has_trapped cause.Memory 0 }
+    ensures none_from_past_the_end { run_small (copy_body 0 9 0) 4 ≡ has_trapped cause.Memory 0 }
+    ensures without_wrapping { run_small (copy_body 0 4294967295 2) 4 ≡ has_trapped cause.Memory 0 }
+    ensures spent { run_small (copy_body 4 0 3) 3 ≡ has_spent 0 }
+    ensures spent_before_the_trap { run_small (copy_body 9 0 0) 3 ≡ has_spent 0 }
+{}
+
+/// Fills: of the lowest byte of the operand, at the end, and one past it.
+pub fn worked_fills()
+    ensures low_byte { run_small (fill_body 2 0x5ab 3) 5 ≡ left_small (1 ∷ 2 ∷ 0xab ∷ 0xab ∷ 0xab ∷ 6 ∷ 7 ∷ 0xff ∷ []) }
+    ensures to_the_end { run_small (fill_body 5 0 3) 5 ≡ left_small (1 ∷ 2 ∷ 3 ∷ 0x84 ∷ 5 ∷ 0 ∷ 0 ∷ 0 ∷ []) }
+    ensures past_the_end { run_small (fill_body 6 0 3) 4 ≡ has_trapped cause.Memory 0 }
+    ensures none_at_the_end { run_small (fill_body 8 7 0) 5 ≡ gave 0 small }
+    ensures none_past_the_end { run_small (fill_body 9 7 0) 4 ≡ has_trapped cause.Memory 0 }
+    ensures last_of_128 { run_wide filled_body 8 ≡ gave 171 (record wide { memory = replicate 128 171 }) }
+    ensures spent { run_small (fill_body 2 0 3) 3 ≡ has_spent 0 }
+{}
+
+/// A copy or a fill pays a unit more for each whole 64 bytes. With one unit less than its price nothing is done, and what is
+/// left stays; one that traps pays a unit, however long its range.
+pub fn worked_prices()
+    ensures copy_of_63 { run_wide (copy_body 64 0 63) 5 ≡ left_wide (replicate 127 1 ++ 2 ∷ []) }
+    ensures copy_of_64 { run_wide (copy_body 64 0 64) 6 ≡ left_wide (replicate 128 1) }
+    ensures copy_of_65 { run_wide (copy_body 63 0 65) 6 ≡ left_wide (replicate 127 1 ++ 2 ∷ []) }
+    ensures copy_of_127 { run_wide (copy_body 0 1 127) 6 ≡ left_wide (replicate 63 1 ++ replicate 65 2) }
+    ensures copy_of_128 { run_wide (copy_body 0 0 128) 7 ≡ gave 0 wide }
+    ensures copy_of_64_short { run_wide (copy_body 64 0 64) 4 ≡ has_spent 1 }
+    ensures copy_of_128_short { run_wide (copy_body 0 0 128) 5 ≡ has_spent 2 }
+    ensures fill_of_63 { run_wide (fill_body 64 1 63) 5 ≡ left_wide (replicate 127 1 ++ 2 ∷ []) }
+    ensures fill_of_64 { run_wide (fill_body 64 1 64) 6 ≡ left_wide (replicate 128 1) }
+    ensures fill_of_65 { run_wide (fill_body 63 1 65) 6 ≡ left_wide (replicate 128 1) }
+    ensures fill_of_64_short { run_wide (fill_body 64 1 64) 4 ≡ has_spent 1 }
+    ensures fill_of_128_short { run_wide (fill_body 0 1 128) 5 ≡ has_spent 2 }
+    ensures trap_of_129 { run_wide (fill_body 0 1 129) 4 ≡ has_trapped cause.Memory 0 }
+    ensures trap_of_128 { run_wide (copy_body 1 0 128) 4 ≡ has_trapped cause.Memory 0 }
+{}
+
+/// The extension of a sign, from both sides of the least number that has one, with the bits above it set and not.
+pub fn worked_extensions()
+    ensures most { run_small (extend_body 127 instr.I32Extend8S) 2 ≡ gave 127 small }
+    ensures least { run_small (extend_body 128 instr.I32Extend8S) 2 ≡ gave 4294967168 small }
+    ensures above { run_small (extend_body 0x12345601 instr.I32Extend8S) 2 ≡ gave 1 small }
+    ensures most_of_16 { run_small (extend_body 0x17fff instr.I32Extend16S) 2 ≡ gave 0x7fff small }
+    ensures least_of_16 { run_small (extend_body 0x8000 instr.I32Extend16S) 2 ≡ gave 0xffff8000 small }
+    ensures long_most { run_small (long_extend_body 0xffff7f instr.I64Extend8S) 5 ≡ gave 0 small }
+    ensures long_least { run_small (long_extend_body 0x80 instr.I64Extend8S) 5 ≡ gave 0xffffffff small }
+    ensures long_most_of_16 { run_small (long_extend_body 0xf7fff instr.I64Extend16S) 5 ≡ gave 0 small }
+    ensures long_least_of_16 { run_small (long_extend_body 0x8000 instr.I64Extend16S) 5 ≡ gave 0xffffffff small }
+    ensures long_most_of_32 { run_small (long_extend_body 0x17fffffff instr.I64Extend32S) 5 ≡ gave 0 small }
+    ensures long_least_of_32 { run_small (long_extend_body 0x80000000 instr.I64Extend32S) 5 ≡ gave 0xffffffff small }
+{}
+
 /// 32,768 values may stand, of which these runs have one in a local; past them is the trap, which is
 /// not paid where a host's answer came too many.
 pub fn worked_bounds()
@@ -124,6 +188,11 @@ pub fn calls_below_stay()
     ensures runs { CallsBelowStay }
     ensures answers { AnswersStayAbove }
     ensures depth { AnswersKeepDepth }
+{}
+
+/// Fuel is spent exactly where a run comes to a step that needs more units than are left, and these stay.
+pub fn fuel_is_spent_by_need()
+    ensures { SpentByNeed }
 {}
 
 /// Each instruction that holds no others has its rule.

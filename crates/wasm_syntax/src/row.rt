@@ -36,6 +36,8 @@ pub enum Row {
     Store(ValueType, u32, u32),
     MemorySize,
     MemoryGrow,
+    /// A copy or a fill of a range of the memory: three operands of 32 bits.
+    BulkMemory,
     /// A constant of this type.
     Const(ValueType),
     /// An operator: the type of its one operand, and that of its result.
@@ -157,6 +159,13 @@ impl Instr {
             Instr::I32WrapI64 => Row::Unary(ValueType::I64, ValueType::I32),
             Instr::I64ExtendI32S => Row::Unary(ValueType::I32, ValueType::I64),
             Instr::I64ExtendI32U => Row::Unary(ValueType::I32, ValueType::I64),
+            Instr::I32Extend8S => Row::Unary(ValueType::I32, ValueType::I32),
+            Instr::I32Extend16S => Row::Unary(ValueType::I32, ValueType::I32),
+            Instr::I64Extend8S => Row::Unary(ValueType::I64, ValueType::I64),
+            Instr::I64Extend16S => Row::Unary(ValueType::I64, ValueType::I64),
+            Instr::I64Extend32S => Row::Unary(ValueType::I64, ValueType::I64),
+            Instr::MemoryCopy => Row::BulkMemory,
+            Instr::MemoryFill => Row::BulkMemory,
         }
     }
 

@@ -1,11 +1,13 @@
 //! Laws of memories, numeric instructions and what instances begin with. The functions have nothing to do: their
 //! contracts are the laws.
 
-ghost use Rattle.std.specs.Prelude.{◌≡◌, ◌↔◌, ℕ, ◌+◌, ◌*◌, ◌-◌, ◌%◌, ◌^◌, ◌<◌, ◌≤◌, pos, negsuc, List, [], ◌∷◌, ◌++◌, length, take, drop, replicate, Some, None};
+ghost use Rattle.std.specs.Prelude.{◌≡◌, ◌↔◌, ◌⊎◌, ℕ, ◌+◌, ◌*◌, ◌-◌, ◌%◌, ◌^◌, ◌<◌, ◌≤◌, pos, negsuc, List, [], ◌∷◌, ◌++◌, length, take, drop, replicate, Some, None};
 ghost use Rattle.wasm_syntax.specs.declared.types.Value.TheVariants as value;
 ghost use Rattle.wasm_syntax.specs.declared.instr.Instr.{Instr as Instrs};
 ghost use Rattle.wasm_syntax.specs.declared.instr.Instr.TheVariants as instr;
-ghost use Rattle.wasm_syntax.specs.Memory.{load, store, loads, stores, page, pages_of, most_pages, grow_answer, grown};
+ghost use Rattle.wasm_syntax.specs.declared.types.ValueType.TheVariants.{I32, I64};
+ghost use Rattle.wasm_syntax.specs.Extensions.{ExtendsSign};
+ghost use Rattle.wasm_syntax.specs.Memory.{bytes_at, copied, filled, load, store, loads, stores, page, pages_of, most_pages, grow_answer, grown};
 ghost use Rattle.wasm_syntax.specs.OperandRows.{AgreesWithRow};
 ghost use Rattle.wasm_syntax.specs.Stores.{with_segments, offset_of, initial_stores, growth_bound};
 ghost use Rattle.wasm_syntax.specs.StoreExamples.{at_most, no_maximum, four_bytes, two_segments, with_table};
@@ -34,6 +36,36 @@ pub fn stored_is_loaded()
     ensures below { (old new : List ℕ) (at width v : ℕ) → store old at width v ≡ Some new → take at new ≡ take at old }
     ensures above { (old new : List ℕ) (at width v : ℕ) → store old at width v ≡ Some new → drop (at + width) new ≡ drop (at + width) old }
     ensures outside { (old : List ℕ) (at width v : ℕ) → (store old at width v ≡ None) ↔ (load old at width ≡ None) }
+{}
+
+/// A copy makes of a range what another range of that length was. All other bytes stay, and so does the length. There is no
+/// copy exactly where one of the two is not all inside.
+pub fn copies_move_ranges()
+    ensures moved { (old new : List ℕ) (to from count : ℕ) → copied old to from count ≡ Some new → bytes_at new to count ≡ bytes_at old from count }
+    ensures length { (old new : List ℕ) (to from count : ℕ) → copied old to from count ≡ Some new → length new ≡ length old }
+    ensures below { (old new : List ℕ) (to from count : ℕ) → copied old to from count ≡ Some new → take to new ≡ take to old }
+    ensures above { (old new : List ℕ) (to from count : ℕ) → copied old to from count ≡ Some new → drop (to + count) new ≡ drop (to + count) old }
+    ensures outside { (old : List ℕ) (to from count : ℕ) → (copied old to from count ≡ None) ↔ ((length old < from + count) ⊎ (length old < to + count)) }
+{}
+
+/// A fill makes each byte of a range the lowest byte of a number. All other bytes stay, and so does the length. There is no fill
+/// exactly where the range is not all inside.
+pub fn fills_write_ranges()
+    ensures filled { (old new : List ℕ) (at v count : ℕ) → filled old at v count ≡ Some new → bytes_at new at count ≡ replicate count (v % 2 ^ 8) }
+    ensures length { (old new : List ℕ) (at v count : ℕ) → filled old at v count ≡ Some new → length new ≡ length old }
+    ensures below { (old new : List ℕ) (at v count : ℕ) → filled old at v count ≡ Some new → take at new ≡ take at old }
+    ensures above { (old new : List ℕ) (at v count : ℕ) → filled old at v count ≡ Some new → drop (at + count) new ≡ drop (at + count) old }
+    ensures outside { (old : List ℕ) (at v count : ℕ) → (filled old at v count ≡ None) ↔ (length old < at + count) }
+{}
+
+/// The extension of a sign leaves the low bits where they are below half of what they count, and else adds to them what the
+/// size counts less what they count.
+pub fn signs_are_extended()
+    ensures byte { ExtendsSign instr.I32Extend8S I32 8 }
+    ensures half { ExtendsSign instr.I32Extend16S I32 16 }
+    ensures byte_to_long { ExtendsSign instr.I64Extend8S I64 8 }
+    ensures half_to_long { ExtendsSign instr.I64Extend16S I64 16 }
+    ensures word_to_long { ExtendsSign instr.I64Extend32S I64 32 }
 {}
 
 /// Growth leaves the old bytes and adds pages of zeros, where the pages may be added, and changes nothing where not.

@@ -16,7 +16,7 @@ ghost use Rattle.wasm_syntax.specs.CutLists.{CutAt};
 ghost use Rattle.wasm_syntax.specs.Typing.{Context, Typed, IsTypedBody};
 ghost use Rattle.wasm_syntax.specs.Validity.{IsCode, IsBounded, IsValid, CanGoOn, IsFirstUntyped, FirstInvalid};
 ghost use Rattle.wasm_syntax.specs.Examples.{example};
-ghost use Rattle.wasm_syntax.specs.ValidExamples.{nowhere, with_memory, unreachable_add, branch_in_loop, branch_in_block, branch_with_result, both_branches, one_branch, drop_from_below, load_aligned, left_over, two_memories, two_imported_memories, memory_beside_import, full_module};
+ghost use Rattle.wasm_syntax.specs.ValidExamples.{nowhere, with_memory, unreachable_add, branch_in_loop, branch_in_block, branch_with_result, both_branches, one_branch, drop_from_below, load_aligned, copy_words, fill_long, left_over, two_memories, two_imported_memories, memory_beside_import, full_module};
 
 use crate::opcode::OPCODES;
 
@@ -71,6 +71,9 @@ pub fn worked_bodies()
     ensures aligned { IsTypedBody with_memory (load_aligned 2) }
     ensures aligned_too_far { IsTypedBody with_memory (load_aligned 3) → ⊥ }
     ensures no_memory { IsTypedBody nowhere (load_aligned 2) → ⊥ }
+    ensures copies { IsTypedBody with_memory copy_words }
+    ensures no_memory_to_copy { IsTypedBody nowhere copy_words → ⊥ }
+    ensures length_of_64_bits { IsTypedBody with_memory fill_long → ⊥ }
 {}
 
 /// Modules that are valid, and first faults, worked out by hand.

@@ -93,6 +93,7 @@ rule-to c (row.Load t width align) ls takes given h = ruled (nat_lt 0 c.memories
 rule-to c (row.Store t width align) ls takes given h = ruled (nat_lt 0 c.memories && nat_le align width) _ (λ rule. May rule takes given) (both (nat_lt 0 c.memories) (nat_le align width) (lt-ltb 0 c.memories h.0) (le-leb align width h.1)) h.2
 rule-to c row.MemorySize ls takes given h = ruled (nat_lt 0 c.memories) _ (λ rule. May rule takes given) (lt-ltb 0 c.memories h.0) h.1
 rule-to c row.MemoryGrow ls takes given h = ruled (nat_lt 0 c.memories) _ (λ rule. May rule takes given) (lt-ltb 0 c.memories h.0) h.1
+rule-to c row.BulkMemory ls takes given h = ruled (nat_lt 0 c.memories) _ (λ rule. May rule takes given) (lt-ltb 0 c.memories h.0) h.1
 rule-to c (row.Call x) ls takes given h = found (slice_get c.functions x) h.0 _ (λ rule. May rule takes given) h.2 (found (slice_get c.types h.0) h.1 _ (λ rule. May rule takes given) h.3 h.4)
 rule-to c (row.CallIndirect x) ls takes given h =
     found (slice_get c.types x) h.0 _ (λ rule. May rule takes given) h.3 (ruled (nat_lt 0 c.tables) _ (λ rule. May rule takes given) (lt-ltb 0 c.tables h.2) (h.5 ∙ ap (λ xs. I32 ∷ xs) h.4.0, h.4.1))
@@ -132,6 +133,9 @@ rule-from c row.MemorySize ls takes given h =
     let r = rules (nat_lt 0 c.memories) _ (λ rule. May rule takes given) h in
     (ltb-true 0 c.memories r.0, r.1)
 rule-from c row.MemoryGrow ls takes given h =
+    let r = rules (nat_lt 0 c.memories) _ (λ rule. May rule takes given) h in
+    (ltb-true 0 c.memories r.0, r.1)
+rule-from c row.BulkMemory ls takes given h =
     let r = rules (nat_lt 0 c.memories) _ (λ rule. May rule takes given) h in
     (ltb-true 0 c.memories r.0, r.1)
 rule-from c (row.Call x) ls takes given h =

@@ -146,6 +146,7 @@ rule_of c (row.Load t width align) ls = ruled_if (nat_lt 0 c.memories && nat_le 
 rule_of c (row.Store t width align) ls = ruled_if (nat_lt 0 c.memories && nat_le align width) (gives (t ∷ I32 ∷ []) [])
 rule_of c row.MemorySize ls = ruled_if (nat_lt 0 c.memories) (gives [] (I32 ∷ []))
 rule_of c row.MemoryGrow ls = ruled_if (nat_lt 0 c.memories) (gives (I32 ∷ []) (I32 ∷ []))
+rule_of c row.BulkMemory ls = ruled_if (nat_lt 0 c.memories) (gives (I32 ∷ I32 ∷ I32 ∷ []) [])
 rule_of c (row.Call x) ls = and_then (slice_get c.functions x) (λ f. and_then (slice_get c.types f) (λ t. Some (called [] t)))
 rule_of c (row.CallIndirect x) ls = and_then (slice_get c.types x) (λ t. ruled_if (nat_lt 0 c.tables) (called (I32 ∷ []) t))
 rule_of c row.Unreachable ls = Some (leaves [])

@@ -274,6 +274,13 @@ impl Checker {
                 0,
                 0,
             ),
+            Row::BulkMemory => self.reach(
+                names,
+                &[ValueType::I32, ValueType::I32, ValueType::I32],
+                BlockType::Empty,
+                0,
+                0,
+            ),
             Row::Br(l) => Ok(self.branch(l)),
             Row::BrIf(l) => self.branch_if(l),
             Row::BrTable(l) => Ok(self.branch_to_one(i.labels(), l)),

@@ -56,6 +56,7 @@ fn is_constant_row(imported: &[GlobalType], t: ValueType, row: Row) -> bool
         | Row::Store(_, _, _)
         | Row::MemorySize
         | Row::MemoryGrow
+        | Row::BulkMemory
         | Row::Unary(_, _)
         | Row::Binary(_, _) => false,
     }

@@ -54,6 +54,7 @@ fn mark_of_row(row: Row) -> Mark
         | Row::Store(_, _, _)
         | Row::MemorySize
         | Row::MemoryGrow
+        | Row::BulkMemory
         | Row::Const(_)
         | Row::Unary(_, _)
         | Row::Binary(_, _) => Mark::Alone,

@@ -1,5 +1,5 @@
 -- How types, instructions and entries are written.
-use Rattle.std.proofs.Common.{◌≡◌, ℕ, ℤ, ◌+◌, zero, suc, ◌⊎◌, Bool, true, false, cond, eqb, is_some, Option, Some, None, List, [], ◌∷◌, ◌++◌, Result, Ok, Err, inl, inr, refl, sym, ap, ◌∙◌, arith, slice_index_or}
+use Rattle.std.proofs.Common.{◌≡◌, ℕ, ℤ, ◌+◌, zero, suc, ◌⊎◌, Bool, true, false, cond, eqb, ltb, is_some, Option, Some, None, List, [], ◌∷◌, ◌++◌, Result, Ok, Err, inl, inr, refl, sym, ap, subst, ◌∙◌, arith, slice_index_or}
 use Rattle.std.specs.Str.{is_utf8}
 use Rattle.std.proofs.lemmas.Bool.{eqb-true}
 use Rattle.wasm_syntax.specs.declared.types.ValueType.{ValueType}
@@ -15,6 +15,9 @@ use Rattle.wasm_syntax.specs.declared.opcode.Opcode.{Opcode}
 use Rattle.wasm_syntax.specs.declared.opcode.Opcode.TheVariants as op
 use Rattle.wasm_syntax.specs.declared.opcode.OpcodeByte.{OpcodeByte}
 use Rattle.wasm_syntax.specs.declared.opcode.OpcodeByte.TheVariants.{Known, Float, Unknown}
+use Rattle.wasm_syntax.specs.declared.opcode.Prefixed.{Prefixed}
+use Rattle.wasm_syntax.specs.declared.opcode.Prefixed.TheVariants as prefixed
+use Rattle.wasm_syntax.specs.declared.opcode.PrefixedNumber.TheVariants as number
 use Rattle.wasm_syntax.specs.declared.kinds.ExternalKind.{ExternalKind}
 use Rattle.wasm_syntax.specs.declared.kinds.ExternalKind.TheVariants as external
 use Rattle.wasm_syntax.specs.declared.module.ImportKind.{ImportKind}
@@ -24,13 +27,13 @@ use Rattle.wasm_syntax.specs.declared.module.Export.{Export}
 use Rattle.wasm_syntax.specs.declared.module.Element.{Element}
 use Rattle.wasm_syntax.specs.declared.module.Segment.{Segment}
 use Rattle.wasm_syntax.specs.Kinds.{byte_of_kind}
-use Rattle.wasm_syntax.specs.Opcodes.{Shape, Plain, WithBlock, WithIndex, WithLabels, WithTypeAndZero, WithMemory, WithZero, WithWord, WithLong, shape_of, byte_of, opcode_of, stand_from, MakesOpcode}
-use Rattle.wasm_syntax.specs.Numbers.{u32_bytes, s32_bytes, s64_bytes}
+use Rattle.wasm_syntax.specs.Opcodes.{Shape, Plain, WithBlock, WithIndex, WithLabels, WithTypeAndZero, WithMemory, WithZero, WithWord, WithLong, WithNumber, shape_of, byte_of, opcode_of, stand_from, number_of, prefixed_instr, said_by, MakesOpcode}
+use Rattle.wasm_syntax.specs.Numbers.{IsUnsigned, u32_bytes, s32_bytes, s64_bytes}
 use Rattle.wasm_syntax.specs.Format.{Format, bounded, done}
 use Rattle.wasm_syntax.specs.Items.{byte_as, u32, at_most}
-use Rattle.wasm_syntax.specs.Grammar.{only, is_float_type, value_type_of, block_type_of, flag_of, external_kind_of, function_type, maximum, limits, table_type, memory_type, global_type, name, octets, is_placed, has_room, opcode_said, opcode_judged, open_after, memory_argument, operands, instruction, expression, import_kind, import, export_kind, export, global, element, segment}
+use Rattle.wasm_syntax.specs.Grammar.{only, is_float_type, value_type_of, block_type_of, flag_of, external_kind_of, function_type, maximum, limits, table_type, memory_type, global_type, name, octets, is_placed, has_room, opcode_said, opcode_judged, open_after, memory_argument, prefixed_number, reserved, operands, instruction, expression, import_kind, import, export_kind, export, global, element, segment}
 use Rattle.wasm_syntax.proofs.Table.{rows_make_their_opcodes}
-use Rattle.wasm_writer.specs.Written.{value_type_bytes, block_type_bytes, flag_bytes, function_type_bytes, maximum_bytes, limits_bytes, table_type_bytes, memory_type_bytes, global_type_bytes, memory_argument_bytes, operand_bytes, instruction_bytes, expression_bytes, import_kind_bytes, import_bytes, export_kind_bytes, export_bytes, global_bytes, element_bytes, segment_bytes, vector_bytes, sized_bytes}
+use Rattle.wasm_writer.specs.Written.{value_type_bytes, block_type_bytes, flag_bytes, function_type_bytes, maximum_bytes, limits_bytes, table_type_bytes, memory_type_bytes, global_type_bytes, memory_argument_bytes, reserved_bytes, prefixed_bytes, operand_bytes, instruction_bytes, expression_bytes, import_kind_bytes, import_bytes, export_kind_bytes, export_bytes, global_bytes, element_bytes, segment_bytes, vector_bytes, sized_bytes}
 use Rattle.wasm_writer.proofs.Forms.{IsWritten, only_written, follows_written, made_written, two_written, chain_written}
 use Rattle.wasm_writer.proofs.Items.{byte_written, u32_written, s32_written, s64_written, bounded_written, text_written, vector_written}
 
@@ -197,6 +200,55 @@ memory_argument_written : IsWritten memory_argument.spells memory_argument_bytes
 unfolding memory_argument
 memory_argument_written = two_written _ _ (λ a o. record { align = a; offset = o }) u32_bytes (λ _. u32_bytes) memory_argument_bytes u32_written (λ _. u32_written) (λ a o back s. refl)
 
+picked : {A : Type 0} (b : Bool) (r s x : A) → cond b r s ≡ x → ((b ≡ true) × (r ≡ x)) ⊎ (s ≡ x)
+picked true r s x e = inl (refl, e)
+picked false r s x e = inr e
+
+same_number : (x y : Prefixed) → number.Known x ≡ number.Known y → x ≡ y
+same_number x y e = cc
+
+not_float : (x : Prefixed) → number.Float ≡ number.Known x → ⊥
+not_float x e = absurd cc
+
+not_unknown : (x : Prefixed) → number.Unknown ≡ number.Known x → ⊥
+not_unknown x e = absurd cc
+
+-- only one number says an instruction
+number_alone : (n : ℕ) (x : Prefixed) → said_by n ≡ number.Known x → n ≡ number_of x
+number_alone n x e = elim (picked (ltb n 8) number.Float _ (number.Known x) e) [
+  | inl p ↦ absurd (not_float x p.1)
+  | inr p ↦ elim (picked (eqb n 10) (number.Known prefixed.MemoryCopy) _ (number.Known x) p) [
+    | inl q ↦ eqb-true n 10 q.0 ∙ ap number_of (same_number prefixed.MemoryCopy x q.1)
+    | inr q ↦ elim (picked (eqb n 11) (number.Known prefixed.MemoryFill) number.Unknown (number.Known x) q) [
+      | inl r ↦ eqb-true n 11 r.0 ∙ ap number_of (same_number prefixed.MemoryFill x r.1)
+      | inr r ↦ absurd (not_unknown x r)
+    ]
+  ]
+]
+
+number_says : (x : Prefixed) → said_by (number_of x) ≡ number.Known x
+number_says prefixed.MemoryCopy = refl
+number_says prefixed.MemoryFill = refl
+
+prefixed_written : IsWritten prefixed_number.spells (λ x. u32_bytes (number_of x))
+prefixed_written = record {
+  shortest = λ x other are s.
+      let p = u32_written.shortest (number_of x) other are (subst (λ (n : ℕ). IsUnsigned 32 other n) (number_alone s.value x s.said) s.spelled) in
+      record {
+        bytes = p.bytes;
+        spelled = record { value = number_of x; spelled = p.spelled; said = number_says x };
+        least = λ more b t. p.least more b (subst (λ (n : ℕ). IsUnsigned 32 more n) (number_alone t.value x t.said) t.spelled);
+      };
+}
+
+reserved_written : (x : Prefixed) → IsWritten (reserved x).spells (λ _. reserved_bytes x)
+reserved_written prefixed.MemoryCopy = follows_written _ _ (λ _. 0 ∷ []) (λ _ _. 0 ∷ []) (λ _. 0 ∷ 0 ∷ []) (only_written_as 0) (λ _. only_written_as 0) (λ z y front back s t. refl)
+reserved_written prefixed.MemoryFill = only_written_as 0
+
+instr_written : (x : Prefixed) → operand_bytes (prefixed_instr x) ≡ prefixed_bytes x
+instr_written prefixed.MemoryCopy = refl
+instr_written prefixed.MemoryFill = refl
+
 -- what is written behind the opcodes of a row
 WritesOperands : Shape → Type 0
 WritesOperands (Plain i) = operand_bytes i ≡ []
@@ -208,6 +260,7 @@ WritesOperands (WithMemory f) = (a : MemoryArgument) → operand_bytes (f a) ≡
 WritesOperands (WithZero i) = operand_bytes i ≡ 0 ∷ []
 WritesOperands (WithWord f) = (v : ℤ) → operand_bytes (f v) ≡ s32_bytes v
 WritesOperands (WithLong f) = (v : ℤ) → operand_bytes (f v) ≡ s64_bytes v
+WritesOperands (WithNumber f) = (x : Prefixed) → operand_bytes (f x) ≡ prefixed_bytes x
 
 operands_written : (s : Shape) → WritesOperands s → IsWritten (operands s).spells operand_bytes
 unfolding operands WritesOperands
@@ -220,6 +273,7 @@ operands_written (WithMemory f) h = made_written _ f memory_argument_bytes opera
 operands_written (WithZero i) h = made_written _ (λ z. i) (λ _. 0 ∷ []) operand_bytes (only_written_as 0) (λ z. h)
 operands_written (WithWord f) h = made_written _ f s32_bytes operand_bytes s32_written h
 operands_written (WithLong f) h = made_written _ f s64_bytes operand_bytes s64_written h
+operands_written (WithNumber f) h = two_written _ _ (λ x z. f x) (λ x. u32_bytes (number_of x)) (λ x _. reserved_bytes x) operand_bytes prefixed_written reserved_written (λ x z back s. h x)
 
 rows_write_their_operands : (o : Opcode) → WritesOperands (shape_of o)
 unfolding WritesOperands
@@ -327,6 +381,12 @@ rows_write_their_operands op.I64Rotr = refl
 rows_write_their_operands op.I32WrapI64 = refl
 rows_write_their_operands op.I64ExtendI32S = refl
 rows_write_their_operands op.I64ExtendI32U = refl
+rows_write_their_operands op.I32Extend8S = refl
+rows_write_their_operands op.I32Extend16S = refl
+rows_write_their_operands op.I64Extend8S = refl
+rows_write_their_operands op.I64Extend16S = refl
+rows_write_their_operands op.I64Extend32S = refl
+rows_write_their_operands op.Prefix = instr_written
 
 -- an instruction that is spelled behind an opcode has that opcode
 has_opcode : (o : Opcode) (s : Shape) (i : Instr) (text : List ℕ) → MakesOpcode o s → (operands s).spells i text → opcode_of i ≡ o
@@ -340,6 +400,7 @@ has_opcode o (WithMemory f) i text h s = ap opcode_of s.second_spelled.0 ∙ h s
 has_opcode o (WithZero j) i text h s = ap opcode_of s.second_spelled.0 ∙ h
 has_opcode o (WithWord f) i text h s = ap opcode_of s.second_spelled.0 ∙ h s.value
 has_opcode o (WithLong f) i text h s = ap opcode_of s.second_spelled.0 ∙ h s.value
+has_opcode o (WithNumber f) i text h s = ap opcode_of s.second_spelled.second_spelled.0 ∙ h s.value
 
 instruction_written : (blocks : List Open) → IsWritten (instruction blocks).spells instruction_bytes
 unfolding instruction instruction_bytes

@@ -29,7 +29,9 @@ use Rattle.wasm_syntax.specs.declared.module.Code.{Code}
 use Rattle.wasm_syntax.specs.declared.module.Segment.{Segment}
 use Rattle.wasm_syntax.specs.declared.module.Module.{Module}
 use Rattle.wasm_syntax.specs.Kinds.{id_of, byte_of_kind}
-use Rattle.wasm_syntax.specs.Opcodes.{byte_of, opcode_of}
+use Rattle.wasm_syntax.specs.declared.opcode.Prefixed.{Prefixed}
+use Rattle.wasm_syntax.specs.declared.opcode.Prefixed.TheVariants as prefixed
+use Rattle.wasm_syntax.specs.Opcodes.{byte_of, opcode_of, number_of}
 use Rattle.wasm_syntax.specs.Numbers.{AreBytes, unsigned_bytes, u32_bytes, s32_bytes, s64_bytes}
 use Rattle.wasm_syntax.specs.Grammar.{header, Spells}
 use Rattle.wasm_writer.specs.declared.locals.Group.{Group}
@@ -86,6 +88,15 @@ global_type_bytes t = value_type_bytes t.value ++ flag_bytes t.is_mutable
 abbrev pub memory_argument_bytes : MemoryArgument → List ℕ
 memory_argument_bytes a = u32_bytes a.align ++ u32_bytes a.offset
 
+-- a byte 0 for each memory that is named
+abbrev pub reserved_bytes : Prefixed → List ℕ
+reserved_bytes prefixed.MemoryCopy = 0 ∷ 0 ∷ []
+reserved_bytes prefixed.MemoryFill = 0 ∷ []
+
+-- the number behind the byte 0xFC, and what stands behind it
+abbrev pub prefixed_bytes : Prefixed → List ℕ
+prefixed_bytes x = u32_bytes (number_of x) ++ reserved_bytes x
+
 -- what stands behind the opcode
 abbrev pub operand_bytes : Instr → List ℕ
 operand_bytes (instr.Block t) = block_type_bytes t
@@ -122,6 +133,8 @@ operand_bytes (instr.I64Store16 a) = memory_argument_bytes a
 operand_bytes (instr.I64Store32 a) = memory_argument_bytes a
 operand_bytes instr.MemorySize = 0 ∷ []
 operand_bytes instr.MemoryGrow = 0 ∷ []
+operand_bytes instr.MemoryCopy = prefixed_bytes prefixed.MemoryCopy
+operand_bytes instr.MemoryFill = prefixed_bytes prefixed.MemoryFill
 operand_bytes (instr.I32Const v) = s32_bytes v
 operand_bytes (instr.I64Const v) = s64_bytes v
 operand_bytes i = []

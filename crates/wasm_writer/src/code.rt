@@ -1,13 +1,13 @@
 //! Instructions and expressions.
 
 ghost use Rattle.std.specs.Prelude.{◌≡◌, ◌++◌, OnOk};
-ghost use Rattle.wasm_writer.specs.Written.{memory_argument_bytes, operand_bytes, instruction_bytes, expression_bytes};
+ghost use Rattle.wasm_writer.specs.Written.{memory_argument_bytes, prefixed_bytes, operand_bytes, instruction_bytes, expression_bytes};
 
 use crate::rules::{Form, Numbers, vector};
 use crate::types::write_block_type;
 use gate_base::{Octets, OutOfMemory};
 use std::alloc::Global;
-use wasm_syntax::{Expression, Instr, MemoryArgument, write_s32, write_s64, write_u32};
+use wasm_syntax::{Expression, Instr, MemoryArgument, Prefixed, write_s32, write_s64, write_u32};
 
 /// Puts how an instruction reaches the memory at the end.
 fn write_memory_argument(out: &mut Octets, a: MemoryArgument) -> Result<(), OutOfMemory>
@@ -15,6 +15,20 @@ fn write_memory_argument(out: &mut Octets, a: MemoryArgument) -> Result<(), OutO
 {
     write_u32(out, a.align)?;
     write_u32(out, a.offset)
+}
+
+/// Puts the number of an instruction behind the byte 0xFC, and the bytes 0 behind that, at the end.
+fn write_prefixed(out: &mut Octets, which: Prefixed) -> Result<(), OutOfMemory>
+    ensures { OnOk result (out.new ≡ out.old ++ prefixed_bytes which) }
+{
+    write_u32(out, which.number())?;
+    match which {
+        Prefixed::MemoryCopy => {
+            out.push(0)?;
+            out.push(0)
+        }
+        Prefixed::MemoryFill => out.push(0),
+    }
 }
 
 /// Puts what stands behind an opcode at the end.
@@ -59,6 +73,8 @@ fn write_operands(alloc: Global, out: &mut Octets, i: &Instr) -> Result<(), OutO
         | Instr::I64Store16(a)
         | Instr::I64Store32(a) => write_memory_argument(out, *a),
         Instr::MemorySize | Instr::MemoryGrow => out.push(0),
+        Instr::MemoryCopy => write_prefixed(out, Prefixed::MemoryCopy),
+        Instr::MemoryFill => write_prefixed(out, Prefixed::MemoryFill),
         Instr::I32Const(v) => write_s32(out, *v),
         Instr::I64Const(v) => write_s64(out, *v),
         Instr::Unreachable
@@ -128,7 +144,12 @@ fn write_operands(alloc: Global, out: &mut Octets, i: &Instr) -> Result<(), OutO
         | Instr::I64Rotr
         | Instr::I32WrapI64
         | Instr::I64ExtendI32S
-        | Instr::I64ExtendI32U => Ok(()),
+        | Instr::I64ExtendI32U
+        | Instr::I32Extend8S
+        | Instr::I32Extend16S
+        | Instr::I64Extend8S
+        | Instr::I64Extend16S
+        | Instr::I64Extend32S => Ok(()),
     }
 }
 

@@ -112,6 +112,12 @@ opcodes_stand op.I64Rotr = refl
 opcodes_stand op.I32WrapI64 = refl
 opcodes_stand op.I64ExtendI32S = refl
 opcodes_stand op.I64ExtendI32U = refl
+opcodes_stand op.I32Extend8S = refl
+opcodes_stand op.I32Extend16S = refl
+opcodes_stand op.I64Extend8S = refl
+opcodes_stand op.I64Extend16S = refl
+opcodes_stand op.I64Extend32S = refl
+opcodes_stand op.Prefix = refl
 
 pub returns-clause-opcodes : goal.returns-clause-opcodes
 returns-clause-opcodes c = opcodes_stand

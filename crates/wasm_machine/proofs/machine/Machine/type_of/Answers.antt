@@ -1,4 +1,4 @@
-use Rattle.std.proofs.Common.{◌≡◌, List, Some, None, ap, subst, Bor}
+use Rattle.std.proofs.Common.{◌≡◌, List, Some, None, ap, subst}
 use Rattle.std.specs.Prelude.{slice_get, IfSome, IfNone}
 use Rattle.wasm_machine.specs.Flat.{FlatFunction}
 use Rattle.wasm_machine.specs.Machines.{View}
