@@ -26,6 +26,7 @@ SizeWithin n sizes.Malformed = ⊤
 abbrev pub seen_place : place.Place → model.Place
 seen_place places.SizeLine = model.size_line
 seen_place (places.Inside left) = model.inside left
+seen_place places.Section = model.section
 seen_place places.Over = model.over
 
 abbrev pub seen_sought : sought.Sought → model.Sought

@@ -12,6 +12,8 @@ pub enum Place {
     SizeLine,
     /// So many bytes of a chunk's data, and then CR LF.
     Inside(u64),
+    /// The trailer section, behind the last chunk's line.
+    Section,
     /// Nothing, behind the body's end.
     Over,
 }
@@ -83,6 +85,7 @@ impl Place {
             Place::SizeLine => behind_size(text, size_step(text)),
             Place::Inside(0) => behind_data(text),
             Place::Inside(left) if !text.is_empty() => Sought::Data { at: 0, left },
+            Place::Section => Sought::Section { at: 0 },
             Place::Inside(_) | Place::Over => Sought::Waiting,
         }
     }

@@ -1,6 +1,6 @@
 // The reader of a chunked body.
 ghost use Rattle.std.specs.Prelude.{◌≡◌, ◌≤◌, ◌<◌, length, IfOk, OnErr};
-ghost use Rattle.http1_model.specs.Chunks.{start, sought, section_at, run_of};
+ghost use Rattle.http1_model.specs.Chunks.{start, sought, section_at, section_taken, place_taken, run_of};
 ghost use Rattle.http1_model.specs.Trailers.{piece_limit};
 ghost use Rattle.h1_chunks.specs.Answers.{is_data, seen_run, Answers, UsesWithin};
 ghost use Rattle.h1_chunks.specs.Seen.{seen_place};
@@ -112,6 +112,22 @@ impl ChunkReader {
         ensures { result ≡ is_data (sought self.now text.now) }
     {
         matches!(self.place.sought(text), Sought::Data { .. })
+    }
+
+    /// Reads over what stands in front of a trailer section, the last chunk's line with it, where that section is what a text has next: how
+    /// many bytes that takes, and none where something else is next. The reader then stands within the section. It takes no memory.
+    pub fn enter_section(&mut self, text: &[u8]) -> usize
+        ensures place { self.new ≡ place_taken self.old (sought self.old text.now) }
+        ensures used { result ≡ section_taken (sought self.old text.now) }
+        ensures within { result ≤ length text.now }
+    {
+        match self.place.sought(text) {
+            Sought::Section { at } => {
+                self.place = Place::Section;
+                at
+            }
+            Sought::Data { .. } | Sought::Waiting | Sought::Malformed => 0,
+        }
     }
 
     /// What a text spells from the reader's place on. The text is what follows the bytes that earlier answers used. Data comes

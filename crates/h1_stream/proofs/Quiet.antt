@@ -6,7 +6,7 @@ use Rattle.std.proofs.lemmas.Bool.{lt-leb}
 use Rattle.http1_model.specs.Lines.{with_first, whole_lines, empty_len, skipped, after_empty_lines, section_of, Cut, too_large, unfinished, cut_open, cut_lines, cut_of, window_cut, head_cut, head_limit, line_limit}
 use Rattle.http1_model.specs.Head.{not_yet, IsStepAt, IsAnswer, IsResponseAnswer}
 use Rattle.http1_model.specs.Messages.{Due, head, rest, SpellsHead, stop, stop_at, step_from}
-use Rattle.http1_model.specs.Unread.{Reading, none, IsNext, Halts, waiting, unread_at}
+use Rattle.http1_model.specs.Unread.{Reading, none, IsNext, Halts, due_at, waiting, unread_at}
 use Rattle.h1_stream.specs.Quiet.{IsQuiet}
 
 lines_behind : (t p : List ℕ) → whole_lines p ≡ [] → whole_lines (t ++ p) ≡ whole_lines t
@@ -63,7 +63,11 @@ halts r (e, d, s, h) = record {
   next = subst (λ (b : Bool). IsNext b r.asked r.due r.unread (none rest)) (sym e)
       (subst (λ (due : Due). IsNext false r.asked due r.unread (none rest)) (sym d)
       (inl (record { step = stop rest; there = (not_yet, spelled r.asked r.unread s h, ap stop (still r.asked r.unread)); is = refl })));
-  is = ap (λ (t : List ℕ). record r { unread = t }) (sym (ap (λ (due : Due). unread_at due r.unread) d ∙ ap (λ (n : ℕ). drop n r.unread) s));
+  is =
+      let due_is : r.due ≡ due_at r.due r.unread = d ∙ sym (ap (λ (due : Due). due_at due r.unread) d) in
+      let unread_is : r.unread ≡ unread_at r.due r.unread =
+      sym (ap (λ (due : Due). unread_at due r.unread) d ∙ ap (λ (n : ℕ). drop n r.unread) s) in
+      (λ j. record r { due = due_is j; unread = unread_is j });
 }
 
 pub stays_by : (quiet r : Bool) (o : Option ℕ) (ended : Bool) (due : Due) (t p : List ℕ) → quiet ≡ true → MatchOption o (whole_lines p ≡ []) (λ len. whole_lines p ≡ take len p ∷ whole_lines (drop len p))

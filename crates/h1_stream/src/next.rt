@@ -1,5 +1,5 @@
 // What is unread next, where a head is due; and what all bodies share.
-ghost use Rattle.std.specs.Prelude.{◌≡◌, ◌≤◌, Some, length, IfOk};
+ghost use Rattle.std.specs.Prelude.{◌≡◌, ◌≤◌, Some, drop, length, IfOk};
 ghost use Rattle.http1_model.specs.Messages.{head, due_next, malformed, stop_short, item_of, stop_at};
 ghost use Rattle.http1_model.specs.Messages as model;
 ghost use Rattle.http1_model.specs.Unread.{IsNext, by_itself};
@@ -36,6 +36,24 @@ pub(crate) enum Due {
     Body(Body),
     /// Nothing: a response is whole.
     Done,
+}
+
+impl Due {
+    ghost use Rattle.http1_model.specs.Unread.{due_at, unread_at};
+
+    /// Reads over what stands in front of the next part of a text: empty lines in front of a head, and a last chunk's line in front of a
+    /// trailer section. How many bytes that takes.
+    pub(crate) fn read_over(&mut self, text: &[u8]) -> usize
+        ensures due { seen_due self.new ≡ due_at (seen_due self.old) text.now }
+        ensures unread { drop result text.now ≡ unread_at (seen_due self.old) text.now }
+        ensures within { result ≤ length text.now }
+    {
+        match self {
+            Due::Head => skip_empty_lines(text),
+            Due::Body(Body::Coded { reader, .. }) => reader.enter_section(text),
+            Due::Body(Body::Counted(_) | Body::Unbounded) | Due::Done => 0,
+        }
+    }
 }
 
 /// Why no further item comes.

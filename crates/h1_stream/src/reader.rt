@@ -201,14 +201,12 @@ impl MessageReader {
         self.quiet = is_unfinished(self.ended, &self.due, self.text.as_slice());
     }
 
-    /// Reads over empty lines where a head is due.
+    /// Reads over what counts as read where no part is next.
     fn skip(&mut self)
         ensures { self.new ≡ waiting self.old }
     {
         self.quiet = false;
-        if let Due::Head = self.due {
-            let count = skip_empty_lines(self.text.as_slice());
-            self.text.use_up(count);
-        }
+        let used = self.due.read_over(self.text.as_slice());
+        self.text.use_up(used);
     }
 }

@@ -13,6 +13,7 @@ use Rattle.http1_model.specs.Unread.{Part, head_part, interim_part, piece, trail
 use Rattle.http1_model.specs.ReadingLaws.{item_at}
 use Rattle.http1_model.proofs.Readings.{item_stays, item_is_no_stop, same_item, place_fits}
 use Rattle.http1_model.proofs.Parts.{head_item_behind, same_part, same_next}
+use Rattle.http1_model.proofs.Sections.{section_goes_behind, no_section_octet}
 
 -- ---- chains
 
@@ -318,6 +319,31 @@ more_alone k (response h) n d = refl
 more_alone k (octet b) n d = refl
 more_alone k end n d = refl
 more_alone k (trailers fields) n d = refl
+
+-- what is unread next behind a last chunk's line is so in front of it
+pub section_part_behind : (ended : Bool) (asked : Option (List ℕ)) (connection : List (List ℕ)) (place : chunks.Place) (k : ℕ) (text : List ℕ)
+    → (p : Part) (used : ℕ) (next : Due) → chunks.sought place text ≡ chunks.section_at k
+    → IsNext ended asked (body (coded connection chunks.section)) (drop k text) (part p used next)
+    → IsNext ended asked (body (coded connection place)) text (part p (k + used) next)
+section_part_behind ended asked connection place k text p used next is (inl x) = by_step x.step x.there x.is
+  where
+    by_step : (a : Step) → StepsTo ended asked (body (coded connection chunks.section)) (drop k text) a → by_itself a ≡ Some (part p used next)
+        → IsNext ended asked (body (coded connection place)) text (part p (k + used) next)
+    by_step (item i n d) there e = inl (record {
+      step = item i (k + n) d;
+      there = subst (λ (s : chunks.Sought). IsCodedStep ended asked connection text s (item i (k + n) d)) (sym is)
+          (section_goes_behind ended asked connection k (drop k text) (item i n d) there);
+      is = more_alone k i n d ∙ ap (option_map (more k)) e;
+    })
+    by_step (stop why) there e = absurd (no_part e)
+      where
+        no_part : ◌≡◌ {A = Option Next} (Some (none why)) (Some (part p used next)) → ⊥
+        no_part e = cc
+section_part_behind ended asked connection place k text p used next is (inr x) = absurd (no_bytes x.bytes x.used x.mid x.carried x.some)
+  where
+    no_bytes : (bytes : List ℕ) (n : ℕ) (mid : Due) → Carries ended asked (body (coded connection chunks.section)) (drop k text) bytes n mid → 0 < length bytes → ⊥
+    no_bytes [] n mid c some = omega arith
+    no_bytes (b ∷ bytes) n mid c some = no_section_octet ended asked connection (drop k text) b c.0 c.2 c.3
 
 -- where a head is due, what is unread next behind empty lines is so in front of them
 pub head_part_behind : (ended : Bool) (asked : Option (List ℕ)) (k : ℕ) (s t : List ℕ) (p : Part) (used : ℕ) (next : Due) → skipped s ≡ k + skipped t

@@ -16,7 +16,7 @@ use Rattle.httparse.proofs.GrammarLemmas.{section_unique}
 use Rattle.http1_model.specs.Fields.{Pair}
 use Rattle.http1_model.specs.Lines.{Cut, whole, too_large, unfinished, whole_lines, section_of, cut_open, cut_lines}
 use Rattle.http1_model.proofs.Growth.{lines_grow, section_of-append, ManyOrNone, section_of-longer, IsDone, section_fits}
-use Rattle.http1_model.specs.Chunks.{is_before_end, front_of, number_of_digits, is_no_line_end, are_extensions, size_told, line_ended, told_step, front_step, SizeStep, sized, size_open, no_size, size_step, Place, size_line, inside, over, Sought, data_at, section_at, waiting, malformed, sought, behind_size, behind_data, moved, Run, no_run, with_byte, if_data, run_of}
+use Rattle.http1_model.specs.Chunks.{is_before_end, front_of, number_of_digits, is_no_line_end, are_extensions, size_told, line_ended, told_step, front_step, SizeStep, sized, size_open, no_size, size_step, Place, size_line, inside, section, over, Sought, data_at, section_at, waiting, malformed, sought, behind_size, behind_data, moved, Run, no_run, with_byte, if_data, run_of}
 use Rattle.http1_model.specs.Trailers.{ChunkStep, carried, not_yet, EndsWith, window_section, IsSection, kept_trailers, end_of, IsEnd, IsBehind, SpellsChunks, section_cut}
 use Rattle.http1_model.specs.ChunkLaws.{OneChunkStep, is_last, LastStepStays, SizeStays, SoughtStays, joined, RunsJoin}
 
@@ -298,6 +298,7 @@ data_stays (cr ∷ lf ∷ text) more t e closed = by_test (eqb cr 13 && eqb lf 1
 
 pub sought_stays : SoughtStays
 sought_stays size_line text more s e closed = behind_stays text more (size_step text) s refl e closed
+sought_stays section text more s e closed = e
 sought_stays over text more s e closed = absurd (closed (sym e))
 sought_stays (inside left) text more s e closed = by_left (eqb left 0) e
   where
@@ -359,6 +360,7 @@ data_fits (cr ∷ lf ∷ text) at left e = by_test (eqb cr 13 && eqb lf 10) e
 
 pub sought_fits : (p : Place) (text : List ℕ) (at left : ℕ) → sought p text ≡ data_at at left → at < length text
 sought_fits size_line text at left e = size_fits text (size_step text) at left e
+sought_fits section text at left e = absurd (cc)
 sought_fits over text at left e = absurd (cc)
 sought_fits (inside n) text at left e = by_left (eqb n 0) e
   where
@@ -580,6 +582,7 @@ data_section (cr ∷ lf ∷ text) at e = by_test (eqb cr 13 && eqb lf 10) e
 
 pub section_within : (p : Place) (text : List ℕ) (at : ℕ) → sought p text ≡ section_at at → at ≤ length text
 section_within size_line text at e = size_section text (size_step text) at refl e
+section_within section text at e = let same : 0 ≡ at = cc in omega (arith, same)
 section_within over text at e = absurd (cc)
 section_within (inside n) text at e = by_left (eqb n 0) e
   where

@@ -13,6 +13,8 @@ pub mod ReadingExamples
 pub mod Parts
 pub mod Pieces
 pub mod Readings
+pub mod Sections
+pub mod Rests
 pub mod Received
 pub mod TargetLemmas
 pub mod Framed

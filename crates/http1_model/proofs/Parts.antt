@@ -4,12 +4,14 @@ use Rattle.std.proofs.lemmas.List.{drop-drop}
 use Rattle.std.specs.Prelude.{◌⊎◌}
 use Rattle.http1_model.specs.Lines.{Cut, whole, too_large, unfinished, head_cut, skipped, after_empty_lines}
 use Rattle.http1_model.specs.Head.{Head, HeadStep, found, not_yet, refused, step_of, IsAnswer, IsResponseAnswer, IsStepAt, SpellsBy}
-use Rattle.http1_model.specs.Messages.{Item, request, interim, response, octet, end, trailers, Due, head, body, done, Stop, over, refusal, Step, item, stop, due_behind, is_interim, item_of, stop_at, step_from, SpellsHead, StepsTo}
+use Rattle.http1_model.specs.Messages.{Item, request, interim, response, octet, end, trailers, counted, coded, unbounded, Due, head, body, done, Stop, over, refusal, Step, item, stop, due_behind, is_interim, item_of, stop_at, step_from, SpellsHead, IsCodedStep, StepsTo}
+use Rattle.http1_model.specs.Chunks as chunks
 use Rattle.http1_model.specs.Trailers.{piece_limit}
-use Rattle.http1_model.specs.Unread.{Part, head_part, interim_part, piece, trailer_part, Next, part, none, Carries, by_itself, piece_before, IsNoOctet, IsNext, Reading, unread_at, Halts}
+use Rattle.http1_model.specs.Unread.{Part, head_part, interim_part, piece, trailer_part, Next, part, none, Carries, by_itself, piece_before, IsNoOctet, IsNext, Reading, due_at, unread_at, Halts}
 use Rattle.http1_model.specs.ReadingLaws.{OnePart, RefusedStays}
 use Rattle.http1_model.proofs.EmptyLines.{empty_front, after-behind}
 use Rattle.http1_model.proofs.Readings.{Answers, StepsTo-unique, item_is_no_stop, same_item, refused_at}
+use Rattle.http1_model.proofs.Sections.{further, section_stops}
 
 -- ---- a stop, and a part
 
@@ -184,9 +186,6 @@ head_stop ended asked s t why same x = by_step x.0 x.1 x.2
     by_step (refused number) spells e = (refused number, stop_spelled asked s t (refused number) same (λ h n e. cc) spells, e)
 
 -- with so many bytes more in front of it
-abbrev further : ℕ → Step → Step
-further k (item i used next) = item i (k + used) next
-further k (stop why) = stop why
 
 item_moves : (answers : Answers) (large k at : ℕ) (text : List ℕ) (c : Cut) (h : Head) (used : ℕ)
     → IsStepAt answers large at text c (found h used) → IsStepAt answers large (k + at) text c (found h (k + used))
@@ -249,9 +248,18 @@ after-after text =
     sym (after-behind f.lines (after_empty_lines text)) ∙ ap after_empty_lines (sym f.are)
 
 waits_there : (ended : Bool) (asked : Option (List ℕ)) (due : Due) (text : List ℕ) (why : Stop)
-    → StepsTo ended asked due text (stop why) → StepsTo ended asked due (unread_at due text) (stop why)
+    → StepsTo ended asked due text (stop why) → StepsTo ended asked (due_at due text) (unread_at due text) (stop why)
 waits_there ended asked head text why x = head_stop ended asked text (after_empty_lines text) why (sym (after-after text)) x
-waits_there ended asked (body b) text why x = x
+waits_there ended asked (body (counted n)) text why x = x
+waits_there ended asked (body (coded connection place)) text why x = by_sought (chunks.sought place text) refl x
+  where
+    by_sought : (s : chunks.Sought) → chunks.sought place text ≡ s → IsCodedStep ended asked connection text s (stop why)
+        → StepsTo ended asked (body (coded connection (chunks.place_taken place s))) (drop (chunks.section_taken s) text) (stop why)
+    by_sought (chunks.data_at at left) is y = subst (λ (s : chunks.Sought). IsCodedStep ended asked connection text s (stop why)) (sym is) y
+    by_sought (chunks.section_at at) is y = section_stops ended asked connection at (drop at text) why y
+    by_sought chunks.waiting is y = subst (λ (s : chunks.Sought). IsCodedStep ended asked connection text s (stop why)) (sym is) y
+    by_sought chunks.malformed is y = subst (λ (s : chunks.Sought). IsCodedStep ended asked connection text s (stop why)) (sym is) y
+waits_there ended asked (body unbounded) text why x = x
 waits_there ended asked done text why x = x
 
 -- where a reader halts, it halts again

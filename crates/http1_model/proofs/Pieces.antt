@@ -4,48 +4,94 @@ use Rattle.std.proofs.lemmas.List.{drop-drop, drop-append-le, append-nil, append
 use Rattle.std.proofs.Math.Seq.{drop-append-add}
 use Rattle.std.specs.Prelude.{◌⊎◌}
 use Rattle.http1_model.specs.Lines.{skipped, after_empty_lines}
-use Rattle.http1_model.specs.Messages.{Item, Placed, Due, head, body, done, Stop, stop, StepsTo, Messages}
-use Rattle.http1_model.specs.Unread.{Part, part, IsNext, Reading, new_reading, fed, finished, moved_on, unread_at, waiting, Hands, Halts, Act, feeds, ends, hands, halts, DoesAll, text_of, items_in, items_handed}
+use Rattle.http1_model.specs.Chunks as chunks
+use Rattle.http1_model.specs.Messages.{Item, Placed, counted, coded, unbounded, Due, head, body, done, Stop, stop, IsCodedStep, StepsTo, Messages}
+use Rattle.http1_model.specs.Unread.{Part, part, IsNext, Reading, new_reading, fed, finished, moved_on, due_at, unread_at, waiting, Hands, Halts, Act, feeds, ends, hands, halts, DoesAll, text_of, items_in, items_handed}
 use Rattle.http1_model.specs.ReadingLaws.{item_at, PiecesAreWhole, CutsAlike}
 use Rattle.http1_model.proofs.EmptyLines.{empties, empties-append, skipped-behind, after-behind, empty_front}
 use Rattle.http1_model.proofs.Parts.{none_is_stop, head_stop}
-use Rattle.http1_model.proofs.Chains.{Chain, chain_joins, chain_spells, chain_grows, chain_fits, chain_part, head_part_behind}
+use Rattle.http1_model.proofs.Chains.{Chain, chain_joins, chain_spells, chain_grows, chain_fits, chain_part, section_part_behind, head_part_behind}
+use Rattle.http1_model.proofs.ChunkLaws.{sought_stays, section_within}
+use Rattle.http1_model.proofs.Sections.{section_goes_behind}
 use Rattle.http1_model.proofs.Readings.{one_reading}
 
--- This is unread from the place `at` of a text on: the text there, but where a head is due the empty lines in front of it may have
--- been read.
-record IsUnread (text : List ℕ) (due : Due) (at : ℕ) (unread : List ℕ) : Type 0 where
+-- Where `next` is due at the place `at` of a text, a reader has this due and this unread: it stands there, and nothing was read;
+record IsThere (text : List ℕ) (next : Due) (at : ℕ) (due : Due) (unread : List ℕ) : Type 0 where
+  same_due : due ≡ next
+  are : drop at text ≡ unread
+
+-- or behind empty lines in front of a head;
+record IsBehindLines (text : List ℕ) (next : Due) (at : ℕ) (due : Due) (unread : List ℕ) : Type 0 where
+  next_is : next ≡ head
+  due_is : due ≡ head
   lines : List Bool
   are : drop at text ≡ empties lines ++ unread
-  skips : (lines ≡ []) ⊎ (due ≡ head)
+
+-- or behind what stands in front of a trailer section
+record IsInSection (text : List ℕ) (next : Due) (at : ℕ) (due : Due) (unread : List ℕ) : Type 0 where
+  connection : List (List ℕ)
+  place : chunks.Place
+  size : ℕ
+  next_is : next ≡ body (coded connection place)
+  due_is : due ≡ body (coded connection chunks.section)
+  found : chunks.sought place (drop at text) ≡ chunks.section_at size
+  are : drop size (drop at text) ≡ unread
+
+abbrev IsUnread : (text : List ℕ) (next : Due) (at : ℕ) (due : Due) (unread : List ℕ) → Type 0
+IsUnread text next at due unread = IsThere text next at due unread ⊎ (IsBehindLines text next at due unread ⊎ IsInSection text next at due unread)
 
 -- These items were handed on of a text, and a reader stands behind them.
 record Stands (asked : Option (List ℕ)) (text : List ℕ) (handed : List Item) (r : Reading) : Type 0 where
   same_asked : r.asked ≡ asked
   items : List Placed
   at : ℕ
-  chain : Chain text r.ended asked head 0 items r.due at
+  next : Due
+  chain : Chain text r.ended asked head 0 items next at
   same : map item_at items ≡ handed
-  left : IsUnread text r.due at r.unread
+  left : IsUnread text next at r.due r.unread
 
 -- ---- one act
+
+no_waiting : (size : ℕ) → chunks.section_at size ≡ chunks.waiting → ⊥
+no_waiting size e = cc
+
+unread_fed : (text bytes : List ℕ) (next : Due) (at : ℕ) (due : Due) (unread : List ℕ) → at ≤ length text → IsUnread text next at due unread
+    → IsUnread (text ++ bytes) next at due (unread ++ bytes)
+unread_fed text bytes next at due unread fits (inl x) =
+    inl (record { same_due = x.same_due; are = drop-append-le at text bytes fits ∙ ap (λ (t : List ℕ). t ++ bytes) x.are })
+unread_fed text bytes next at due unread fits (inr (inl x)) = inr (inl (record {
+  next_is = x.next_is;
+  due_is = x.due_is;
+  lines = x.lines;
+  are = drop-append-le at text bytes fits ∙ ap (λ (t : List ℕ). t ++ bytes) x.are ∙ append_assoc (empties x.lines) unread bytes;
+}))
+unread_fed text bytes next at due unread fits (inr (inr x)) =
+    let split : drop at (text ++ bytes) ≡ drop at text ++ bytes = drop-append-le at text bytes fits in
+    let within : x.size ≤ length (drop at text) = section_within x.place (drop at text) x.size x.found in
+    inr (inr (record {
+      connection = x.connection;
+      place = x.place;
+      size = x.size;
+      next_is = x.next_is;
+      due_is = x.due_is;
+      found = ap (chunks.sought x.place) split
+          ∙ sought_stays x.place (drop at text) bytes (chunks.section_at x.size) x.found (no_waiting x.size);
+      are = ap (drop x.size) split ∙ drop-append-le x.size (drop at text) bytes within ∙ ap (λ (t : List ℕ). t ++ bytes) x.are;
+    }))
 
 stands_fed : (asked : Option (List ℕ)) (text bytes : List ℕ) (handed : List Item) (r : Reading) → Stands asked text handed r → r.ended ≡ false
     → Stands asked (text ++ bytes) handed (fed bytes r)
 stands_fed asked text bytes handed r s goes_on =
-    let chain : Chain text false asked head 0 s.items r.due s.at = subst (λ (e : Bool). Chain text e asked head 0 s.items r.due s.at) goes_on s.chain in
-    let fits : s.at ≤ length text = chain_fits text asked head 0 s.items r.due s.at (omega arith) chain in
+    let chain : Chain text false asked head 0 s.items s.next s.at = subst (λ (e : Bool). Chain text e asked head 0 s.items s.next s.at) goes_on s.chain in
+    let fits : s.at ≤ length text = chain_fits text asked head 0 s.items s.next s.at (omega arith) chain in
     record {
       same_asked = s.same_asked;
       items = s.items;
       at = s.at;
-      chain = chain_grows text bytes r.ended asked head 0 s.items r.due s.at (omega arith) chain;
+      next = s.next;
+      chain = chain_grows text bytes r.ended asked head 0 s.items s.next s.at (omega arith) chain;
       same = s.same;
-      left = record {
-        lines = s.left.lines;
-        are = drop-append-le s.at text bytes fits ∙ ap (λ (t : List ℕ). t ++ bytes) s.left.are ∙ append_assoc (empties s.left.lines) r.unread bytes;
-        skips = s.left.skips;
-      };
+      left = unread_fed text bytes s.next s.at r.due r.unread fits s.left;
     }
 
 chain_ends : (text : List ℕ) (asked : Option (List ℕ)) (items : List Placed) (due : Due) (at : ℕ) (e : Bool) → Chain text e asked head 0 items due at
@@ -59,70 +105,137 @@ stands_finished asked text handed r s = record {
   same_asked = s.same_asked;
   items = s.items;
   at = s.at;
-  chain = chain_ends text asked s.items r.due s.at r.ended s.chain;
+  next = s.next;
+  chain = chain_ends text asked s.items s.next s.at r.ended s.chain;
   same = s.same;
   left = s.left;
 }
 
 -- what is next of what is unread, at its place in the text
-record NextThere (text : List ℕ) (ended : Bool) (asked : Option (List ℕ)) (due : Due) (at : ℕ) (unread : List ℕ) (p : Part) (used : ℕ) (next : Due) : Type 0 where
+record NextThere (text : List ℕ) (ended : Bool) (asked : Option (List ℕ)) (next : Due) (at : ℕ) (unread : List ℕ) (p : Part) (used : ℕ) (behind : Due) : Type 0 where
   more : ℕ
-  there : IsNext ended asked due (drop at text) (part p more next)
-  behind : drop more (drop at text) ≡ drop used unread
+  there : IsNext ended asked next (drop at text) (part p more behind)
+  left : drop more (drop at text) ≡ drop used unread
 
-next_there : (text : List ℕ) (ended : Bool) (asked : Option (List ℕ)) (due : Due) (at : ℕ) (unread : List ℕ) (p : Part) (used : ℕ) (next : Due)
-    → IsUnread text due at unread → IsNext ended asked due unread (part p used next) → NextThere text ended asked due at unread p used next
-next_there text ended asked due at unread p used next left x = by_skips left.skips
-  where
-    by_skips : (left.lines ≡ []) ⊎ (due ≡ head) → NextThere text ended asked due at unread p used next
-    by_skips (inl no_lines) =
-        let same : drop at text ≡ unread = left.are ∙ ap (λ (ls : List Bool). empties ls ++ unread) no_lines in
-        record {
-          more = used;
-          there = subst (λ (t : List ℕ). IsNext ended asked due t (part p used next)) (sym same) x;
-          behind = ap (drop used) same;
-        }
-    by_skips (inr at_head) =
-        let front = empties left.lines in
-        let further : skipped (drop at text) ≡ length front + skipped unread = ap skipped left.are ∙ skipped-behind left.lines unread in
-        let after : after_empty_lines (drop at text) ≡ after_empty_lines unread = ap after_empty_lines left.are ∙ after-behind left.lines unread in
-        let here : IsNext ended asked head unread (part p used next) = subst (λ (d : Due). IsNext ended asked d unread (part p used next)) at_head x in
-        record {
-          more = length front + used;
-          there = subst (λ (d : Due). IsNext ended asked d (drop at text) (part p (length front + used) next)) (sym at_head)
-              (head_part_behind ended asked (length front) (drop at text) unread p used next further after here);
-          behind = ap (drop (length front + used)) left.are ∙ drop-append-add front unread used;
-        }
+next_there : (text : List ℕ) (ended : Bool) (asked : Option (List ℕ)) (next : Due) (at : ℕ) (due : Due) (unread : List ℕ) (p : Part) (used : ℕ) (behind : Due)
+    → IsUnread text next at due unread → IsNext ended asked due unread (part p used behind) → NextThere text ended asked next at unread p used behind
+next_there text ended asked next at due unread p used behind (inl u) x =
+    let here : IsNext ended asked next unread (part p used behind) = subst (λ (d : Due). IsNext ended asked d unread (part p used behind)) u.same_due x in
+    record {
+      more = used;
+      there = subst (λ (t : List ℕ). IsNext ended asked next t (part p used behind)) (sym u.are) here;
+      left = ap (drop used) u.are;
+    }
+next_there text ended asked next at due unread p used behind (inr (inl u)) x =
+    let front = empties u.lines in
+    let further : skipped (drop at text) ≡ length front + skipped unread = ap skipped u.are ∙ skipped-behind u.lines unread in
+    let after : after_empty_lines (drop at text) ≡ after_empty_lines unread = ap after_empty_lines u.are ∙ after-behind u.lines unread in
+    let here : IsNext ended asked head unread (part p used behind) = subst (λ (d : Due). IsNext ended asked d unread (part p used behind)) u.due_is x in
+    record {
+      more = length front + used;
+      there = subst (λ (d : Due). IsNext ended asked d (drop at text) (part p (length front + used) behind)) (sym u.next_is)
+          (head_part_behind ended asked (length front) (drop at text) unread p used behind further after here);
+      left = ap (drop (length front + used)) u.are ∙ drop-append-add front unread used;
+    }
+next_there text ended asked next at due unread p used behind (inr (inr u)) x =
+    let here : IsNext ended asked (body (coded u.connection chunks.section)) unread (part p used behind) =
+    subst (λ (d : Due). IsNext ended asked d unread (part p used behind)) u.due_is x in
+    let moved : IsNext ended asked (body (coded u.connection chunks.section)) (drop u.size (drop at text)) (part p used behind) =
+    subst (λ (t : List ℕ). IsNext ended asked (body (coded u.connection chunks.section)) t (part p used behind)) (sym u.are) here in
+    record {
+      more = u.size + used;
+      there = subst (λ (d : Due). IsNext ended asked d (drop at text) (part p (u.size + used) behind)) (sym u.next_is)
+          (section_part_behind ended asked u.connection u.place u.size (drop at text) p used behind u.found moved);
+      left = sym (drop-drop used u.size (drop at text)) ∙ ap (drop used) u.are;
+    }
 
 stands_handed : (asked : Option (List ℕ)) (text : List ℕ) (handed : List Item) (r new : Reading) (p : Part) → Stands asked text handed r → Hands r p new
     → Stands asked text (handed ++ items_in asked p) new
 stands_handed asked text handed r new p s h =
     let next : IsNext r.ended asked r.due r.unread (part p h.used h.due) =
     subst (λ (a : Option (List ℕ)). IsNext r.ended a r.due r.unread (part p h.used h.due)) s.same_asked h.next in
-    let n = next_there text r.ended asked r.due s.at r.unread p h.used h.due s.left next in
-    let c = chain_part text r.ended asked r.due s.at p n.more h.due n.there in
+    let n = next_there text r.ended asked s.next s.at r.due r.unread p h.used h.due s.left next in
+    let c = chain_part text r.ended asked s.next s.at p n.more h.due n.there in
     let moved : Stands asked text (handed ++ items_in asked p) (moved_on h.used h.due r) = record {
       same_asked = s.same_asked;
       items = s.items ++ c.items;
       at = s.at + n.more;
-      chain = chain_joins text r.ended asked head 0 s.items c.items r.due h.due s.at (s.at + n.more) s.chain c.chain;
+      next = h.due;
+      chain = chain_joins text r.ended asked head 0 s.items c.items s.next h.due s.at (s.at + n.more) s.chain c.chain;
       same = map-append item_at s.items c.items ∙ (λ k. s.same k ++ c.same k);
-      left = record { lines = []; are = sym (drop-drop n.more s.at text) ∙ n.behind; skips = inl refl };
+      left = inl (record { same_due = refl; are = sym (drop-drop n.more s.at text) ∙ n.left });
     } in
     subst (λ (q : Reading). Stands asked text (handed ++ items_in asked p) q) (sym h.is) moved
 
-waits : (text : List ℕ) (due : Due) (at : ℕ) (unread : List ℕ) → IsUnread text due at unread → IsUnread text due at (unread_at due unread)
-waits text head at unread left =
+-- ---- what counts as read
+
+abbrev Waits : List ℕ → Due → ℕ → Due → List ℕ → Type 0
+Waits text next at due unread = IsUnread text next at (due_at due unread) (unread_at due unread)
+
+waits_in_head : (text : List ℕ) (next : Due) (at : ℕ) (unread : List ℕ) → IsUnread text next at head unread → Waits text next at head unread
+waits_in_head text next at unread (inl u) =
     let f = empty_front unread in
-    record {
-      lines = left.lines ++ f.lines;
-      are = left.are ∙ ap (λ (t : List ℕ). empties left.lines ++ t) f.are
-          ∙ sym (append_assoc (empties left.lines) (empties f.lines) (after_empty_lines unread))
-          ∙ ap (λ (t : List ℕ). t ++ after_empty_lines unread) (sym (empties-append left.lines f.lines));
-      skips = inr refl;
-    }
-waits text (body b) at unread left = left
-waits text done at unread left = left
+    inr (inl (record { next_is = sym u.same_due; due_is = refl; lines = f.lines; are = u.are ∙ f.are }))
+waits_in_head text next at unread (inr (inl u)) =
+    let f = empty_front unread in
+    inr (inl (record {
+      next_is = u.next_is;
+      due_is = refl;
+      lines = u.lines ++ f.lines;
+      are = u.are ∙ ap (λ (t : List ℕ). empties u.lines ++ t) f.are
+          ∙ sym (append_assoc (empties u.lines) (empties f.lines) (after_empty_lines unread))
+          ∙ ap (λ (t : List ℕ). t ++ after_empty_lines unread) (sym (empties-append u.lines f.lines));
+    }))
+waits_in_head text next at unread (inr (inr u)) = absurd (no_body u.due_is)
+  where
+    no_body : head ≡ body (coded u.connection chunks.section) → ⊥
+    no_body e = cc
+
+waits_in_coding : (text : List ℕ) (next : Due) (at : ℕ) (connection : List (List ℕ)) (place : chunks.Place) (unread : List ℕ) (s : chunks.Sought)
+    → chunks.sought place unread ≡ s → IsUnread text next at (body (coded connection place)) unread
+    → IsUnread text next at (body (coded connection (chunks.place_taken place s))) (drop (chunks.section_taken s) unread)
+waits_in_coding text next at connection place unread (chunks.data_at n left) is x = x
+waits_in_coding text next at connection place unread chunks.waiting is x = x
+waits_in_coding text next at connection place unread chunks.malformed is x = x
+waits_in_coding text next at connection place unread (chunks.section_at n) is (inl u) = inr (inr (record {
+  connection = connection;
+  place = place;
+  size = n;
+  next_is = sym u.same_due;
+  due_is = refl;
+  found = ap (chunks.sought place) u.are ∙ is;
+  are = ap (drop n) u.are;
+}))
+waits_in_coding text next at connection place unread (chunks.section_at n) is (inr (inl u)) = absurd (no_head u.due_is)
+  where
+    no_head : body (coded connection place) ≡ head → ⊥
+    no_head e = cc
+waits_in_coding text next at connection place unread (chunks.section_at n) is (inr (inr u)) = inr (inr (record {
+  connection = u.connection;
+  place = u.place;
+  size = u.size;
+  next_is = u.next_is;
+  due_is = ap (λ (c : List (List ℕ)). body (coded c chunks.section)) (same_names u.due_is);
+  found = u.found;
+  are = u.are ∙ ap (λ (k : ℕ). drop k unread) (same_place (sym is ∙ ap (λ (p : chunks.Place). chunks.sought p unread) (same_section u.due_is)));
+}))
+  where
+    same_names : body (coded connection place) ≡ body (coded u.connection chunks.section) → connection ≡ u.connection
+    same_names e = cc
+
+    same_section : body (coded connection place) ≡ body (coded u.connection chunks.section) → place ≡ chunks.section
+    same_section e = cc
+
+    same_place : chunks.section_at n ≡ chunks.section_at 0 → 0 ≡ n
+    same_place e = cc
+
+waits : (text : List ℕ) (next : Due) (at : ℕ) (due : Due) (unread : List ℕ) → IsUnread text next at due unread → Waits text next at due unread
+waits text next at head unread left = waits_in_head text next at unread left
+waits text next at (body (counted n)) unread left = left
+waits text next at (body (coded connection place)) unread left =
+    waits_in_coding text next at connection place unread (chunks.sought place unread) refl left
+waits text next at (body unbounded) unread left = left
+waits text next at done unread left = left
 
 stands_halted : (asked : Option (List ℕ)) (text : List ℕ) (handed : List Item) (r new : Reading) (why : Stop) → Stands asked text handed r → Halts r why new
     → Stands asked text handed new
@@ -131,9 +244,10 @@ stands_halted asked text handed r new why s h =
       same_asked = s.same_asked;
       items = s.items;
       at = s.at;
+      next = s.next;
       chain = s.chain;
       same = s.same;
-      left = waits text r.due s.at r.unread s.left;
+      left = waits text s.next s.at r.due r.unread s.left;
     } in
     subst (λ (q : Reading). Stands asked text handed q) (sym h.is) waiting_there
 
@@ -161,19 +275,25 @@ stands_behind asked (halts why ∷ acts) text handed old r s d =
     stands_behind asked acts text handed d.0 r (stands_halted asked text handed old d.0 why s d.1) d.2
 
 -- where no part is next of what is unread, the text stops
-stops_there : (text : List ℕ) (ended : Bool) (asked : Option (List ℕ)) (due : Due) (at : ℕ) (unread : List ℕ) (why : Stop) → IsUnread text due at unread
-    → StepsTo ended asked due unread (stop why) → StepsTo ended asked due (drop at text) (stop why)
-stops_there text ended asked due at unread why left x = by_skips left.skips
-  where
-    by_skips : (left.lines ≡ []) ⊎ (due ≡ head) → StepsTo ended asked due (drop at text) (stop why)
-    by_skips (inl no_lines) =
-        let same : drop at text ≡ unread = left.are ∙ ap (λ (ls : List Bool). empties ls ++ unread) no_lines in
-        subst (λ (t : List ℕ). StepsTo ended asked due t (stop why)) (sym same) x
-    by_skips (inr at_head) =
-        let after : after_empty_lines unread ≡ after_empty_lines (drop at text) =
-        sym (ap after_empty_lines left.are ∙ after-behind left.lines unread) in
-        let here : StepsTo ended asked head unread (stop why) = subst (λ (d : Due). StepsTo ended asked d unread (stop why)) at_head x in
-        subst (λ (d : Due). StepsTo ended asked d (drop at text) (stop why)) (sym at_head) (head_stop ended asked unread (drop at text) why after here)
+stops_there : (text : List ℕ) (ended : Bool) (asked : Option (List ℕ)) (next : Due) (at : ℕ) (due : Due) (unread : List ℕ) (why : Stop)
+    → IsUnread text next at due unread → StepsTo ended asked due unread (stop why) → StepsTo ended asked next (drop at text) (stop why)
+stops_there text ended asked next at due unread why (inl u) x =
+    subst (λ (t : List ℕ). StepsTo ended asked next t (stop why)) (sym u.are)
+    (subst (λ (d : Due). StepsTo ended asked d unread (stop why)) u.same_due x)
+stops_there text ended asked next at due unread why (inr (inl u)) x =
+    let after : after_empty_lines unread ≡ after_empty_lines (drop at text) =
+    sym (ap after_empty_lines u.are ∙ after-behind u.lines unread) in
+    let here : StepsTo ended asked head unread (stop why) = subst (λ (d : Due). StepsTo ended asked d unread (stop why)) u.due_is x in
+    subst (λ (d : Due). StepsTo ended asked d (drop at text) (stop why)) (sym u.next_is) (head_stop ended asked unread (drop at text) why after here)
+stops_there text ended asked next at due unread why (inr (inr u)) x =
+    let here : StepsTo ended asked (body (coded u.connection chunks.section)) unread (stop why) =
+    subst (λ (d : Due). StepsTo ended asked d unread (stop why)) u.due_is x in
+    let moved : StepsTo ended asked (body (coded u.connection chunks.section)) (drop u.size (drop at text)) (stop why) =
+    subst (λ (t : List ℕ). StepsTo ended asked (body (coded u.connection chunks.section)) t (stop why)) (sym u.are) here in
+    let there : StepsTo ended asked (body (coded u.connection u.place)) (drop at text) (stop why) =
+    subst (λ (s : chunks.Sought). IsCodedStep ended asked u.connection (drop at text) s (stop why)) (sym u.found)
+    (section_goes_behind ended asked u.connection u.size (drop u.size (drop at text)) (stop why) moved) in
+    subst (λ (d : Due). StepsTo ended asked d (drop at text) (stop why)) (sym u.next_is) there
 
 pub pieces_are_whole : PiecesAreWhole
 pieces_are_whole asked acts r why does next =
@@ -181,15 +301,16 @@ pieces_are_whole asked acts r why does next =
       same_asked = refl;
       items = [];
       at = 0;
+      next = head;
       chain = (refl, refl);
       same = refl;
-      left = record { lines = []; are = refl; skips = inl refl };
+      left = inl (record { same_due = refl; are = refl });
     } in
     let s = stands_behind asked acts [] [] (new_reading asked) r new does in
     let halted : StepsTo r.ended asked r.due r.unread (stop why) =
     subst (λ (a : Option (List ℕ)). StepsTo r.ended a r.due r.unread (stop why)) s.same_asked (none_is_stop r.ended r.asked r.due r.unread why next) in
-    let there = stops_there (text_of acts) r.ended asked r.due s.at r.unread why s.left halted in
-    record { items = s.items; spelled = chain_spells (text_of acts) r.ended asked head 0 s.items r.due s.at why s.chain there; same = s.same }
+    let there = stops_there (text_of acts) r.ended asked s.next s.at r.due r.unread why s.left halted in
+    record { items = s.items; spelled = chain_spells (text_of acts) r.ended asked head 0 s.items s.next s.at why s.chain there; same = s.same }
 
 pub cuts_alike : CutsAlike
 cuts_alike asked acts others r s why reason does did same_text same_end next last =

@@ -9,7 +9,7 @@ use Rattle.http1_model.specs.ChunkWire.{last_chunk}
 use Rattle.http1_model.specs.ChunkExamples.{chunked_text}
 use Rattle.http1_model.specs.Trailers.{ended, not_yet}
 use Rattle.http1_model.specs.Messages.{end, trailers, counted, coded, unbounded, head, body, done, rest, over, refusal, item, stop}
-use Rattle.http1_model.specs.ReadingExamples.{CountedExamples, UnboundedExamples, CodedExamples, ListedExamples, LeftExamples, PlacedExamples}
+use Rattle.http1_model.specs.ReadingExamples.{CountedExamples, UnboundedExamples, CodedExamples, SectionExamples, ListedExamples, LeftExamples, PlacedExamples}
 use Rattle.http1_model.proofs.Carried.{run_carries, take_carries, take_carries_unbounded}
 use Rattle.http1_model.proofs.ChunkExamples.{sum_field, sum_is_field}
 use Rattle.http1_model.proofs.Examples.{host_field, host_is_field}
@@ -210,6 +210,33 @@ coded_examples = record {
     );
     is = refl;
   });
+}
+
+pub section_examples : SectionExamples
+unfolding httparse_on_literals run_of
+section_examples = record {
+  before_the_line = refl;
+  still_in_data = refl;
+  line_alone = refl;
+  line_of_an_empty_body = refl;
+  front_left = refl;
+  in_the_section = refl;
+  names_kept = refl;
+  nothing_more = refl;
+  data_left = refl;
+  next_size_left = refl;
+  end_there = inl (record {
+    step = item end 2 head;
+    there = (
+      ended [] 2,
+      record { trailers = Some []; section = record { fields = []; last = crlf; reads = (All-nil IsField, refl); are = refl }; is = refl },
+      refl,
+    );
+    is = refl;
+  });
+  waits_there = inl (record { step = stop rest; there = (not_yet, refl, refl); is = refl });
+  broken_off_there = inl (record { step = stop (refusal 400); there = (not_yet, refl, refl); is = refl });
+  broken_response = inl (record { step = stop (refusal 502); there = (not_yet, refl, refl); is = refl });
 }
 
 pub listed_examples : ListedExamples

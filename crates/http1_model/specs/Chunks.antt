@@ -72,10 +72,12 @@ size_step text =
 
 -- ---- places in the coding, and the next byte of data
 
--- what is due in a chunked body: a size line; so many bytes of a chunk's data, and then CR LF; or nothing, behind its end
+-- what is due in a chunked body: a size line; so many bytes of a chunk's data, and then CR LF; the trailer section, behind the
+-- last chunk's line; or nothing, behind its end
 pub data Place : Type 0 where
   size_line : Place
   inside : ℕ → Place
+  section : Place
   over : Place
 
 -- where a body begins
@@ -116,7 +118,22 @@ abbrev pub sought : Place → List ℕ → Sought
 sought size_line text = behind_size text (size_step text)
 sought (inside left) text =
     if left == 0 then behind_data text else (if nat_lt 0 (length text) then data_at 0 left else waiting)
+sought section text = section_at 0
 sought over text = waiting
+
+-- Where a trailer section is next, what stands in front of it, the last chunk's line with it, may count as read: so many bytes of the
+-- text, and then this is the place.
+abbrev pub section_taken : Sought → ℕ
+section_taken (data_at at left) = 0
+section_taken (section_at at) = at
+section_taken waiting = 0
+section_taken malformed = 0
+
+abbrev pub place_taken : Place → Sought → Place
+place_taken place (data_at at left) = place
+place_taken place (section_at at) = section
+place_taken place waiting = place
+place_taken place malformed = place
 
 -- ---- the data that a text carries
 

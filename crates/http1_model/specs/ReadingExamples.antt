@@ -2,11 +2,11 @@
 use Rattle.std.specs.Prelude.{◌≡◌, true, false, [], ◌∷◌, ◌++◌, None, Some, codes}
 use Rattle.httparse.specs.Ascii.{crlf_bytes}
 use Rattle.http1_model.specs.Length.{chunked}
-use Rattle.http1_model.specs.Chunks.{size_line, inside, start}
+use Rattle.http1_model.specs.Chunks.{size_line, inside, section, start}
 use Rattle.http1_model.specs.ChunkWire.{last_chunk}
 use Rattle.http1_model.specs.ChunkExamples.{chunked_text}
 use Rattle.http1_model.specs.Messages.{octet, end, trailers, counted, coded, unbounded, head, body, done, rest, over, refusal, item, due_behind, trailers_left, StepsTo, lead_of}
-use Rattle.http1_model.specs.Unread.{piece, trailer_part, part, none, IsNext, cut_behind}
+use Rattle.http1_model.specs.Unread.{piece, trailer_part, part, none, IsNext, due_at, unread_at, cut_behind}
 
 -- a body of so many bytes: whole, in part, at its end alone, and broken off
 pub record CountedExamples : Type 0 where
@@ -41,6 +41,24 @@ pub record CodedExamples : Type 0 where
   pub host_dropped : IsNext false None (body (coded [] size_line)) (last_chunk ++ codes "Host: a" ++ crlf_bytes ++ crlf_bytes) (part (piece [] true) 14 head)
   pub host_kept : IsNext false (Some (codes "GET")) (body (coded [] size_line)) (last_chunk ++ codes "Host: a" ++ crlf_bytes ++ crlf_bytes)
       (part (trailer_part ((codes "host", codes "a") ∷ [])) 14 done)
+
+-- What counts as read behind the data of a chunked body: nothing of it before the last chunk's line is whole, and then that line with the
+-- CR LF in front of it, however little follows. Within the section nothing is, and what stands there is what stood there with the line.
+pub record SectionExamples : Type 0 where
+  pub before_the_line : unread_at (body (coded [] (inside 0))) (crlf_bytes ++ codes "0\r") ≡ crlf_bytes ++ codes "0\r"
+  pub still_in_data : due_at (body (coded [] (inside 0))) (crlf_bytes ++ codes "0\r") ≡ body (coded [] (inside 0))
+  pub line_alone : unread_at (body (coded [] (inside 0))) (crlf_bytes ++ last_chunk) ≡ []
+  pub line_of_an_empty_body : unread_at (body (coded [] size_line)) (codes "00;a" ++ crlf_bytes ++ codes "X") ≡ codes "X"
+  pub front_left : unread_at (body (coded [] (inside 0))) (crlf_bytes ++ last_chunk ++ codes "X-S") ≡ codes "X-S"
+  pub in_the_section : due_at (body (coded [] (inside 0))) (crlf_bytes ++ last_chunk ++ codes "X-S") ≡ body (coded [] section)
+  pub names_kept : due_at (body (coded (codes "x-sum" ∷ []) size_line)) last_chunk ≡ body (coded (codes "x-sum" ∷ []) section)
+  pub nothing_more : unread_at (body (coded [] section)) (codes "X-S") ≡ codes "X-S"
+  pub data_left : unread_at (body (coded [] size_line)) (codes "1" ++ crlf_bytes ++ codes "a") ≡ codes "1" ++ crlf_bytes ++ codes "a"
+  pub next_size_left : unread_at (body (coded [] (inside 0))) (crlf_bytes ++ codes "2" ++ crlf_bytes) ≡ crlf_bytes ++ codes "2" ++ crlf_bytes
+  pub end_there : IsNext false None (body (coded [] section)) crlf_bytes (part (piece [] true) 2 head)
+  pub waits_there : IsNext false None (body (coded [] section)) [] (none rest)
+  pub broken_off_there : IsNext true None (body (coded [] section)) (codes "X-S") (none (refusal 400))
+  pub broken_response : IsNext true (Some (codes "GET")) (body (coded [] section)) (codes "X-S") (none (refusal 502))
 
 -- What the head's Connection lists is no trailer: with `X-Sum: 1` alone behind the last chunk the last piece has the end flag. It may
 -- be listed in any case of letters, beside another name, and behind an empty member.

@@ -1,6 +1,6 @@
 -- What holds of readings in pieces: they spell what the whole text spells.
-use Rattle.std.specs.Prelude.{◌≡◌, ℕ, Bool, false, List, [], ◌++◌, map, Option}
-use Rattle.http1_model.specs.Messages.{Item, Placed, Due, Stop, refusal, SpellsFrom, Messages}
+use Rattle.std.specs.Prelude.{◌≡◌, ◌<◌, length, ℕ, Bool, false, List, [], ◌++◌, map, Option}
+use Rattle.http1_model.specs.Messages.{Item, Placed, Due, Stop, rest, refusal, SpellsFrom, Messages}
 use Rattle.http1_model.specs.Unread.{Part, Next, none, IsNext, Reading, new_reading, Halts, Act, DoesAll, text_of, items_handed, Unread, cut_behind}
 
 -- from a place on, one thing is unread next
@@ -39,6 +39,12 @@ pub record RefusedStays : Type 0 where
   pub again : (r s : Reading) (number : ℕ) → Halts r (refusal number) s → IsNext s.ended s.asked s.due s.unread (none (refusal number))
   pub longer : (r s : Reading) (number : ℕ) (more : List ℕ) (ended : Bool) → Halts r (refusal number) s → r.ended ≡ false
       → IsNext ended s.asked s.due (s.unread ++ more) (none (refusal number))
+
+-- A reader that rests has fewer than 65,536 bytes unread, however it came there: as many always are a part, the end or a refusal. So a
+-- reader that is given more only while it has fewer is never stuck.
+abbrev pub RestsAreShort : Type 0
+RestsAreShort =
+    (asked : Option (List ℕ)) (acts : List Act) (r s : Reading) → DoesAll (new_reading asked) acts r → Halts r rest s → length s.unread < 65536
 
 -- what is unread of a text from a place on is what it spells there, cut
 abbrev pub UnreadIsCut : Type 0

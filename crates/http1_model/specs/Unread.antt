@@ -3,7 +3,8 @@ use Rattle.std.specs.Prelude.{◌≡◌, ℕ, ◌+◌, ◌<◌, ◌≤◌, ◌==
 use Rattle.http1_model.specs.Fields.{Pair}
 use Rattle.http1_model.specs.Head.{Head}
 use Rattle.http1_model.specs.Lines.{after_empty_lines}
-use Rattle.http1_model.specs.Messages.{Item, request, interim, response, octet, end, trailers, Due, head, body, done, Stop, Step, item, stop, StepsTo}
+use Rattle.http1_model.specs.Messages.{Item, request, interim, response, octet, end, trailers, counted, coded, unbounded, Due, head, body, done, Stop, Step, item, stop, StepsTo}
+use Rattle.http1_model.specs.Chunks.{sought, section_taken, place_taken}
 use Rattle.http1_model.specs.Trailers.{piece_limit}
 
 -- What is handed on of a message: a head, behind which a body is due unless its `length` is nothing; an interim head; bytes of
@@ -105,14 +106,24 @@ finished r = record r { ended = true }
 abbrev pub moved_on : ℕ → Due → Reading → Reading
 moved_on used due r = record r { due = due; unread = drop used r.unread }
 
--- empty lines in front of a head count as read
+-- What stands in front of the next part counts as read: the empty lines in front of a head, and the last chunk's line in front of a
+-- trailer section. Then this is due, and this is unread.
+abbrev pub due_at : Due → List ℕ → Due
+due_at head text = head
+due_at (body (counted n)) text = body (counted n)
+due_at (body (coded connection place)) text = body (coded connection (place_taken place (sought place text)))
+due_at (body unbounded) text = body unbounded
+due_at done text = done
+
 abbrev pub unread_at : Due → List ℕ → List ℕ
 unread_at head text = after_empty_lines text
-unread_at (body b) text = text
+unread_at (body (counted n)) text = text
+unread_at (body (coded connection place)) text = drop (section_taken (sought place text)) text
+unread_at (body unbounded) text = text
 unread_at done text = text
 
 abbrev pub waiting : Reading → Reading
-waiting r = record r { unread = unread_at r.due r.unread }
+waiting r = record r { due = due_at r.due r.unread; unread = unread_at r.due r.unread }
 
 -- it hands this part on, and is this reading then
 pub record Hands (old : Reading) (p : Part) (new : Reading) : Type 0 where

@@ -4,8 +4,8 @@
 ghost use Rattle.http1_model.specs.ChunkExamples.{WorkedBody, SizeExamples, PlaceExamples, TrailerExamples, ChunkWireExamples};
 ghost use Rattle.http1_model.specs.ChunkLaws.{OneChunkStep, SizeStays, SoughtStays, RunsJoin, LastStepStays, TrailersAreFields};
 ghost use Rattle.http1_model.specs.Examples.{WorkedHead, ClosingHead, WorkedResponse, ResponseExamples, OrderExamples, LineExamples, FieldExamples, WireExamples, LengthExamples, ResponseLengthExamples, BareExamples, ListExamples, TargetExamples, RefusalExamples};
-ghost use Rattle.http1_model.specs.ReadingExamples.{CountedExamples, UnboundedExamples, CodedExamples, ListedExamples, LeftExamples, PlacedExamples};
-ghost use Rattle.http1_model.specs.ReadingLaws.{OnePart, PiecesAreWhole, CutsAlike, RefusedStays, UnreadIsCut};
+ghost use Rattle.http1_model.specs.ReadingExamples.{CountedExamples, UnboundedExamples, CodedExamples, SectionExamples, ListedExamples, LeftExamples, PlacedExamples};
+ghost use Rattle.http1_model.specs.ReadingLaws.{OnePart, PiecesAreWhole, CutsAlike, RefusedStays, UnreadIsCut, RestsAreShort};
 ghost use Rattle.http1_model.specs.Laws.{OneStep, StepStays, OneReading, ReadingGrows, RefusalStays, ToldAsReceived, ResponseAsReceived, RefusalNumbers, ValuesAccepted, WholeFits, RequestListed, ResponseListed, FramedOnce, RequestTaken, ResponseTaken, TrailersUnlisted};
 
 /// Where a head is due, a text spells one thing.
@@ -169,6 +169,11 @@ pub fn refused_stays()
     ensures { RefusedStays }
 {}
 
+/// A reader that rests has fewer than 65,536 bytes unread.
+pub fn rests_are_short()
+    ensures { RestsAreShort }
+{}
+
 /// What is unread of a text from a place on is what it spells there, with each body cut after each 16,384 bytes.
 pub fn unread_is_cut()
     ensures { UnreadIsCut }
@@ -179,6 +184,7 @@ pub fn reading_examples()
     ensures counted { CountedExamples }
     ensures unbounded { UnboundedExamples }
     ensures coded { CodedExamples }
+    ensures sections { SectionExamples }
     ensures listed { ListedExamples }
     ensures left { LeftExamples }
     ensures placed { PlacedExamples }
