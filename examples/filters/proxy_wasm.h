@@ -6,6 +6,7 @@
 typedef unsigned char u8;
 typedef unsigned int u32;
 typedef unsigned long long u64;
+typedef long long i64;
 
 // What a host call answers.
 enum status {
@@ -27,6 +28,7 @@ enum level { TRACE, DEBUG, INFO, WARN, ERROR, CRITICAL };
 enum map { REQUEST_HEADERS, REQUEST_TRAILERS, RESPONSE_HEADERS, RESPONSE_TRAILERS };
 enum buffer { REQUEST_BODY = 0, RESPONSE_BODY = 1, VM_CONFIGURATION = 6, PLUGIN_CONFIGURATION = 7 };
 enum stream { REQUEST = 0, RESPONSE = 1 };
+enum metric { COUNTER = 0, GAUGE = 1 };
 
 #define HOST(name) __attribute__((import_module("env"), import_name(#name))) extern
 #define CALLBACK(name) __attribute__((export_name(#name)))
@@ -57,6 +59,9 @@ u32 proxy_set_shared_data(const void *key, u32 key_size, const void *value, u32 
 HOST(proxy_register_shared_queue) u32 proxy_register_shared_queue(const void *name, u32 size, u32 *queue);
 HOST(proxy_dequeue_shared_queue) u32 proxy_dequeue_shared_queue(u32 queue, u8 **item, u32 *size);
 HOST(proxy_enqueue_shared_queue) u32 proxy_enqueue_shared_queue(u32 queue, const void *item, u32 size);
+HOST(proxy_define_metric) u32 proxy_define_metric(u32 kind, const void *name, u32 size, u32 *metric);
+HOST(proxy_increment_metric) u32 proxy_increment_metric(u32 metric, i64 by);
+HOST(proxy_get_metric) u32 proxy_get_metric(u32 metric, u64 *sum);
 
 // The marker of the ABI, which each module exports.
 CALLBACK(proxy_abi_version_0_2_1) void proxy_abi_version_0_2_1(void) {}

@@ -5,6 +5,7 @@ Each group tells how many lines it opens, and the gateway is to stop by itself a
 """
 
 import os
+import shutil
 import signal
 import socket
 import struct
@@ -18,6 +19,8 @@ PATIENCE = 20.0  # seconds for one answer
 ALL = 180  # seconds for everything
 
 HEAD_END = b"\r\n\r\n"
+# A filter that counts requests in a metric.
+METER = os.path.join(os.path.dirname(os.path.abspath(__file__)), "..", "..", "examples", "filters", "meter.wasm")
 
 
 def closed_port():
@@ -464,6 +467,16 @@ def many(gateway, upstream):
         raise AssertionError("%d of 30 lines: %r" % (len(failures), failures[0]))
 
 
+def metered(gateway, upstream):
+    """Requests on three lines, which two workers share, are counted in one metric."""
+    for line, count in ((0, 3), (1, 2), (2, 1)):
+        with gateway.connect() as s:
+            reader = Reader(s)
+            for n in range(count):
+                get(s, reader, "/metered/%d/%d" % (line, n), b"/metered/%d/%d" % (line, n))
+            get(s, reader, "/not/metered", b"/not/metered")
+
+
 def nothing(gateway, upstream):
     """A line that is opened and closed."""
     gateway.connect().close()
@@ -484,6 +497,12 @@ MARKED = (
 WITH_STORES = (
     '[[vm]]\nname = "first"\nmodule = "marked.wasm"\n'
     '[[vm]]\nname = "second"\nmodule = "marked.wasm"\n'
+)
+
+WITH_A_METER = (
+    '[[vm]]\nname = "meter"\nmodule = "meter.wasm"\n'
+    '[[plugin]]\nname = "meter"\nvm = "meter"\n'
+    '[[route]]\npath = "/metered/{*rest}"\nfilters = ["meter"]\n'
 )
 
 # name, workers, what the configuration has besides, what is printed at the end, cases with how many lines each opens
@@ -516,6 +535,13 @@ GROUPS = [
         WITH_STORES,
         b"store first calls 0 keys 0 items 0\nstore second calls 0 keys 0 items 0\n",
         [(plain, 1), (nothing, 1)],
+    ),
+    (
+        "metrics",
+        2,
+        WITH_A_METER,
+        b"store meter calls 0 keys 0 items 0\nmetric meter counter 7265717565737473 6\n",
+        [(metered, 3)],
     ),
 ]
 
@@ -554,6 +580,7 @@ def main():
     with tempfile.TemporaryDirectory() as folder:
         with open(os.path.join(folder, "marked.wasm"), "wb") as f:
             f.write(MARKED)
+        shutil.copy(METER, folder)
         for group in GROUPS:
             p, f = run_group(program, folder, upstream, group)
             passed += p

@@ -1,8 +1,10 @@
 mod Calls
+mod Counting
 mod Eaches
 mod Ending
 mod Faults
 mod Listing
 mod Moving
 mod Posting
+mod Sharing
 mod Standing

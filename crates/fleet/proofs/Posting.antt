@@ -1,16 +1,16 @@
 -- The seats of all posts go on.
 use Rattle.std.proofs.Common.{◌≡◌, ◌≤◌, ◌∙◌, ℕ, List, All, Result, Ok, Err, IfOk, IfNone, Some, None, inl, true, map, reverse, Option, length, ap, sym, subst}
-use Rattle.std.specs.Global.{Vec}
 use lib.ListN.{length-map}
 use Rattle.gate_config.specs.declared.config.Config.{Config}
 use Rattle.gate_io.specs.Nature.{Nature}
 use Rattle.gate_io.specs.declared.passed.Passed.{Passed}
-use Rattle.shared_store.specs.Moving.{SeatsGoOn, seats_nothing, seats_joined}
-use Rattle.shared_store.specs.Tables.{AreAt, table_of}
-use Rattle.shared_store.specs.Workers.{AreShut, ListsGoOn, WentOn}
-use Rattle.turn_table.specs.Seats.{Seated, TurnTableId}
+use Rattle.shared_seats.specs.Closed.{ClosedOf}
+use Rattle.shared_seats.specs.Moving.{SeatsGoOn, seats_nothing, seats_joined}
+use Rattle.shared_seats.specs.Seats.{AreAt, SeatsOf, TablesOf}
+use Rattle.shared_seats.specs.Workers.{AreShut, ListsGoOn, WentOn}
+use Rattle.shared_store.specs.Tables.{table_of}
+use Rattle.turn_table.specs.Seats.{TurnTableId}
 use Rattle.fleet.specs.Fleet.{Each, HasWorked, IsReady}
-use Rattle.shared_store.specs.declared.closed.ClosedStore.{ClosedStore}
 use Rattle.worker.specs.State.{Standing}
 use Rattle.fleet.specs.Lives.{Calling}
 use Rattle.fleet.specs.Made.{made_in}
@@ -20,37 +20,35 @@ use Rattle.fleet.specs.declared.post.Post.{Post}
 use Rattle.fleet.proofs.Calls.{lives_made}
 use Rattle.fleet.proofs.Eaches.{all_of, each_at, each_len, each_map, each_reverse, every_back, every_of, every_so}
 
-abbrev ListWent : Vec Seated → Vec Seated → Type 0
-ListWent l m = WentOn l.items m.items
-
 module _ {W H : Type 0} (trace_of : W → Option (List Passed)) (nature_of : W → Nature) (faults_of : W → ℕ) (calling : Calling H) (first : ℕ → List ℕ → Standing H) where
-  one_went : (p q : Post W) → HasWorked trace_of nature_of faults_of calling first p q → ListWent (seats_in p) (seats_in q)
+  one_went : (p q : Post W) → HasWorked trace_of nature_of faults_of calling first p q → WentOn (seats_in p) (seats_in q)
   one_went p q h = record { calls = made_in calling SeatsGoOn _ _ _ _ _ _ _ h.lives; goes = lives_made calling SeatsGoOn seats_nothing seats_joined _ _ _ _ _ _ _ h.lives }
 
   pub all_went : (before after : List (Post W)) → Each (HasWorked trace_of nature_of faults_of calling first) before after → ListsGoOn (reverse (map seats_in before)) (reverse (map seats_in after))
   all_went before after h =
-      let each : Each ListWent (reverse (map seats_in before)) (reverse (map seats_in after)) =
-      each_reverse ListWent (map seats_in before) (map seats_in after) (each_map (HasWorked trace_of nature_of faults_of calling first) ListWent seats_in seats_in one_went before after h) in
+      let each : Each WentOn (reverse (map seats_in before)) (reverse (map seats_in after)) =
+      each_reverse WentOn (map seats_in before) (map seats_in after) (each_map (HasWorked trace_of nature_of faults_of calling first) WentOn seats_in seats_in one_went before after h) in
       record {
-        as_many = each_len ListWent (reverse (map seats_in before)) (reverse (map seats_in after)) each;
-        each = λ w l m at_l at_m. each_at ListWent w (reverse (map seats_in before)) (reverse (map seats_in after)) l m each at_l at_m;
+        as_many = each_len WentOn (reverse (map seats_in before)) (reverse (map seats_in after)) each;
+        each = λ w l m at_l at_m. each_at WentOn w (reverse (map seats_in before)) (reverse (map seats_in after)) l m each at_l at_m;
       }
 
-enough : (tables : List TurnTableId) (seats : List Seated) (n : ℕ) → n ≤ length tables → AreAt tables seats → n ≤ length seats
-enough tables seats n low at = subst (λ (k : ℕ). n ≤ k) (sym (ap (λ (ts : List TurnTableId). length ts) at) ∙ length-map seats table_of) low
+enough : (tables : TablesOf) (seats : SeatsOf) (n : ℕ) → n ≤ length tables.stores → AreAt tables seats → n ≤ length seats.stores
+enough tables seats n low at = subst (λ (k : ℕ). n ≤ k) (sym (ap (λ (ts : List TurnTableId). length ts) at.stores) ∙ length-map seats.stores table_of) low
 
-pub all_ready : {W : Type 0} (tables : List TurnTableId) (config : Config) (posts : List (Post W)) (lists : List (Vec Seated)) → length config.vms ≤ length tables → reverse (map seats_in posts) ≡ lists → All (λ (l : Vec Seated). AreAt tables l.items) lists
+pub all_ready : {W : Type 0} (tables : TablesOf) (config : Config) (posts : List (Post W)) (lists : List SeatsOf) → length config.vms ≤ length tables.stores → reverse (map seats_in posts) ≡ lists → All (AreAt tables) lists
     → All (λ (p : Post W). IsReady tables config p) posts
 all_ready {W} tables config posts lists low is at =
-    let At : Vec Seated → Type 0 = λ l. AreAt tables l.items in
-    let every = every_back At seats_in posts (every_of At (reverse (map seats_in posts)) (subst (λ (ls : List (Vec Seated)). All At ls) (sym is) at)) in
-    all_of (λ (p : Post W). IsReady tables config p) posts (every_so (λ (p : Post W). At (seats_in p)) (λ (p : Post W). IsReady tables config p) (λ p a. (a, enough tables p.seats.items (length config.vms) low a)) posts every)
+    let At : SeatsOf → Type 0 = AreAt tables in
+    let every = every_back At seats_in posts (every_of At (reverse (map seats_in posts)) (subst (λ (ls : List SeatsOf). All At ls) (sym is) at)) in
+    all_of (λ (p : Post W). IsReady tables config p) posts (every_so (λ (p : Post W). At (seats_in p)) (λ (p : Post W). IsReady tables config p) (λ p a. (a, enough tables p.seats (length config.vms) low a)) posts every)
 
-pub ran : {W H E : Type 0} (trace_of : W → Option (List Passed)) (nature_of : W → Nature) (faults_of : W → ℕ) (calling : Calling H) (first : ℕ → List ℕ → Standing H) (workers : ℕ) (old new : List W) (result : Result (List ClosedStore) E)
-    → (worked : Worked trace_of nature_of faults_of calling first workers old new) → IfOk result (AreShut worked.tables (reverse (map seats_in worked.after))) → IfOk result (λ stores. All (λ p. is_clean p ≡ true) worked.after)
-    → Ran trace_of nature_of faults_of calling first workers old new result
-ran trace_of nature_of faults_of calling first workers old new (Ok stores) worked shut clean = record { worked = worked; shut = shut; clean = clean }
-ran trace_of nature_of faults_of calling first workers old new (Err e) worked shut clean = inl worked
+pub ran : {W H E : Type 0} (trace_of : W → Option (List Passed)) (nature_of : W → Nature) (faults_of : W → ℕ) (calling : Calling H) (first : ℕ → List ℕ → Standing H) (config : Config) (old new : List W) (result : Result ClosedOf E)
+    → (worked : Worked trace_of nature_of faults_of calling first config old new) → ((closed : ClosedOf) × AreShut worked.tables (reverse (map seats_in worked.after)) closed)
+    → IfOk result (AreShut worked.tables (reverse (map seats_in worked.after))) → IfOk result (λ closed. All (λ p. is_clean p ≡ true) worked.after)
+    → Ran trace_of nature_of faults_of calling first config old new result
+ran trace_of nature_of faults_of calling first config old new (Ok closed) worked some shut clean = record { ended = record { worked = worked; shut = shut }; clean = clean }
+ran trace_of nature_of faults_of calling first config old new (Err e) worked some shut clean = inl (some.0, record { worked = worked; shut = some.1 })
 
 pub cleanly : {T E A : Type 0} (end : Option A) (result : Result T E) (P : Type 0) → IfNone end P → IfOk result (λ (x : T). end ≡ None) → IfOk result (λ (x : T). P)
 cleanly None (Ok x) P p none = p
@@ -65,6 +63,10 @@ as_many_worlds {W} trace_of nature_of faults_of calling first before after old n
     each_reverse R (map world_in before) (map world_in after) (each_map (HasWorked trace_of nature_of faults_of calling first) R world_in world_in (λ x y w. tt) before after each) in
     ap (λ (l : List W). length l) new_is ∙ each_len R (reverse (map world_in before)) (reverse (map world_in after)) paired ∙ ap (λ (l : List W). length l) old_is
 
-pub as_many_stores : {E : Type 0} (result : Result (List ClosedStore) E) (tables : List TurnTableId) (lists : List (Vec Seated)) (n : ℕ) → length tables ≡ n → IfOk result (AreShut tables lists) → IfOk result (λ stores. length stores ≡ n)
-as_many_stores (Ok stores) tables lists n is shut = shut.as_many ∙ is
+pub as_many_stores : {E : Type 0} (result : Result ClosedOf E) (tables : TablesOf) (lists : List SeatsOf) (n : ℕ) → length tables.stores ≡ n → IfOk result (AreShut tables lists) → IfOk result (λ closed. length closed.stores ≡ n)
+as_many_stores (Ok closed) tables lists n is shut = shut.as_many ∙ is
 as_many_stores (Err e) tables lists n is shut = tt
+
+pub as_many_metrics : {E : Type 0} (result : Result ClosedOf E) (tables : TablesOf) (lists : List SeatsOf) (n : ℕ) → length tables.metrics ≡ n → IfOk result (AreShut tables lists) → IfOk result (λ closed. length closed.metrics ≡ n)
+as_many_metrics (Ok closed) tables lists n is shut = shut.as_many_metrics ∙ is
+as_many_metrics (Err e) tables lists n is shut = tt

@@ -1,5 +1,5 @@
 -- The lives of a worker, one after another.
-use Rattle.std.specs.Prelude.{◌≡◌, ℕ, Bool, true, false, zero, suc, ◌⊎◌, ◌&&◌, List, Option}
+use Rattle.std.specs.Prelude.{◌≡◌, ◌≢◌, ℕ, Bool, true, false, zero, suc, ◌⊎◌, ◌&&◌, List, Option}
 use Rattle.contexts.specs.declared.parts.Contexts.{Contexts}
 use Rattle.course.specs.Called.{Called}
 use Rattle.course.specs.declared.host.Callback.{Callback}
@@ -42,7 +42,7 @@ module _ {H S : Type 0} (calling : Calling H) (performs : S → List Made → S 
     pub mid : Option (List Passed)
     pub went : Turns count s old from before at mid
     pub last : Turned calling performs at mid before end to t new
-    pub ended : end ≡ Went → ⊥
+    pub ended : end ≢ Went
 
   module _ (first : Standing H) where
     -- a life that ended so, and whether it took an event

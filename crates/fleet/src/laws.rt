@@ -1,9 +1,17 @@
-// What holds of all lives, as a function without a body.
-ghost use Rattle.fleet.specs.Laws.{SeatsGoOnByLives};
+// What holds of all lives and of all fleets, as functions without a body.
+ghost use Rattle.fleet.specs.Laws.{EachVmHasOne, SeatsGoOnByLives, two_vms_leave_two};
 
 use course::Host;
+use gate_io::World;
 
-/// A worker's seats go on by the calls that the turns of its lives made, one after the other.
+/// A worker's seats go on by the calls and asks that the turns of its lives made, one after the other.
 pub fn seats_go_on_by_lives<H: Host>()
     ensures { SeatsGoOnByLives H.calling }
+{}
+
+/// However the workers of a fleet ended, each VM of the configuration came to one store, with one history of the calls of all workers, and
+/// to one set of metrics, with one history of their definitions. So as many tables count as there are VMs.
+pub fn each_vm_has_one_history<H: Host, W: World>()
+    ensures one { EachVmHasOne W.trace W.nature W.faults H.calling }
+    ensures two { two_vms_leave_two W.trace W.nature W.faults H.calling }
 {}

@@ -6,15 +6,15 @@ use crate::post::Post;
 use crate::watched::Watched;
 use gate_base::WorkerNo;
 use gate_io::World;
+use shared_seats::SeatList;
 use std::alloc::Global;
-use turn_table::Seat;
 use worker::Turn;
 
 /// Moves worlds and seats to posts, the last worker's first. It takes no memory.
 pub fn post_all<W: World + Drop>(
     alloc: Global,
     worlds: &mut Vec<W>,
-    lists: &mut Vec<Vec<Seat>>,
+    lists: &mut Vec<SeatList>,
     posts: &mut Vec<Post<W>>,
 )
     requires as_many { vec_len worlds.old ≡ vec_len lists.old }
@@ -49,7 +49,7 @@ pub fn post_all<W: World + Drop>(
 /// Moves them back. It takes no memory.
 pub fn hand_back<W: World + Drop>(
     worlds: &mut Vec<W>,
-    lists: &mut Vec<Vec<Seat>>,
+    lists: &mut Vec<SeatList>,
     posts: &mut Vec<Post<W>>,
 )
     requires no_world { worlds.old.items ≡ [] }

@@ -10,19 +10,18 @@ use gate_base::WorkerNo;
 use gate_config::Config;
 use gate_io::{Gate, World};
 use makes_host::MakesHost;
-use shared_store::{StoreSeat, Tables};
+use shared_seats::{SeatList, StoreSeat, Tables};
 use std::alloc::Global;
 use std::sync::Wait;
 use std::thread::Threads;
 use std::{mem, thread};
-use turn_table::Seat;
 use worker::Turn;
 
 /// A worker's world and its seats, and how its last life ended.
 #[derive(Drop)]
 pub struct Post<W: World> {
     pub watched: Watched<W>,
-    pub seats: Vec<Seat>,
+    pub seats: SeatList,
     pub who: WorkerNo,
     pub end: Turn,
     /// Whether a life ended for want of memory before the last.
@@ -43,7 +42,7 @@ pub fn work<R: Wait, H: Host + Drop, M: MakesHost<H>, W: World, G: Gate>(
     requires ready { IsReady tables.now config.now post.old }
     ensures { HasWorked W.trace W.nature W.faults H.calling (first_of H.exported H.registering config.now (M.made maker.now config.now)) post.old post.new }
 {
-    let seats = mem::replace(&mut post.seats, Vec::new(alloc));
+    let seats = mem::replace(&mut post.seats, SeatList::new(alloc));
     let mut shared = StoreSeat::over(rt, tables, seats, gate);
     let (end, again) = live(
         rt,

@@ -3,7 +3,8 @@ ghost use Rattle.std.specs.Prelude.{◌≡◌, ◌≤◌, true, length, All, IfO
 ghost use Rattle.std.specs.List.{list_any};
 ghost use Rattle.fleet.specs.Lives.{first_of};
 ghost use Rattle.fleet.specs.Run.{AnyRose, Ran, is_clean, is_fault};
-ghost use Rattle.shared_store.specs.Workers.{AreAll, AreShut};
+ghost use Rattle.shared_seats.specs.Closed.{ClosedOf};
+ghost use Rattle.shared_seats.specs.Workers.{AreAll, AreShut};
 
 use crate::moves::{hand_back, post_all};
 use crate::post::{Post, work_posts};
@@ -11,11 +12,10 @@ use course::Host;
 use gate_config::Config;
 use gate_io::{Gate, World};
 use makes_host::MakesHost;
-use shared_store::{ClosedStores, Tables, no_seat_gets_lost};
+use shared_seats::{ClosedTables, SeatList, Tables, no_seat_gets_lost};
 use std::alloc::Global;
 use std::sync::Wait;
 use std::thread::Threads;
-use turn_table::Seat;
 use worker::Turn;
 
 /// Why a fleet did not run to its end.
@@ -67,20 +67,22 @@ fn end_of<W: World>(posts: &[Post<W>]) -> Option<FleetEnd>
     Some(FleetEnd::OutOfMemory)
 }
 
-/// Shuts the tables where nothing went wrong.
+/// Shuts the tables, and tells what they came to where nothing went wrong.
 fn finish(
     end: Option<FleetEnd>,
     tables: Tables,
-    lists: Vec<Vec<Seat>>,
-) -> Result<ClosedStores, FleetEnd>
+    lists: Vec<SeatList>,
+) -> Result<ClosedTables, FleetEnd>
     requires { AreAll tables lists.items }
+    ensures shut { (closed : ClosedOf) × AreShut tables lists.items closed }
     ensures ok { IfOk result (AreShut tables lists.items) }
     ensures err { IfErr result (λ e. end ≡ Some e) }
-    ensures none { IfOk result (λ stores. end ≡ None) }
+    ensures none { IfOk result (λ closed. end ≡ None) }
 {
+    let closed = tables.shut(lists);
     match end {
         Some(end) => Err(end),
-        None => Ok(tables.shut(lists)),
+        None => Ok(closed),
     }
 }
 
@@ -93,8 +95,7 @@ fn count_of(config: &Config) -> u8
 }
 
 /// Runs a worker of the configuration in each of the worlds, each in a thread of its own. A worker that ends is not waited for by the others,
-/// which go on until their Stop. The worlds are given back in their order, whatever happens. There are no metrics: each ask of them is
-/// answered so.
+/// which go on until their Stop. The worlds are given back in their order, whatever happens.
 pub fn run_fleet<
     R: Threads + Wait + Sync,
     H: Host + Send + Drop,
@@ -108,14 +109,15 @@ pub fn run_fleet<
     maker: &M,
     worlds: &mut Vec<W>,
     gate: &G,
-) -> Result<ClosedStores, FleetEnd>
+) -> Result<ClosedTables, FleetEnd>
     requires takes { M.takes maker.now config.now }
     requires fresh { All (λ w. IfSome (W.trace w) (λ trace. trace ≡ [])) worlds.old.items }
     requires worlds { length worlds.old.items ≡ config.now.workers }
     ensures fault { result ≡ Err FleetEnd.WorldFault → AnyRose W.faults worlds.old.items worlds.new.items }
-    ensures ran { Ran W.trace W.nature W.faults H.calling (first_of H.exported H.registering config.now (M.made maker.now config.now)) config.now.workers worlds.old.items worlds.new.items result }
+    ensures ran { Ran W.trace W.nature W.faults H.calling (first_of H.exported H.registering config.now (M.made maker.now config.now)) config.now worlds.old.items worlds.new.items result }
     ensures as_many { length worlds.new.items ≡ length worlds.old.items }
-    ensures stores { IfOk result (λ stores. length stores ≡ length config.now.vms) }
+    ensures stores { IfOk result (λ closed. length closed.stores ≡ length config.now.vms) }
+    ensures metrics { IfOk result (λ closed. length closed.metrics ≡ length config.now.vms) }
 {
     let vms = count_of(config);
     let Ok(mut posts) = Vec::with_capacity(alloc, worlds.len()) else {

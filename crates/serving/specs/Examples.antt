@@ -1,9 +1,12 @@
--- Worked lines of stores.
-use Rattle.std.specs.Prelude.{◌≡◌, ℕ, List, [], ◌∷◌, ◌++◌, codes, None}
+-- Worked lines of stores and metrics.
+use Rattle.std.specs.Prelude.{◌≡◌, ℕ, List, [], ◌∷◌, ◌++◌, codes, None, replicate}
 use Rattle.gate_config.specs.declared.entries.VmEntry.{VmEntry}
+use Rattle.metric_seats.specs.declared.table.MetricsClosed.{MetricsClosed}
 use Rattle.shared_store.specs.declared.closed.ClosedStore.{ClosedStore}
+use Rattle.store_model.specs.MetricNames.{metric_name}
 use Rattle.store_model.specs.Queues.{Queue, Queues}
 use Rattle.store_model.specs.Store.{empty_store}
+use Rattle.store_model.specs.declared.metric.MetricKind.TheVariants.{Counter, Gauge}
 use Rattle.serving.specs.Summary.{summary}
 
 abbrev pub vm_named : List ℕ → VmEntry
@@ -25,6 +28,20 @@ called = record {
 abbrev pub not_called : ClosedStore
 not_called = record { store = empty_store 1; calls = 0 }
 
--- a VM that was called, and one that was not
+-- a counter to which worker 1 added 5 and worker 2 added 7, and a gauge of the same name to which worker 2 put 9
+abbrev pub counted_by_two : MetricsClosed
+counted_by_two = record {
+  names = record { vm = 0; names = metric_name Gauge (codes "n") ∷ metric_name Counter (codes "n") ∷ [] };
+  totals = (0 ∷ 5 ∷ replicate 126 0) ++ ((0 ∷ 7 ∷ replicate 62 0) ++ (9 ∷ []));
+  definitions = 3;
+}
+
+-- a counter to which worker 1 added 1
+abbrev pub counted_once : MetricsClosed
+counted_once = record { names = record { vm = 1; names = metric_name Counter (codes "k") ∷ [] }; totals = 1 ∷ []; definitions = 1 }
+
+-- A VM whose store was called, and one whose store was not; both have metrics, whose lines come behind those of both stores.
 abbrev pub two_vms_told : Type 0
-two_vms_told = summary (vm_named (codes "a") ∷ vm_named (codes "m2") ∷ []) (called ∷ not_called ∷ []) ≡ codes "store a calls 12 keys 2 items 3\n" ++ codes "store m2 calls 0 keys 0 items 0\n"
+two_vms_told =
+    summary (vm_named (codes "a") ∷ vm_named (codes "m2") ∷ []) (record { stores = called ∷ not_called ∷ []; metrics = counted_by_two ∷ counted_once ∷ [] })
+    ≡ codes "store a calls 12 keys 2 items 3\n" ++ (codes "store m2 calls 0 keys 0 items 0\n" ++ (codes "metric a counter 6e 12\n" ++ (codes "metric a gauge 6e 9\n" ++ codes "metric m2 counter 6b 1\n")))

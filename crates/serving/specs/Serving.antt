@@ -1,7 +1,7 @@
 -- What serving comes to.
 use Rattle.std.specs.Prelude.{◌≡◌, ◌⊎◌, ℕ, List, [], ◌∷◌, All, Option, map, length, Result, Ok, Err}
 use Rattle.fleet.specs.Lives.{Calling}
-use Rattle.fleet.specs.Run.{AnyRose, EndedWell, Worked}
+use Rattle.fleet.specs.Run.{AnyRose, EndedOrNot, EndedWell}
 use Rattle.fleet.specs.declared.run.FleetEnd.{FleetEnd}
 use Rattle.fleet.specs.declared.run.FleetEnd.TheVariants as fleet_ends
 use Rattle.gate_config.specs.declared.entries.VmEntry.{VmEntry}
@@ -12,7 +12,7 @@ use Rattle.gate_io.specs.Sites.{IsFresh}
 use Rattle.gate_io.specs.Told.{Gains, GainsFront, Rose}
 use Rattle.gate_io.specs.declared.passed.Passed.{Passed}
 use Rattle.gate_io.specs.declared.settings.Settings.{Settings}
-use Rattle.shared_store.specs.declared.closed.ClosedStore.{ClosedStore}
+use Rattle.shared_seats.specs.Closed.{ClosedOf}
 use Rattle.worker.specs.State.{Standing}
 use Rattle.serving.specs.Summary.{summary}
 use Rattle.serving.specs.declared.running.ServeEnd.{ServeEnd}
@@ -52,24 +52,25 @@ Tells OutFault text taken took = GainsFront taken text took
 Tells OutOfMemory text taken took = Gains taken [] took
 
 -- what comes of how a fleet ended
-abbrev pub Finishes : List VmEntry → Result (List ClosedStore) FleetEnd → ServeEnd → Option (List ℕ) → Option (List ℕ) → Type 0
-Finishes vms (Ok stores) end taken took = Tells end (summary vms stores) taken took
+abbrev pub Finishes : List VmEntry → Result ClosedOf FleetEnd → ServeEnd → Option (List ℕ) → Option (List ℕ) → Type 0
+Finishes vms (Ok closed) end taken took = Tells end (summary vms closed) taken took
 Finishes vms (Err fleet_ends.WorldFault) end taken took = (end ≡ SiteFault) × Gains taken [] took
 Finishes vms (Err fleet_ends.OutOfMemory) end taken took = (end ≡ OutOfMemory) × Gains taken [] took
 
 module _ {W H : Type 0} (eyes : Eyes W) (calling : Calling H) (first : ℕ → List ℕ → Standing H) (config : Config) where
   -- How it ended, where these worlds were handed out and those given back. At the end, and where the output failed, each worker had one
-  -- life, which ended with Stop, and the output took the summary or a front of it. Else each worker had its lives, up to where it ended, or
-  -- none began, and nothing was written; and where it was a fault, the faults of a world rose.
+  -- life, which ended with Stop, and the output took the summary of all VMs' stores and metrics, or a front of it. Else each worker had its
+  -- lives, up to where it ended, or none began, and nothing was written; and where it was a fault, the faults of a world rose. Wherever the
+  -- workers began, all their calls on a VM's store stand in one history, and so do their definitions of its metrics.
   abbrev pub Ends : ServeEnd → List W → List W → Option (List ℕ) → Option (List ℕ) → Type 0
   Ends Done given back taken took =
-      (stores : List ClosedStore) × EndedWell eyes.trace eyes.nature eyes.faults calling first config.workers given back stores × Gains taken (summary config.vms stores) took
+      (closed : ClosedOf) × EndedWell eyes.trace eyes.nature eyes.faults calling first config given back closed × Gains taken (summary config.vms closed) took
   Ends OutFault given back taken took =
-      (stores : List ClosedStore) × EndedWell eyes.trace eyes.nature eyes.faults calling first config.workers given back stores × GainsFront taken (summary config.vms stores) took
+      (closed : ClosedOf) × EndedWell eyes.trace eyes.nature eyes.faults calling first config given back closed × GainsFront taken (summary config.vms closed) took
   Ends SiteFault given back taken took =
-      (Worked eyes.trace eyes.nature eyes.faults calling first config.workers given back ⊎ (back ≡ given)) × AnyRose eyes.faults given back × Gains taken [] took
+      EndedOrNot eyes.trace eyes.nature eyes.faults calling first config given back × AnyRose eyes.faults given back × Gains taken [] took
   Ends OutOfMemory given back taken took =
-      (Worked eyes.trace eyes.nature eyes.faults calling first config.workers given back ⊎ (back ≡ given)) × Gains taken [] took
+      EndedOrNot eyes.trace eyes.nature eyes.faults calling first config given back × Gains taken [] took
 
   -- The site was started once, with the settings, and handed out as many worlds as there are workers, in which nothing had happened. It was
   -- given back all of them, each in its place.

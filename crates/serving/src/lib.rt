@@ -1,4 +1,4 @@
-//! Serving: the site is started, a fleet runs in its worlds, they are given back, and what the stores came to is told.
+//! Serving: the site is started, a fleet runs in its worlds, they are given back, and what the stores and the metrics came to is told.
 #![tactic(auto)]
 
 mod laws;

@@ -12,7 +12,7 @@ use gate_base::OutOfMemory;
 use gate_config::Config;
 use gate_io::{Failed, Gate, Settings, Sink, Site, SiteEnd, write_whole};
 use makes_host::MakesHost;
-use shared_store::ClosedStores;
+use shared_seats::ClosedTables;
 use std::alloc::Global;
 use std::sync::Wait;
 use std::thread::Threads;
@@ -49,8 +49,8 @@ fn settings_of(
 }
 
 /// Serves by a configuration: starts the site once, runs a worker in each of its worlds until Stop, gives the worlds back whatever
-/// happened, and writes for each VM what its store came to. After `stop_after` lines, where it is given, no more are accepted, and Stop comes
-/// once all have closed.
+/// happened, and writes for each VM what its store came to, and then what its metrics came to. After `stop_after` lines, where it is given, no
+/// more are accepted, and Stop comes once all have closed.
 pub fn serve<
     R: Threads + Wait + Sync,
     H: Host + Send + Drop,
@@ -91,33 +91,35 @@ pub fn serve<
     finish(alloc, config, &ran, out)
 }
 
-/// Writes what the stores of a fleet came to, where it ended well.
+/// Writes what the stores and metrics of a fleet came to, where it ended well.
 fn finish<O: Sink>(
     alloc: Global,
     config: &Config,
-    ran: &Result<ClosedStores, FleetEnd>,
+    ran: &Result<ClosedTables, FleetEnd>,
     out: &mut O,
 ) -> ServeEnd
-    requires as_many { IfOk ran.now (λ stores. length stores ≡ length config.now.vms) }
+    requires stores { IfOk ran.now (λ closed. length closed.stores ≡ length config.now.vms) }
+    requires metrics { IfOk ran.now (λ closed. length closed.metrics ≡ length config.now.vms) }
     ensures finishes { Finishes config.now.vms ran.now result (O.taken out.old) (O.taken out.new) }
     ensures faults { O.faults out.old ≤ O.faults out.new }
     ensures fault { result ≡ ServeEnd.OutFault → Rose (O.faults out.old) (O.faults out.new) }
 {
     match ran {
-        Ok(stores) => tell(alloc, config, stores, out),
+        Ok(closed) => tell(alloc, config, closed, out),
         Err(FleetEnd::WorldFault) => ServeEnd::SiteFault,
         Err(FleetEnd::OutOfMemory) => ServeEnd::OutOfMemory,
     }
 }
 
-/// Writes what the stores came to.
-fn tell<O: Sink>(alloc: Global, config: &Config, stores: &ClosedStores, out: &mut O) -> ServeEnd
-    requires as_many { length stores.now ≡ length config.now.vms }
-    ensures told { Tells result (summary config.now.vms stores.now) (O.taken out.old) (O.taken out.new) }
+/// Writes what the stores and metrics came to.
+fn tell<O: Sink>(alloc: Global, config: &Config, closed: &ClosedTables, out: &mut O) -> ServeEnd
+    requires stores { length closed.now.stores ≡ length config.now.vms }
+    requires metrics { length closed.now.metrics ≡ length config.now.vms }
+    ensures told { Tells result (summary config.now.vms closed.now) (O.taken out.old) (O.taken out.new) }
     ensures faults { O.faults out.old ≤ O.faults out.new }
     ensures fault { result ≡ ServeEnd.OutFault → Rose (O.faults out.old) (O.faults out.new) }
 {
-    let Ok(text) = summary(alloc, config.vms.as_slice(), stores) else {
+    let Ok(text) = summary(alloc, config.vms.as_slice(), closed) else {
         return ServeEnd::OutOfMemory;
     };
     match write_whole(out, text.as_slice()) {

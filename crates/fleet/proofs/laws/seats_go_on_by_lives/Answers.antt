@@ -1,4 +1,4 @@
-use Rattle.shared_store.specs.Moving.{SeatsGoOn, seats_nothing, seats_joined}
+use Rattle.shared_seats.specs.Moving.{SeatsGoOn, seats_nothing, seats_joined}
 use Rattle.fleet.proofs.Calls.{lives_made}
 use Rattle.fleet.proofs.laws.seats_go_on_by_lives.Goals as goal
 

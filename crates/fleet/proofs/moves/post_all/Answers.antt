@@ -1,6 +1,5 @@
 use Rattle.std.proofs.Common.{rules, false, All, IfSome, ◌≡◌, ◌∙◌, ◌+◌, [], ◌∷◌, ◌++◌, List, map, reverse, ap, sym, subst, vec_len, ℕ}
-use Rattle.std.specs.Global.{Vec}
-use Rattle.turn_table.specs.Seats.{Seated}
+use Rattle.shared_seats.specs.Seats.{SeatsOf}
 use Rattle.fleet.specs.Moves.{AreFrom}
 use Rattle.fleet.specs.declared.post.Post.{Post}
 use Rattle.worker.specs.declared.worker.Turn.TheVariants.{Stopped}
@@ -21,7 +20,7 @@ moves-preserved g c =
     let who : c.unwrap-who.result ≡ vec_len c.pop.new.self + 1 = search rules in
     record {
       worlds = rw put (moved {A = Post W} {B = W} (λ q. q.watched) c.pop.new.self.items ps p c.args.worlds.now.items (ap (λ (w : W). (c.pop.new.self.items ++ w ∷ []) ++ reverse (map (λ (q : Post W). q.watched) ps)) same ∙ ap (λ (l : List W). l ++ reverse (map (λ (q : Post W). q.watched) ps)) (sym c.in-Some.ensures.items) ∙ so.worlds));
-      lists = rw put (moved {A = Post W} {B = Vec Seated} (λ q. q.seats) c.pop-in-Some.new.self.items ps p c.args.lists.now.items (ap (λ (l : List (Vec Seated)). l ++ reverse (map (λ (q : Post W). q.seats) ps)) (sym lists_are) ∙ so.lists));
+      lists = rw put (moved {A = Post W} {B = SeatsOf} (λ q. q.seats) c.pop-in-Some.new.self.items ps p c.args.lists.now.items (ap (λ (l : List SeatsOf). l ++ reverse (map (λ (q : Post W). q.seats) ps)) (sym lists_are) ∙ so.lists));
       fresh = all_left (λ (w : W). IfSome (g.W.World.trace w) (λ trace. trace ≡ [])) c.pop.new.self.items (c.in-Some.world ∷ []) (subst (λ (l : List W). All (λ (w : W). IfSome (g.W.World.trace w) (λ trace. trace ≡ [])) l) c.in-Some.ensures.items so.fresh);
       as_many = search rules;
       all = search rules;

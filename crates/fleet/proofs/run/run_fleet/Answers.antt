@@ -1,54 +1,57 @@
 use Rattle.std.proofs.Common.{arith, ◌≡◌, ◌≤◌, ◌∙◌, ℕ, List, length, map, reverse, subst, sym, IfOk, IfErr, IfNone, IsTrue, Result, Some, true, All}
-use Rattle.std.specs.Global.{Vec}
 use Rattle.gate_config.specs.declared.config.Config.{Config}
-use Rattle.shared_store.specs.Workers.{AreAll, AreNew, AreShut}
-use Rattle.turn_table.specs.Seats.{Seated, TurnTableId}
+use Rattle.shared_seats.specs.Closed.{ClosedOf}
+use Rattle.shared_seats.specs.Seats.{SeatsOf, TablesOf}
+use Rattle.shared_seats.specs.Workers.{AreAll, AreNew, AreShut}
 use Rattle.std.specs.List.{list_any}
-use Rattle.shared_store.specs.declared.closed.ClosedStore.{ClosedStore}
 use Rattle.fleet.specs.declared.run.FleetEnd.{FleetEnd}
 use Rattle.fleet.specs.Moves.{seats_in, world_in}
 use Rattle.fleet.specs.Run.{AnyRose, Worked, is_clean, is_fault}
 use Rattle.fleet.specs.Lives.{first_of}
 use Rattle.fleet.specs.declared.post.Post.{Post}
 use Rattle.fleet.proofs.Faults.{worlds_rose}
-use Rattle.fleet.proofs.Posting.{all_ready, all_went, as_many_stores, as_many_worlds, cleanly, ran}
+use Rattle.fleet.proofs.Posting.{all_ready, all_went, as_many_metrics, as_many_stores, as_many_worlds, cleanly, ran}
 use Rattle.fleet.proofs.run.run_fleet.Goals as goal
 
 pub work_posts-requires-clause-ready : goal.work_posts-requires-clause-ready
 work_posts-requires-clause-ready g c κs within =
     let config : Config = c.args.config.now in
-    let tables : List TurnTableId = c.in-Ok-make.tables in
-    let low : length config.vms ≤ length tables = (let a = c.in-Ok-make.ensures.tables in let b = c.count_of-vms.ensures.count in omega (arith, a, b)) in
+    let tables : TablesOf = c.in-Ok-make.tables in
+    let low : length config.vms ≤ length tables.stores = (let a = c.in-Ok-make.ensures.tables in let b = c.count_of-vms.ensures.count in omega (arith, a, b)) in
     all_ready {W = g.row.W.Denot} tables config c.post_all.new.posts.items c.in-Ok-make.lists.items low c.post_all.ensures.lists c.in-Ok-make.ensures.at
 
 pub finish-requires : goal.finish-requires
 finish-requires g c =
-    let tables : List TurnTableId = c.in-Ok-make.tables in
+    let tables : TablesOf = c.in-Ok-make.tables in
     let before : List (Post g.row.W.Denot) = c.post_all.new.posts.items in
     let after : List (Post g.row.W.Denot) = c.work_posts.new.posts.items in
     let went = all_went g.W.World.trace g.W.World.nature g.W.World.faults g.H.Host.calling (first_of g.H.Host.exported g.H.Host.registering c.args.config.now (g.M.MakesHost.made c.args.maker.now c.args.config.now)) before after c.work_posts.ensures.each in
-    let all = subst (λ (ls : List (Vec Seated)). AreAll tables ls) (sym c.post_all.ensures.lists) c.in-Ok-make.ensures.all in
-    subst (λ (ls : List (Vec Seated)). AreAll tables ls) (sym c.hand_back.ensures.lists) (c.no_seat_gets_lost.ensures tables (reverse (map seats_in before)) (reverse (map seats_in after)) all went)
+    let all = subst (λ (ls : List SeatsOf). AreAll tables ls) (sym c.post_all.ensures.lists) c.in-Ok-make.ensures.all in
+    subst (λ (ls : List SeatsOf). AreAll tables ls) (sym c.hand_back.ensures.lists) (c.no_seat_gets_lost.ensures tables (reverse (map seats_in before)) (reverse (map seats_in after)) all went)
 
 pub returns-clause-ran : goal.returns-clause-ran
 returns-clause-ran g c =
-    let tables : List TurnTableId = c.in-Ok-make.tables in
+    let tables : TablesOf = c.in-Ok-make.tables in
     let before : List (Post g.row.W.Denot) = c.post_all.new.posts.items in
     let after : List (Post g.row.W.Denot) = c.work_posts.new.posts.items in
-    let worked : Worked g.W.World.trace g.W.World.nature g.W.World.faults g.H.Host.calling (first_of g.H.Host.exported g.H.Host.registering c.args.config.now (g.M.MakesHost.made c.args.maker.now c.args.config.now)) c.args.config.now.workers c.args.worlds.now.items c.hand_back.new.worlds.items = record {
+    let worked : Worked g.W.World.trace g.W.World.nature g.W.World.faults g.H.Host.calling (first_of g.H.Host.exported g.H.Host.registering c.args.config.now (g.M.MakesHost.made c.args.maker.now c.args.config.now)) c.args.config.now c.args.worlds.now.items c.hand_back.new.worlds.items = record {
       tables = tables;
+      stores = c.in-Ok-make.ensures.tables ∙ c.count_of-vms.ensures.count;
+      metrics = c.in-Ok-make.ensures.metrics ∙ c.count_of-vms.ensures.count;
+      numbered = c.in-Ok-make.ensures.numbered;
       before = before;
       after = after;
       old_is = c.post_all.ensures.worlds;
       new_is = c.hand_back.ensures.worlds;
       numbers = c.post_all.ensures.workers;
-      seats = subst (λ (ls : List (Vec Seated)). AreNew tables c.args.config.now.workers ls) (sym c.post_all.ensures.lists) c.in-Ok-make.ensures.lists;
+      seats = subst (λ (ls : List SeatsOf). AreNew tables c.args.config.now.workers ls) (sym c.post_all.ensures.lists) c.in-Ok-make.ensures.lists;
       worked = c.work_posts.ensures.each;
     } in
     let all_clean = subst (λ (l : List (Post g.row.W.Denot)). IfNone c.end_of-end.result (All (λ (p : Post g.row.W.Denot). is_clean p ≡ true) l)) c.as_slice.ensures.value c.end_of-end.ensures.clean in
-    let clean : IfOk c.finish.result (λ stores. All (λ (p : Post g.row.W.Denot). is_clean p ≡ true) after) = cleanly c.end_of-end.result c.finish.result (All (λ (p : Post g.row.W.Denot). is_clean p ≡ true) after) all_clean c.finish.ensures.none in
-    ran g.W.World.trace g.W.World.nature g.W.World.faults g.H.Host.calling (first_of g.H.Host.exported g.H.Host.registering c.args.config.now (g.M.MakesHost.made c.args.maker.now c.args.config.now)) c.args.config.now.workers c.args.worlds.now.items c.hand_back.new.worlds.items c.finish.result worked
-    (subst (λ (ls : List (Vec Seated)). IfOk c.finish.result (AreShut tables ls)) c.hand_back.ensures.lists c.finish.ensures.ok)
+    let clean : IfOk c.finish.result (λ closed. All (λ (p : Post g.row.W.Denot). is_clean p ≡ true) after) = cleanly c.end_of-end.result c.finish.result (All (λ (p : Post g.row.W.Denot). is_clean p ≡ true) after) all_clean c.finish.ensures.none in
+    ran g.W.World.trace g.W.World.nature g.W.World.faults g.H.Host.calling (first_of g.H.Host.exported g.H.Host.registering c.args.config.now (g.M.MakesHost.made c.args.maker.now c.args.config.now)) c.args.config.now c.args.worlds.now.items c.hand_back.new.worlds.items c.finish.result worked
+    (subst (λ (ls : List SeatsOf). (closed : ClosedOf) × AreShut tables ls closed) c.hand_back.ensures.lists c.finish.ensures.shut)
+    (subst (λ (ls : List SeatsOf). IfOk c.finish.result (AreShut tables ls)) c.hand_back.ensures.lists c.finish.ensures.ok)
     clean
 
 pub returns-clause-fault : goal.returns-clause-fault
@@ -57,7 +60,7 @@ returns-clause-fault g c = λ is.
     let f : W → ℕ = g.W.World.faults in
     let before : List (Post W) = c.post_all.new.posts.items in
     let after : List (Post W) = c.work_posts.new.posts.items in
-    let ended = subst (λ (r : Result (List ClosedStore) FleetEnd). IfErr r (λ (e : FleetEnd). c.end_of-end.result ≡ Some e)) is c.finish.ensures.err in
+    let ended = subst (λ (r : Result ClosedOf FleetEnd). IfErr r (λ (e : FleetEnd). c.end_of-end.result ≡ Some e)) is c.finish.ensures.err in
     let any = subst (λ (l : List (Post W)). IsTrue (list_any (λ (p : Post W). is_fault p.end) l)) c.as_slice.ensures.value (c.end_of-end.ensures.fault ended) in
     let rose = worlds_rose g.W.World.trace g.W.World.nature f g.H.Host.calling (first_of g.H.Host.exported g.H.Host.registering c.args.config.now (g.M.MakesHost.made c.args.maker.now c.args.config.now)) before after c.work_posts.ensures.each any in
     subst (λ (xs : List W). AnyRose f xs c.hand_back.new.worlds.items) c.post_all.ensures.worlds
@@ -71,3 +74,7 @@ returns-clause-as_many g c =
 pub returns-clause-stores : goal.returns-clause-stores
 returns-clause-stores g c =
     as_many_stores c.finish.result c.in-Ok-make.tables c.hand_back.new.lists.items (length c.args.config.now.vms) (c.in-Ok-make.ensures.tables ∙ c.count_of-vms.ensures.count) c.finish.ensures.ok
+
+pub returns-clause-metrics : goal.returns-clause-metrics
+returns-clause-metrics g c =
+    as_many_metrics c.finish.result c.in-Ok-make.tables c.hand_back.new.lists.items (length c.args.config.now.vms) (c.in-Ok-make.ensures.metrics ∙ c.count_of-vms.ensures.count) c.finish.ensures.ok
