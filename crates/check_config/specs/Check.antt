@@ -1,8 +1,8 @@
 -- What `check` prints of a configuration, and how it ends.
-use Rattle.std.specs.Prelude.{◌≡◌, ℕ, List, [], ◌++◌, length, codes, decimal, Option, Some, Result, Ok, Err}
+use Rattle.std.specs.Prelude.{◌≡◌, ℕ, List, [], ◌∷◌, ◌++◌, length, codes, decimal, Option, Some, Result, Ok, Err}
 use Rattle.gate_io.specs.Told.{Gains, GainsFront}
 use Rattle.gate_io.specs.Paths.{told_at}
-use Rattle.config_files.specs.Loading.{Told, IsLoaded, IsNotLoaded}
+use Rattle.config_files.specs.Loading.{Told, IsLoaded, IsNotLoaded, StopsAt, modules_of}
 use Rattle.gate_config.specs.Given.{Given}
 use Rattle.check_config.specs.declared.checking.CheckEnd.{CheckEnd}
 use Rattle.check_config.specs.declared.checking.CheckEnd.TheVariants.{NotLoaded, OutFault, OutOfMemory}
@@ -34,3 +34,14 @@ IsPrinted line (Ok u) old new = Gains old line new
 IsPrinted line (Err OutFault) old new = GainsFront old line new
 IsPrinted line (Err OutOfMemory) old new = Gains old [] new
 IsPrinted line (Err (NotLoaded e)) old new = ⊥
+
+-- where the text of the configuration is told, it was read and all its modules
+abbrev pub ReadsAll : Told → List ℕ → (old new : Option (List (List ℕ))) → Type 0
+ReadsAll files path old new = (text : List ℕ) → told_at files path ≡ Some text → (g : Given) × IsLoaded files text g × Gains old (path ∷ modules_of g.vms) new
+
+-- HOW FAR A CHECK READS: to the refused file, or all of them
+abbrev pub Reaches : Told → List ℕ → Result (Unit {0}) CheckEnd → (old new : Option (List (List ℕ))) → Type 0
+Reaches files path (Ok u) old new = ReadsAll files path old new
+Reaches files path (Err OutFault) old new = ReadsAll files path old new
+Reaches files path (Err (NotLoaded e)) old new = StopsAt files path e old new
+Reaches files path (Err OutOfMemory) old new = Unit {0}

@@ -3,7 +3,7 @@ ghost use Rattle.std.specs.Prelude.{◌≡◌, ◌≤◌, ◌++◌, IfOk, OnOk, 
 ghost use Rattle.gate_config.specs.Given.{given};
 ghost use Rattle.gate_io.specs.Told.{Rose};
 ghost use Rattle.config_files.specs.Loading.{ReadsInOrder};
-ghost use Rattle.check_config.specs.Check.{IsChecked, IsPrinted, count, counts_line};
+ghost use Rattle.check_config.specs.Check.{IsChecked, IsPrinted, Reaches, count, counts_line};
 
 use config_files::{LoadEnd, load};
 use gate_base::OutOfMemory;
@@ -23,7 +23,7 @@ pub enum CheckEnd {
     OutOfMemory,
 }
 
-/// Reads a configuration and the modules of its VMs, and prints `ok workers W vms V plugins P routes R`.
+/// Reads a configuration and the modules of its VMs, none behind a refusal, and prints `ok workers W vms V plugins P routes R`.
 pub fn check<F: Files, O: Sink>(
     alloc: Global,
     path: &str,
@@ -32,6 +32,7 @@ pub fn check<F: Files, O: Sink>(
 ) -> Result<(), CheckEnd>
     ensures checked { IsChecked (F.holds files.old) path.now result (O.taken out.old) (O.taken out.new) }
     ensures paths { ReadsInOrder (F.holds files.old) path.now (F.paths files.old) (F.paths files.new) }
+    ensures reaches { Reaches (F.holds files.old) path.now result (F.paths files.old) (F.paths files.new) }
     ensures file_faults { F.faults files.old ≤ F.faults files.new }
     ensures file_fault { result ≡ Err (CheckEnd.NotLoaded LoadEnd.FileFault) → Rose (F.faults files.old) (F.faults files.new) }
     ensures out_faults { O.faults out.old ≤ O.faults out.new }

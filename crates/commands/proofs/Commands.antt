@@ -1,19 +1,19 @@
 -- What holds of each command that words ask for, and what is done where nothing is read.
-use Rattle.std.proofs.Common.{◌≡◌, ℕ, ◌≤◌, Bool, true, false, nat_le, if◌then◌else◌, List, [], ◌∷◌, length, Option, None, Some, refl, ap, ◌∙◌, sym, subst, inl, inr, arith, codes, bytes_eq}
+use Rattle.std.proofs.Common.{◌≡◌, ℕ, ◌≤◌, Bool, true, false, nat_le, if◌then◌else◌, List, [], ◌∷◌, length, Option, None, Some, refl, sym, subst, inl, arith, codes, bytes_eq}
 use Rattle.std.specs.Prelude.{◌&&◌, option_map, Ok, Err}
-use Rattle.std.proofs.lemmas.Bool.{and_parts, cases_Bool}
-use Rattle.gate_io.specs.Told.{Gains, GainsFront, gains_nothing, gains_none, gains_then_front, gains_front_of_more}
+use Rattle.std.proofs.lemmas.Bool.{and_parts}
+use Rattle.gate_io.specs.Told.{gains_nothing}
 use Rattle.statuses.specs.declared.status.Status.TheVariants.{Usage, OutOfMemory}
 use Rattle.words.specs.Forms.{Command, replay, replay_config, serve, check, invoke, generate, form_of, others_of, is_replay, is_replay_config, is_serve, is_serve_until, is_check, is_invoke, is_generate, names_script, are_plain, second, third, fourth, behind_two, behind_three, number_of}
 use Rattle.commands.specs.Call.{Calls}
-use Rattle.commands.specs.Doing.{IsForm, Checks, LoadsFile, LoadsPlain, RefusesFile, ServesFile, Obeys, ReadsFor, config_path, paths_of}
+use Rattle.commands.specs.Generated.{Generated}
+use Rattle.generating.specs.declared.running.GenerateEnd.TheVariants as generating
+use Rattle.commands.specs.Doing.{IsForm, Checks, LoadsFile, LoadsPlain, RefusesFile, ServesFile, Obeys}
 use Rattle.commands.specs.Scripts.{Replays}
 use Rattle.config_files.specs.Plain.{IsNoPlain}
 use Rattle.statuses.specs.declared.status.Status.{Status}
 use Rattle.config_files.specs.Loading.{Told}
 use Rattle.serving.specs.Serving.{Eyes, Seen}
-use Rattle.read_config.specs.Whole.{Judged, config_of}
-use Rattle.gate_io.specs.Paths.{told_at}
 
 -- it names 16 modules at most, where it is a command
 abbrev pub AreFew : Option Command → Type 0
@@ -58,23 +58,6 @@ few_of_form ws =
 pub is_form : (ws : List (List ℕ)) (c : Command) → Some c ≡ form_of ws → IsForm c
 is_form ws c e = subst AreFew (sym e) (few_of_form ws)
 
--- what a text says as a configuration, where it is told
-abbrev pub judged_at : Option (List ℕ) → Judged
-judged_at None = Err (0, [])
-judged_at (Some text) = config_of text
-
-abbrev pub judged_for : Told → Option (List ℕ) → Judged
-judged_for files None = Err (0, [])
-judged_for files (Some path) = judged_at (told_at files path)
-
--- nothing was read
-pub reads_nothing : (files : Told) (command : Option Command) (old : Option (List (List ℕ))) → ReadsFor files command old old
-reads_nothing files command old = record {
-  judged = judged_for files (config_path command);
-  told = λ path text e t. ap (judged_for files) e ∙ ap judged_at t;
-  gained = gains_none old (paths_of command (judged_for files (config_path command)));
-}
-
 -- there was no memory to read the words
 pub no_memory : {W : Type 0} (eyes : Eyes W) (files : Told) (command : Command) (site : Seen W) (old : Option (List ℕ)) → Obeys eyes files (Some command) OutOfMemory site site old old
 unfolding Obeys
@@ -82,8 +65,8 @@ no_memory eyes files (replay script modules) site old = (refl, inl (tt, gains_no
 no_memory eyes files (replay_config config script) site old = (refl, inl (tt, gains_nothing old))
 no_memory eyes files (serve config stop_after) site old = inl (record { why = tt; site_is = refl; nothing = gains_nothing old })
 no_memory eyes files (check config) site old = (refl, gains_nothing old)
-no_memory eyes files (invoke file export arguments) site old = (refl, record { may = gains_nothing old; called = λ text e. gains_nothing old })
-no_memory eyes files (generate n) site old = (refl, (inr refl, gains_nothing old))
+no_memory eyes files (invoke file export arguments) site old = (refl, record { may = gains_nothing old; there = tt; called = λ text e. gains_nothing old })
+no_memory eyes files (generate n) site old = (refl, record { end = generating.OutOfMemory; status_is = refl; generates = gains_nothing old })
 
 -- words of no form are refused
 pub no_form_obeys : {W : Type 0} (eyes : Eyes W) (files : Told) (site : Seen W) (old : Option (List ℕ)) → Obeys eyes files None Usage site site old old
@@ -94,9 +77,6 @@ no_form_obeys eyes files site old = (refl, (refl, gains_nothing old))
 pub unread_obeys : {W : Type 0} (eyes : Eyes W) (files : Told) (command : Option Command) (site : Seen W) (old : Option (List ℕ)) → (command ≡ None → ⊥) → Obeys eyes files command OutOfMemory site site old old
 unread_obeys eyes files None site old some = absurd (some refl)
 unread_obeys eyes files (Some c) site old some = no_memory eyes files c site old
-
-pub none_is_some : {A : Type 0} (x : A) → None ≡ Some x → ⊥
-none_is_some x e = cc
 
 -- what each command does, as what is done at it
 pub obeys_replay : {W : Type 0} (eyes : Eyes W) (files : Told) (script : List ℕ) (modules : List (List ℕ)) (status : Status) (site : Seen W) (old new : Option (List ℕ))
@@ -124,35 +104,10 @@ pub obeys_invoke : {W : Type 0} (eyes : Eyes W) (files : Told) (file export : Li
 unfolding Obeys
 obeys_invoke eyes files file export arguments status site old new h = (refl, h)
 
-pub obeys_generate : {W : Type 0} (eyes : Eyes W) (files : Told) (n : ℕ) (site : Seen W) (old : Option (List ℕ)) → Obeys eyes files (Some (generate n)) Usage site site old old
+pub obeys_generate : {W : Type 0} (eyes : Eyes W) (files : Told) (n : ℕ) (status : Status) (site : Seen W) (old new : Option (List ℕ))
+    → Generated n status old new → Obeys eyes files (Some (generate n)) status site site old new
 unfolding Obeys
-obeys_generate eyes files n site old = (refl, (inl refl, gains_nothing old))
-
--- a command that names no configuration read a front of its paths
-pub reads_invoke : (files : Told) (file export : List ℕ) (arguments : List (List ℕ)) (old new : Option (List (List ℕ)))
-    → GainsFront old (file ∷ []) new → ReadsFor files (Some (invoke file export arguments)) old new
-reads_invoke files file export arguments old new a = record {
-  judged = Err (0, []);
-  told = λ path text e t. absurd (none_is_some path e);
-  gained = a;
-}
-
--- the modules were read, and then a front of the script's path
-pub reads_plain : (files : Told) (script : List ℕ) (modules : List (List ℕ)) (old mid new : Option (List (List ℕ)))
-    → Gains old modules mid → GainsFront mid (script ∷ []) new → ReadsFor files (Some (replay script modules)) old new
-reads_plain files script modules old mid new a b = record {
-  judged = Err (0, []);
-  told = λ path text e t. absurd (none_is_some path e);
-  gained = gains_then_front old modules mid (script ∷ []) new a b;
-}
-
-pub reads_plain_front : (files : Told) (script : List ℕ) (modules : List (List ℕ)) (old new : Option (List (List ℕ)))
-    → GainsFront old modules new → ReadsFor files (Some (replay script modules)) old new
-reads_plain_front files script modules old new a = record {
-  judged = Err (0, []);
-  told = λ path text e t. absurd (none_is_some path e);
-  gained = gains_front_of_more old modules (script ∷ []) new a;
-}
+obeys_generate eyes files n status site old new h = (refl, h)
 
 -- an error is no answer
 pub err_is_no_ok : {T E : Type 0} (e : E) (x : T) → Err e ≡ Ok x → ⊥

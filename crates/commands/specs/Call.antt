@@ -1,7 +1,6 @@
 -- What a call of an exported function prints, and how it ends.
-use Rattle.std.specs.Prelude.{◌≡◌, ℕ, List, [], ◌∷◌, ◌++◌, Option, None, Some, Ok, Err, codes, decimal}
+use Rattle.std.specs.Prelude.{ℕ, List, [], ◌∷◌, ◌++◌, Option, None, Some, Ok, Err, codes, decimal}
 use Rattle.gate_io.specs.Told.{Gains, GainsFront}
-use Rattle.gate_io.specs.Paths.{told_at}
 use Rattle.config_files.specs.Loading.{Told}
 use Rattle.wasm_syntax.specs.declared.types.Value.{Value}
 use Rattle.wasm_syntax.specs.declared.types.Value.TheVariants.{I32, I64}
@@ -11,6 +10,7 @@ use Rattle.wasm_invoke.specs.Invoking.{Invokes}
 use Rattle.statuses.specs.declared.status.CallEnd.TheVariants.{Trap, FuelSpent}
 use Rattle.statuses.specs.declared.status.Status.{Status}
 use Rattle.statuses.specs.declared.status.Status.TheVariants.{Done, Usage, Config, Module, Refused, FileFault, SiteFault, OutFault, OutOfMemory, Script, Invoke}
+use Rattle.commands.specs.Files.{IsThere, OfText}
 
 -- the line of the result, where there is one: its type, and its value as an unsigned number
 abbrev pub result_line : Option Value → List ℕ
@@ -52,7 +52,22 @@ OfCall (Module vm fault) old new = ⊥
 OfCall SiteFault old new = ⊥
 OfCall (Script line) old new = ⊥
 
+-- the file of the module was read, unless its read failed or memory ran out
+abbrev pub WasRead : Told → List ℕ → Status → Type 0
+WasRead files path Done = IsThere files path
+WasRead files path OutFault = IsThere files path
+WasRead files path (Refused refusal) = IsThere files path
+WasRead files path (Invoke end) = IsThere files path
+WasRead files path FileFault = Unit {0}
+WasRead files path OutOfMemory = Unit {0}
+WasRead files path Usage = ⊥
+WasRead files path (Config number key) = ⊥
+WasRead files path (Module vm fault) = ⊥
+WasRead files path SiteFault = ⊥
+WasRead files path (Script line) = ⊥
+
 -- HOW `invoke` ENDS, by what the files tell of the module's file
 pub record Calls (files : Told) (path export : List ℕ) (words : List (List ℕ)) (status : Status) (old new : Option (List ℕ)) : Type 0 where
   pub may : OfCall status old new
-  pub called : (text : List ℕ) → told_at files path ≡ Some text → IsCalled text export words status old new
+  pub there : WasRead files path status
+  pub called : OfText files path (λ text. IsCalled text export words status old new)

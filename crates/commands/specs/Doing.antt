@@ -1,14 +1,12 @@
 -- What a run of the program does: by the command that its words ask for, what the files tell, and its status.
-use Rattle.std.specs.Prelude.{◌≡◌, ◌⊎◌, ℕ, ◌≤◌, List, [], ◌∷◌, ◌++◌, length, Option, None, Some, Ok, Err}
+use Rattle.std.specs.Prelude.{◌≡◌, ◌⊎◌, ℕ, ◌≤◌, List, [], length, Option, None, Some}
 use Rattle.gate_config.specs.declared.config.Config.{Config as Configured}
 use Rattle.gate_config.specs.Given.{Given, given}
-use Rattle.gate_io.specs.Paths.{told_at}
 use Rattle.gate_io.specs.Told.{Gains, GainsFront, Rose}
 use Rattle.check_config.specs.Check.{IsOf, counts_line}
-use Rattle.config_files.specs.Loading.{Told, IsLoaded, IsNotLoaded, modules_of}
+use Rattle.config_files.specs.Loading.{Told, IsLoaded, IsNotLoaded}
 use Rattle.config_files.specs.Plain.{IsPlainLoaded, IsNoPlain}
 use Rattle.config_files.specs.declared.reading.LoadEnd.{LoadEnd}
-use Rattle.read_config.specs.Whole.{Judged, config_of}
 use Rattle.serve_filters.specs.Filtered.{ServesFiltered}
 use Rattle.serving.specs.Serving.{Eyes, Seen}
 use Rattle.serving.specs.declared.running.ServeEnd.{ServeEnd}
@@ -17,7 +15,9 @@ use Rattle.statuses.specs.declared.status.Status.{Status}
 use Rattle.statuses.specs.declared.status.Status.TheVariants.{Done, Usage, Config, Module, Refused, FileFault, SiteFault, OutFault, OutOfMemory, Script, Invoke}
 use Rattle.words.specs.Forms.{Command, replay, replay_config, serve, check, invoke, generate}
 use Rattle.commands.specs.Call.{Calls}
-use Rattle.commands.specs.Scripts.{OfText, IsUnloaded, Replays}
+use Rattle.commands.specs.Generated.{Generated}
+use Rattle.commands.specs.Files.{OfText}
+use Rattle.commands.specs.Scripts.{IsUnloaded, Replays}
 
 -- the configuration of this file, with the modules of its VMs, where the files tell it
 abbrev pub LoadsFile : Told → List ℕ → Configured → Type 0
@@ -45,10 +45,6 @@ Checks files path SiteFault old new = ⊥
 Checks files path (Script line) old new = ⊥
 Checks files path (Invoke end) old new = ⊥
 
--- the words are refused, or there was no memory to read them, and nothing is printed
-abbrev pub IsNotThere : Status → (old new : Option (List ℕ)) → Type 0
-IsNotThere status old new = ((status ≡ Usage) ⊎ (status ≡ OutOfMemory)) × Gains old [] new
-
 -- what holds of each command that words ask for: it names 16 modules at most
 abbrev pub IsForm : Command → Type 0
 IsForm (replay script modules) = length modules ≤ 16
@@ -58,7 +54,7 @@ IsForm (check config) = Unit {0}
 IsForm (invoke file export arguments) = Unit {0}
 IsForm (generate n) = Unit {0}
 
--- what is done at a command that opens no socket, and at words of no form. `generate` is refused as these are.
+-- what is done at a command that opens no socket, and at words of no form, which are refused
 abbrev pub Does : Told → Option Command → Status → (old new : Option (List ℕ)) → Type 0
 Does files None status old new = (status ≡ Usage) × Gains old [] new
 Does files (Some (replay script modules)) status old new = Replays files (LoadsPlain files modules) (IsNoPlain files modules) script status old new
@@ -66,7 +62,7 @@ Does files (Some (replay_config config script)) status old new = Replays files (
 Does files (Some (serve config stop_after)) status old new = ⊥
 Does files (Some (check config)) status old new = Checks files config status old new
 Does files (Some (invoke file export arguments)) status old new = Calls files file export arguments status old new
-Does files (Some (generate n)) status old new = IsNotThere status old new
+Does files (Some (generate n)) status old new = Generated n status old new
 
 -- how serving ended, by the status
 abbrev pub serve_status : ServeEnd → Status
@@ -107,39 +103,6 @@ module _ {W : Type 0} (eyes : Eyes W) where
   Obeys files (Some (check config)) status site after old new = DoesAlone files (Some (check config)) status site after old new
   Obeys files (Some (invoke file export arguments)) status site after old new = DoesAlone files (Some (invoke file export arguments)) status site after old new
   Obeys files (Some (generate n)) status site after old new = DoesAlone files (Some (generate n)) status site after old new
-
--- ---- the paths that are read
-
--- the path of the configuration, where a command names one
-abbrev pub config_path : Option Command → Option (List ℕ)
-config_path None = None
-config_path (Some (replay script modules)) = None
-config_path (Some (replay_config config script)) = Some config
-config_path (Some (serve config stop_after)) = Some config
-config_path (Some (check config)) = Some config
-config_path (Some (invoke file export arguments)) = None
-config_path (Some (generate n)) = None
-
--- behind the path of a configuration: where it is one, those of its modules, and then these
-abbrev pub behind_config : Judged → List (List ℕ) → List (List ℕ)
-behind_config (Ok said) more = modules_of said.vms ++ more
-behind_config (Err refusal) more = []
-
--- THE PATHS of a command, in the order in which they are read
-abbrev pub paths_of : Option Command → Judged → List (List ℕ)
-paths_of None judged = []
-paths_of (Some (replay script modules)) judged = modules ++ script ∷ []
-paths_of (Some (replay_config config script)) judged = config ∷ behind_config judged (script ∷ [])
-paths_of (Some (serve config stop_after)) judged = config ∷ behind_config judged []
-paths_of (Some (check config)) judged = config ∷ behind_config judged []
-paths_of (Some (invoke file export arguments)) judged = file ∷ []
-paths_of (Some (generate n)) judged = []
-
--- a front of the paths of a command was read, each once, and no other path
-pub record ReadsFor (files : Told) (command : Option Command) (old new : Option (List (List ℕ))) : Type 0 where
-  pub judged : Judged
-  pub told : (path text : List ℕ) → config_path command ≡ Some path → told_at files path ≡ Some text → judged ≡ config_of text
-  pub gained : GainsFront old (paths_of command judged) new
 
 -- the line of a status was written, or a front of it where the faults rose
 abbrev pub TakesLine : Option (List ℕ) → List ℕ → Option (List ℕ) → ℕ → ℕ → Type 0

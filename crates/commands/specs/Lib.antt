@@ -1,3 +1,7 @@
+pub mod Files
 pub mod Call
 pub mod Scripts
+pub mod Generated
 pub mod Doing
+pub mod Reading
+pub mod Examples

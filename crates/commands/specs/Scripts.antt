@@ -1,7 +1,6 @@
 -- What a script over a configuration prints, and how it ends.
-use Rattle.std.specs.Prelude.{◌≡◌, ◌⊎◌, ℕ, ◌<◌, ◌≤◌, List, [], length, Option, Some}
+use Rattle.std.specs.Prelude.{◌≡◌, ◌⊎◌, ℕ, ◌<◌, ◌≤◌, List, [], length, Option}
 use Rattle.gate_config.specs.declared.config.Config.{Config as Configured}
-use Rattle.gate_io.specs.Paths.{told_at}
 use Rattle.gate_io.specs.Told.{Gains}
 use Rattle.config_files.specs.Loading.{Told}
 use Rattle.config_files.specs.declared.reading.LoadEnd.{LoadEnd}
@@ -12,6 +11,7 @@ use Rattle.play_filters.specs.Filtered.{filtered}
 use Rattle.script_play.specs.Replay.{Prints, PrintsFront}
 use Rattle.statuses.specs.declared.status.Status.{Status}
 use Rattle.statuses.specs.declared.status.Status.TheVariants.{Done, Usage, Config, Module, Refused, FileFault, SiteFault, OutFault, OutOfMemory, Script, Invoke}
+use Rattle.commands.specs.Files.{OfFile, OfText}
 
 -- how many bytes a script has at most: 64 MiB
 abbrev pub script_limit : ℕ
@@ -62,17 +62,13 @@ PlaysText config text (Refused refusal) old new = ⊥
 PlaysText config text SiteFault old new = ⊥
 PlaysText config text (Invoke end) old new = ⊥
 
--- what holds of the text of this file, where it is told
-abbrev pub OfText : Told → List ℕ → (List ℕ → Type 0) → Type 0
-OfText files path P = (text : List ℕ) → told_at files path ≡ Some text → P text
-
--- HOW A SCRIPT ENDS over a configuration: all that it sends is printed, or a front of it where the output failed or memory ran out; else
--- nothing is printed, and the status tells why
+-- HOW A SCRIPT ENDS over a configuration: its file is there, and all that it sends is printed, or a front of it where the output failed or
+-- memory ran out; else nothing is printed, and the status tells why
 abbrev pub Plays : Told → (script : List ℕ) → Configured → Status → (old new : Option (List ℕ)) → Type 0
-Plays files script config Done old new = OfText files script (λ text. IsPlayed config text old new)
-Plays files script config OutFault old new = OfText files script (λ text. IsCutShort config text old new)
+Plays files script config Done old new = OfFile files script (λ text. IsPlayed config text old new)
+Plays files script config OutFault old new = OfFile files script (λ text. IsCutShort config text old new)
 Plays files script config OutOfMemory old new = OfText files script (λ text. Gains old [] new ⊎ IsCutShort config text old new)
-Plays files script config (Script line) old new = OfText files script (λ text. IsRefusedAt config.workers text line) × Gains old [] new
+Plays files script config (Script line) old new = OfFile files script (λ text. IsRefusedAt config.workers text line) × Gains old [] new
 Plays files script config FileFault old new = Gains old [] new
 Plays files script config Usage old new = ⊥
 Plays files script config (Config number key) old new = ⊥

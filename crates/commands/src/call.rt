@@ -1,8 +1,8 @@
 // A call of an exported function.
 ghost use Rattle.std.specs.Prelude.{◌≡◌, ◌≤◌, ◌++◌, ◌∷◌, [], Some, None, ℕ, List, OnOk, OnErr, map, string_bytes};
-ghost use Rattle.gate_io.specs.Paths.{told_at};
 ghost use Rattle.gate_io.specs.Told.{Gains, GainsFront, Rose};
 ghost use Rattle.commands.specs.Call.{printed, result_line, IsCalled, OfCall, Calls};
+ghost use Rattle.commands.specs.Reading.{ReadsOne};
 
 use gate_io::{Failed, FileEnd, Files, Sink};
 use statuses::{CallEnd, Status, write_numbered};
@@ -22,7 +22,8 @@ pub fn call<F: Files, O: Sink>(
     files: &mut F,
     out: &mut O,
 ) -> Status
-    ensures paths { GainsFront (F.paths files.old) (path.now ∷ []) (F.paths files.new) }
+    ensures front { GainsFront (F.paths files.old) (path.now ∷ []) (F.paths files.new) }
+    ensures one { ReadsOne path.now result (F.paths files.old) (F.paths files.new) }
     ensures file_faults { F.faults files.old ≤ F.faults files.new }
     ensures file_fault { result ≡ Status.FileFault → Rose (F.faults files.old) (F.faults files.new) }
     ensures out_faults { O.faults out.old ≤ O.faults out.new }

@@ -2,7 +2,8 @@
 ghost use Rattle.std.specs.Prelude.{◌≡◌, ◌≤◌, Some};
 ghost use Rattle.gate_io.specs.Told.{Rose};
 ghost use Rattle.words.specs.Forms.{check as checking};
-ghost use Rattle.commands.specs.Doing.{Checks, ReadsFor};
+ghost use Rattle.commands.specs.Doing.{Checks};
+ghost use Rattle.commands.specs.Reading.{ReadsFor};
 
 use check_config::{CheckEnd, check};
 use gate_io::{Files, Sink};
@@ -17,7 +18,7 @@ pub fn check_file<F: Files, O: Sink>(
     out: &mut O,
 ) -> Status
     ensures checks { Checks (F.holds files.old) path.now result (O.taken out.old) (O.taken out.new) }
-    ensures reads { ReadsFor (F.holds files.old) (Some (checking path.now)) (F.paths files.old) (F.paths files.new) }
+    ensures reads { ReadsFor (F.holds files.old) (Some (checking path.now)) result (F.paths files.old) (F.paths files.new) }
     ensures file_faults { F.faults files.old ≤ F.faults files.new }
     ensures file_fault { result ≡ Status.FileFault → Rose (F.faults files.old) (F.faults files.new) }
     ensures out_faults { O.faults out.old ≤ O.faults out.new }

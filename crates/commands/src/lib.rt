@@ -3,6 +3,8 @@
 
 mod call;
 mod check;
+mod generate;
+pub mod laws;
 mod obeying;
 mod replay;
 mod serve;

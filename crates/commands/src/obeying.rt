@@ -2,10 +2,12 @@
 ghost use Rattle.std.specs.Prelude.{◌≡◌, ◌≤◌, Some, length, map, string_bytes};
 ghost use Rattle.gate_io.specs.Told.{Rose};
 ghost use Rattle.words.specs.Forms.{replay as plain_replay, replay_config as config_replay, serve as serving, check as checking, invoke as invoking, generate as generating};
-ghost use Rattle.commands.specs.Doing.{Obeys, ReadsFor};
+ghost use Rattle.commands.specs.Doing.{Obeys};
+ghost use Rattle.commands.specs.Reading.{ReadsFor};
 
 use crate::call::call;
 use crate::check::check_file;
+use crate::generate::generate_load;
 use crate::replay::{replay_config, replay_plain};
 use crate::serve::serve_file;
 use gate_io::{Files, Gate, Sink, Site};
@@ -28,7 +30,7 @@ pub fn obey_replay<F: Files, S: Site, O: Sink>(
         (record { started = S.started site.old; seeds = S.seeds site.old; returned = S.returned site.old; faults = S.faults site.old })
         (record { started = S.started site.new; seeds = S.seeds site.new; returned = S.returned site.new; faults = S.faults site.new })
         (O.taken out.old) (O.taken out.new) }
-    ensures reads { ReadsFor (F.holds files.old) (Some (plain_replay script.now (map string_bytes modules.now))) (F.paths files.old) (F.paths files.new) }
+    ensures reads { ReadsFor (F.holds files.old) (Some (plain_replay script.now (map string_bytes modules.now))) result (F.paths files.old) (F.paths files.new) }
     ensures file_faults { F.faults files.old ≤ F.faults files.new }
     ensures file_fault { result ≡ Status.FileFault → Rose (F.faults files.old) (F.faults files.new) }
     ensures site_faults { S.faults site.old ≤ S.faults site.new }
@@ -51,7 +53,7 @@ pub fn obey_replay_config<F: Files, S: Site, O: Sink>(
         (record { started = S.started site.old; seeds = S.seeds site.old; returned = S.returned site.old; faults = S.faults site.old })
         (record { started = S.started site.new; seeds = S.seeds site.new; returned = S.returned site.new; faults = S.faults site.new })
         (O.taken out.old) (O.taken out.new) }
-    ensures reads { ReadsFor (F.holds files.old) (Some (config_replay config.now script.now)) (F.paths files.old) (F.paths files.new) }
+    ensures reads { ReadsFor (F.holds files.old) (Some (config_replay config.now script.now)) result (F.paths files.old) (F.paths files.new) }
     ensures file_faults { F.faults files.old ≤ F.faults files.new }
     ensures file_fault { result ≡ Status.FileFault → Rose (F.faults files.old) (F.faults files.new) }
     ensures site_faults { S.faults site.old ≤ S.faults site.new }
@@ -76,7 +78,7 @@ pub fn obey_serve<R: Threads + Wait + Sync, F: Files, S: Site, O: Sink, G: Gate 
         (record { started = S.started site.old; seeds = S.seeds site.old; returned = S.returned site.old; faults = S.faults site.old })
         (record { started = S.started site.new; seeds = S.seeds site.new; returned = S.returned site.new; faults = S.faults site.new })
         (O.taken out.old) (O.taken out.new) }
-    ensures reads { ReadsFor (F.holds files.old) (Some (serving config.now stop_after)) (F.paths files.old) (F.paths files.new) }
+    ensures reads { ReadsFor (F.holds files.old) (Some (serving config.now stop_after)) result (F.paths files.old) (F.paths files.new) }
     ensures file_faults { F.faults files.old ≤ F.faults files.new }
     ensures file_fault { result ≡ Status.FileFault → Rose (F.faults files.old) (F.faults files.new) }
     ensures site_faults { S.faults site.old ≤ S.faults site.new }
@@ -98,7 +100,7 @@ pub fn obey_check<F: Files, S: Site, O: Sink>(
         (record { started = S.started site.old; seeds = S.seeds site.old; returned = S.returned site.old; faults = S.faults site.old })
         (record { started = S.started site.new; seeds = S.seeds site.new; returned = S.returned site.new; faults = S.faults site.new })
         (O.taken out.old) (O.taken out.new) }
-    ensures reads { ReadsFor (F.holds files.old) (Some (checking config.now)) (F.paths files.old) (F.paths files.new) }
+    ensures reads { ReadsFor (F.holds files.old) (Some (checking config.now)) result (F.paths files.old) (F.paths files.new) }
     ensures file_faults { F.faults files.old ≤ F.faults files.new }
     ensures file_fault { result ≡ Status.FileFault → Rose (F.faults files.old) (F.faults files.new) }
     ensures site_faults { S.faults site.old ≤ S.faults site.new }
@@ -122,7 +124,7 @@ pub fn obey_invoke<F: Files, S: Site, O: Sink>(
         (record { started = S.started site.old; seeds = S.seeds site.old; returned = S.returned site.old; faults = S.faults site.old })
         (record { started = S.started site.new; seeds = S.seeds site.new; returned = S.returned site.new; faults = S.faults site.new })
         (O.taken out.old) (O.taken out.new) }
-    ensures reads { ReadsFor (F.holds files.old) (Some (invoking «module».now export.now (map string_bytes arguments.now))) (F.paths files.old) (F.paths files.new) }
+    ensures reads { ReadsFor (F.holds files.old) (Some (invoking «module».now export.now (map string_bytes arguments.now))) result (F.paths files.old) (F.paths files.new) }
     ensures file_faults { F.faults files.old ≤ F.faults files.new }
     ensures file_fault { result ≡ Status.FileFault → Rose (F.faults files.old) (F.faults files.new) }
     ensures site_faults { S.faults site.old ≤ S.faults site.new }
@@ -132,23 +134,26 @@ pub fn obey_invoke<F: Files, S: Site, O: Sink>(
     call(alloc, module, export, arguments, files, out)
 }
 
-/// Refuses `generate`, which is not there as yet.
-pub fn obey_generate<F: Files, S: Site, O: Sink>(
+/// Runs the generator's load of a number. No file is read and no socket opened.
+pub fn obey_generate<R: Threads + Wait + Sync, F: Files, S: Site, O: Sink, G: Gate + Sync>(
+    rt: &R,
+    alloc: Global,
     n: u32,
     files: &mut F,
     site: &mut S,
     out: &mut O,
+    gate: &G,
 ) -> Status
     ensures obeys { Obeys (record { trace = S.W.trace; last = S.W.last; nature = S.W.nature; faults = S.W.faults }) (F.holds files.old) (Some (generating n)) result
         (record { started = S.started site.old; seeds = S.seeds site.old; returned = S.returned site.old; faults = S.faults site.old })
         (record { started = S.started site.new; seeds = S.seeds site.new; returned = S.returned site.new; faults = S.faults site.new })
         (O.taken out.old) (O.taken out.new) }
-    ensures reads { ReadsFor (F.holds files.old) (Some (generating n)) (F.paths files.old) (F.paths files.new) }
+    ensures reads { ReadsFor (F.holds files.old) (Some (generating n)) result (F.paths files.old) (F.paths files.new) }
     ensures file_faults { F.faults files.old ≤ F.faults files.new }
     ensures file_fault { result ≡ Status.FileFault → Rose (F.faults files.old) (F.faults files.new) }
     ensures site_faults { S.faults site.old ≤ S.faults site.new }
     ensures out_faults { O.faults out.old ≤ O.faults out.new }
     ensures out_fault { result ≡ Status.OutFault → Rose (O.faults out.old) (O.faults out.new) }
 {
-    Status::Usage
+    generate_load(rt, alloc, n, out, gate)
 }

@@ -1,13 +1,13 @@
 // A script over a configuration.
 ghost use Rattle.std.specs.Prelude.{◌≡◌, ◌⊎◌, ◌≤◌, ◌∷◌, [], Some, None, ℕ, List, All, length, map, string_bytes};
-ghost use Rattle.gate_io.specs.Paths.{told_at};
 ghost use Rattle.gate_io.specs.Told.{Gains, GainsFront, Rose};
 ghost use Rattle.config_files.specs.Plain.{IsNoPlain};
 ghost use Rattle.machines.specs.Making.{HasFilter};
 ghost use Rattle.words.specs.Forms.{replay as plain_replay, replay_config as config_replay};
 ghost use Rattle.replay_script.specs.Scripts.{AreLines, at_start};
 ghost use Rattle.commands.specs.Scripts.{Plays, PlaysText, PlaysLines, Replays};
-ghost use Rattle.commands.specs.Doing.{LoadsFile, LoadsPlain, RefusesFile, ReadsFor};
+ghost use Rattle.commands.specs.Doing.{LoadsFile, LoadsPlain, RefusesFile};
+ghost use Rattle.commands.specs.Reading.{ReadsFor, ReadsOne};
 
 use config_files::{load, load_plain};
 use gate_config::Config;
@@ -31,7 +31,7 @@ pub fn replay_plain<F: Files, O: Sink>(
 ) -> Status
     requires { length modules.now ≤ 16 }
     ensures replays { Replays (F.holds files.old) (LoadsPlain (F.holds files.old) (map string_bytes modules.now)) (IsNoPlain (F.holds files.old) (map string_bytes modules.now)) script.now result (O.taken out.old) (O.taken out.new) }
-    ensures reads { ReadsFor (F.holds files.old) (Some (plain_replay script.now (map string_bytes modules.now))) (F.paths files.old) (F.paths files.new) }
+    ensures reads { ReadsFor (F.holds files.old) (Some (plain_replay script.now (map string_bytes modules.now))) result (F.paths files.old) (F.paths files.new) }
     ensures file_faults { F.faults files.old ≤ F.faults files.new }
     ensures file_fault { result ≡ Status.FileFault → Rose (F.faults files.old) (F.faults files.new) }
     ensures out_faults { O.faults out.old ≤ O.faults out.new }
@@ -52,7 +52,7 @@ pub fn replay_config<F: Files, O: Sink>(
     out: &mut O,
 ) -> Status
     ensures replays { Replays (F.holds files.old) (LoadsFile (F.holds files.old) config.now) (RefusesFile (F.holds files.old) config.now) script.now result (O.taken out.old) (O.taken out.new) }
-    ensures reads { ReadsFor (F.holds files.old) (Some (config_replay config.now script.now)) (F.paths files.old) (F.paths files.new) }
+    ensures reads { ReadsFor (F.holds files.old) (Some (config_replay config.now script.now)) result (F.paths files.old) (F.paths files.new) }
     ensures file_faults { F.faults files.old ≤ F.faults files.new }
     ensures file_fault { result ≡ Status.FileFault → Rose (F.faults files.old) (F.faults files.new) }
     ensures out_faults { O.faults out.old ≤ O.faults out.new }
@@ -75,6 +75,7 @@ fn play_file<F: Files, O: Sink>(
     requires { All HasFilter config.vms }
     ensures plays { Plays (F.holds files.old) path.now config result (O.taken out.old) (O.taken out.new) }
     ensures front { GainsFront (F.paths files.old) (path.now ∷ []) (F.paths files.new) }
+    ensures one { ReadsOne path.now result (F.paths files.old) (F.paths files.new) }
     ensures file_faults { F.faults files.old ≤ F.faults files.new }
     ensures file_fault { result ≡ Status.FileFault → Rose (F.faults files.old) (F.faults files.new) }
     ensures out_faults { O.faults out.old ≤ O.faults out.new }

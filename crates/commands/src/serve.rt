@@ -3,7 +3,8 @@ ghost use Rattle.std.specs.Prelude.{◌≡◌, ◌≤◌, Some, All};
 ghost use Rattle.gate_io.specs.Told.{Rose};
 ghost use Rattle.machines.specs.Making.{HasFilter};
 ghost use Rattle.words.specs.Forms.{serve as serving};
-ghost use Rattle.commands.specs.Doing.{ReadsFor, Served, ServesFile};
+ghost use Rattle.commands.specs.Doing.{Served, ServesFile};
+ghost use Rattle.commands.specs.Reading.{ReadsFor};
 
 use config_files::load;
 use gate_config::Config;
@@ -30,7 +31,7 @@ pub fn serve_file<R: Threads + Wait + Sync, F: Files, S: Site, O: Sink, G: Gate 
         (record { started = S.started site.old; seeds = S.seeds site.old; returned = S.returned site.old; faults = S.faults site.old })
         (record { started = S.started site.new; seeds = S.seeds site.new; returned = S.returned site.new; faults = S.faults site.new })
         (O.taken out.old) (O.taken out.new) }
-    ensures reads { ReadsFor (F.holds files.old) (Some (serving path.now stop_after)) (F.paths files.old) (F.paths files.new) }
+    ensures reads { ReadsFor (F.holds files.old) (Some (serving path.now stop_after)) result (F.paths files.old) (F.paths files.new) }
     ensures file_faults { F.faults files.old ≤ F.faults files.new }
     ensures file_fault { result ≡ Status.FileFault → Rose (F.faults files.old) (F.faults files.new) }
     ensures site_faults { S.faults site.old ≤ S.faults site.new }

@@ -3,7 +3,8 @@ ghost use Rattle.std.specs.Prelude.{◌≡◌, ◌≤◌, Some, map, string_byte
 ghost use Rattle.gate_io.specs.Told.{Rose};
 ghost use Rattle.statuses.specs.Statuses.{status_line};
 ghost use Rattle.words.specs.Forms.{form_of, seen};
-ghost use Rattle.commands.specs.Doing.{IsForm, Obeys, ReadsFor, TakesLine};
+ghost use Rattle.commands.specs.Doing.{IsForm, Obeys, TakesLine};
+ghost use Rattle.commands.specs.Reading.{ReadsFor};
 
 use crate::obeying::{
     obey_check, obey_generate, obey_invoke, obey_replay, obey_replay_config, obey_serve,
@@ -15,7 +16,7 @@ use std::sync::Wait;
 use std::thread::Threads;
 use words::{Form, read_words};
 
-/// Does what the words say: `serve` by the sockets of the site, with a gate before each turn and inside each shared call. `out` takes the
+/// Does what the words say: `serve` by the sockets of the site; `serve` and `generate` with a gate before each turn and inside each shared call. `out` takes the
 /// output, `err` the line of the status.
 pub fn run<R: Threads + Wait + Sync, F: Files, S: Site, O: Sink, E: Sink, G: Gate + Sync>(
     rt: &R,
@@ -32,7 +33,7 @@ pub fn run<R: Threads + Wait + Sync, F: Files, S: Site, O: Sink, E: Sink, G: Gat
         (record { started = S.started site.old; seeds = S.seeds site.old; returned = S.returned site.old; faults = S.faults site.old })
         (record { started = S.started site.new; seeds = S.seeds site.new; returned = S.returned site.new; faults = S.faults site.new })
         (O.taken out.old) (O.taken out.new) }
-    ensures reads { ReadsFor (F.holds files.old) (form_of (map string_bytes words.now)) (F.paths files.old) (F.paths files.new) }
+    ensures reads { ReadsFor (F.holds files.old) (form_of (map string_bytes words.now)) result (F.paths files.old) (F.paths files.new) }
 
     // The causes of faults.
     ensures file_faults { F.faults files.old ≤ F.faults files.new }
@@ -63,7 +64,7 @@ fn obey<R: Threads + Wait + Sync, F: Files, S: Site, O: Sink, G: Gate + Sync>(
         (record { started = S.started site.old; seeds = S.seeds site.old; returned = S.returned site.old; faults = S.faults site.old })
         (record { started = S.started site.new; seeds = S.seeds site.new; returned = S.returned site.new; faults = S.faults site.new })
         (O.taken out.old) (O.taken out.new) }
-    ensures reads { ReadsFor (F.holds files.old) (form_of (map string_bytes words.now)) (F.paths files.old) (F.paths files.new) }
+    ensures reads { ReadsFor (F.holds files.old) (form_of (map string_bytes words.now)) result (F.paths files.old) (F.paths files.new) }
     ensures file_faults { F.faults files.old ≤ F.faults files.new }
     ensures file_fault { result ≡ Status.FileFault → Rose (F.faults files.old) (F.faults files.new) }
     ensures site_faults { S.faults site.old ≤ S.faults site.new }
@@ -92,7 +93,7 @@ fn carry_out<R: Threads + Wait + Sync, F: Files, S: Site, O: Sink, G: Gate + Syn
         (record { started = S.started site.old; seeds = S.seeds site.old; returned = S.returned site.old; faults = S.faults site.old })
         (record { started = S.started site.new; seeds = S.seeds site.new; returned = S.returned site.new; faults = S.faults site.new })
         (O.taken out.old) (O.taken out.new) }
-    ensures reads { ReadsFor (F.holds files.old) (Some (seen form.entry)) (F.paths files.old) (F.paths files.new) }
+    ensures reads { ReadsFor (F.holds files.old) (Some (seen form.entry)) result (F.paths files.old) (F.paths files.new) }
     ensures file_faults { F.faults files.old ≤ F.faults files.new }
     ensures file_fault { result ≡ Status.FileFault → Rose (F.faults files.old) (F.faults files.new) }
     ensures site_faults { S.faults site.old ≤ S.faults site.new }
@@ -113,6 +114,6 @@ fn carry_out<R: Threads + Wait + Sync, F: Files, S: Site, O: Sink, G: Gate + Syn
             export,
             arguments,
         } => obey_invoke(alloc, module, export, arguments, files, site, out),
-        Form::Generate { n } => obey_generate(n, files, site, out),
+        Form::Generate { n } => obey_generate(rt, alloc, n, files, site, out, gate),
     }
 }

@@ -1,10 +1,13 @@
 // What no clause says: that ample memory suffices, and runs with a fault in their midst.
 
 use commands::run;
-use gate_base::{CallNos, Members, Octets, OutOfMemory};
-use gate_io::{FileEnd, Files, MemFiles, MemSink, MemSite, MemSource, NoGate, read_whole};
+use gate_base::{CallNos, Members, Octets, OutOfMemory, WorkerNo};
+use gate_io::{
+    FileEnd, Files, Gate, MemFiles, MemSink, MemSite, MemSource, NoGate, Point, read_whole,
+};
 use std::alloc::Global;
 use std::sync::Wait;
+use std::sync::atomic::{AtomicU64, Ordering};
 use std::test::Fail;
 use std::thread::Threads;
 
@@ -200,6 +203,57 @@ fn a_read_that_fails_in_mid_stream_is_a_file_fault(rt: HostRuntime) -> Result<()
         b"",
         b"wasmgate: file\n",
     )?;
+    assert!(rt; is_well);
+    Ok(())
+}
+
+/// Counts the turns of the first four workers: four decimal digits for each, those of worker 1 last.
+#[derive(Drop)]
+struct Turns {
+    counts: AtomicU64,
+}
+
+impl Gate for Turns {
+    fn at(&self, worker: WorkerNo, point: Point) {
+        let one = match (point, worker.get()) {
+            (Point::BeforeTurn, 1) => 1,
+            (Point::BeforeTurn, 2) => 10_000,
+            (Point::BeforeTurn, 3) => 100_000_000,
+            (Point::BeforeTurn, 4) => 1_000_000_000_000,
+            _ => 0,
+        };
+        self.counts.fetch_add(one, Ordering::SeqCst);
+    }
+}
+
+/// What the load of number 7 comes to.
+const LOAD: &[u8] =
+    b"requests 1024\nup 614826\ndown 55296\nitem /k0 128\nitem /k1 128\nitem /k2 128\nitem /k3 128\nitem /k4 128\nitem /k5 128\nitem /k6 128\nitem /k7 128\n";
+
+#[test]
+fn each_worker_of_the_load_takes_its_turns(rt: HostRuntime) -> Result<(), Fail> {
+    let alloc = rt.alloc();
+    let words = words(alloc, &["generate", "7"])?;
+    let mut files = files(alloc, SCRIPT, 0)?;
+    let mut site = MemSite::new(alloc, Vec::new(alloc), calls(alloc, &[])?);
+    let mut out = sink(alloc, 0)?;
+    let mut err = sink(alloc, 0)?;
+    let gate = Turns {
+        counts: AtomicU64::new(0),
+    };
+    let status = run(
+        &rt,
+        alloc,
+        words.as_slice(),
+        &mut files,
+        &mut site,
+        &mut out,
+        &mut err,
+        &gate,
+    );
+    // Each has 256 lines with four events each, and Stop.
+    let turns = gate.counts.load(Ordering::SeqCst);
+    let is_well = status.number() == 0 && out.as_slice() == LOAD && turns == 1_025_102_510_251_025;
     assert!(rt; is_well);
     Ok(())
 }

@@ -1,6 +1,7 @@
 use Rattle.std.proofs.Common.{map, string_bytes}
 use Rattle.serving.specs.Serving.{Eyes, Seen}
-use Rattle.commands.proofs.Commands.{obeys_invoke, reads_invoke}
+use Rattle.commands.proofs.Commands.{obeys_invoke}
+use Rattle.commands.proofs.FilesRead.{reads_invoke}
 use Rattle.commands.proofs.obeying.obey_invoke.Goals as goal
 
 pub returns-clause-obeys : goal.returns-clause-obeys
@@ -11,4 +12,6 @@ returns-clause-obeys g c =
     obeys_invoke eyes (g.F.Files.holds c.args.files.now) c.args.«module».now c.args.export.now (map string_bytes c.args.arguments.now) c.call.result site (g.O.Sink.taken c.args.out.now) (g.O.Sink.taken c.call.new.out) c.call.ensures.calls
 
 pub returns-clause-reads : goal.returns-clause-reads
-returns-clause-reads g c = reads_invoke (g.F.Files.holds c.args.files.now) c.args.«module».now c.args.export.now (map string_bytes c.args.arguments.now) (g.F.Files.paths c.args.files.now) (g.F.Files.paths c.call.new.files) c.call.ensures.paths
+returns-clause-reads g c =
+    reads_invoke (g.F.Files.holds c.args.files.now) c.args.«module».now c.args.export.now (map string_bytes c.args.arguments.now) c.call.result (g.F.Files.paths c.args.files.now) (g.F.Files.paths c.call.new.files)
+    c.call.ensures.front c.call.ensures.one

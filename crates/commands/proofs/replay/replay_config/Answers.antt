@@ -1,10 +1,13 @@
-use Rattle.std.proofs.Common.{inl, inr, subst, sym}
+use Rattle.std.proofs.Common.{inl, inr, subst, sym, Some}
 use Rattle.gate_config.specs.Given.{given}
 use Rattle.gate_io.specs.Told.{gains_nothing}
 use Rattle.statuses.specs.declared.status.Status.{Status}
 use Rattle.commands.specs.Doing.{RefusesFile}
 use Rattle.commands.specs.Scripts.{IsUnloaded, Plays}
-use Rattle.commands.proofs.Loaded.{unloaded, reads_config, reads_config_front}
+use Rattle.commands.proofs.Loaded.{unloaded}
+use Rattle.commands.proofs.FilesRead.{reads_config, reads_config_stopped}
+use Rattle.words.specs.Forms.{replay_config}
+use Rattle.commands.specs.Reading.{ReadsFor}
 use Rattle.commands.proofs.replay.replay_config.Goals as goal
 
 pub returns-in-Ok-clause-replays : goal.returns-in-Ok-clause-replays
@@ -25,7 +28,9 @@ returns-in-Err-clause-replays g c =
 
 pub returns-in-Ok-clause-reads : goal.returns-in-Ok-clause-reads
 returns-in-Ok-clause-reads g c =
-    reads_config (g.F.Files.holds c.args.files.now) c.args.config.now c.args.script.now (given c.in-Ok.config) _ _ _ c.in-Ok.ensures.loaded c.in-Ok.ensures.all_read c.play_file.ensures.front
+    reads_config (g.F.Files.holds c.args.files.now) c.args.config.now (given c.in-Ok.config) c.in-Ok.ensures.loaded c.args.script.now c.play_file.result _ _ _ c.in-Ok.ensures.all_read c.play_file.ensures.front c.play_file.ensures.one
 
 pub returns-in-Err-clause-reads : goal.returns-in-Err-clause-reads
-returns-in-Err-clause-reads g c = reads_config_front (g.F.Files.holds c.args.files.now) c.args.config.now c.args.script.now _ _ c.load.ensures.paths
+returns-in-Err-clause-reads g c =
+    subst (λ (s : Status). ReadsFor (g.F.Files.holds c.args.files.now) (Some (replay_config c.args.config.now c.args.script.now)) s (g.F.Files.paths c.args.files.now) (g.F.Files.paths c.load.new.files)) (sym c.of_load.ensures)
+    (reads_config_stopped (g.F.Files.holds c.args.files.now) c.args.config.now _ _ c.load.ensures.paths c.args.script.now c.in-Err.end c.in-Err.ensures.stopped)

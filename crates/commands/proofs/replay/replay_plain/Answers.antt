@@ -1,10 +1,12 @@
-use Rattle.std.proofs.Common.{inl, inr, subst, sym, map, string_bytes}
+use Rattle.std.proofs.Common.{inl, inr, subst, sym, map, string_bytes, Some}
 use Rattle.config_files.specs.Plain.{IsNoPlain}
 use Rattle.gate_io.specs.Told.{gains_nothing}
 use Rattle.statuses.specs.declared.status.Status.{Status}
 use Rattle.commands.specs.Scripts.{IsUnloaded, Plays}
 use Rattle.commands.proofs.Loaded.{unloaded}
-use Rattle.commands.proofs.Commands.{reads_plain, reads_plain_front}
+use Rattle.commands.proofs.FilesRead.{reads_plain, reads_plain_stopped}
+use Rattle.words.specs.Forms.{replay}
+use Rattle.commands.specs.Reading.{ReadsFor}
 use Rattle.commands.proofs.replay.replay_plain.Goals as goal
 
 pub returns-in-Ok-clause-replays : goal.returns-in-Ok-clause-replays
@@ -25,8 +27,11 @@ returns-in-Err-clause-replays g c =
 
 pub returns-in-Ok-clause-reads : goal.returns-in-Ok-clause-reads
 returns-in-Ok-clause-reads g c =
-    reads_plain (g.F.Files.holds c.args.files.now) c.args.script.now (map string_bytes c.args.modules.now) _ _ _ c.in-Ok.ensures.all_read c.play_file.ensures.front
+    reads_plain (g.F.Files.holds c.args.files.now) c.args.script.now (map string_bytes c.args.modules.now) c.in-Ok.config.vms c.play_file.result _ _ _
+    c.in-Ok.ensures.loaded.vms c.in-Ok.ensures.all_read c.play_file.ensures.front c.play_file.ensures.one
 
 pub returns-in-Err-clause-reads : goal.returns-in-Err-clause-reads
 returns-in-Err-clause-reads g c =
-    reads_plain_front (g.F.Files.holds c.args.files.now) c.args.script.now (map string_bytes c.args.modules.now) _ _ c.load_plain.ensures.paths.gained
+    subst (λ (s : Status). ReadsFor (g.F.Files.holds c.args.files.now) (Some (replay c.args.script.now (map string_bytes c.args.modules.now))) s (g.F.Files.paths c.args.files.now) (g.F.Files.paths c.load_plain.new.files))
+    (sym c.of_load.ensures)
+    (reads_plain_stopped (g.F.Files.holds c.args.files.now) c.args.script.now (map string_bytes c.args.modules.now) c.in-Err.end _ _ c.load_plain.ensures.paths c.in-Err.ensures.stopped)

@@ -2,8 +2,10 @@ use Rattle.std.proofs.Common.{Option, map, string_bytes, subst}
 use Rattle.statuses.specs.declared.status.Status.TheVariants.{Usage}
 use Rattle.words.specs.Forms.{Command, seen}
 use Rattle.serving.specs.Serving.{Eyes, Seen}
-use Rattle.commands.specs.Doing.{Obeys, ReadsFor}
-use Rattle.commands.proofs.Commands.{is_form, no_form_obeys, unread_obeys, reads_nothing, err_is_no_ok}
+use Rattle.commands.specs.Doing.{Obeys}
+use Rattle.commands.specs.Reading.{ReadsFor}
+use Rattle.commands.proofs.Commands.{is_form, no_form_obeys, unread_obeys, err_is_no_ok}
+use Rattle.commands.proofs.FilesRead.{reads_no_form, reads_no_memory}
 use Rattle.commands.proofs.top_call.obey.Goals as goal
 
 pub carry_out-requires-clause-few : goal.carry_out-requires-clause-few
@@ -20,7 +22,7 @@ returns-in-Ok-Some-clause-obeys g c =
 
 pub returns-in-Ok-Some-clause-reads : goal.returns-in-Ok-Some-clause-reads
 returns-in-Ok-Some-clause-reads g c =
-    subst (λ (k : Option Command). ReadsFor (g.F.Files.holds c.args.files.now) k (g.F.Files.paths c.args.files.now) (g.F.Files.paths c.carry_out.new.files))
+    subst (λ (k : Option Command). ReadsFor (g.F.Files.holds c.args.files.now) k c.carry_out.result (g.F.Files.paths c.args.files.now) (g.F.Files.paths c.carry_out.new.files))
     (rw c.in-Ok-Some.field-0-is at c.in-Ok-Some.ensures.form) c.carry_out.ensures.reads
 
 pub returns-in-Ok-None-clause-obeys : goal.returns-in-Ok-None-clause-obeys
@@ -32,7 +34,7 @@ returns-in-Ok-None-clause-obeys g c =
     (rw c.in-Ok-None.field-0-is at c.in-Ok-None.ensures.form) (no_form_obeys eyes (g.F.Files.holds c.args.files.now) site (g.O.Sink.taken c.args.out.now))
 
 pub returns-in-Ok-None-clause-reads : goal.returns-in-Ok-None-clause-reads
-returns-in-Ok-None-clause-reads g c = reads_nothing _ _ _
+returns-in-Ok-None-clause-reads g c = reads_no_form _ _ _
 
 pub returns-in-Err-clause-obeys : goal.returns-in-Err-clause-obeys
 returns-in-Err-clause-obeys g c =
@@ -42,4 +44,4 @@ returns-in-Err-clause-obeys g c =
     unread_obeys eyes (g.F.Files.holds c.args.files.now) _ site (g.O.Sink.taken c.args.out.now) (λ none. err_is_no_ok _ _ (c.in-Err.ensures.no_form none))
 
 pub returns-in-Err-clause-reads : goal.returns-in-Err-clause-reads
-returns-in-Err-clause-reads g c = reads_nothing _ _ _
+returns-in-Err-clause-reads g c = reads_no_memory _ _ _

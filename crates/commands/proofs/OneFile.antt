@@ -1,0 +1,98 @@
+-- What the read of one file tells: of a script, and of the module of a call.
+use Rattle.std.proofs.Common.{◌≡◌, ℕ, List, [], ◌∷◌, Option, None, Some, Ok, Err, refl, sym, subst, inl}
+use Rattle.config_files.specs.Loading.{Told}
+use Rattle.gate_config.specs.declared.config.Config.{Config as Configured}
+use Rattle.gate_io.specs.Paths.{ReadsTold}
+use Rattle.gate_io.specs.Told.{Gains, gains_nothing}
+use Rattle.gate_io.specs.declared.ends.FileEnd.TheVariants as ends
+use Rattle.statuses.specs.declared.status.Status.{Status}
+use Rattle.statuses.specs.declared.status.Status.TheVariants.{Done, Usage, Config, Module, Refused, FileFault, SiteFault, OutFault, OutOfMemory, Script, Invoke}
+use Rattle.commands.specs.Call.{IsCalled, OfCall, WasRead}
+use Rattle.commands.specs.Files.{HoldsOf, IsThere, OfFile, OfText}
+use Rattle.commands.specs.Reading.{ReadsOne}
+use Rattle.commands.specs.Scripts.{IsCutShort, IsPlayed, IsRefusedAt, Plays, PlaysText, script_limit}
+
+-- what holds of the bytes that were read
+of_file : (files : Told) (path text : List ℕ) (most : ℕ) (P : List ℕ → Type 0) → ReadsTold files path most (Ok text) → P text → OfFile files path P
+of_file None path text most P h p = tt
+of_file (Some told) path text most P h p = subst (λ (o : Option (List ℕ)). HoldsOf o P) (sym h) p
+
+of_text : (files : Told) (path text : List ℕ) (most : ℕ) (P : List ℕ → Type 0) → ReadsTold files path most (Ok text) → P text → OfText files path P
+of_text None path text most P h p = λ t e. absurd (cc)
+of_text (Some told) path text most P h p = λ t e. (let same : text ≡ t = cc in subst P same p)
+
+-- ---- a script
+
+pub plays_text : (files : Told) (path text : List ℕ) (most : ℕ) (config : Configured) (status : Status) (old new : Option (List ℕ))
+    → ReadsTold files path most (Ok text) → PlaysText config text status old new → Plays files path config status old new
+plays_text files path text most config Done old new h p = of_file files path text most (λ t. IsPlayed config t old new) h p
+plays_text files path text most config OutFault old new h p = of_file files path text most (λ t. IsCutShort config t old new) h p
+plays_text files path text most config OutOfMemory old new h p = of_text files path text most (λ t. PlaysText config t OutOfMemory old new) h p
+plays_text files path text most config (Script line) old new h p = (of_file files path text most (λ t. IsRefusedAt config.workers t line) h p.0, p.1)
+plays_text files path text most config FileFault old new h p = absurd p
+plays_text files path text most config Usage old new h p = absurd p
+plays_text files path text most config (Config number key) old new h p = absurd p
+plays_text files path text most config (Module vm fault) old new h p = absurd p
+plays_text files path text most config (Refused refusal) old new h p = absurd p
+plays_text files path text most config SiteFault old new h p = absurd p
+plays_text files path text most config (Invoke end) old new h p = absurd p
+
+long_at : (files : Told) (path : List ℕ) (workers : ℕ) → ReadsTold files path script_limit (Err ends.TooLong) → OfFile files path (λ text. IsRefusedAt workers text 0)
+long_at None path workers h = tt
+long_at (Some told) path workers h = subst (λ (o : Option (List ℕ)). HoldsOf o (λ text. IsRefusedAt workers text 0)) (sym h.1) (inl (h.2, refl))
+
+pub long_script : (files : Told) (path : List ℕ) (config : Configured) (old : Option (List ℕ)) → ReadsTold files path script_limit (Err ends.TooLong) → Plays files path config (Script 0) old old
+long_script files path config old h = (long_at files path config.workers h, gains_nothing old)
+
+pub script_read : (config : Configured) (path text : List ℕ) (status : Status) (before after : Option (List ℕ)) (old new : Option (List (List ℕ)))
+    → PlaysText config text status before after → Gains old (path ∷ []) new → ReadsOne path status old new
+script_read config path text Done before after old new p h = h
+script_read config path text OutFault before after old new p h = h
+script_read config path text (Script line) before after old new p h = h
+script_read config path text OutOfMemory before after old new p h = tt
+script_read config path text FileFault before after old new p h = tt
+script_read config path text Usage before after old new p h = absurd p
+script_read config path text (Config number key) before after old new p h = absurd p
+script_read config path text (Module vm fault) before after old new p h = absurd p
+script_read config path text (Refused refusal) before after old new p h = h
+script_read config path text SiteFault before after old new p h = absurd p
+script_read config path text (Invoke end) before after old new p h = h
+
+-- ---- a module that is called
+
+there : (files : Told) (path text : List ℕ) (most : ℕ) → ReadsTold files path most (Ok text) → IsThere files path
+there files path text most h = of_file files path text most (λ t. Unit {0}) h tt
+
+pub was_read : (files : Told) (path text : List ℕ) (most : ℕ) (status : Status) (before after : Option (List ℕ)) → ReadsTold files path most (Ok text) → OfCall status before after → WasRead files path status
+was_read files path text most Done before after h p = there files path text most h
+was_read files path text most OutFault before after h p = there files path text most h
+was_read files path text most (Refused refusal) before after h p = there files path text most h
+was_read files path text most (Invoke end) before after h p = there files path text most h
+was_read files path text most FileFault before after h p = tt
+was_read files path text most OutOfMemory before after h p = tt
+was_read files path text most Usage before after h p = absurd p
+was_read files path text most (Config number key) before after h p = absurd p
+was_read files path text most (Module vm fault) before after h p = absurd p
+was_read files path text most SiteFault before after h p = absurd p
+was_read files path text most (Script line) before after h p = absurd p
+
+pub called_text : (files : Told) (path text export : List ℕ) (words : List (List ℕ)) (most : ℕ) (status : Status) (before after : Option (List ℕ)) → ReadsTold files path most (Ok text)
+    → IsCalled text export words status before after → OfText files path (λ t. IsCalled t export words status before after)
+called_text files path text export words most status before after h p = of_text files path text most (λ t. IsCalled t export words status before after) h p
+
+pub long_module : (files : Told) (path : List ℕ) (most : ℕ) → ReadsTold files path most (Err ends.TooLong) → IsThere files path
+long_module None path most h = tt
+long_module (Some told) path most h = subst (λ (o : Option (List ℕ)). HoldsOf o (λ text. Unit {0})) (sym h.1) tt
+
+pub call_read : (path : List ℕ) (status : Status) (before after : Option (List ℕ)) (old new : Option (List (List ℕ))) → OfCall status before after → Gains old (path ∷ []) new → ReadsOne path status old new
+call_read path Done before after old new p h = h
+call_read path OutFault before after old new p h = h
+call_read path (Refused refusal) before after old new p h = h
+call_read path (Invoke end) before after old new p h = h
+call_read path FileFault before after old new p h = tt
+call_read path OutOfMemory before after old new p h = tt
+call_read path (Script line) before after old new p h = h
+call_read path Usage before after old new p h = absurd p
+call_read path (Config number key) before after old new p h = absurd p
+call_read path (Module vm fault) before after old new p h = absurd p
+call_read path SiteFault before after old new p h = absurd p

@@ -1,0 +1,4 @@
+mod Texts
+mod Settled
+mod Faults
+mod Ending

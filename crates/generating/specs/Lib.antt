@@ -1,0 +1,4 @@
+pub mod Items
+pub mod Setting
+pub mod Generating
+pub mod Examples
