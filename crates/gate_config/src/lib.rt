@@ -12,6 +12,3 @@ pub use adds::RouteEnd;
 pub use config::Config;
 pub use entries::{PluginEntry, PluginList, PluginNos, RouteEntry, RouteList, VmEntry, VmList};
 pub use laws::{plain_routes_begin_with_a_slash, worked_routes};
-
-#[cfg(test)]
-mod tests;

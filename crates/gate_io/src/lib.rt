@@ -44,6 +44,3 @@ pub use sink::{Sink, write_whole};
 pub use site::Site;
 pub use source::{Source, read_whole};
 pub use world::World;
-
-#[cfg(test)]
-mod tests;

@@ -15,6 +15,3 @@ pub use laws::{
 };
 pub use outbox::Outbox;
 pub use place::{Place, ended_by, place_of};
-
-#[cfg(test)]
-mod tests;

@@ -18,6 +18,3 @@ pub use laws::{one_reading, one_refusal, worked_lines, worked_scripts, worlds_pl
 pub use print::{print_on, print_sent};
 pub use read::{ScriptEnd, read_script};
 pub use script_world::ScriptWorld;
-
-#[cfg(test)]
-mod tests;
