@@ -34,11 +34,15 @@ enum metric { COUNTER = 0, GAUGE = 1 };
 #define CALLBACK(name) __attribute__((export_name(#name)))
 
 HOST(proxy_log) u32 proxy_log(u32 level, const void *text, u32 size);
+// The least level that is written.
+HOST(proxy_get_log_level) u32 proxy_get_log_level(u32 *level);
 HOST(proxy_get_current_time_nanoseconds) u32 proxy_get_current_time_nanoseconds(u64 *time);
 HOST(proxy_set_tick_period_milliseconds) u32 proxy_set_tick_period_milliseconds(u32 period);
 HOST(proxy_set_effective_context) u32 proxy_set_effective_context(u32 context);
 HOST(proxy_done) u32 proxy_done(void);
 HOST(proxy_get_buffer_bytes) u32 proxy_get_buffer_bytes(u32 buffer, u32 start, u32 most, u8 **bytes, u32 *size);
+// How many bytes a buffer has, and 1 in `end` where the last of its body is among them.
+HOST(proxy_get_buffer_status) u32 proxy_get_buffer_status(u32 buffer, u32 *size, u32 *end);
 HOST(proxy_set_buffer_bytes) u32 proxy_set_buffer_bytes(u32 buffer, u32 start, u32 size, const void *bytes, u32 len);
 HOST(proxy_get_header_map_value)
 u32 proxy_get_header_map_value(u32 map, const void *key, u32 key_size, u8 **value, u32 *size);
@@ -47,6 +51,15 @@ u32 proxy_add_header_map_value(u32 map, const void *key, u32 key_size, const voi
 HOST(proxy_replace_header_map_value)
 u32 proxy_replace_header_map_value(u32 map, const void *key, u32 key_size, const void *value, u32 size);
 HOST(proxy_remove_header_map_value) u32 proxy_remove_header_map_value(u32 map, const void *key, u32 key_size);
+// How many bytes the pairs of a map take.
+HOST(proxy_get_header_map_size) u32 proxy_get_header_map_size(u32 map, u32 *size);
+// All fields of a map as pairs: a count, the sizes of each name and value, then each name and value with a zero byte behind it.
+HOST(proxy_get_header_map_pairs) u32 proxy_get_header_map_pairs(u32 map, u8 **pairs, u32 *size);
+// Puts pairs in place of all fields of a map.
+HOST(proxy_set_header_map_pairs) u32 proxy_set_header_map_pairs(u32 map, const void *pairs, u32 size);
+// A property by its path, whose parts have a zero byte between them.
+HOST(proxy_get_property) u32 proxy_get_property(const void *path, u32 path_size, u8 **value, u32 *size);
+HOST(proxy_set_property) u32 proxy_set_property(const void *path, u32 path_size, const void *value, u32 size);
 HOST(proxy_continue_stream) u32 proxy_continue_stream(u32 stream);
 HOST(proxy_close_stream) u32 proxy_close_stream(u32 stream);
 HOST(proxy_send_local_response)
@@ -57,10 +70,15 @@ u32 proxy_get_shared_data(const void *key, u32 key_size, u8 **value, u32 *size, 
 HOST(proxy_set_shared_data)
 u32 proxy_set_shared_data(const void *key, u32 key_size, const void *value, u32 size, u32 cas);
 HOST(proxy_register_shared_queue) u32 proxy_register_shared_queue(const void *name, u32 size, u32 *queue);
+// The number of a queue that a VM registered, by the VM's name.
+HOST(proxy_resolve_shared_queue)
+u32 proxy_resolve_shared_queue(const void *vm, u32 vm_size, const void *name, u32 size, u32 *queue);
 HOST(proxy_dequeue_shared_queue) u32 proxy_dequeue_shared_queue(u32 queue, u8 **item, u32 *size);
 HOST(proxy_enqueue_shared_queue) u32 proxy_enqueue_shared_queue(u32 queue, const void *item, u32 size);
 HOST(proxy_define_metric) u32 proxy_define_metric(u32 kind, const void *name, u32 size, u32 *metric);
 HOST(proxy_increment_metric) u32 proxy_increment_metric(u32 metric, i64 by);
+// A gauge's value; of a counter, BAD_ARGUMENT.
+HOST(proxy_record_metric) u32 proxy_record_metric(u32 metric, i64 value);
 HOST(proxy_get_metric) u32 proxy_get_metric(u32 metric, u64 *sum);
 
 // The marker of the ABI, which each module exports.
