@@ -31,6 +31,7 @@ pub mod Sees
 pub mod Listing
 pub mod SameTypes
 pub mod Rowed
+pub mod Prices
 pub mod Narrow
 pub mod Few
 pub mod Going

@@ -104,7 +104,7 @@ impl Machine {
     ghost use Rattle.wasm_syntax.specs.ReductionRuns.{enough};
     ghost use Rattle.wasm_machine.specs.Acted.{stores};
     ghost use Rattle.wasm_machine.specs.Holds.{HasType};
-    ghost use Rattle.wasm_machine.specs.Machines.{program_at, config_at, CanAnswer, begun, asked_of, pending_after, mode_after, with_memory, stopped_as, Tells, Lowers};
+    ghost use Rattle.wasm_machine.specs.Machines.{program_at, config_at, CanAnswer, begun, asked_of, pending_after, mode_after, with_memory, stopped_as, StandsBefore, Tells, Lowers};
     ghost use Rattle.wasm_machine.specs.declared.machine.Mode.TheVariants as mode;
 
     /// The machine of an instance, with no call. A type of more than 65,536 parameters, and a body of 2^32
@@ -146,10 +146,13 @@ impl Machine {
         self.mode = Mode::Running;
     }
 
-    /// Runs the topmost call until it stops. The fuel falls by the units that were used.
+    /// Runs the topmost call until it stops. The fuel falls by the units that were used. Where it was spent the machine
+    /// stands at the configuration whose step needs more than is left, and its memory is that one's: nothing of the step
+    /// was done.
     pub fn run(&mut self, fuel: &mut u64) -> Stop
         requires running { self.old.mode ≡ mode.Running }
         ensures run { running (program_at self.old) fuel.old (config_at self.old) ≡ stopped_as result (config_at self.new) fuel.new }
+        ensures spent { StandsBefore (program_at self.old) fuel.old (config_at self.old) result fuel.new (config_at self.new) }
         ensures program { program_at self.new ≡ program_at self.old }
         ensures pending { self.new.pending ≡ pending_after result self.old.pending }
         ensures mode { self.new.mode ≡ mode_after result }
@@ -169,6 +172,7 @@ impl Machine {
         requires few { length self.old.pending ≤ 256 }
         requires takes { Takes (program_at self.old) func args.now }
         ensures run { running (program_at self.old) fuel.old (invoked_config func (slice_get (program_at self.old).functions func) args.now (config_at self.old)) ≡ stopped_as result (config_at self.new) fuel.new }
+        ensures spent { StandsBefore (program_at self.old) fuel.old (invoked_config func (slice_get (program_at self.old).functions func) args.now (config_at self.old)) result fuel.new (config_at self.new) }
         ensures program { program_at self.new ≡ program_at self.old }
         ensures pending { self.new.pending ≡ pending_after result (begun func self.old.pending) }
         ensures mode { self.new.mode ≡ mode_after result }
@@ -242,7 +246,7 @@ impl Machine {
         }
     }
 
-    /// Its memory.
+    /// Its memory: that of the configuration that it stands for, also where it spent its fuel.
     pub fn memory(&self) -> &Memory
         ensures bytes { result.now.bytes ≡ (config_at self.now).store.memory }
         ensures most { result.now.most ≡ (program_at self.now).most }
