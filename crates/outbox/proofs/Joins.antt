@@ -19,7 +19,7 @@ module _ (last member : Sent) where
   pub neighbours_two : are_one last member ≡ false → neighbours last member ≡ last ∷ member ∷ []
   neighbours_two unlike = ap (λ (b : Bool). if b then as_one last member ∷ [] else last ∷ member ∷ []) unlike
 
-marks_of-as_one : (place : Place) (first next : Sent) → are_one first next ≡ true → marks_of place (as_one first next) ≡ marks_of place first ++ marks_of place next
+pub marks_of-as_one : (place : Place) (first next : Sent) → are_one first next ≡ true → marks_of place (as_one first next) ≡ marks_of place first ++ marks_of place next
 marks_of-as_one place (Bytes line side bytes) (Bytes l s more) equal = elim (same_place (Peer line side) (Peer l s)) [
   | inl same ↦
       sym (marks_of-two place line side bytes more)
@@ -147,7 +147,7 @@ pub behind-popped : (old front : List Sent) (popped : Option Sent) (last member 
 behind-popped old front popped last member some is =
     ap (λ (l : List Sent). behind l member) (is ∙ ap (λ (o : Option Sent). front ++ option_to_list o) some) ∙ behind-append front last member
 
-IsFilled-as_one : (first next : Sent) → IsFilled first → IsFilled (as_one first next)
+pub IsFilled-as_one : (first next : Sent) → IsFilled first → IsFilled (as_one first next)
 IsFilled-as_one (Connect line) next filled = tt
 IsFilled-as_one (Bytes line side []) next filled = elim filled [ ]
 IsFilled-as_one (Bytes line side (byte ∷ bytes)) (Connect l) filled = tt

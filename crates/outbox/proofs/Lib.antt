@@ -1,4 +1,5 @@
 pub mod Marks
 pub mod Joins
+pub mod Sorting
 pub mod Offers
 pub mod Deliveries

@@ -15,6 +15,7 @@ use Rattle.gate_io.specs.declared.passed.Passed.{Passed}
 use Rattle.gate_io.specs.declared.passed.Passed.TheVariants.{Asked, Gave, Took, Short}
 use Rattle.outbox.specs.Delivery.{WasShort, NeverShort, solid, AreFilled, Delivered, WaitsOnlyShort, Prompt, Offered}
 use Rattle.outbox.specs.Places.{Mark, place_of, marks_of, marks_at}
+use Rattle.outbox.specs.Sorted.{IsBehind}
 use Rattle.outbox.specs.declared.place.Place.{Place}
 use Rattle.outbox.specs.declared.place.Place.TheVariants.{Peer}
 use Rattle.outbox.proofs.Marks.{cases_place, marks_elsewhere, marks_at-append, marks_at-push, marks_of-two, marks_of-none, append_empty}
@@ -158,12 +159,12 @@ all_taken left line side bytes n none all =
     bytes_taken left left line side bytes n none
     (λ place. sym (append-nil (marks_at place left)) ∙ ap (λ (m : List Mark). marks_at place left ++ m) (sym (ap (λ (b : List ℕ). marks_of place (Bytes line side b)) (drop_all n bytes all) ∙ marks_of-none place line side)))
 
-pub part_taken : (left rest : List Sent) (line : ℕ) (side : Side) (bytes : List ℕ) (n : ℕ) → marks_at (Peer line side) left ≡ [] → rest ≡ left ++ Bytes line side (drop n bytes) ∷ []
+pub part_taken : (left rest : List Sent) (line : ℕ) (side : Side) (bytes : List ℕ) (n : ℕ) → marks_at (Peer line side) left ≡ [] → IsBehind left (Bytes line side (drop n bytes)) rest
     → Delivered (left ++ Bytes line side bytes ∷ []) (front line side bytes n) rest
-part_taken left rest line side bytes n none is = bytes_taken left rest line side bytes n none (λ place. ap (marks_at place) is ∙ marks_at-push place left (Bytes line side (drop n bytes)))
+part_taken left rest line side bytes n none is = bytes_taken left rest line side bytes n none is
 
 -- what waits is at the member's place
-waits_here : (left rest : List Sent) (steps : List Passed) (member more : Sent) → place_of more ≡ place_of member → rest ≡ left ++ more ∷ []
+waits_here : (left rest : List Sent) (steps : List Passed) (member more : Sent) → place_of more ≡ place_of member → IsBehind left more rest
     → (marks_at (place_of member) left ≢ []) ⊎ WasShort (place_of member) steps → WaitsOnlyShort left steps rest
 waits_here left rest steps member more same is why = λ place none. go place none (cases_place (place_of member) place) why
   where
@@ -172,7 +173,7 @@ waits_here left rest steps member more same is why = λ place none. go place non
     go place none (inl here) (inl some) = absurd (some (ap (λ (p : Place). marks_at p left) here ∙ none))
     go place none (inl here) (inr short) = inr (subst (λ (p : Place). WasShort p steps) here short)
     go place none (inr other) why =
-        inl (ap (marks_at place) is ∙ marks_at-push place left more ∙ (λ i. none i ++ marks_elsewhere place more (λ e. other (sym same ∙ e)) i))
+        inl (is place ∙ (λ i. none i ++ marks_elsewhere place more (λ e. other (sym same ∙ e)) i))
 
 -- nothing was left of the member
 prompt_all : (left : List Sent) (member : Sent) (steps : List Passed) → received steps ≡ solid (member ∷ []) → Prompt left (left ++ member ∷ []) steps left
@@ -187,14 +188,14 @@ prompt_bytes left line side bytes n all =
     prompt_all left (Bytes line side bytes) (front line side bytes n)
     (received-front line side bytes n ∙ ap (λ (b : List ℕ). received (piece line side b)) (take_all n bytes all) ∙ received-whole_piece line side bytes)
 
-pub prompt_short : (left rest : List Sent) (line : ℕ) (side : Side) (bytes more : List ℕ) (n : ℕ) → n < length bytes → rest ≡ left ++ Bytes line side more ∷ []
+pub prompt_short : (left rest : List Sent) (line : ℕ) (side : Side) (bytes more : List ℕ) (n : ℕ) → n < length bytes → IsBehind left (Bytes line side more) rest
     → Prompt left (left ++ Bytes line side bytes ∷ []) (front line side bytes n) rest
 prompt_short left rest line side bytes more n less is = record {
   only_short = waits_here left rest (front line side bytes n) (Bytes line side bytes) (Bytes line side more) refl is (inr (short-front line side bytes n less));
   whole = λ none never. absurd (never (Peer line side) (short-front line side bytes n less));
 }
 
-prompt_wait : (left rest : List Sent) (member : Sent) → marks_at (place_of member) left ≢ [] → rest ≡ left ++ member ∷ [] → Prompt left (left ++ member ∷ []) [] rest
+prompt_wait : (left rest : List Sent) (member : Sent) → marks_at (place_of member) left ≢ [] → IsBehind left member rest → Prompt left (left ++ member ∷ []) [] rest
 prompt_wait left rest member some is = record {
   only_short = waits_here left rest [] member member refl is (inl some);
   whole = λ none never. absurd (some (ap (marks_at (place_of member)) none));
@@ -259,15 +260,15 @@ pub record SoFar (takes_whole : Bool) (old : Option (List Passed)) (members more
   pub offered : Offered {E = AllocError} takes_whole old [] before (Ok tt) new left
 
 module _ {E : Type 0} (takes_whole : Bool) where
-  pub offered_wait : (world : Option (List Passed)) (left : List Sent) (member : Sent) (new : List Sent) (r : Result (Unit {0}) E) → OnOk r (new ≡ left ++ member ∷ [])
+  pub offered_wait : (world : Option (List Passed)) (left : List Sent) (member : Sent) (new : List Sent) (r : Result (Unit {0}) E) → OnOk r (IsBehind left member new)
       → marks_at (place_of member) left ≢ [] → Offered takes_whole world left (left ++ member ∷ []) r world new
   offered_wait world left member new (Ok x) is some = record {
     steps = [];
-    rest = left ++ member ∷ [];
+    rest = new;
     told = gains_nothing world;
-    delivered = none_taken _;
+    delivered = record { goes_on = λ place. is place ∙ sym (marks_at-push place left member); no_event = refl; not_asked = refl };
     taken_whole = λ t place h. h;
-    waits = (sym is, prompt_wait left (left ++ member ∷ []) member some refl);
+    waits = (refl, prompt_wait left new member some is);
   }
   offered_wait world left member new (Err e) is some = record {
     steps = [];

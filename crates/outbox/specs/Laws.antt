@@ -8,7 +8,8 @@ use Rattle.gate_io.specs.declared.passed.Passed.{Passed}
 use Rattle.outbox.specs.Cleared.{cleared, ended_by}
 use Rattle.outbox.specs.Delivery.{WasShort, NeverShort, Prompt, solid, AreFilled}
 use Rattle.outbox.specs.Joined.{joined, behind, IsJoined}
-use Rattle.outbox.specs.Places.{marks_at}
+use Rattle.outbox.specs.Places.{place_of, marks_at}
+use Rattle.outbox.specs.Sorted.{rank, IsSortedFrom}
 use Rattle.outbox.specs.declared.place.Place.{Place}
 use Rattle.outbox.specs.declared.place.Place.TheVariants.{Peer, Journal}
 use Rattle.outbox.specs.Turns.{OneTurn, HandsOver, Delivers, StaysOpen, all_sent, events_of}
@@ -33,6 +34,12 @@ pub record EmptyPiecesAreNothing : Type 0 where
   pub marks : (place : Place) (sent : List Sent) → marks_at place (solid sent) ≡ marks_at place sent
   pub same : (sent : List Sent) → AreFilled sent → solid sent ≡ sent
   pub joined : (sent : List Sent) → AreFilled sent → AreFilled (joined sent)
+
+-- No two places have one rank. Where a list is sorted from the rank of a place on, and begins with a member of another one, nothing
+-- in it is for that place.
+pub record RanksKeepApart : Type 0 where
+  pub apart : (a b : Place) → rank a ≡ rank b → a ≡ b
+  pub together : (place : Place) (next : Sent) (rest : List Sent) → IsSortedFrom (rank place) (next ∷ rest) → (place_of next ≡ place → ⊥) → marks_at place (next ∷ rest) ≡ []
 
 -- The log takes each line as it is offered: nothing of it waits where nothing was held back.
 abbrev pub LogNeverWaits : Type 0

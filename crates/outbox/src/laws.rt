@@ -1,6 +1,6 @@
 // What the definitions say, as functions without a body.
 ghost use Rattle.outbox.specs.Examples.{PlaceExamples, ClearedExamples, JoinedExamples, DeliveryExamples, TurnExamples};
-ghost use Rattle.outbox.specs.Laws.{ClearsOnePlace, EmptyPiecesAreNothing, JoinsNeighbours, LogNeverWaits, ShortIsNoted, AddsUp};
+ghost use Rattle.outbox.specs.Laws.{ClearsOnePlace, EmptyPiecesAreNothing, JoinsNeighbours, LogNeverWaits, ShortIsNoted, AddsUp, RanksKeepApart};
 
 /// An event that a connection is gone or was refused drops what waits for it, and nothing else.
 pub fn clearing_drops_one_place()
@@ -22,6 +22,11 @@ pub fn deliveries_add_up()
     ensures turns { AddsUp }
     ensures log { LogNeverWaits }
     ensures short { ShortIsNoted }
+{}
+
+/// No two places have one rank, and what is sorted by ranks has all that waits for a place together.
+pub fn ranks_keep_places_apart()
+    ensures { RanksKeepApart }
 {}
 
 /// Places, what an event drops, what is joined, and deliveries, worked on lists that are written out.

@@ -7,11 +7,12 @@ mod member;
 mod offer;
 mod outbox;
 mod place;
+mod sorted;
 
 pub use joining::joined;
 pub use laws::{
     clearing_drops_one_place, deliveries_add_up, empty_pieces_are_nothing, joining_keeps_marks,
-    worked_deliveries,
+    ranks_keep_places_apart, worked_deliveries,
 };
 pub use outbox::Outbox;
 pub use place::{Place, ended_by, place_of};

@@ -16,7 +16,7 @@ pub fn is_for(member: &Sent, place: &Place) -> bool
 }
 
 /// Whether the member is a piece without bytes.
-fn is_empty(member: &Sent) -> bool
+pub fn is_empty(member: &Sent) -> bool
     ensures some { OnFalse result (marks_in member.now ≢ []) }
     ensures none { OnTrue result (marks_in member.now ≡ []) }
 {
@@ -24,14 +24,6 @@ fn is_empty(member: &Sent) -> bool
         Sent::Bytes { bytes, .. } => bytes.is_empty(),
         Sent::Connect { .. } | Sent::Close { .. } | Sent::Log { .. } => false,
     }
-}
-
-/// Whether the member puts something at the place.
-pub fn waits_for(member: &Sent, place: &Place) -> bool
-    ensures some { OnTrue result (marks_of place.now member.now ≢ []) }
-    ensures none { OnFalse result (marks_of place.now member.now ≡ []) }
-{
-    is_for(member, place) && !is_empty(member)
 }
 
 /// How many bytes of the member go to the place.

@@ -1,69 +1,33 @@
 // One member's offer to a world.
-ghost use Rattle.std.specs.Prelude.{◌≡◌, ◌≢◌, ◌≤◌, ◌<◌, [], ◌∷◌, ◌++◌, length, drop, OnOk};
-ghost use Rattle.std.specs.Bool.{OnTrue, OnFalse};
+ghost use Rattle.std.specs.Prelude.{◌≡◌, ◌≤◌, ◌<◌, [], ◌∷◌, ◌++◌, length, drop, IfOk, OnOk};
 ghost use Rattle.gate_io.specs.declared.event.Sent.TheVariants.{Bytes};
 ghost use Rattle.outbox.specs.Delivery.{Offered};
 ghost use Rattle.outbox.specs.Places.{marks_at, place_of};
+ghost use Rattle.outbox.specs.Sorted.{rank, rank_of, IsSorted, IsEndOf};
 ghost use Rattle.outbox.specs.declared.place.Place.TheVariants.{Peer};
 
-use crate::member::waits_for;
-use crate::place::{Place, place_of};
+use crate::place::{place_of, rank_of};
+use crate::sorted::{end_of, put_behind, waits_before};
 use gate_base::{LineNo, Octets, OutOfMemory};
 use gate_io::{Sent, Side, World};
 use std::alloc::Global;
 
-/// Whether something waits for a place.
-fn waits_at(waiting: &[Sent], place: &Place) -> bool
-    ensures some { OnTrue result (marks_at place.now waiting.now ≢ []) }
-    ensures none { OnFalse result (marks_at place.now waiting.now ≡ []) }
-{
-    for member in waiting {
-        if waits_for(member, place) {
-            return true;
-        }
-    }
-    false
-}
-
-/// Puts a member behind those that are left.
-fn keep(left: &mut Vec<Sent>, member: Sent) -> Result<(), OutOfMemory>
-    ensures { OnOk result (left.new.items ≡ left.old.items ++ member ∷ []) }
-{
-    left.push(member)?;
-    Ok(())
-}
-
-/// Puts bytes behind those that are left.
-fn keep_bytes(
+/// The bytes from a place on. Where that is all of them, they are moved.
+fn rest_of(
     alloc: Global,
-    left: &mut Vec<Sent>,
-    line: LineNo,
-    side: Side,
-    bytes: &[u8],
-) -> Result<(), OutOfMemory>
-    ensures { OnOk result (left.new.items ≡ left.old.items ++ Bytes line side bytes.now ∷ []) }
-{
-    let bytes = Octets::from_slice(alloc, bytes)?;
-    left.push(Sent::Bytes { line, side, bytes })?;
-    Ok(())
-}
-
-/// Puts the bytes from a place on behind those that are left. Where that is all of them, they are moved.
-fn keep_rest(
-    alloc: Global,
-    left: &mut Vec<Sent>,
     line: LineNo,
     side: Side,
     bytes: Octets,
     n: usize,
-) -> Result<(), OutOfMemory>
+) -> Result<Sent, OutOfMemory>
     requires { n < length bytes }
-    ensures { OnOk result (left.new.items ≡ left.old.items ++ Bytes line side (drop n bytes) ∷ []) }
+    ensures { IfOk result (λ rest. rest ≡ Bytes line side (drop n bytes)) }
 {
     if n == 0 {
-        return keep(left, Sent::Bytes { line, side, bytes });
+        return Ok(Sent::Bytes { line, side, bytes });
     }
-    keep_bytes(alloc, left, line, side, &bytes.as_slice()[n..])
+    let bytes = Octets::from_slice(alloc, &bytes.as_slice()[n..])?;
+    Ok(Sent::Bytes { line, side, bytes })
 }
 
 /// Offers bytes to a side of a line for which nothing is left.
@@ -71,19 +35,24 @@ fn offer_bytes<W: World>(
     alloc: Global,
     world: &mut W,
     left: &mut Vec<Sent>,
+    end: usize,
     line: LineNo,
     side: Side,
     bytes: Octets,
 ) -> Result<(), OutOfMemory>
-    requires { marks_at (Peer line side) left.old.items ≡ [] }
+    requires sorted { IsSorted left.old.items }
+    requires end { IsEndOf (rank (Peer line side)) end left.old.items }
+    requires none { marks_at (Peer line side) left.old.items ≡ [] }
     ensures last { W.last world.new ≡ W.last world.old }
     ensures nature { W.nature world.new ≡ W.nature world.old }
     ensures faults { W.faults world.old ≤ W.faults world.new }
     ensures offered { Offered (W.nature world.old).takes_whole (W.trace world.old) left.old.items (left.old.items ++ Bytes line side bytes ∷ []) result (W.trace world.new) left.new.items }
+    ensures sorted { OnOk result (IsSorted left.new.items) }
 {
     let n = world.send(alloc, line, side, bytes.as_slice())?;
     if n < bytes.len() {
-        keep_rest(alloc, left, line, side, bytes, n)?;
+        let rest = rest_of(alloc, line, side, bytes, n)?;
+        put_behind(left, end, rest)?;
     }
     Ok(())
 }
@@ -93,37 +62,46 @@ fn offer_first<W: World>(
     alloc: Global,
     world: &mut W,
     left: &mut Vec<Sent>,
+    end: usize,
     member: Sent,
 ) -> Result<(), OutOfMemory>
-    requires { marks_at (place_of member) left.old.items ≡ [] }
+    requires sorted { IsSorted left.old.items }
+    requires end { IsEndOf (rank_of member) end left.old.items }
+    requires none { marks_at (place_of member) left.old.items ≡ [] }
     ensures last { W.last world.new ≡ W.last world.old }
     ensures nature { W.nature world.new ≡ W.nature world.old }
     ensures faults { W.faults world.old ≤ W.faults world.new }
     ensures offered { Offered (W.nature world.old).takes_whole (W.trace world.old) left.old.items (left.old.items ++ member ∷ []) result (W.trace world.new) left.new.items }
+    ensures sorted { OnOk result (IsSorted left.new.items) }
 {
     match member {
         Sent::Connect { line } => world.connect(alloc, line),
-        Sent::Bytes { line, side, bytes } => { offer_bytes(alloc, world, left, line, side, bytes) }
+        Sent::Bytes { line, side, bytes } => {
+            offer_bytes(alloc, world, left, end, line, side, bytes)
+        }
         Sent::Close { line, side } => world.close(alloc, line, side),
         Sent::Log { level, text } => world.log(alloc, level, text.as_slice()),
     }
 }
 
-/// Offers a member to the world, unless something is left for its place already.
+/// Offers a member to the world, unless something is left for its place already. What is left is sorted.
 pub fn offer<W: World>(
     alloc: Global,
     world: &mut W,
     left: &mut Vec<Sent>,
     member: Sent,
 ) -> Result<(), OutOfMemory>
+    requires { IsSorted left.old.items }
     ensures last { W.last world.new ≡ W.last world.old }
     ensures nature { W.nature world.new ≡ W.nature world.old }
     ensures faults { W.faults world.old ≤ W.faults world.new }
     ensures offered { Offered (W.nature world.old).takes_whole (W.trace world.old) left.old.items (left.old.items ++ member ∷ []) result (W.trace world.new) left.new.items }
+    ensures sorted { OnOk result (IsSorted left.new.items) }
 {
-    if waits_at(left, &place_of(&member)) {
-        keep(left, member)
+    let end = end_of(left, rank_of(&member));
+    if waits_before(left, end, &place_of(&member)) {
+        put_behind(left, end, member)
     } else {
-        offer_first(alloc, world, left, member)
+        offer_first(alloc, world, left, end, member)
     }
 }

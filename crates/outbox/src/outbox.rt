@@ -3,12 +3,15 @@ ghost use Rattle.std.specs.Prelude.{◌≡◌, ◌≤◌, ◌↔◌, ◌++◌, [
 ghost use Rattle.outbox.specs.Cleared.{cleared, without};
 ghost use Rattle.outbox.specs.Delivery.{Offered};
 ghost use Rattle.outbox.specs.Joined.{joined};
-ghost use Rattle.outbox.specs.Places.{IsFull};
+ghost use Rattle.std.specs.Bool.{OnTrue};
+ghost use Rattle.outbox.specs.Places.{IsFull, octets_in, marks_at};
+ghost use Rattle.outbox.specs.Sorted.{rank, IsSorted, IsSortedFrom};
 
 use crate::joining::joined;
 use crate::member::{bytes_for, is_for};
 use crate::offer::offer;
-use crate::place::{Place, ended_by};
+use crate::place::{Place, ended_by, rank, rank_of};
+use crate::sorted::end_of;
 use gate_base::{LineNo, OutOfMemory};
 use gate_io::{Sent, Side, What, World};
 use std::alloc::Global;
@@ -22,15 +25,21 @@ const FULL: usize = 65_536;
 #[derive(Debug, Drop)]
 pub struct Outbox {
     waiting: Vec<Sent>,
+    /// What waits was left by a world: it is sorted by places, so that a turn costs no more for what waits elsewhere than to offer it.
+    is_sorted: bool,
 }
 
 impl Model for Outbox {
+    ghost use Rattle.std.specs.Bool.{OnTrue};
     ghost use Rattle.std.specs.Prelude.{List};
     ghost use Rattle.gate_io.specs.declared.event.Sent.{Sent};
+    ghost use Rattle.outbox.specs.Sorted.{IsSorted};
 
     ghost Value = { List Sent };
 
     ghost view = { λ o. o.waiting.items };
+
+    ghost invariant = { λ o. OnTrue o.is_sorted (IsSorted o.waiting.items) };
 }
 
 impl Outbox {
@@ -40,6 +49,7 @@ impl Outbox {
     {
         Outbox {
             waiting: Vec::new(alloc),
+            is_sorted: true,
         }
     }
 
@@ -65,6 +75,7 @@ impl Outbox {
         ensures err { OnErr result (self.new ≡ self.old) }
     {
         let mut sent = sent;
+        self.is_sorted = false;
         self.waiting.append(&mut sent)?;
         Ok(())
     }
@@ -104,6 +115,7 @@ impl Outbox {
             offer(alloc, world, &mut left, member)?;
         }
         self.waiting = left;
+        self.is_sorted = true;
         Ok(())
     }
 
@@ -112,16 +124,31 @@ impl Outbox {
         ensures { IsTrue result ↔ IsFull line side self.now }
     {
         let place = Place::Peer { line, side };
-        let mut room = FULL;
-        for member in self.waiting.as_slice() {
-            let n = bytes_for(member, &place);
-            if room <= n {
-                return true;
-            }
-            room -= n;
+        if !self.is_sorted {
+            return is_full_in(&self.waiting, &place, false);
         }
-        false
+        let first = end_of(&self.waiting, rank(&place) - 1);
+        is_full_in(&self.waiting[first..], &place, true)
     }
+}
+
+/// Whether at least 65,536 bytes of these wait for a place. Sorted ones, of which none is before it, are read as far as they are for it.
+fn is_full_in(members: &[Sent], place: &Place, is_sorted: bool) -> bool
+    requires { OnTrue is_sorted (IsSortedFrom (rank place.now) members.now) }
+    ensures { IsTrue result ↔ (65536 ≤ octets_in (marks_at place.now members.now)) }
+{
+    let mut room = FULL;
+    for member in members {
+        if is_sorted && rank_of(member) > rank(place) {
+            return false;
+        }
+        let n = bytes_for(member, place);
+        if room <= n {
+            return true;
+        }
+        room -= n;
+    }
+    false
 }
 
 /// Drops what waits for a place.

@@ -2,6 +2,7 @@
 ghost use Rattle.std.specs.Prelude.{◌≡◌};
 ghost use Rattle.outbox.specs.Cleared.{ended_by};
 ghost use Rattle.outbox.specs.Places.{place_of};
+ghost use Rattle.outbox.specs.Sorted.{rank, rank_of};
 ghost use Rattle.outbox.specs.declared.place.Place.TheVariants.{Peer};
 
 use gate_base::LineNo;
@@ -43,4 +44,27 @@ pub fn ended_by(what: &What) -> Option<Place>
         What::Refused { line } => Some(peer(*line, Side::Up)),
         _ => None,
     }
+}
+
+/// The number by which places are sorted: that of the log, and then those of each line's client and server.
+pub(crate) fn rank(place: &Place) -> u64
+    ensures { result ≡ rank place.now }
+{
+    match place {
+        Place::Journal => 0,
+        Place::Peer { line, side } => {
+            let twice = u64::from(line.get()) * 2;
+            match side {
+                Side::Down => twice + 1,
+                Side::Up => twice + 2,
+            }
+        }
+    }
+}
+
+/// The number by which a member is sorted.
+pub(crate) fn rank_of(member: &Sent) -> u64
+    ensures { result ≡ rank_of member.now }
+{
+    rank(&place_of(member))
 }

@@ -3,6 +3,7 @@ use Rattle.std.specs.declared.alloc.AllocError.{AllocError}
 use Rattle.gate_io.specs.Nature.{Nature}
 use Rattle.gate_io.specs.declared.event.Sent.{Sent}
 use Rattle.outbox.specs.Delivery.{Offered}
+use Rattle.outbox.specs.Sorted.{IsSorted}
 use Rattle.outbox.proofs.Offers.{offered_none, so_far_next, so_far_cut}
 use Rattle.outbox.proofs.outbox.Outbox.hand_over.Goals as goal
 
@@ -19,6 +20,7 @@ loop-member-init g c =
         members_are = c.into_iter-member-iterator.ensures.into_iter_gives.0 ∙ ap (λ v. v.items) c.replace-waiting.ensures.value ∙ c.self.view_is;
         offered = subst (λ (l : List Sent). Offered {E = AllocError} whole trace [] [] (Ok tt) trace l) (sym c.new-left.ensures.items) (offered_none whole trace);
       };
+      sorted = subst IsSorted (sym c.new-left.ensures.items) tt;
     }
 
 pub loop-member-preserved : goal.loop-member-preserved
@@ -27,6 +29,7 @@ loop-member-preserved g c = record {
   nature = c.offer.ensures.nature ∙ c.loop-member.invariant.nature;
   faults = omega (arith, c.offer.ensures.faults, c.loop-member.invariant.faults);
   offered = so_far_next _ _ _ _ _ _ _ _ _ _ _ (ap (λ (n : Nature). n.takes_whole) c.loop-member.invariant.nature) c.in-Some.ensures.steps.0 c.loop-member.invariant.offered c.in_ok-offer.ensures.offered;
+  sorted = c.in_ok-offer.ensures.sorted;
 }
 
 pub returns-in_err-offer-clause-offered : goal.returns-in_err-offer-clause-offered

@@ -1,4 +1,5 @@
 use Rattle.std.proofs.Common.{◌≡◌, ◌≤◌}
+use Rattle.outbox.specs.Sorted.{IsSorted}
 use Rattle.outbox.proofs.Offers.{SoFar}
 use Rattle.outbox.proofs.outbox.Outbox.hand_over.Given as goal
 
@@ -9,4 +10,5 @@ invariant-loop-member g l = record {
   nature : g.W.World.nature l.world ≡ g.W.World.nature l.fn.world;
   faults : g.W.World.faults l.fn.world ≤ g.W.World.faults l.world;
   offered : SoFar (g.W.World.nature l.fn.world).takes_whole (g.W.World.trace l.fn.world) l.fn.self l.member-iterator.rest.items (g.W.World.trace l.world) l.left.items;
+  sorted : IsSorted l.left.items;
 }

@@ -1,0 +1,47 @@
+// Members in the order of their places.
+ghost use Rattle.std.specs.Prelude.{◌≡◌, ◌≢◌, [], OnOk};
+ghost use Rattle.std.specs.Bool.{OnTrue, OnFalse};
+ghost use Rattle.outbox.specs.Places.{marks_at};
+ghost use Rattle.outbox.specs.Sorted.{rank, rank_of, IsSorted, IsEndOf, IsBehind};
+
+use crate::member::{are_one, as_one, is_empty};
+use crate::place::{Place, rank, rank_of};
+use gate_base::OutOfMemory;
+use gate_io::Sent;
+
+/// How many of the members are of this rank or a lower one.
+pub fn end_of(members: &[Sent], most: u64) -> usize
+    requires { IsSorted members.now }
+    ensures { IsEndOf most result members.now }
+{
+    members.partition_point(|member| rank_of(member) <= most)
+}
+
+/// Whether something waits for a place, where so many members are of its rank or a lower one.
+pub fn waits_before(members: &[Sent], end: usize, place: &Place) -> bool
+    requires sorted { IsSorted members.now }
+    requires end { IsEndOf (rank place.now) end members.now }
+    ensures some { OnTrue result (marks_at place.now members.now ≢ []) }
+    ensures none { OnFalse result (marks_at place.now members.now ≡ []) }
+{
+    end > 0 && rank_of(&members[end - 1]) == rank(place)
+}
+
+/// Puts a member behind those of its place, where so many are of its rank or a lower one. Bytes behind bytes become one member.
+pub fn put_behind(members: &mut Vec<Sent>, end: usize, member: Sent) -> Result<(), OutOfMemory>
+    requires sorted { IsSorted members.old.items }
+    requires end { IsEndOf (rank_of member) end members.old.items }
+    ensures behind { OnOk result (IsBehind members.old.items member members.new.items) }
+    ensures sorted { OnOk result (IsSorted members.new.items) }
+{
+    if end > 0 && are_one(&members[end - 1], &member) {
+        let one = as_one(members.remove(end - 1), &member)?;
+        members.insert(end - 1, one)?;
+        return Ok(());
+    }
+    if is_empty(&member) {
+        return Ok(());
+    }
+    members.insert(end, member)?;
+    Ok(())
+}
