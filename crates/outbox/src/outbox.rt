@@ -123,6 +123,9 @@ impl Outbox {
     pub fn is_full(&self, line: LineNo, side: Side) -> bool
         ensures { IsTrue result ↔ IsFull line side self.now }
     {
+        if self.waiting.is_empty() {
+            return false;
+        }
         let place = Place::Peer { line, side };
         if !self.is_sorted {
             return is_full_in(&self.waiting, &place, false);
