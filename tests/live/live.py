@@ -467,6 +467,70 @@ def many(gateway, upstream):
         raise AssertionError("%d of 30 lines: %r" % (len(failures), failures[0]))
 
 
+def by_curl(gateway, upstream):
+    """A body goes through curl to the server and back. Without curl the line is opened and closed."""
+    curl = shutil.which("curl")
+    if curl is None:
+        print("live: there is no curl, so its case is skipped", flush=True)
+        nothing(gateway, upstream)
+        return
+    body = b"0123456789" * 10000
+    with gateway.guard:
+        gateway.opened += 1
+    words = [curl, "--silent", "--show-error", "--http1.1", "--noproxy", "*", "--max-time", str(int(PATIENCE))]
+    words += ["--header", "Expect:", "--data-binary", "@-", "http://127.0.0.1:%d/echo" % gateway.port]
+    ran = subprocess.run(words, input=body, stdout=subprocess.PIPE, stderr=subprocess.PIPE, timeout=2 * PATIENCE)
+    expect((ran.returncode, ran.stderr), (0, b""))
+    expect(ran.stdout == body, True)
+
+
+def is_answered(s, path):
+    """Whether a request on a line is answered: the line may have been closed at once."""
+    try:
+        get(s, Reader(s), path, path.encode())
+    except (EOFError, ConnectionError):
+        return False
+    return True
+
+
+def crowd(gateway, upstream):
+    """Of 200 lines that are open at once the first 128 are kept and the others closed, and the descriptors come back."""
+    first = gateway.connect()
+    expect(is_answered(first, "/crowd"), True)
+    base = gateway.descriptors()
+    lines = [gateway.connect() for _ in range(199)]
+    answered = [is_answered(s, "/crowd/%d" % n) for n, s in enumerate(lines)]
+    expect(answered, [True] * 127 + [False] * 72)
+    expect(is_answered(first, "/crowd/again"), True)
+    for s in lines:
+        s.close()
+    for _ in range(100):
+        if gateway.descriptors() <= base:
+            break
+        time.sleep(0.05)
+    expect(gateway.descriptors() <= base, True)
+    first.close()
+
+
+def remembers_nothing(gateway, upstream):
+    """Its memory grows no more with further lines and bodies, once there were as many."""
+    body = b"x" * 200000
+    sizes = []
+    for turn in range(4):
+        lines = [gateway.connect() for _ in range(30)]
+        for n, s in enumerate(lines):
+            get(s, Reader(s), "/held/%d/%d" % (turn, n), b"/held/%d/%d" % (turn, n))
+        for s in lines:
+            s.sendall(request("/echo", body))
+            reader = Reader(s)
+            first, fields = reader.head()
+            expect(reader.body(fields) == body, True)
+            s.close()
+        sizes.append(settled(gateway))
+    if sizes[-1] - sizes[1] > 1024:
+        raise AssertionError("kB behind each turn: %r" % sizes)
+
+
 def metered(gateway, upstream):
     """Requests on three lines, which two workers share, are counted in one metric."""
     for line, count in ((0, 3), (1, 2), (2, 1)):
@@ -525,8 +589,11 @@ GROUPS = [
             (stalled, 2),
             (descriptors, 21),
             (client_resets, 11),
+            (by_curl, 1),
+            (remembers_nothing, 120),
         ],
     ),
+    ("a crowd", 1, "", b"", [(crowd, 200)]),
     ("three workers", 3, "", b"", [(many, 30)]),
     ("no server", 1, "", b"", [(refusing, 1)]),
     (
