@@ -1,5 +1,8 @@
 pub mod General
 pub mod Following
+pub mod Texts
+pub mod Uploads
+pub mod Downloads
 pub mod Order
 pub mod Effects
 pub mod Answer

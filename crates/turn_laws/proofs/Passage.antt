@@ -23,7 +23,7 @@ use Rattle.turn_laws.proofs.Following.{end_by, ends_there, Meets, reaches_by}
 use Rattle.turn_laws.specs.Tables.{Call}
 use Rattle.turn_laws.specs.Passage.{PassageExample, response, behind_response, behind_body, first, first_met, first_calls, second, second_calls, goes_up, third, third_met, third_calls, goes_down}
 
-response_is_read : Hears response (hands (head_part worked_response) behind_response)
+pub response_is_read : Hears response (hands (head_part worked_response) behind_response)
 response_is_read = record {
   used = 38;
   due = body (counted 3);
@@ -31,7 +31,7 @@ response_is_read = record {
   is = refl;
 }
 
-body_is_read : Hears behind_response (hands (piece (codes "abc") true) behind_body)
+pub body_is_read : Hears behind_response (hands (piece (codes "abc") true) behind_body)
 body_is_read = record {
   used = 3;
   due = done;

@@ -1,6 +1,9 @@
 pub mod Laws
 pub mod Tables
 pub mod Scenes
+pub mod Texts
+pub mod Uploads
+pub mod Downloads
 pub mod Order
 pub mod Effects
 pub mod Answer

@@ -119,3 +119,24 @@ event now what = record { now = now; what = what }
 
 abbrev pub plan_of : List PluginEntry → Plan
 plan_of plugins = record { routes = []; plugins = plugins; vms = 1; deadline = 0; bodies = []; registers = [] }
+
+-- ---- a worker without filters
+
+-- every path has a route, which has none
+abbrev pub open_plan : Plan
+open_plan = record (plan_of []) { routes = record { path = codes "/"; filters = [] } ∷ [] }
+
+-- line 1 is open, and nothing came of it
+abbrev pub one_line : Both (List Call)
+one_line = state (line 1 None ∷ []) (rooted [])
+
+-- the first lines of a request as it goes up, and those behind its framing
+abbrev pub up_start : List ℕ → List ℕ
+up_start method = line_of (method ++ codes " / HTTP/1.1") ++ line_of (codes "host: a")
+
+abbrev pub up_end : List ℕ → List ℕ
+up_end version = line_of (codes "via: " ++ version ++ codes " wasmgate") ++ line_of (codes "connection: close") ++ line_of []
+
+-- the line that closes the client's
+abbrev pub closing : List ℕ
+closing = line_of (codes "connection: close")

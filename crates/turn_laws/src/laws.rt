@@ -1,5 +1,8 @@
 // What holds of turns, whatever the machines. The functions have nothing to do: their contracts are the laws.
 ghost use Rattle.turn_laws.specs.Laws.{TurnsAreFunctionsOver, MoreStepsChangeNothingOver};
+ghost use Rattle.turn_laws.specs.Texts.{RequestTexts, ResponseTexts};
+ghost use Rattle.turn_laws.specs.Uploads.{PostExample, UploadExample, RecodingExample, UnroutedExample};
+ghost use Rattle.turn_laws.specs.Downloads.{PipelineExample, OldExample, UnmodifiedExample, EndlessExample};
 ghost use Rattle.turn_laws.specs.Order.{StepExamples};
 ghost use Rattle.turn_laws.specs.Effects.{EffectExamples};
 ghost use Rattle.turn_laws.specs.Answer.{AnswerExample};
@@ -52,4 +55,36 @@ pub fn worked_passage()
 /// A context that answers 0 to `done` is told of its end once it waits no longer, and a callback asks the shared store.
 pub fn worked_waiting()
     ensures { WaitingExample }
+{}
+
+/// The requests and the responses that worked turns begin with are read as their heads.
+pub fn worked_texts()
+    ensures requests { RequestTexts }
+    ensures responses { ResponseTexts }
+{}
+
+/// Requests with bodies: by a length, whose pieces go up as they come, with an interim response and one of 204 behind it; and in chunks with
+/// trailers, both ways.
+pub fn worked_uploads()
+    ensures post { PostExample }
+    ensures upload { UploadExample }
+{}
+
+/// A request of three bytes whose route filters bodies goes up in chunks, and its response down; one that no route takes is answered 404
+/// before it is whole, and its line is closed.
+pub fn worked_routes()
+    ensures recoding { RecodingExample }
+    ensures unrouted { UnroutedExample }
+{}
+
+/// A GET and a HEAD come at once: each has a connection of its own, the second behind the first one's response, and no body goes down for it.
+pub fn worked_pipeline()
+    ensures { PipelineExample }
+{}
+
+/// A client of HTTP/1.0, and one that closes: neither line stays open, and the first is sent no chunks, trailers or interim response.
+pub fn worked_closing()
+    ensures old { OldExample }
+    ensures unmodified { UnmodifiedExample }
+    ensures endless { EndlessExample }
 {}

@@ -5,5 +5,6 @@ mod laws;
 
 pub use laws::{
     more_steps_change_nothing_over, steps_in_order, turn_is_function_over, worked_answer,
-    worked_death, worked_effects, worked_order, worked_passage, worked_waiting,
+    worked_closing, worked_death, worked_effects, worked_order, worked_passage, worked_pipeline,
+    worked_routes, worked_texts, worked_uploads, worked_waiting,
 };
