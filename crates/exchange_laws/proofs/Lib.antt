@@ -1,0 +1,4 @@
+pub mod Traffic
+pub mod Quiet
+pub mod Ups
+pub mod Lives

@@ -1,0 +1,39 @@
+-- What goes up among what is sent: lists joined, and what is sent down.
+use Rattle.std.proofs.Common.{◌≡◌, ℕ, ◌==◌, true, false, ◌⊎◌, inl, inr, List, [], ◌∷◌, ◌++◌, map, refl, ap, ◌∙◌}
+use Rattle.std.proofs.lemmas.Bool.Decides.{eqb_tells}
+use Rattle.std.proofs.lemmas.Grind.{flat_map-append}
+use Rattle.std.proofs.lemmas.List.{append-nil}
+use Rattle.std.specs.Prelude.{if◌then◌else◌}
+use Rattle.exchange.specs.Leaving.{sending}
+use Rattle.gate_io.specs.declared.event.Sent.{Sent}
+use Rattle.gate_io.specs.declared.event.Side.TheVariants.{Down, Up}
+use Rattle.exchange_laws.specs.Traffic.{Traffic, byte, where_line, up_of, ups}
+
+pub ups_join : (n : ℕ) (a b : List Sent) → ups n (a ++ b) ≡ ups n a ++ ups n b
+ups_join n a b = flat_map-append (up_of n) a b
+
+same : (n : ℕ) → (n == n) ≡ true
+same n = by_test (eqb_tells n n)
+  where
+    by_test : (((n == n) ≡ true) × (n ≡ n)) ⊎ (((n == n) ≡ false) × (n ≡ n → ⊥)) → (n == n) ≡ true
+    by_test (inl equal) = equal.0
+    by_test (inr other) = absurd (other.1 refl)
+
+pub here : (n : ℕ) (t : List Traffic) → where_line n n t ≡ t
+here n t = ap (λ b. if b then t else []) (same n)
+
+-- bytes for the client are none for the server
+pub down_is_none : (n : ℕ) (bytes : List ℕ) → ups n (sending n Down bytes) ≡ []
+down_is_none n [] = refl
+down_is_none n (b ∷ bytes) = refl
+
+pub up_is_all : (n : ℕ) (bytes : List ℕ) → ups n (sending n Up bytes) ≡ map byte bytes
+up_is_all n [] = refl
+up_is_all n (b ∷ bytes) = append-nil (where_line n n (map byte (b ∷ bytes))) ∙ here n (map byte (b ∷ bytes))
+
+-- what sends nothing up adds nothing
+pub adds_none : (n : ℕ) (before more : List Sent) → ups n more ≡ [] → ups n (before ++ more) ≡ ups n before
+adds_none n before more none = ups_join n before more ∙ (ap (λ t. ups n before ++ t) none ∙ append-nil (ups n before))
+
+pub adds : (n : ℕ) (before more : List Sent) (t : List Traffic) → ups n more ≡ t → ups n (before ++ more) ≡ ups n before ++ t
+adds n before more t is = ups_join n before more ∙ ap (λ s. ups n before ++ s) is

@@ -1,0 +1,43 @@
+-- What holds of every exchange without request filters, whatever happens to it.
+use Rattle.std.specs.Prelude.{◌≡◌, ℕ, Bool, false, List, [], ◌∷◌, ◌++◌, map, None}
+use Rattle.http1_model.specs.Framing.{OutItem}
+use Rattle.http1_model.specs.Messages.{head}
+use Rattle.h1_write.specs.Lines.{OutRequest, out_items, out_wire, in_items}
+use Rattle.h1_write.specs.Requests.{IsReadableRequest}
+use Rattle.h1_write.specs.Round.{Suits, stop_behind, IsReadAs}
+use Rattle.exchange.specs.declared.types.Exchange.{Exchange}
+use Rattle.exchange.specs.declared.types.Hub.{Hub}
+use Rattle.exchange.specs.Leaving.{goes_up}
+use Rattle.exchange_laws.specs.Lives.{Deed, Lives, IsFair, IsKin, done_by, items_by, is_over}
+use Rattle.exchange_laws.specs.Traffic.{Traffic, opens, byte, ups, traffic, IsFront}
+
+-- what went up of a request, of which these items were read
+pub record GoesUpOnce (q : OutRequest) (came : List OutItem) (is_over : Bool) (before after : List Traffic) : Type 0 where
+  pub went : List Traffic
+  pub adds : after ≡ before ++ went
+  -- one connection, and the front of the request's bytes
+  pub front : IsFront went (opens ∷ map byte (out_wire q))
+  -- all that was read, and so all of the request where it was read whole
+  pub all : is_over ≡ false → went ≡ traffic q.framing came
+  pub whole : is_over ≡ false → came ≡ out_items q → went ≡ opens ∷ map byte (out_wire q)
+  -- its bytes are read back as that request and nothing else
+  pub read_back : (ended : Bool) → IsReadableRequest q.framing q.head → Suits q.framing q.pieces q.ending ended []
+      → IsReadAs (out_wire q) ended None head (in_items q) (stop_behind ended None)
+
+-- NO SERVER SEES TWO MESSAGES: whatever happens to an exchange of which nothing was read, and the items that are read are a front of one
+-- request, framed as the exchange frames it, what goes up on its line is a front of that one request's bytes.
+abbrev pub OneRequestGoesUp : Type 0
+OneRequestGoesUp =
+    (n : ℕ) (x y : Exchange) (hub after : Hub) (deeds : List Deed) (came : List OutItem) (q : OutRequest) → x.request ≡ [] → Lives n x hub deeds came y after
+    → q.framing ≡ goes_up x → IsFront came (out_items q) → GoesUpOnce q came (is_over y) (ups n hub.sent) (ups n after.sent)
+
+-- NOTHING ELSE GOES UP: what brings no item of the request sends nothing up, and leaves the exchange one without request filters that is framed
+-- alike.
+pub record IsQuiet (n : ℕ) (x : Exchange) (hub : Hub) (y : Exchange) (after : Hub) : Type 0 where
+  pub sends : ups n after.sent ≡ ups n hub.sent
+  pub kin : IsKin x y
+
+abbrev pub NothingElseGoesUp : Type 0
+NothingElseGoesUp =
+    (n : ℕ) (deed : Deed) (x : Exchange) (hub : Hub) → x.request ≡ [] → IsFair n deed x hub → items_by deed x hub ≡ []
+    → IsQuiet n x hub (done_by n deed x hub).0 (done_by n deed x hub).1

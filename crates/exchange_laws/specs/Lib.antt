@@ -1,0 +1,3 @@
+pub mod Traffic
+pub mod Lives
+pub mod Laws

@@ -1,0 +1,92 @@
+-- All that may happen to an exchange, one thing behind the other.
+use Rattle.std.specs.Prelude.{◌≡◌, ℕ, Bool, true, false, ◌||◌, List, [], ◌∷◌, ◌++◌, map}
+use Rattle.filter_chain.specs.declared.item.Item.{Item}
+use Rattle.filter_chain.specs.declared.item.Item.TheVariants.{Head, Piece, Trailers}
+use Rattle.http1_model.specs.Fields.{Pair}
+use Rattle.http1_model.specs.Framing.{OutItem}
+use Rattle.http1_model.specs.Framing as out
+use Rattle.exchange.specs.declared.types.Exchange.{Exchange}
+use Rattle.exchange.specs.declared.types.Hub.{Hub}
+use Rattle.exchange.specs.Answering.{answer}
+use Rattle.exchange.specs.Heads.{sent_head, up_tail}
+use Rattle.exchange.specs.Leaving.{goes_up}
+use Rattle.exchange.specs.Maps.{request_map, request_trailers}
+use Rattle.exchange.specs.Passing as passing
+use Rattle.exchange_laws.specs.Traffic.{ups}
+
+-- What is read of the request comes to its chain, or what is read of the response; a callback's action is put in force, a stage goes on, both
+-- connections are closed, a local response is asked for; a VM dies; it is refused; its response is late. Or something else becomes of it, of
+-- what all lines have in common and of what is sent.
+pub data Deed : Type 0 where
+  comes : List Item → Deed
+  responds : List Item → Deed
+  acts : (response : Bool) → ℕ → ℕ → Deed
+  resumes : ℕ → ℕ → (response : Bool) → Deed
+  closes : Deed
+  answers : Bool → ℕ → List Pair → List ℕ → Deed
+  dies : ℕ → Deed
+  refuses : ℕ → Deed
+  expires : Deed
+  turns : Exchange → Hub → Deed
+
+abbrev pub done_by : ℕ → Deed → Exchange → Hub → Exchange × Hub
+done_by n (comes items) x hub = passing.put_in false items n x hub
+done_by n (responds items) x hub = passing.put_in true items n x hub
+done_by n (acts response k value) x hub = passing.acts response k value n x hub
+done_by n (resumes vm context response) x hub = passing.resumes vm context response n x hub
+done_by n closes x hub = passing.closed n x hub
+done_by n (answers shuts status fields body) x hub = answer n shuts status fields body x hub
+done_by n (dies vm) x hub = passing.dies vm n x hub
+done_by n (refuses status) x hub = passing.refused status n x hub
+done_by n expires x hub = passing.expires n x hub
+done_by n (turns y hub) x before = (y, hub)
+
+-- nothing more goes up of it
+abbrev pub is_over : Exchange → Bool
+is_over x = x.has_ended || x.is_answered
+
+-- Of an exchange without request filters this became the other: it still has none, its request is framed alike, and once it was answered or
+-- has ended that stays so.
+pub record IsKin (x y : Exchange) : Type 0 where
+  pub unfiltered : y.request ≡ []
+  pub framed : goes_up y ≡ goes_up x
+  pub stays_over : is_over x ≡ true → is_over y ≡ true
+
+-- what else becomes of it sends nothing up on its line
+abbrev pub IsFair : ℕ → Deed → Exchange → Hub → Type 0
+IsFair n (comes items) x hub = Unit {0}
+IsFair n (responds items) x hub = Unit {0}
+IsFair n (acts response k value) x hub = Unit {0}
+IsFair n (resumes vm context response) x hub = Unit {0}
+IsFair n closes x hub = Unit {0}
+IsFair n (answers shuts status fields body) x hub = Unit {0}
+IsFair n (dies vm) x hub = Unit {0}
+IsFair n (refuses status) x hub = Unit {0}
+IsFair n expires x hub = Unit {0}
+IsFair n (turns y after) x hub = IsKin x y × (ups n after.sent ≡ ups n hub.sent)
+
+-- the items that are read, as they are to go out: the head with the map of the request, `via` with the version received and `connection:
+-- close`
+abbrev pub out_item : Exchange → Hub → Item → OutItem
+out_item x hub (Head end) = out.head (sent_head (request_map x.place hub.contexts) (up_tail x.asked.minor))
+out_item x hub (Piece bytes end) = out.piece bytes end
+out_item x hub Trailers = out.trailers (request_trailers x.place hub.contexts)
+
+abbrev pub items_by : Deed → Exchange → Hub → List OutItem
+items_by (comes items) x hub = map (out_item x hub) items
+items_by (responds items) x hub = []
+items_by (acts response k value) x hub = []
+items_by (resumes vm context response) x hub = []
+items_by closes x hub = []
+items_by (answers shuts status fields body) x hub = []
+items_by (dies vm) x hub = []
+items_by (refuses status) x hub = []
+items_by expires x hub = []
+items_by (turns y after) x hub = []
+
+-- THE LIFE OF AN EXCHANGE: these things happen to it, and these items of its request are read on the way
+abbrev pub Lives : ℕ → Exchange → Hub → List Deed → List OutItem → Exchange → Hub → Type 0
+Lives n x hub [] came y after = (came ≡ []) × (y ≡ x) × (after ≡ hub)
+Lives n x hub (deed ∷ deeds) came y after =
+    (later : List OutItem) × IsFair n deed x hub × (came ≡ items_by deed x hub ++ later)
+    × Lives n (done_by n deed x hub).0 (done_by n deed x hub).1 deeds later y after

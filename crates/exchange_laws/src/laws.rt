@@ -1,0 +1,10 @@
+// What holds of an exchange whatever happens to it. The functions have nothing to do: their contracts are the laws.
+ghost use Rattle.exchange_laws.specs.Laws.{OneRequestGoesUp, NothingElseGoesUp};
+
+/// Of an exchange without request filters, whatever happens to it, no server sees two messages: what goes up is one connection and the front
+/// of one request's bytes, all that was read of it where the exchange was neither answered nor ended. Those bytes are read back as that
+/// request. Nothing but what is read of the request goes up.
+pub fn one_request_goes_up()
+    ensures once { OneRequestGoesUp }
+    ensures alone { NothingElseGoesUp }
+{}
