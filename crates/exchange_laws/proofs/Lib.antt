@@ -2,3 +2,4 @@ pub mod Traffic
 pub mod Quiet
 pub mod Ups
 pub mod Lives
+pub mod Framings

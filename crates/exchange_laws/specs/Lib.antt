@@ -1,3 +1,4 @@
 pub mod Traffic
 pub mod Lives
 pub mod Laws
+pub mod Framings

@@ -1,4 +1,5 @@
 // What holds of an exchange whatever happens to it. The functions have nothing to do: their contracts are the laws.
+ghost use Rattle.exchange_laws.specs.Framings.{RequestsKeepTheirLength, ResponsesStayInStep};
 ghost use Rattle.exchange_laws.specs.Laws.{OneRequestGoesUp, NothingElseGoesUp};
 
 /// Of an exchange without request filters, whatever happens to it, no server sees two messages: what goes up is one connection and the front
@@ -7,4 +8,11 @@ ghost use Rattle.exchange_laws.specs.Laws.{OneRequestGoesUp, NothingElseGoesUp};
 pub fn one_request_goes_up()
     ensures once { OneRequestGoesUp }
     ensures alone { NothingElseGoesUp }
+{}
+
+/// A request goes up with the length that it was received with. A response goes down so that the client's line stays in step, whatever method
+/// filters sent up and whatever status they send down.
+pub fn lines_stay_in_step()
+    ensures requests { RequestsKeepTheirLength }
+    ensures responses { ResponsesStayInStep }
 {}
