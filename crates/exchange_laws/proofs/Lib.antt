@@ -3,3 +3,4 @@ pub mod Quiet
 pub mod Ups
 pub mod Lives
 pub mod Framings
+pub mod Ends

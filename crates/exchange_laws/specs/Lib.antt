@@ -2,3 +2,4 @@ pub mod Traffic
 pub mod Lives
 pub mod Laws
 pub mod Framings
+pub mod Ends

@@ -1,4 +1,5 @@
 // What holds of an exchange whatever happens to it. The functions have nothing to do: their contracts are the laws.
+ghost use Rattle.exchange_laws.specs.Ends.{NothingFollowsTheEnd};
 ghost use Rattle.exchange_laws.specs.Framings.{RequestsKeepTheirLength, ResponsesStayInStep};
 ghost use Rattle.exchange_laws.specs.Laws.{OneRequestGoesUp, NothingElseGoesUp};
 
@@ -15,4 +16,9 @@ pub fn one_request_goes_up()
 pub fn lines_stay_in_step()
     ensures requests { RequestsKeepTheirLength }
     ensures responses { ResponsesStayInStep }
+{}
+
+/// Whatever filters an exchange has, nothing follows its end: neither for the client nor for the server.
+pub fn nothing_follows_the_end()
+    ensures { NothingFollowsTheEnd }
 {}

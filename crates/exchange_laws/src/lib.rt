@@ -3,4 +3,4 @@
 
 mod laws;
 
-pub use laws::{lines_stay_in_step, one_request_goes_up};
+pub use laws::{lines_stay_in_step, nothing_follows_the_end, one_request_goes_up};
