@@ -1,11 +1,11 @@
 -- Nothing follows the end of an exchange.
-use Rattle.std.proofs.Common.{◌≡◌, ℕ, zero, suc, ◌==◌, Bool, true, false, not, ◌&&◌, ◌||◌, List, [], ◌∷◌, refl, ap, ◌∙◌, sym, subst}
+use Rattle.std.proofs.Common.{◌≡◌, ℕ, ◌==◌, Bool, true, false, not, ◌&&◌, ◌||◌, List, [], ◌∷◌, refl, ap, ◌∙◌, sym, subst}
 use Rattle.std.specs.Prelude.{if◌then◌else◌, Option, None, Some, nat_le}
 use Rattle.exchange.specs.declared.types.Exchange.{Exchange}
 use Rattle.exchange.specs.declared.types.Hub.{Hub}
 use Rattle.exchange.specs.Answering.{answer, answers_open, cut_off, directly, shutting}
 use Rattle.exchange.specs.Heads.{passes_filters, shuts}
-use Rattle.exchange.specs.Leaving.{is_due, is_due_at}
+use Rattle.exchange.specs.Leaving.{is_due_at}
 use Rattle.exchange.specs.Passing as passing
 use Rattle.exchange.specs.Passing.{put_went, puts, puts_all, put_in, chain_of, went, goes_on, resumes_at, stage_of, pauses, fails_closed, opens_all}
 use Rattle.filter_chain.specs.Chains.{put, continued}

@@ -4,3 +4,4 @@ pub mod Ups
 pub mod Lives
 pub mod Framings
 pub mod Ends
+pub mod Responses

@@ -75,7 +75,7 @@ left_quiet n (item ∷ items) x hub is =
 cut_off_quiet : (n : ℕ) (x : Exchange) (hub : Hub) → Quiet n x hub (cut_off x hub)
 cut_off_quiet n x hub = record { sends = refl; kin = record { unfiltered = refl; framed = refl; stays_over = λ o. refl } }
 
-abbrev reply_to : ℕ → List Pair → List ℕ → Exchange → Hub → List ℕ
+abbrev pub reply_to : ℕ → List Pair → List ℕ → Exchange → Hub → List ℕ
 reply_to status fields body x hub = local_reply_of status fields body x.asked.is_head (not (stays_open x)) hub.moment
 
 directly_quiet : (n status : ℕ) (fields : List Pair) (body : List ℕ) (x : Exchange) (hub : Hub) → Quiet n x hub (directly n status fields body x hub)

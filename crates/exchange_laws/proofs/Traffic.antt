@@ -12,7 +12,7 @@ use Rattle.exchange_laws.specs.Traffic.{Traffic, byte, where_line, up_of, ups}
 pub ups_join : (n : ℕ) (a b : List Sent) → ups n (a ++ b) ≡ ups n a ++ ups n b
 ups_join n a b = flat_map-append (up_of n) a b
 
-same : (n : ℕ) → (n == n) ≡ true
+pub same : (n : ℕ) → (n == n) ≡ true
 same n = by_test (eqb_tells n n)
   where
     by_test : (((n == n) ≡ true) × (n ≡ n)) ⊎ (((n == n) ≡ false) × (n ≡ n → ⊥)) → (n == n) ≡ true

@@ -27,7 +27,7 @@ pub record Up_ (n : ℕ) (x : Exchange) (hub : Hub) (items : List Item) (y : Exc
   pub ended : y.has_ended ≡ x.has_ended
   pub answered : y.is_answered ≡ x.is_answered
 
-abbrev no_stage : Exchange → Exchange
+abbrev pub no_stage : Exchange → Exchange
 no_stage x = record x { request = [] }
 
 -- an item by itself
@@ -43,7 +43,7 @@ item_up n Trailers x hub =
 open_takes : (x : Exchange) → x.has_ended ≡ false → x.is_answered ≡ false → takes_nothing false x ≡ false
 open_takes x live live_too = λ i. live i || live_too i
 
-puts_is : (n : ℕ) (item : Item) (x : Exchange) (hub : Hub) → x.request ≡ [] → x.has_ended ≡ false → x.is_answered ≡ false
+pub puts_is : (n : ℕ) (item : Item) (x : Exchange) (hub : Hub) → x.request ≡ [] → x.has_ended ≡ false → x.is_answered ≡ false
     → puts false n item (x, hub) ≡ up n item (no_stage x) hub
 puts_is n item x hub is live live_too =
     ap (λ b. if b then (x, hub) else put_went false n x hub (put hub.contexts item x.request)) (open_takes x live live_too)

@@ -3,3 +3,4 @@ pub mod Lives
 pub mod Laws
 pub mod Framings
 pub mod Ends
+pub mod Responses

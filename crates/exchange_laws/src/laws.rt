@@ -2,6 +2,7 @@
 ghost use Rattle.exchange_laws.specs.Ends.{NothingFollowsTheEnd};
 ghost use Rattle.exchange_laws.specs.Framings.{RequestsKeepTheirLength, ResponsesStayInStep};
 ghost use Rattle.exchange_laws.specs.Laws.{OneRequestGoesUp, NothingElseGoesUp};
+ghost use Rattle.exchange_laws.specs.Responses.{OneResponseGoesDown};
 
 /// Of an exchange without request filters, whatever happens to it, no server sees two messages: what goes up is one connection and the front
 /// of one request's bytes, all that was read of it where the exchange was neither answered nor ended. Those bytes are read back as that
@@ -21,4 +22,10 @@ pub fn lines_stay_in_step()
 /// Whatever filters an exchange has, nothing follows its end: neither for the client nor for the server.
 pub fn nothing_follows_the_end()
     ensures { NothingFollowsTheEnd }
+{}
+
+/// Of an exchange without filters, whatever happens to it, no client sees two responses: what goes down is nothing, one answer, or one response,
+/// and the line stays open only behind a whole one.
+pub fn one_response_goes_down()
+    ensures { OneResponseGoesDown }
 {}
