@@ -1,6 +1,7 @@
 //! The outside over sockets.
 #![tactic(auto)]
 
+mod duplex;
 mod line;
 mod lingering;
 mod live_site;

@@ -1,9 +1,13 @@
 // A line, with its connections.
-ghost use Rattle.std.specs.Prelude.{◌≡◌, ◌≤◌, ◌↔◌, length, IsTrue, IfOk, IfSome, Contains};
+ghost use Rattle.std.specs.Prelude.{◌≡◌, ◌≤◌, ◌↔◌, Bool, length, IsTrue, IfOk, IfSome, Contains};
 ghost use Rattle.gate_io.specs.Events.{wanted};
+ghost use Rattle.gate_io.specs.Told.{Gains};
 ghost use Rattle.gate_live.specs.Allowed.{IsAllowed, HoldsBack};
+ghost use Rattle.gate_live.specs.Told.{IsOf, IsReadOf, LiesIn, bytes_told};
+ghost use Rattle.gate_live.specs.Waiting.{is_full};
 
-use crate::peer::{Heard, Peer};
+use crate::duplex::{Duplex, Heard};
+use crate::peer::Peer;
 use crate::room::Room;
 use crate::upstream::Upstream;
 use gate_base::{LineNo, Octets, OutOfMemory};
@@ -15,7 +19,7 @@ use std::alloc::Global;
 pub struct Line {
     pub number: LineNo,
     pub down: Option<Peer>,
-    pub up: Option<Upstream>,
+    pub up: Option<Upstream<Peer>>,
     /// The upstream connection could not be begun.
     pub refused: bool,
 }
@@ -31,16 +35,19 @@ fn is_wanted(wants: &Wants, line: LineNo, side: Side) -> bool
 }
 
 /// What a read of a side gave, as an event.
-fn told(
+fn told<P: Duplex>(
     alloc: Global,
     wants: &Wants,
     line: LineNo,
     side: Side,
-    peer: &mut Peer,
+    peer: &mut P,
     room: &mut Room,
 ) -> Result<Option<What>, OutOfMemory>
     requires { Contains (wanted wants.now side) line }
-    ensures { IfOk result (λ told. IfSome told (IsAllowed wants.now)) }
+    ensures allowed { IfOk result (λ told. IfSome told (IsAllowed wants.now)) }
+    ensures of { IfOk result (λ told. IfSome told (IsReadOf line side)) }
+    ensures read { IfOk result (λ told. IfSome told (LiesIn room.new.bytes.items)) }
+    ensures gave { IfOk result (λ told. Gains (P.gave peer.old) (bytes_told told) (P.gave peer.new)) }
 {
     match peer.read(room) {
         Heard::Bytes(n) => {
@@ -63,6 +70,8 @@ fn heard_down(
     room: &mut Room,
 ) -> Result<Option<What>, OutOfMemory>
     ensures allowed { IfOk result (λ told. IfSome told (IsAllowed wants.now)) }
+    ensures of { IfOk result (λ told. IfSome told (IsOf line)) }
+    ensures read { IfOk result (λ told. IfSome told (LiesIn room.new.bytes.items)) }
     ensures held { IfOk result (λ told. IfSome told (HoldsBack is_full)) }
 {
     let side = Side::Down;
@@ -86,7 +95,10 @@ fn heard_up(
     peer: &mut Peer,
     room: &mut Room,
 ) -> Result<Option<What>, OutOfMemory>
-    ensures { IfOk result (λ told. IfSome told (IsAllowed wants.now)) }
+    ensures allowed { IfOk result (λ told. IfSome told (IsAllowed wants.now)) }
+    ensures of { IfOk result (λ told. IfSome told (IsOf line)) }
+    ensures read { IfOk result (λ told. IfSome told (LiesIn room.new.bytes.items)) }
+    ensures free { (full : Bool) → IfOk result (λ told. IfSome told (HoldsBack full)) }
 {
     let side = Side::Up;
     if peer.is_refused() {
@@ -107,14 +119,17 @@ fn ends(told: &Option<What>) -> bool {
 }
 
 impl Line {
-    /// What is heard on the line.
+    /// What is heard on the line. Nothing is read from the client while 65,536 bytes wait for the server.
     pub fn heard(
         &mut self,
         alloc: Global,
         wants: &Wants,
         room: &mut Room,
     ) -> Result<Option<What>, OutOfMemory>
-        ensures { IfOk result (λ told. IfSome told (IsAllowed wants.now)) }
+        ensures allowed { IfOk result (λ told. IfSome told (IsAllowed wants.now)) }
+        ensures of { IfOk result (λ told. IfSome told (IsOf self.old.number)) }
+        ensures read { IfOk result (λ told. IfSome told (LiesIn room.new.bytes.items)) }
+        ensures held { IfOk result (λ told. IfSome told (HoldsBack (is_full self.old.up))) }
     {
         if self.refused {
             self.refused = false;
@@ -133,7 +148,11 @@ impl Line {
         wants: &Wants,
         room: &mut Room,
     ) -> Result<Option<What>, OutOfMemory>
-        ensures { IfOk result (λ told. IfSome told (IsAllowed wants.now)) }
+        ensures allowed { IfOk result (λ told. IfSome told (IsAllowed wants.now)) }
+        ensures of { IfOk result (λ told. IfSome told (IsOf self.old.number)) }
+        ensures read { IfOk result (λ told. IfSome told (LiesIn room.new.bytes.items)) }
+        ensures held { IfOk result (λ told. IfSome told (HoldsBack (is_full self.old.up))) }
+        ensures number { self.new.number ≡ self.old.number }
     {
         let is_full = self.is_full();
         let Some(peer) = &mut self.down else {
@@ -153,7 +172,10 @@ impl Line {
         wants: &Wants,
         room: &mut Room,
     ) -> Result<Option<What>, OutOfMemory>
-        ensures { IfOk result (λ told. IfSome told (IsAllowed wants.now)) }
+        ensures allowed { IfOk result (λ told. IfSome told (IsAllowed wants.now)) }
+        ensures of { IfOk result (λ told. IfSome told (IsOf self.old.number)) }
+        ensures read { IfOk result (λ told. IfSome told (LiesIn room.new.bytes.items)) }
+        ensures free { (full : Bool) → IfOk result (λ told. IfSome told (HoldsBack full)) }
     {
         let Some(up) = &mut self.up else {
             return Ok(None);
@@ -167,7 +189,9 @@ impl Line {
     }
 
     /// Whether so much waits for the server that no more of the request is to be read.
-    fn is_full(&self) -> bool {
+    fn is_full(&self) -> bool
+        ensures { result ≡ is_full self.now.up }
+    {
         match &self.up {
             Some(up) => up.is_full(),
             None => false,

@@ -1,6 +1,8 @@
 // Connections that the worker has closed, and that are not over.
-use crate::peer::{Heard, Peer};
+use crate::duplex::{Duplex, Heard};
+use crate::peer::Peer;
 use crate::room::Room;
+use crate::upstream::flush;
 use crate::waiting::Waiting;
 use mio::Token;
 
@@ -30,8 +32,7 @@ impl Lingering {
         if self.waiting.is_empty() {
             return;
         }
-        let n = self.peer.write(self.waiting.as_slice());
-        self.waiting.take(n);
+        flush(&mut self.peer, &mut self.waiting);
         if self.waiting.is_empty() {
             self.peer.finish();
         }

@@ -1,7 +1,7 @@
 // A connection to a peer.
-ghost use Rattle.std.specs.Prelude.{◌≤◌, length};
 ghost use Rattle.gate_live.specs.Heard.{IsHeard};
 
+use crate::duplex::{Duplex, Heard};
 use crate::room::Room;
 use mio::event::Event as Readiness;
 use mio::net::TcpStream;
@@ -12,18 +12,6 @@ use std::net::Shutdown;
 
 /// The most bytes that one event brings.
 const MOST_BYTES: usize = 16_384;
-
-/// What a read gave.
-pub enum Heard {
-    /// So many bytes.
-    Bytes(usize),
-    /// The peer sends nothing more.
-    End,
-    /// The connection is gone.
-    Lost,
-    /// Nothing as yet.
-    Nothing,
-}
 
 /// A connection, and what its socket is ready for as far as is known. The system tells a change once, so what it told
 /// stands until a call would have to wait.
@@ -118,25 +106,6 @@ impl Peer {
         again
     }
 
-    /// Reads what is there.
-    pub fn read(&mut self, room: &mut Room) -> Heard
-        ensures { IsHeard result }
-    {
-        match self.stream.read(room.bytes.as_mut_slice()) {
-            Ok(0) => self.end(),
-            Ok(n) => {
-                // Less than there was room for is all that was there, unless the end stands behind it.
-                if n < MOST_BYTES && !self.ending {
-                    self.readable = false;
-                }
-                Heard::Bytes(n)
-            }
-            Err(e) if e.kind() == ErrorKind::WouldBlock => self.blocked(),
-            Err(e) if e.kind() == ErrorKind::Interrupted => Heard::Nothing,
-            Err(_) => Heard::Lost,
-        }
-    }
-
     /// The peer's end was read.
     fn end(&mut self) -> Heard
         ensures { IsHeard result }
@@ -157,10 +126,43 @@ impl Peer {
         }
     }
 
-    /// Writes as much as there is room for. What is written to a broken connection is dropped.
-    pub fn write(&mut self, bytes: &[u8]) -> usize
-        ensures { result ≤ length bytes.now }
-    {
+    /// Registers it under another token. False says that the system refused.
+    pub fn move_to(&mut self, registry: &Registry, token: Token) -> bool {
+        let both = Interest::READABLE | Interest::WRITABLE;
+        registry.reregister(&mut self.stream, token, both).is_ok()
+    }
+
+    /// Tells the peer that nothing more comes.
+    pub fn finish(&self) {
+        let _ = self.stream.shutdown(Shutdown::Write);
+    }
+}
+
+// A socket tells nothing of what it gives and takes. What is written to a broken connection is dropped.
+impl Duplex for Peer {
+    ghost use Rattle.std.specs.Prelude.{None};
+
+    ghost gave = { λ _. None };
+
+    ghost took = { λ _. None };
+
+    fn read(&mut self, room: &mut Room) -> Heard {
+        match self.stream.read(room.bytes.as_mut_slice()) {
+            Ok(0) => self.end(),
+            Ok(n) => {
+                // Less than there was room for is all that was there, unless the end stands behind it.
+                if n < MOST_BYTES && !self.ending {
+                    self.readable = false;
+                }
+                Heard::Bytes(n)
+            }
+            Err(e) if e.kind() == ErrorKind::WouldBlock => self.blocked(),
+            Err(e) if e.kind() == ErrorKind::Interrupted => Heard::Nothing,
+            Err(_) => Heard::Lost,
+        }
+    }
+
+    fn write(&mut self, bytes: &[u8]) -> usize {
         if self.broken {
             return bytes.len();
         }
@@ -194,16 +196,5 @@ impl Peer {
                 bytes.len()
             }
         }
-    }
-
-    /// Registers it under another token. False says that the system refused.
-    pub fn move_to(&mut self, registry: &Registry, token: Token) -> bool {
-        let both = Interest::READABLE | Interest::WRITABLE;
-        registry.reregister(&mut self.stream, token, both).is_ok()
-    }
-
-    /// Tells the peer that nothing more comes.
-    pub fn finish(&self) {
-        let _ = self.stream.shutdown(Shutdown::Write);
     }
 }

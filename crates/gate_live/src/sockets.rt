@@ -1,6 +1,8 @@
 // The sockets of one worker.
 ghost use Rattle.std.specs.Prelude.{◌≡◌, ◌<◌, ◌≤◌, length, vec_len, IfOk, IfSome};
 ghost use Rattle.gate_live.specs.Allowed.{IsAllowed};
+ghost use Rattle.gate_live.specs.Lines.{IsHeardOf};
+ghost use Rattle.gate_live.specs.Told.{LiesIn};
 
 use crate::line::Line;
 use crate::lingering::{LINGER, Lingering, MOST_LEFT, MOST_LINGERING};
@@ -108,7 +110,8 @@ impl Sockets {
         rt: &R,
         wants: &Wants,
     ) -> Result<What, WorldEnd>
-        ensures { IfOk result (IsAllowed wants.now) }
+        ensures allowed { IfOk result (IsAllowed wants.now) }
+        ensures read { IfOk result (LiesIn self.new.room.bytes.items) }
     {
         if self.turns == 0 {
             self.look(rt, Some(Duration::ZERO))?;
@@ -192,7 +195,8 @@ impl Sockets {
         rt: &R,
         wants: &Wants,
     ) -> Result<Option<What>, OutOfMemory>
-        ensures { IfOk result (λ told. IfSome told (IsAllowed wants.now)) }
+        ensures allowed { IfOk result (λ told. IfSome told (IsAllowed wants.now)) }
+        ensures read { IfOk result (λ told. IfSome told (LiesIn self.new.room.bytes.items)) }
     {
         if let Some(line) = self.arrive(rt) {
             return Ok(Some(What::Opened { line }));
@@ -208,7 +212,9 @@ impl Sockets {
 
     /// What is heard of the next line.
     fn heard_next(&mut self, alloc: Global, wants: &Wants) -> Result<Option<What>, OutOfMemory>
-        ensures { IfOk result (λ told. IfSome told (IsAllowed wants.now)) }
+        ensures allowed { IfOk result (λ told. IfSome told (IsAllowed wants.now)) }
+        ensures of { IfOk result (λ told. IfSome told (IsHeardOf self.old.lines.items)) }
+        ensures read { IfOk result (λ told. IfSome told (LiesIn self.new.room.bytes.items)) }
     {
         if self.next >= self.lines.len() {
             self.next = 0;
@@ -280,7 +286,9 @@ impl Sockets {
     }
 
     /// Lets a line go of which no connection is left: one whose client is gone is not closed by the worker.
-    fn forget(&mut self, at: usize) {
+    fn forget(&mut self, at: usize)
+        ensures { self.new.room ≡ self.old.room }
+    {
         if at < self.lines.len() && self.lines[at].is_over() {
             let line = self.lines.remove(at);
             drop(line);

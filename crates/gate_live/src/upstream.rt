@@ -1,6 +1,9 @@
 // A connection to the upstream server.
-ghost use Rattle.std.specs.Prelude.{◌≡◌, ◌≤◌, ◌↔◌, [], length, IfOk, IsTrue};
+ghost use Rattle.std.specs.Prelude.{◌≡◌, ◌≤◌, ◌⊎◌, [], length, take, nat_le, IfOk, OnOk, OnErr};
+ghost use Rattle.gate_io.specs.Told.{Gains, GainsFront};
+ghost use Rattle.gate_live.specs.Waiting.{GoesOn};
 
+use crate::duplex::Duplex;
 use crate::peer::Peer;
 use crate::waiting::Waiting;
 use gate_base::OutOfMemory;
@@ -13,14 +16,35 @@ const ENOUGH: usize = 65_536;
 /// The connection of one exchange to the upstream server, and what waits until it takes it. It takes each piece whole, so
 /// that nothing of a worker waits for it behind the end of the exchange.
 #[derive(Drop)]
-pub struct Upstream {
-    pub peer: Peer,
+pub struct Upstream<P> {
+    pub peer: P,
     pub waiting: Waiting,
 }
 
-impl Upstream {
+/// Writes what waits, as far as there is room.
+pub fn flush<P: Duplex>(peer: &mut P, waiting: &mut Waiting)
+    ensures { GoesOn (P.took peer.old) waiting.old [] (P.took peer.new) waiting.new }
+{
+    let n = peer.write(waiting.as_slice());
+    waiting.take(n);
+}
+
+/// Writes a piece where nothing waits that it would overtake: the answer is how many of its bytes went.
+fn offer<P: Duplex>(peer: &mut P, waiting: &Waiting, bytes: &[u8]) -> usize
+    ensures bound { result ≤ length bytes.now }
+    ensures took { Gains (P.took peer.old) (take result bytes.now) (P.took peer.new) }
+    ensures behind { (result ≡ 0) ⊎ (waiting.now ≡ []) }
+{
+    if waiting.is_empty() {
+        peer.write(bytes)
+    } else {
+        0
+    }
+}
+
+impl<P: Duplex> Upstream<P> {
     /// A connection for which nothing waits.
-    pub fn new(alloc: Global, peer: Peer) -> Self
+    pub fn new(alloc: Global, peer: P) -> Self
         ensures { result.waiting ≡ [] }
     {
         Upstream {
@@ -29,36 +53,39 @@ impl Upstream {
         }
     }
 
-    /// Takes a piece, whole. What the socket does not take waits.
+    /// Takes a piece, whole. What the socket does not take waits. A refusal loses what the socket did not take of it.
     pub fn send(&mut self, alloc: Global, bytes: &[u8]) -> Result<usize, OutOfMemory>
-        ensures { IfOk result (λ n. n ≡ length bytes.now) }
+        ensures whole { IfOk result (λ n. n ≡ length bytes.now) }
+        ensures ok { OnOk result (GoesOn (P.took self.old.peer) self.old.waiting bytes.now (P.took self.new.peer) self.new.waiting) }
+        ensures err { OnErr result (self.new.waiting ≡ self.old.waiting) }
+        ensures lost { OnErr result (GainsFront (P.took self.old.peer) bytes.now (P.took self.new.peer)) }
     {
-        let mut n = 0;
-        if self.waiting.is_empty() {
-            n = self.peer.write(bytes);
-        }
+        let n = offer(&mut self.peer, &self.waiting, bytes);
         self.waiting.put(alloc, &bytes[n..])?;
         Ok(bytes.len())
     }
 
-    /// Keeps what the system told, and writes what waits where there is room.
-    pub fn note(&mut self, told: &Readiness) {
-        self.peer.note(told);
-        self.flush();
-    }
-
     /// Writes what waits, as far as there is room.
-    pub fn flush(&mut self) {
+    pub fn flush(&mut self)
+        ensures { GoesOn (P.took self.old.peer) self.old.waiting [] (P.took self.new.peer) self.new.waiting }
+    {
         if !self.waiting.is_empty() {
-            let n = self.peer.write(self.waiting.as_slice());
-            self.waiting.take(n);
+            flush(&mut self.peer, &mut self.waiting);
         }
     }
 
     /// Whether so much waits that no more of the request is to be read.
     pub fn is_full(&self) -> bool
-        ensures { IsTrue result ↔ (65536 ≤ length self.now.waiting) }
+        ensures { result ≡ nat_le 65536 (length self.now.waiting) }
     {
         self.waiting.len() >= ENOUGH
+    }
+}
+
+impl Upstream<Peer> {
+    /// Keeps what the system told, and writes what waits where there is room.
+    pub fn note(&mut self, told: &Readiness) {
+        self.peer.note(told);
+        self.flush();
     }
 }
