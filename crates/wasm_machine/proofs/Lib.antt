@@ -32,6 +32,7 @@ pub mod Listing
 pub mod SameTypes
 pub mod Rowed
 pub mod Prices
+pub mod RangePrices
 pub mod Narrow
 pub mod Few
 pub mod Going

@@ -21,3 +21,4 @@ pub mod Rowed
 pub mod Programs
 pub mod Machines
 pub mod Kept
+pub mod RangePrices
