@@ -339,6 +339,29 @@ old_getting_leaves : map (λ (l : Line). l.number) (end_by down.old_gets_met old
 unfolding settling matchit_on_literals is_token_byte
 old_getting_leaves = refl
 
+abbrev old_counting : Course (Outcome (List Call))
+old_counting = down.old_counts (end_by down.old_asks_met down.old_asks).state
+
+old_counting_ends : ends_there down.old_counts_met old_counting ≡ true
+unfolding settling matchit_on_literals is_token_byte
+old_counting_ends = refl
+
+old_counting_meets : Meets down.old_counts_met old_counting
+unfolding settling matchit_on_literals is_token_byte
+old_counting_meets = (response_is_read, (body_is_read, tt))
+
+old_counting_asks : (end_by down.old_counts_met old_counting).state.host ≡ []
+unfolding settling matchit_on_literals is_token_byte
+old_counting_asks = refl
+
+old_counting_sends : (end_by down.old_counts_met old_counting).sent ≡ down.old_counts_sends
+unfolding settling httparse_on_literals httpdate_on_literals digits year_from month_from matchit_on_literals is_token_byte
+old_counting_sends = refl
+
+old_counting_leaves : map (λ (l : Line). l.number) (end_by down.old_counts_met old_counting).state.room.lines ≡ []
+unfolding settling matchit_on_literals is_token_byte
+old_counting_leaves = refl
+
 pub old_example : OldExample
 old_example = record {
   request = record {
@@ -354,6 +377,13 @@ old_example = record {
     called = old_getting_asks;
     hands_over = old_getting_sends;
     leaves = old_getting_leaves;
+  };
+  counted = record {
+    end = end_by down.old_counts_met old_counting;
+    reaches = reaches_by down.old_counts_met old_counting old_counting_ends old_counting_meets;
+    called = old_counting_asks;
+    hands_over = old_counting_sends;
+    leaves = old_counting_leaves;
   };
 }
 

@@ -126,9 +126,22 @@ old_gets_sends =
     sent.Bytes 1 Down (line_of (codes "HTTP/1.1 200 ") ++ first_date ++ closing ++ line_of [] ++ codes "abcde")
     ∷ sent.Close 1 Up ∷ sent.Close 1 Down ∷ []
 
+-- and so it is behind a response with a length
+abbrev pub old_counts : Both (List Call) → Course (Outcome (List Call))
+old_counts from = turn_of from (whats.Bytes 1 Up (worked_response_text ++ codes "abc"))
+
+abbrev pub old_counts_met : List Met
+old_counts_met = heard (hands (head_part worked_response) behind_response) ∷ heard (hands (piece (codes "abc") true) behind_body) ∷ []
+
+abbrev pub old_counts_sends : List Sent
+old_counts_sends =
+    sent.Bytes 1 Down (line_of (codes "HTTP/1.1 200 ") ++ line_of (codes "content-length: 3") ++ first_date ++ closing ++ line_of [] ++ codes "abc")
+    ∷ sent.Close 1 Up ∷ sent.Close 1 Down ∷ []
+
 pub record OldExample : Type 0 where
   pub request : Comes old_asks old_asks_met [] old_asks_sends (1 ∷ [])
   pub answer : Comes (old_gets request.end.state) old_gets_met [] old_gets_sends []
+  pub counted : Comes (old_counts request.end.state) old_counts_met [] old_counts_sends []
 
 -- ---- A CLIENT THAT CLOSES is sent 304, which has no body and keeps the length that it tells
 
