@@ -5,3 +5,4 @@ pub mod Lives
 pub mod Framings
 pub mod Ends
 pub mod Responses
+pub mod Own

@@ -4,3 +4,4 @@ pub mod Laws
 pub mod Framings
 pub mod Ends
 pub mod Responses
+pub mod Own

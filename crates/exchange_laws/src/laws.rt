@@ -2,6 +2,7 @@
 ghost use Rattle.exchange_laws.specs.Ends.{NothingFollowsTheEnd};
 ghost use Rattle.exchange_laws.specs.Framings.{RequestsKeepTheirLength, ResponsesStayInStep};
 ghost use Rattle.exchange_laws.specs.Laws.{OneRequestGoesUp, NothingElseGoesUp};
+ghost use Rattle.exchange_laws.specs.Own.{ExchangesSendOnTheirLine};
 ghost use Rattle.exchange_laws.specs.Responses.{OneResponseGoesDown};
 
 /// Of an exchange without request filters, whatever happens to it, no server sees two messages: what goes up is one connection and the front
@@ -28,4 +29,9 @@ pub fn nothing_follows_the_end()
 /// and the line stays open only behind a whole one.
 pub fn one_response_goes_down()
     ensures { OneResponseGoesDown }
+{}
+
+/// Whatever filters an exchange has, it sends on its own line alone and closes no connection itself.
+pub fn exchanges_send_on_their_line()
+    ensures { ExchangesSendOnTheirLine }
 {}

@@ -4,5 +4,6 @@
 mod laws;
 
 pub use laws::{
-    lines_stay_in_step, nothing_follows_the_end, one_request_goes_up, one_response_goes_down,
+    exchanges_send_on_their_line, lines_stay_in_step, nothing_follows_the_end, one_request_goes_up,
+    one_response_goes_down,
 };
