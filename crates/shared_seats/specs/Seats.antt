@@ -4,6 +4,7 @@ use mathlib.Core.Option.{some}
 use lib.ListN.{get_elem?}
 use Rattle.turn_table.specs.Seats.{Seated, TurnTableId}
 use Rattle.metric_seats.specs.Places.{IsSamePlace, Metered, MetricTableId, tables_of}
+use Rattle.shared_store.specs.Moving as moving
 use Rattle.shared_store.specs.Tables as store
 
 pub record TablesOf : Type 0 where
@@ -26,6 +27,11 @@ pub record AreAtMetrics (tables : TablesOf) (stores : List Seated) (metrics : Li
 pub record AreAt (tables : TablesOf) (seats : SeatsOf) : Type 0 where
   pub stores : store.AreAt tables.stores seats.stores
   pub metrics : AreAtMetrics tables seats.stores seats.metrics
+
+-- just one seat went on: the one at the store of this VM
+pub record StoreWent (old : SeatsOf) (vm : ℕ) (new : SeatsOf) (went : Seated → Seated → Type 0) : Type 0 where
+  pub stores : moving.OneWent old.stores vm new.stores went
+  pub metrics : new.metrics ≡ old.metrics
 
 -- just one place went on: the one at the metrics of this VM
 pub record OneWent (old : SeatsOf) (vm : ℕ) (new : SeatsOf) (went : Metered → Metered → Type 0) : Type 0 where

@@ -89,7 +89,13 @@ impl<'a, R: Wait, G: Gate> StoreSeat<'a, R, G> {
 }
 
 impl<'a, R: Wait, G: Gate> Shared for StoreSeat<'a, R, G> {
-    ghost use Rattle.std.specs.Prelude.{length, true};
+    ghost use Rattle.std.specs.Prelude.{◌≡◌, ◌<◌, true, [], ◌∷◌, length, IsOk, IfOk, OnErr};
+    ghost use Rattle.store_model.specs.History.{store_acts};
+    ghost use Rattle.store_model.specs.Made.{made};
+    ghost use Rattle.store_model.specs.Replies.{IsReplyTo};
+    ghost use Rattle.store_model.specs.Store.{Store, takes_no_memory};
+    ghost use Rattle.turn_table.specs.Seats.{Called, Refused};
+    ghost use Rattle.shared_seats.specs.Seats.{StoreWent};
     ghost use Rattle.shared_seats.specs.Moving.{SeatsGoOn, seats_nothing, seats_joined, never_unbuilt};
 
     ghost measures = { true };
@@ -98,8 +104,18 @@ impl<'a, R: Wait, G: Gate> Shared for StoreSeat<'a, R, G> {
 
     ghost performs = { SeatsGoOn };
 
-    fn call(&mut self, alloc: Global, vm: VmNo, call: &Call) -> Result<Reply, OutOfMemory> {
-        self.stores.call(alloc, vm, call)
+    // Each entry of the store's history is seen, and a call that takes no memory of any store is answered.
+    fn call(&mut self, alloc: Global, vm: VmNo, call: &Call) -> Result<Reply, OutOfMemory>
+        requires { vm < length self.old.stores }
+        ensures stores { length self.new.stores ≡ length self.old.stores }
+        ensures reply { IfOk result (λ reply. IsReplyTo call.now reply) }
+        ensures done { IfOk result (λ reply. SeatsGoOn self.old (made vm call.now reply ∷ []) self.new) }
+        ensures went { IfOk result (λ reply. StoreWent self.old vm self.new (λ v w. Called store_acts v w call.now reply)) }
+        ensures sure { ((s : Store) → takes_no_memory call.now s ≡ true) → IsOk result }
+        ensures err { OnErr result (SeatsGoOn self.old [] self.new) }
+        ensures refused { OnErr result (StoreWent self.old vm self.new (λ v w. Refused store_acts v w call.now)) }
+    {
+        self.stores.ask(alloc, vm, call)
     }
 
     fn has_metrics(&self) -> bool {
