@@ -6,6 +6,7 @@ use Rattle.h1_head.specs.declared.item.Item.TheVariants as items
 use Rattle.h1_head.specs.declared.head.Kind as kind
 use Rattle.h1_head.specs.declared.head.Kind.TheVariants as kinds
 use Rattle.http1_model.specs.Length.{BodyLength, nothing, exactly, chunked, until_end}
+use Rattle.http1_model.specs.Chunks.{Place}
 use Rattle.http1_model.specs.Messages as model
 use Rattle.http1_model.specs.Unread as unread
 use Rattle.h1_stream.specs.declared.next.Body as body
@@ -57,15 +58,27 @@ seen_stop stops.Rest = model.rest
 seen_stop stops.Over = model.over
 seen_stop (stops.Refusal number) = model.refusal number
 
-abbrev pub seen_next : next.Next → unread.Next
-seen_next (nexts.Part i used d) = unread.part (seen_part i) used (seen_due d)
-seen_next (nexts.Halt why) = unread.none (seen_stop why)
+-- a chunked body goes on at this place of the coding, behind the same head; what else is due stays
+abbrev pub gone_on : Place → model.Due → model.Due
+gone_on place model.head = model.head
+gone_on place (model.body (model.counted n)) = model.body (model.counted n)
+gone_on place (model.body (model.coded connection at)) = model.body (model.coded connection place)
+gone_on place (model.body model.unbounded) = model.body model.unbounded
+gone_on place model.done = model.done
+
+-- what is next, where that was due
+abbrev pub seen_next : model.Due → next.Next → unread.Next
+seen_next here (nexts.Part i used d) = unread.part (seen_part i) used (seen_due d)
+seen_next here (nexts.Chunks bytes used place) = unread.part (unread.piece bytes false) used (gone_on place here)
+seen_next here (nexts.Halt why) = unread.none (seen_stop why)
 
 -- a part lies within so many bytes, and has its end flag
 abbrev pub IsWithin : ℕ → next.Next → Type 0
 IsWithin n (nexts.Part i used d) = used ≤ n
+IsWithin n (nexts.Chunks bytes used place) = used ≤ n
 IsWithin n (nexts.Halt why) = ⊤
 
 abbrev pub IsFlagged : next.Next → Type 0
 IsFlagged (nexts.Part i used d) = HasRightEnd i
+IsFlagged (nexts.Chunks bytes used place) = ⊤
 IsFlagged (nexts.Halt why) = ⊤

@@ -9,7 +9,7 @@ ghost use Rattle.http1_model.specs.Unread.{IsNext, by_itself};
 ghost use Rattle.h1_stream.specs.Seen.{asked_of, seen_body, seen_next, IsWithin, IsFlagged};
 ghost use Rattle.h1_stream.specs.Behind.{StandsBehind};
 
-use crate::next::{Body, Due, Next, Stop, copied, due_next, malformed, stop_short};
+use crate::next::{Body, Due, Next, Stop, due_next, malformed, stop_short};
 use gate_base::{Members, Octets, OutOfMemory};
 use h1_chunks::{ChunkReader, ChunkStep};
 use h1_head::{Item, Kind, without_listed};
@@ -50,7 +50,7 @@ fn counted_next(
     left: u64,
     text: &[u8],
 ) -> Result<Next, OutOfMemory>
-    ensures next { IfOk result (λ n. IsNext ended (asked_of kind) (body (model.counted left)) text.now (seen_next n)) }
+    ensures next { IfOk result (λ n. IsNext ended (asked_of kind) (body (model.counted left)) text.now (seen_next (body (model.counted left)) n)) }
     ensures within { IfOk result (IsWithin (length text.now)) }
     ensures flagged { IfOk result IsFlagged }
 {
@@ -72,7 +72,7 @@ fn counted_next(
 
 /// What is next in a body that goes on until the line ends, where nothing of it is there.
 fn unbounded_end(alloc: Global, kind: Kind, ended: bool) -> Next
-    ensures next { by_itself (unbounded_step ended (asked_of kind) []) ≡ Some (seen_next result) }
+    ensures next { by_itself (unbounded_step ended (asked_of kind) []) ≡ Some (seen_next (body model.unbounded) result) }
     ensures within { IsWithin 0 result }
     ensures flagged { IsFlagged result }
 {
@@ -85,7 +85,7 @@ fn unbounded_end(alloc: Global, kind: Kind, ended: bool) -> Next
 
 /// What is unread next in a body that goes on until the line ends.
 fn unbounded_next(alloc: Global, kind: Kind, ended: bool, text: &[u8]) -> Result<Next, OutOfMemory>
-    ensures next { IfOk result (λ n. IsNext ended (asked_of kind) (body model.unbounded) text.now (seen_next n)) }
+    ensures next { IfOk result (λ n. IsNext ended (asked_of kind) (body model.unbounded) text.now (seen_next (body model.unbounded) n)) }
     ensures within { IfOk result (IsWithin (length text.now)) }
     ensures flagged { IfOk result IsFlagged }
 {
@@ -129,7 +129,7 @@ fn end_next(
     used: usize,
 ) -> Next
     requires { list_all is_kept_field trailers.pairs ≡ true }
-    ensures next { by_itself (end_step (asked_of kind) used (trailers_left (asked_of kind) connection.now trailers.pairs)) ≡ Some (seen_next result) }
+    ensures next { (here : model.Due) → by_itself (end_step (asked_of kind) used (trailers_left (asked_of kind) connection.now trailers.pairs)) ≡ Some (seen_next here result) }
     ensures within { IsWithin used result }
     ensures flagged { IsFlagged result }
 {
@@ -181,7 +181,7 @@ fn coded_next(
     at: &ChunkReader,
     text: &[u8],
 ) -> Result<Next, OutOfMemory>
-    ensures next { IfOk result (λ n. IsNext ended (asked_of kind) (body (model.coded connection.now at.now)) text.now (seen_next n)) }
+    ensures next { IfOk result (λ n. IsNext ended (asked_of kind) (body (model.coded connection.now at.now)) text.now (seen_next (body (model.coded connection.now at.now)) n)) }
     ensures within { IfOk result (IsWithin (length text.now)) }
     ensures flagged { IfOk result IsFlagged }
 {
@@ -190,11 +190,11 @@ fn coded_next(
         ChunkStep::Data { bytes, used } => {
             match end_behind(alloc, kind, connection, &reader, &text[used..])? {
                 Some(more) => Ok(piece(bytes, true, used + more, due_next(kind))),
-                None => {
-                    let connection = copied(alloc, connection)?;
-                    let due = Due::Body(Body::Coded { connection, reader });
-                    Ok(piece(bytes, false, used, due))
-                }
+                None => Ok(Next::Chunks {
+                    bytes,
+                    used,
+                    reader,
+                }),
             }
         }
         ChunkStep::End { trailers, used } => Ok(end_next(alloc, kind, connection, trailers, used)),
@@ -211,7 +211,7 @@ pub(crate) fn body_next(
     at: &Body,
     text: &[u8],
 ) -> Result<Next, OutOfMemory>
-    ensures next { IfOk result (λ n. IsNext ended (asked_of kind) (body (seen_body at.now)) text.now (seen_next n)) }
+    ensures next { IfOk result (λ n. IsNext ended (asked_of kind) (body (seen_body at.now)) text.now (seen_next (body (seen_body at.now)) n)) }
     ensures within { IfOk result (IsWithin (length text.now)) }
     ensures flagged { IfOk result IsFlagged }
 {

@@ -40,6 +40,17 @@ pub(crate) enum Due {
 
 impl Due {
     ghost use Rattle.http1_model.specs.Unread.{due_at, unread_at};
+    ghost use Rattle.h1_stream.specs.Seen.{gone_on};
+
+    /// Goes on in a chunked body at this place of the coding.
+    pub(crate) fn go_on(&mut self, at: ChunkReader)
+        ensures { seen_due self.new ≡ gone_on at (seen_due self.old) }
+    {
+        match self {
+            Due::Body(Body::Coded { reader, .. }) => *reader = at,
+            Due::Body(Body::Counted(_) | Body::Unbounded) | Due::Head | Due::Done => {}
+        }
+    }
 
     /// Reads over what stands in front of the next part of a text: empty lines in front of a head, and a last chunk's line in front of a
     /// trailer section. How many bytes that takes.
@@ -71,7 +82,17 @@ pub(crate) enum Stop {
 #[derive(Debug, Drop)]
 pub(crate) enum Next {
     /// An item that uses up so many bytes, and what is due behind it.
-    Part { item: Item, used: usize, due: Due },
+    Part {
+        item: Item,
+        used: usize,
+        due: Due,
+    },
+    /// A piece of a chunked body that goes on: its bytes, how many bytes it uses up, and the place in the coding behind it.
+    Chunks {
+        bytes: Octets,
+        used: usize,
+        reader: ChunkReader,
+    },
     /// No item.
     Halt(Stop),
 }
@@ -104,10 +125,7 @@ pub(crate) fn stop_short(kind: Kind, ended: bool) -> Stop
 }
 
 /// A copy of values.
-pub(crate) fn copied(
-    alloc: Global,
-    values: &Members<Octets>,
-) -> Result<Members<Octets>, OutOfMemory>
+fn copied(alloc: Global, values: &Members<Octets>) -> Result<Members<Octets>, OutOfMemory>
     ensures { IfOk result (λ copy. copy ≡ values.now) }
 {
     let mut copy = Members::new(alloc);
@@ -135,7 +153,7 @@ fn due_behind(alloc: Global, kind: Kind, head: &Head) -> Result<Due, OutOfMemory
 
 /// The item that a head is, which uses up so many bytes.
 fn head_item(alloc: Global, kind: Kind, head: Head, used: usize) -> Result<Next, OutOfMemory>
-    ensures next { IfOk result (λ n. by_itself (item_of (asked_of kind) (seen_head head) used) ≡ Some (seen_next n)) }
+    ensures next { IfOk result (λ n. by_itself (item_of (asked_of kind) (seen_head head) used) ≡ Some (seen_next model.head n)) }
     ensures used { IfOk result (IsWithin used) }
     ensures flagged { IfOk result IsFlagged }
 {
@@ -176,7 +194,7 @@ pub(crate) fn head_next(
     ended: bool,
     text: &[u8],
 ) -> Result<Next, OutOfMemory>
-    ensures next { IfOk result (λ n. IsNext ended (asked_of kind) head text.now (seen_next n)) }
+    ensures next { IfOk result (λ n. IsNext ended (asked_of kind) head text.now (seen_next head n)) }
     ensures within { IfOk result (IsWithin (length text.now)) }
     ensures flagged { IfOk result IsFlagged }
 {

@@ -159,7 +159,7 @@ impl MessageReader {
 
     /// What is unread next.
     fn next(&self) -> Result<Next, OutOfMemory>
-        ensures next { IfOk result (λ n. IsNext self.now.ended self.now.asked self.now.due self.now.unread (seen_next n)) }
+        ensures next { IfOk result (λ n. IsNext self.now.ended self.now.asked self.now.due self.now.unread (seen_next self.now.due n)) }
         ensures within { IfOk result (IsWithin (length self.now.unread)) }
         ensures flagged { IfOk result IsFlagged }
     {
@@ -182,6 +182,17 @@ impl MessageReader {
                 self.text.use_up(used);
                 self.due = due;
                 Step::Item { item }
+            }
+            Next::Chunks {
+                bytes,
+                used,
+                reader,
+            } => {
+                self.text.use_up(used);
+                self.due.go_on(reader);
+                Step::Item {
+                    item: Item::Piece { bytes, end: false },
+                }
             }
             Next::Halt(why) => {
                 self.skip();

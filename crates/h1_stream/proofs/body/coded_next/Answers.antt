@@ -1,4 +1,4 @@
-use Rattle.std.proofs.Common.{◌≡◌, true, false, List, ℕ, ◌+◌, ◌-◌, Some, length, take, drop, ap, sym, subst, arith}
+use Rattle.std.proofs.Common.{◌≡◌, true, List, ℕ, ◌+◌, ◌-◌, Some, length, take, drop, ap, sym, subst, arith}
 use Rattle.std.proofs.lemmas.List.{take_all, length-drop}
 use Rattle.http1_model.specs.Chunks.{Place}
 use Rattle.http1_model.specs.Trailers.{SpellsChunks, ended, not_yet, refused}
@@ -33,18 +33,16 @@ returns-in-Some-clause-next c =
     let behind = subst (λ f. StandsBehind c.args.ended asked c.args.connection.now c.next.new.self (drop c.in-Data.used c.args.text.now) f) c.in-Some.is there in
     let next = piece_ends c.args.ended asked c.args.connection.now c.args.at.now c.args.text.now (record { bytes = c.in-Data.bytes; used = c.in-Data.used; place = c.next.new.self }) c.in-Some.more spelled behind in
     let moved = subst (λ (d : Due). IsNext c.args.ended asked (body (coded c.args.connection.now c.args.at.now)) c.args.text.now (part (piece c.in-Data.bytes true) (c.in-Data.used + c.in-Some.more) d)) (sym c.due_next.ensures) next in
-    subst (λ n. IsNext c.args.ended asked (body (coded c.args.connection.now c.args.at.now)) c.args.text.now (seen_next n)) (sym c.piece.ensures) moved
+    subst (λ n. IsNext c.args.ended asked (body (coded c.args.connection.now c.args.at.now)) c.args.text.now (seen_next (body (coded c.args.connection.now c.args.at.now)) n)) (sym c.piece.ensures) moved
 
-pub returns-in_ok-connection-in-None-clause-next : goal.returns-in_ok-connection-in-None-clause-next
-returns-in_ok-connection-in-None-clause-next c =
+pub returns-in-None-clause-next : goal.returns-in-None-clause-next
+returns-in-None-clause-next c =
     let asked = asked_of c.args.kind in
     let placed = subst (λ (p : Place). SpellsChunks p c.args.text.now (seen_step c.next.new.self c.in_ok-bytes.field-0)) c.copy-reader.ensures c.in_ok-bytes.ensures.ok.spelled in
     let spelled = subst (λ (s : ChunkStep). SpellsChunks c.args.at.now c.args.text.now (seen_step c.next.new.self s)) c.in-Data.is placed in
     let there = subst (λ (t : List ℕ). StandsBehind c.args.ended asked c.args.connection.now c.next.new.self t c.in_ok-more-in-Data.field-0) (suffix_is c.in-Data.used c.args.text.now) (c.in_ok-more-in-Data.ensures.behind c.args.ended) in
     let behind = subst (λ f. StandsBehind c.args.ended asked c.args.connection.now c.next.new.self (drop c.in-Data.used c.args.text.now) f) c.in-None.is there in
-    let next = piece_goes_on c.args.ended asked c.args.connection.now c.args.at.now c.args.text.now (record { bytes = c.in-Data.bytes; used = c.in-Data.used; place = c.next.new.self }) spelled behind in
-    let kept = subst (λ (vs : List (List ℕ)). IsNext c.args.ended asked (body (coded c.args.connection.now c.args.at.now)) c.args.text.now (part (piece c.in-Data.bytes false) c.in-Data.used (body (coded vs c.next.new.self)))) (sym c.in_ok-connection-in-None.ensures) next in
-    subst (λ n. IsNext c.args.ended asked (body (coded c.args.connection.now c.args.at.now)) c.args.text.now (seen_next n)) (sym c.piece-in-None.ensures) kept
+    piece_goes_on c.args.ended asked c.args.connection.now c.args.at.now c.args.text.now (record { bytes = c.in-Data.bytes; used = c.in-Data.used; place = c.next.new.self }) spelled behind
 
 pub returns-in-End-clause-next : goal.returns-in-End-clause-next
 returns-in-End-clause-next c =
@@ -52,7 +50,7 @@ returns-in-End-clause-next c =
     let placed = subst (λ (p : Place). SpellsChunks p c.args.text.now (seen_step c.next.new.self c.in_ok-bytes.field-0)) c.copy-reader.ensures c.in_ok-bytes.ensures.ok.spelled in
     let spelled = subst (λ (s : ChunkStep). SpellsChunks c.args.at.now c.args.text.now (seen_step c.next.new.self s)) c.in-End.is placed in
     let there = coded_there c.args.ended asked c.args.connection.now c.args.at.now c.args.text.now (ended c.in-End.trailers.pairs c.in-End.used) spelled tt in
-    alone c.args.ended asked (body (coded c.args.connection.now c.args.at.now)) c.args.text.now (section_step c.args.ended asked c.args.connection.now (ended c.in-End.trailers.pairs c.in-End.used)) (seen_next c.end_next.result) there c.end_next.ensures.next
+    alone c.args.ended asked (body (coded c.args.connection.now c.args.at.now)) c.args.text.now (section_step c.args.ended asked c.args.connection.now (ended c.in-End.trailers.pairs c.in-End.used)) (seen_next (body (coded c.args.connection.now c.args.at.now)) c.end_next.result) there (c.end_next.ensures.next (body (coded c.args.connection.now c.args.at.now)))
 
 pub returns-in-NotYet-clause-next : goal.returns-in-NotYet-clause-next
 returns-in-NotYet-clause-next c =

@@ -1,6 +1,6 @@
 use Rattle.std.proofs.Common.{ap, refl, subst, sym, Some}
 use Rattle.http1_model.specs.Head.{found, not_yet, refused}
-use Rattle.http1_model.specs.Messages.{refusal}
+use Rattle.http1_model.specs.Messages.{head, refusal}
 use Rattle.http1_model.specs.Unread.{none}
 use Rattle.h1_head.specs.declared.head.HeadStep.{HeadStep}
 use Rattle.h1_head.specs.Seen.{Spells, seen_head, seen_step}
@@ -13,7 +13,7 @@ pub returns-in-Head-clause-next : goal.returns-in-Head-clause-next
 returns-in-Head-clause-next c =
     let spelled = subst (λ (s : HeadStep). Spells c.args.kind c.args.text.now (seen_step s)) c.in-Head.is c.in_ok-head.ensures.spelled in
     IfOk-map c.head_item.result
-    (λ n e. head_alone c.args.kind c.args.ended c.args.text.now (found (seen_head c.in-Head.head) c.in-Head.used) (seen_next n) spelled e)
+    (λ n e. head_alone c.args.kind c.args.ended c.args.text.now (found (seen_head c.in-Head.head) c.in-Head.used) (seen_next head n) spelled e)
     c.head_item.ensures.next
 
 pub returns-in-NotYet-clause-next : goal.returns-in-NotYet-clause-next
