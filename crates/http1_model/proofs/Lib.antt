@@ -13,6 +13,7 @@ pub mod ReadingExamples
 pub mod Parts
 pub mod Pieces
 pub mod Readings
+pub mod Totals
 pub mod Sections
 pub mod Rests
 pub mod Received

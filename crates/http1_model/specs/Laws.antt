@@ -11,13 +11,26 @@ use Rattle.http1_model.specs.Fields.{Pair, values_of, lists, is_listed, members,
 use Rattle.http1_model.specs.Length.{nothing, exactly, chunked, until_end, Measure, number_of, is_number, is_chunked, request_measure, response_measure, is_without_body}
 use Rattle.http1_model.specs.Listed.{scheme_text, request_list, response_list}
 use Rattle.http1_model.specs.Target.{Target, GivesTarget}
-use Rattle.http1_model.specs.Head.{Head, pairs_at, pairs_of, early_refusal, host_of, response_judged, IsJudged, is_coded, has_length_field, is_origin, HeadStep, not_yet, refused, SpellsStep, SpellsResponse}
+use Rattle.http1_model.specs.Head.{Head, pairs_at, pairs_of, early_refusal, host_of, response_judged, IsJudged, is_coded, has_length_field, is_origin, HeadStep, found, not_yet, refused, SpellsStep, SpellsResponse}
 use Rattle.http1_model.specs.Lines.{head_limit, line_limit, whole, head_cut}
 use Rattle.http1_model.specs.Messages.{Placed, Stop, refusal, SpellsHead, trailers_left, Messages}
 
 -- where a head is due, a text spells one thing
 abbrev pub OneStep : Type 0
 OneStep = (asked : Option (List ℕ)) (text : List ℕ) (a b : HeadStep) → SpellsHead asked text a → SpellsHead asked text b → a ≡ b
+
+-- Where a head is due, each text is exactly one of three: a head, no head yet, or a refusal. That it is none of them cannot be. (The heads that
+-- `httparse` reads are known by its grammar, which is a relation and no test, so that it is one of them is said by the denial of the contrary.)
+pub record EachText : Type 0 where
+  pub some : (asked : Option (List ℕ)) (text : List ℕ)
+      → ((head : Head) (used : ℕ) → SpellsHead asked text (found head used) → ⊥) → (SpellsHead asked text not_yet → ⊥)
+      → ((number : ℕ) → SpellsHead asked text (refused number) → ⊥) → ⊥
+  pub head_is_there : (asked : Option (List ℕ)) (text : List ℕ) (head : Head) (used : ℕ)
+      → SpellsHead asked text (found head used) → SpellsHead asked text not_yet → ⊥
+  pub head_is_not_refused : (asked : Option (List ℕ)) (text : List ℕ) (head : Head) (used number : ℕ)
+      → SpellsHead asked text (found head used) → SpellsHead asked text (refused number) → ⊥
+  pub rest_is_not_refused : (asked : Option (List ℕ)) (text : List ℕ) (number : ℕ)
+      → SpellsHead asked text not_yet → SpellsHead asked text (refused number) → ⊥
 
 -- a head or a refusal that a text spells, every longer text spells
 abbrev pub StepStays : Type 0

@@ -6,11 +6,16 @@ ghost use Rattle.http1_model.specs.ChunkLaws.{OneChunkStep, SizeStays, SoughtSta
 ghost use Rattle.http1_model.specs.Examples.{WorkedHead, ClosingHead, WorkedResponse, ResponseExamples, OrderExamples, LineExamples, FieldExamples, WireExamples, LengthExamples, ResponseLengthExamples, BareExamples, ListExamples, TargetExamples, RefusalExamples};
 ghost use Rattle.http1_model.specs.ReadingExamples.{CountedExamples, UnboundedExamples, CodedExamples, SectionExamples, ListedExamples, LeftExamples, PlacedExamples};
 ghost use Rattle.http1_model.specs.ReadingLaws.{OnePart, PiecesAreWhole, CutsAlike, RefusedStays, UnreadIsCut, RestsAreShort};
-ghost use Rattle.http1_model.specs.Laws.{OneStep, StepStays, OneReading, ReadingGrows, RefusalStays, ToldAsReceived, ResponseAsReceived, RefusalNumbers, ValuesAccepted, WholeFits, RequestListed, ResponseListed, FramedOnce, RequestTaken, ResponseTaken, TrailersUnlisted};
+ghost use Rattle.http1_model.specs.Laws.{OneStep, EachText, StepStays, OneReading, ReadingGrows, RefusalStays, ToldAsReceived, ResponseAsReceived, RefusalNumbers, ValuesAccepted, WholeFits, RequestListed, ResponseListed, FramedOnce, RequestTaken, ResponseTaken, TrailersUnlisted};
 
 /// Where a head is due, a text spells one thing.
 pub fn one_step()
     ensures { OneStep }
+{}
+
+/// Where a head is due, each text is exactly one of a head, no head yet, and a refusal.
+pub fn each_text()
+    ensures { EachText }
 {}
 
 /// A head or a refusal that a text spells, every longer text spells.
