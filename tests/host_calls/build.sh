@@ -22,4 +22,6 @@ for source in *.s; do
     clang --target=wasm32 -mcpu=mvp -c -o "${source%.s}.o" "$source" && wasm-ld --no-entry --strip-all --export-dynamic -o "${source%.s}.wasm" "${source%.s}.o" || exit 1
     rm "${source%.s}.o"
 done
-sed 's/#.*//' reexported.hex | python3 -c 'import sys; sys.stdout.buffer.write(bytes.fromhex(sys.stdin.read()))' >reexported.wasm || exit 1
+for source in *.hex; do
+    sed 's/#.*//' "$source" | python3 -c 'import sys; sys.stdout.buffer.write(bytes.fromhex(sys.stdin.read()))' >"${source%.hex}.wasm" || exit 1
+done
