@@ -59,14 +59,14 @@ module _ {S : Type 0} (performs : S → List Made → S → Type 0) (nothing : (
   local_hosted d (Status n) k s ends = record { hosted = of_does d; run = runs_none performs nothing s (done (of_does d)); called = ends.called; contexts = ends.contexts; lines = none_more }
   local_hosted d (Trapped c) k s ends = record { hosted = of_does d; run = runs_none performs nothing s (done (of_does d)); called = ends.called; contexts = ends.contexts; lines = none_more }
   local_hosted d FuelSpent k s ends = record { hosted = of_does d; run = runs_none performs nothing s (done (of_does d)); called = ends.called; contexts = ends.contexts; lines = none_more }
-  local_hosted d OutOfMemory k s ends = (done (of_does d), runs_none performs nothing s (done (of_does d)))
+  local_hosted d OutOfMemory k s ends = record { rest = done (of_does d); run = runs_none performs nothing s (done (of_does d)); contexts = ends.contexts; lines = refl }
 
   pub writing_hosted : vm < length h.vms → (w : Writes) (end : HostEnd) (new : List Sent) (s : S) → CallEnds w.called end g → LogEnds w.lines end old new
       → HostedEnds performs s (done (of_writes w)) vm h end g h old new s
   writing_hosted within w (Status n) new s ends lines = record { hosted = of_writes w; run = runs_none performs nothing s (done (of_writes w)); called = ends; contexts = sym (nothing_put vm h within); lines = lines }
   writing_hosted within w (Trapped c) new s ends lines = record { hosted = of_writes w; run = runs_none performs nothing s (done (of_writes w)); called = ends; contexts = sym (nothing_put vm h within); lines = lines }
   writing_hosted within w FuelSpent new s ends lines = record { hosted = of_writes w; run = runs_none performs nothing s (done (of_writes w)); called = ends; contexts = sym (nothing_put vm h within); lines = lines }
-  writing_hosted within w OutOfMemory new s ends lines = (done (of_writes w), runs_none performs nothing s (done (of_writes w)))
+  writing_hosted within w OutOfMemory new s ends lines = record { rest = done (of_writes w); run = runs_none performs nothing s (done (of_writes w)); contexts = refl; lines = lines }
 
   told : vm < length h.vms → (c : Called) (end : HostEnd) (p : Program Called) (s t : S) → Runs performs s p (done c) t → CallEnds c end g
       → HasEnded performs s (bind p (λ x. done (of_called x))) vm h end g h old old t
@@ -77,7 +77,7 @@ module _ {S : Type 0} (performs : S → List Made → S → Type 0) (nothing : (
   asking_hosted within p (Status n) s t run = told within (called n g) (Status n) p s t run refl
   asking_hosted within p (Trapped c) s t run = told within (called_trapped c g.fuel) (Trapped c) p s t run refl
   asking_hosted within p FuelSpent s t run = told within (called_spent g.fuel) FuelSpent p s t run refl
-  asking_hosted within p OutOfMemory s t cut = (bind cut.0 (λ c. done (of_called c)), runs_bind performs (λ c. done (of_called c)) cut.1)
+  asking_hosted within p OutOfMemory s t cut = record { rest = bind cut.0 (λ c. done (of_called c)); run = runs_bind performs (λ c. done (of_called c)) cut.1; contexts = refl; lines = refl }
 
 -- ---- by the name of the call
 

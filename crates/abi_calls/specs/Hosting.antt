@@ -111,9 +111,15 @@ pub record HasEnded {S : Type 0} (performs : S → List Made → S → Type 0) (
   pub contexts : k ≡ put hosted.changes vm h
   pub lines : new ≡ old ++ hosted.lines
 
--- or it was cut short where memory ran out
+-- or it was cut short where memory ran out: some of its calls on the stores were made, and the contexts and the log are as they were
+pub record WasCut {S : Type 0} (performs : S → List Made → S → Type 0) (s : S) (p : Program Hosted) (h k : Contexts) (old new : List Sent) (t : S) : Type 0 where
+  pub rest : Program Hosted
+  pub run : Runs performs s p rest t
+  pub contexts : k ≡ h
+  pub lines : new ≡ old
+
 abbrev pub HostedEnds : {S : Type 0} → (S → List Made → S → Type 0) → S → Program Hosted → (vm : ℕ) → Contexts → HostEnd → GuestAt → Contexts → (old new : List Sent) → S → Type 0
 HostedEnds performs s p vm h (Status n) g k old new t = HasEnded performs s p vm h (Status n) g k old new t
 HostedEnds performs s p vm h (Trapped c) g k old new t = HasEnded performs s p vm h (Trapped c) g k old new t
 HostedEnds performs s p vm h FuelSpent g k old new t = HasEnded performs s p vm h FuelSpent g k old new t
-HostedEnds performs s p vm h OutOfMemory g k old new t = (q : Program Hosted) × Runs performs s p q t
+HostedEnds performs s p vm h OutOfMemory g k old new t = WasCut performs s p h k old new t

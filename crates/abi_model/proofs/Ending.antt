@@ -1,5 +1,5 @@
 -- How a call that writes to the log leaves it.
-use Rattle.std.proofs.Common.{◌≡◌, ◌++◌, ℕ, Bool, true, List, [], sym, ap, subst, if◌then◌else◌}
+use Rattle.std.proofs.Common.{◌≡◌, ◌≢◌, ◌++◌, ℕ, Bool, true, List, [], refl, sym, ap, subst, if◌then◌else◌}
 use Rattle.gate_io.specs.declared.event.Sent.{Sent}
 use Rattle.abi_types.specs.GuestAt.{GuestAt}
 use Rattle.contexts.specs.Reached.{Seen}
@@ -14,13 +14,13 @@ module _ (outside : ℕ) (row : List Param) (own : Writing) (args : List ℕ) (g
   by_test : all_inside g.config.store.memory row 0 args ≡ true → writes outside row own args g s ≡ writes_logged outside row args g (own args (taken g.config.store.memory row args) s)
   by_test is = ap (λ (b : Bool). if b then writes_logged outside row args g (own args (taken g.config.store.memory row args) s) else (record { called = called outside g; lines = [] })) is
 
-  by_end : (lines : List Sent) (end : HostEnd) (old new : List Sent) → new ≡ old ++ lines → LogEnds lines end old new
-  by_end lines (Status n) old new same = same
-  by_end lines (Trapped c) old new same = same
-  by_end lines FuelSpent old new same = same
-  by_end lines OutOfMemory old new same = tt
+  by_end : (lines : List Sent) (end : HostEnd) (old new : List Sent) → end ≢ OutOfMemory → new ≡ old ++ lines → LogEnds lines end old new
+  by_end lines (Status n) old new sure same = same
+  by_end lines (Trapped c) old new sure same = same
+  by_end lines FuelSpent old new sure same = same
+  by_end lines OutOfMemory old new sure same = absurd (sure refl)
 
-  pub lines_end : (end : HostEnd) (old new : List Sent) → all_inside g.config.store.memory row 0 args ≡ true
+  pub lines_end : (end : HostEnd) (old new : List Sent) → end ≢ OutOfMemory → all_inside g.config.store.memory row 0 args ≡ true
       → new ≡ old ++ (own args (taken g.config.store.memory row args) s).lines → LogEnds (writes outside row own args g s).lines end old new
-  lines_end end old new is same =
-      subst (λ (w : Writes). LogEnds w.lines end old new) (sym (by_test is)) (by_end (own args (taken g.config.store.memory row args) s).lines end old new same)
+  lines_end end old new sure is same =
+      subst (λ (w : Writes). LogEnds w.lines end old new) (sym (by_test is)) (by_end (own args (taken g.config.store.memory row args) s).lines end old new sure same)

@@ -132,12 +132,12 @@ does outside row own args g s =
     then does_made outside row args g (own args (taken g.config.store.memory row args) s)
     else (record { called = called outside g; changes = no_changes })
 
--- of want of memory nothing is said
+-- where memory ran out nothing was done to them
 abbrev pub ContextsEnd : Changes → ℕ → Contexts → HostEnd → Contexts → Type 0
 ContextsEnd c vm h (Status s) k = k ≡ put c vm h
 ContextsEnd c vm h (Trapped x) k = k ≡ put c vm h
 ContextsEnd c vm h FuelSpent k = k ≡ put c vm h
-ContextsEnd c vm h OutOfMemory k = Unit {0}
+ContextsEnd c vm h OutOfMemory k = k ≡ h
 
 -- THE SAME OF THE CONTEXTS: what the call sees of them, and what they are afterwards
 pub record Ends (d : Does) (vm : ℕ) (h : Contexts) (end : HostEnd) (g : GuestAt) (k : Contexts) : Type 0 where

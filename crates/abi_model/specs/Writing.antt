@@ -37,9 +37,9 @@ writes outside row own args g s =
     then writes_logged outside row args g (own args (taken g.config.store.memory row args) s)
     else (record { called = called outside g; lines = [] })
 
--- of want of memory nothing is said
+-- where memory ran out no line was put behind it
 abbrev pub LogEnds : List Sent → HostEnd → List Sent → List Sent → Type 0
 LogEnds lines (Status n) old new = new ≡ old ++ lines
 LogEnds lines (Trapped c) old new = new ≡ old ++ lines
 LogEnds lines FuelSpent old new = new ≡ old ++ lines
-LogEnds lines OutOfMemory old new = Unit {0}
+LogEnds lines OutOfMemory old new = new ≡ old

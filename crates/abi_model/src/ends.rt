@@ -1,5 +1,5 @@
 // How host calls end, and what they hand over.
-ghost use Rattle.std.specs.Prelude.{◌≡◌, ◌<◌, ◌^◌, length};
+ghost use Rattle.std.specs.Prelude.{◌≡◌, ◌≢◌, ◌<◌, ◌^◌, length};
 ghost use Rattle.abi_types.specs.GuestAt.{Keeps, StillWaits};
 ghost use Rattle.abi_memory.specs.Giving.{Gives as GivesBytes, RestsAfterGiving, numbering};
 ghost use Rattle.abi_model.specs.Calls.{handing, writing_at, finishing, CallEnds, RestsAfterCall, AreShort, only, given};
@@ -137,6 +137,7 @@ pub(crate) fn finish<G: Guest>(
     requires rests { G.rests guest.old }
     requires short { AreShort outcome.now.gives }
     ensures run { CallEnds (finishing outside outcome.now.status (handing outcome.now.gives at (G.at guest.old))) result (G.at guest.new) }
+    ensures sure { result ≢ HostEnd.OutOfMemory }
     ensures rests { RestsAfterCall result (StillWaits (G.rests guest.new) (G.at guest.old) (G.at guest.new)) }
     ensures keeps { Keeps (G.at guest.old) (G.at guest.new) }
 {

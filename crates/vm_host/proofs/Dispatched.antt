@@ -16,7 +16,7 @@ use Rattle.abi_types.specs.GuestAt.{GuestAt}
 use Rattle.abi_model.specs.declared.table.Param.{Param}
 use Rattle.abi_model.specs.declared.ends.HostEnd.TheVariants as host_end
 use Rattle.abi_model.specs.Table.{Are}
-use Rattle.abi_calls.specs.Hosting.{Hosted, HasEnded}
+use Rattle.abi_calls.specs.Hosting.{Hosted, HasEnded, WasCut}
 use Rattle.proxy_links.specs.Judging.{types_in}
 use Rattle.proxy_links.specs.Numbers.{number_of, IsWithin, AreWithin}
 use Rattle.proxy_links.proofs.Typed.{are_typed}
@@ -37,8 +37,8 @@ module _ {S : Type 0} (performs : S → List Made → S → Type 0) (place : ℕ
   served_spent e =
       runs_as (runs_bind performs (λ x. done (served_as place (host_state h old) x)) e.run) (λ i. done (ends_as (e.called i) (host_state (sym e.contexts i) (sym e.lines i))))
 
-  pub served_cut : ((q : Program Hosted) × Runs performs s p q t) → (q : Program _) × Runs performs s (serving place (host_state h old) p) q t
-  served_cut (q, run) = (bind q (λ x. done (served_as place (host_state h old) x)), runs_bind performs (λ x. done (served_as place (host_state h old) x)) run)
+  pub served_cut : WasCut performs s p h k old new t → (q : Program _) × Runs performs s (serving place (host_state h old) p) q t
+  served_cut cut = (bind cut.rest (λ x. done (served_as place (host_state h old) x)), runs_bind performs (λ x. done (served_as place (host_state h old) x)) cut.run)
 
 -- as many VMs as before
 pub as_many : (c : Changes) (vm : ℕ) (h k : Contexts) → k ≡ put c vm h → length k.vms ≡ length h.vms
