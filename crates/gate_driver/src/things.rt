@@ -108,6 +108,6 @@ pub fn printed_on(alloc: Global, words: &str) -> Result<String, OutOfMemory> {
         return String::from_str(alloc, "no such worker");
     };
     let mut out = Octets::new(alloc);
-    print_on(&mut out, who)?;
+    print_on(alloc, &mut out, who)?;
     shown(alloc, out.as_slice())
 }

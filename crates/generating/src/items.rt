@@ -1,5 +1,5 @@
 // The lines of the items.
-ghost use Rattle.std.specs.Prelude.{◌≡◌, ◌<◌, ◌≤◌, ◌++◌, length, position, IfOk, IfSome, OnOk, bytes_eq, codes};
+ghost use Rattle.std.specs.Prelude.{◌≡◌, ◌<◌, ◌≤◌, ◌++◌, length, position, IfOk, IfSome, OnOk, OnErr, bytes_eq, codes};
 ghost use Rattle.std.specs.List.{list_any, position_or_len};
 ghost use Rattle.generating.specs.Items.{comes_before, count_of, item_line, item_lines, lines_of, number_line, put_in, texts_of};
 
@@ -109,10 +109,14 @@ fn put_lines(out: &mut Octets, items: &[Octets], texts: &[Octets]) -> Result<(),
     Ok(())
 }
 
-/// Puts a line for each text of the items at the end, `item TEXT COUNT`, in the order of their bytes.
+/// Puts a line for each text of the items at the end, `item TEXT COUNT`, in the order of their bytes. After a refusal the text is as
+/// before.
 pub fn put_item_lines(alloc: Global, out: &mut Octets, items: &[Octets]) -> Result<(), OutOfMemory>
-    ensures { OnOk result (out.new ≡ out.old ++ item_lines items.now) }
+    ensures ok { OnOk result (out.new ≡ out.old ++ item_lines items.now) }
+    ensures err { OnErr result (out.new ≡ out.old) }
 {
     let texts = texts_of(alloc, items)?;
-    put_lines(out, items, texts.as_slice())
+    let mut lines = Octets::new(alloc);
+    put_lines(&mut lines, items, texts.as_slice())?;
+    out.extend_from_slice(lines.as_slice())
 }

@@ -1,5 +1,5 @@
 // The lines that tell what metrics came to.
-ghost use Rattle.std.specs.Prelude.{◌≡◌, ◌∷◌, [], ◌++◌, OnOk, decimal};
+ghost use Rattle.std.specs.Prelude.{◌≡◌, ◌∷◌, [], ◌++◌, OnOk, OnErr, decimal};
 ghost use Rattle.hex.specs.Hex.{encode_lower};
 ghost use Rattle.metric_lines.specs.Lines.{kind_word, metric_line, metric_lines};
 ghost use Rattle.metric_lines.specs.Totals.{in_order, totals_of_all};
@@ -12,17 +12,20 @@ use std::alloc::Global;
 use store_model::MetricKind;
 
 /// Puts the lines of a VM's metrics at the end, each `metric NAME counter HEX TOTAL` or `metric NAME gauge HEX TOTAL`: counters first, and
-/// those of one kind by the bytes of their names, which stand in hexadecimal.
+/// those of one kind by the bytes of their names, which stand in hexadecimal. After a refusal the text is as before.
 pub fn put_metric_lines(
     alloc: Global,
     out: &mut Octets,
     vm: &[u8],
     closed: &MetricsClosed,
 ) -> Result<(), OutOfMemory>
-    ensures { OnOk result (out.new ≡ out.old ++ metric_lines vm.now (in_order (totals_of_all closed.now))) }
+    ensures ok { OnOk result (out.new ≡ out.old ++ metric_lines vm.now (in_order (totals_of_all closed.now))) }
+    ensures err { OnErr result (out.new ≡ out.old) }
 {
     let told = metric_totals(alloc, closed)?;
-    put_lines(alloc, out, vm, told.as_slice())
+    let mut lines = Octets::new(alloc);
+    put_lines(alloc, &mut lines, vm, told.as_slice())?;
+    out.extend_from_slice(lines.as_slice())
 }
 
 /// Puts the lines of some metrics at the end.

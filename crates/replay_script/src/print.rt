@@ -18,12 +18,15 @@ pub fn print_sent(alloc: Global, out: &mut Octets, sent: &Sent) -> Result<(), Ou
     out.extend_from_slice(line.as_slice())
 }
 
-/// Puts the line of output at the end that says of which worker what follows is.
-pub fn print_on(out: &mut Octets, who: WorkerNo) -> Result<(), OutOfMemory>
-    ensures { OnOk result (out.new ≡ out.old ++ on_line who) }
+/// Puts the line of output at the end that says of which worker what follows is. After a refusal the text is as before.
+pub fn print_on(alloc: Global, out: &mut Octets, who: WorkerNo) -> Result<(), OutOfMemory>
+    ensures ok { OnOk result (out.new ≡ out.old ++ on_line who) }
+    ensures err { OnErr result (out.new ≡ out.old) }
 {
-    print_decimal(out, b"on ", u64::from(who.get()))?;
-    out.push(b'\n')
+    let mut line = Octets::new(alloc);
+    print_decimal(&mut line, b"on ", u64::from(who.get()))?;
+    line.push(b'\n')?;
+    out.extend_from_slice(line.as_slice())
 }
 
 /// Puts the line of output of one `Sent`, without its LF, at the end.

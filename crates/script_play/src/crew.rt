@@ -166,19 +166,24 @@ fn print_all(
     if sent.is_empty() {
         return Ok(());
     }
-    name_worker(out, last, who)?;
+    name_worker(alloc, out, last, who)?;
     print_each(alloc, out, sent)
 }
 
 /// Prints the line that names a worker, where the last line was of another.
-fn name_worker(out: &mut Octets, last: &mut WorkerNo, who: WorkerNo) -> Result<(), OutOfMemory>
+fn name_worker(
+    alloc: Global,
+    out: &mut Octets,
+    last: &mut WorkerNo,
+    who: WorkerNo,
+) -> Result<(), OutOfMemory>
     ensures text { OnOk result (out.new ≡ out.old ++ (if who == last.old then [] else on_line who)) }
     ensures last { OnOk result (last.new ≡ who) }
 {
     if who.get() == last.get() {
         return Ok(());
     }
-    print_on(out, who)?;
+    print_on(alloc, out, who)?;
     *last = who;
     Ok(())
 }
