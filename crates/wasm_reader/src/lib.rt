@@ -5,6 +5,7 @@ mod code;
 mod ends;
 mod entries;
 mod items;
+pub mod laws;
 mod locals;
 mod module;
 mod rules;
