@@ -1,4 +1,4 @@
-//! The integer operators of WebAssembly (Core 1.0 section 4.3) on the values of the machine.
+//! The integer operators of WebAssembly (Core 1.0 section 4.3, and of Core 2.0 sign extension) on the values of the machine.
 #![tactic(auto)]
 
 mod apply;

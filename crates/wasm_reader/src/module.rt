@@ -117,8 +117,9 @@ fn whole(alloc: Global, b: &[u8]) -> Result<Module, ReadEnd>
 }
 
 /// The module that the bytes spell, or the first fault in reading order: its row of the table, from 1
-/// on, and its place (WebAssembly Core 1.0 chapter 5, within the profile). It reads each byte a
-/// constant number of times, and no deeper for blocks that are nested.
+/// on, and its place (WebAssembly Core 1.0 chapter 5, with sign extension, `memory.copy` and
+/// `memory.fill` of Core 2.0, within the profile). It reads each byte a constant number of times, and no deeper for blocks
+/// that are nested.
 pub fn read_module(alloc: Global, b: &[u8]) -> Result<Module, ReadEnd>
     // A module is read exactly where the bytes spell it, unless memory runs out.
     ensures read { IfOk result (Spells b.now) }

@@ -1,4 +1,5 @@
--- The table of opcodes as typing reads it (WebAssembly Core section 3.3): in which row an instruction
+-- The table of opcodes as typing reads it (WebAssembly Core section 3.3, of 1.0, and of 2.0 for sign extension, memory.copy
+-- and memory.fill): in which row an instruction
 -- stands. The operators are told apart by their types alone.
 use Rattle.std.specs.Prelude.{ℕ, List, []}
 use Rattle.wasm_syntax.specs.declared.types.ValueType.TheVariants.{I32, I64}

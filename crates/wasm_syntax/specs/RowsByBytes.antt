@@ -1,5 +1,5 @@
 -- The table as typing reads it, a second time: by ranges of opcode bytes (WebAssembly Core 1.0 sections 3.3 and
--- 5.4).
+-- 5.4, and the same of Core 2.0 for sign extension, memory.copy and memory.fill).
 use Rattle.std.specs.Prelude.{◌≡◌, ℕ, ℤ, suc, Bool, true, false, ◌&&◌, not, List, [], ◌∷◌, nat_le, if◌then◌else◌}
 use Rattle.wasm_syntax.specs.declared.types.ValueType.{ValueType}
 use Rattle.wasm_syntax.specs.declared.types.ValueType.TheVariants.{I32, I64}

@@ -1,4 +1,5 @@
--- The typing of instructions (WebAssembly Core 1.0 section 3.3). The types of a stack stand topmost first.
+-- The typing of instructions (WebAssembly Core 1.0 section 3.3, and the same of Core 2.0 for sign extension, memory.copy
+-- and memory.fill). The types of a stack stand topmost first.
 -- Blocks and functions leave one value at most, so the order of their results says nothing.
 use Rattle.std.specs.Prelude.{◌≡◌, ℕ, ◌≤◌, ◌<◌, true, List, [], ◌∷◌, ◌++◌, All, Some, slice_get, reverse}
 use Rattle.wasm_syntax.specs.declared.types.ValueType.{ValueType}

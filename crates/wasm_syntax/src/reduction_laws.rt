@@ -90,8 +90,8 @@ pub fn worked_instructions()
     ensures grow { run_small grow_body 5 ≡ gave 0 small }
 {}
 
-/// Copies: what overlaps in both directions, ranges that end at the end and one past it, and none that is past it. Nothing is
-/// written by what traps, and it pays one unit.
+/// Copies: what overlaps in both directions, ranges that end at the end and one past it, and none that is past it. What traps
+/// pays one unit, and with none the fuel is spent.
 pub fn worked_copies()
     ensures apart { run_small (copy_body 4 0 3) 5 ≡ left_small (1 ∷ 2 ∷ 3 ∷ 0x84 ∷ 1 ∷ 2 ∷ 3 ∷ 0xff ∷ []) }
     ensures upward { run_small (copy_body 2 0 5) 5 ≡ left_small (1 ∷ 2 ∷ 1 ∷ 2 ∷ 3 ∷ 0x84 ∷ 5 ∷ 0xff ∷ []) }
@@ -120,7 +120,7 @@ pub fn worked_fills()
     ensures spent { run_small (fill_body 2 0 3) 3 ≡ has_spent 0 }
 {}
 
-/// A copy or a fill pays a unit more for each whole 64 bytes. With one unit less than its price nothing is done, and what is
+/// A copy or a fill pays a unit more for each whole 64 bytes. With one unit less than its price the fuel is spent, and what is
 /// left stays; one that traps pays a unit, however long its range.
 pub fn worked_prices()
     ensures copy_of_63 { run_wide (copy_body 64 0 63) 5 ≡ left_wide (replicate 127 1 ++ 2 ∷ []) }

@@ -1,4 +1,5 @@
-//! The table of opcodes as typing reads it (WebAssembly Core 1.0 section 3.3).
+//! The table of opcodes as typing reads it (WebAssembly Core 1.0 section 3.3, and the same of Core 2.0 for sign extension,
+//! `memory.copy` and `memory.fill`).
 
 ghost use Rattle.std.specs.Prelude.{◌≡◌};
 

@@ -1,4 +1,5 @@
-//! Validation: a module is accepted exactly where it is valid (WebAssembly Core 1.0 chapter 3).
+//! Validation: a module is accepted exactly where it is valid (WebAssembly Core 1.0 chapter 3, and the same of Core 2.0 for
+//! sign extension, `memory.copy` and `memory.fill`).
 #![tactic(auto)]
 
 mod body;

@@ -100,8 +100,9 @@ fn first_invalid(alloc: Global, m: &Module) -> Result<Option<Found>, OutOfMemory
     Ok(None)
 }
 
-/// The module, where it is valid (WebAssembly Core 1.0 chapter 3), or else its first fault. The module is
-/// dropped then. It goes over each code once, and no deeper for blocks that are nested.
+/// The module, where it is valid (WebAssembly Core 1.0 chapter 3, and the same of Core 2.0 for sign extension, `memory.copy`
+/// and `memory.fill`), or else its first fault. The module is dropped then. It goes over each code once,
+/// and no deeper for blocks that are nested.
 pub fn validate(alloc: Global, m: Module) -> Result<ValidModule, ValidEnd>
     requires { (b : List ℕ) × Spells b m }
 
