@@ -1,6 +1,7 @@
 pub mod General
 pub mod Following
 pub mod Texts
+pub mod Begins
 pub mod Uploads
 pub mod Downloads
 pub mod Order

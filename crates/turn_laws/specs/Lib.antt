@@ -2,6 +2,7 @@ pub mod Laws
 pub mod Tables
 pub mod Scenes
 pub mod Texts
+pub mod Begins
 pub mod Uploads
 pub mod Downloads
 pub mod Order

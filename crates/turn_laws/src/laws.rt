@@ -1,5 +1,6 @@
 // What holds of turns, whatever the machines. The functions have nothing to do: their contracts are the laws.
 ghost use Rattle.turn_laws.specs.Laws.{TurnsAreFunctionsOver, MoreStepsChangeNothingOver};
+ghost use Rattle.turn_laws.specs.Begins.{ExchangesBeginNew};
 ghost use Rattle.turn_laws.specs.Texts.{RequestTexts, ResponseTexts};
 ghost use Rattle.turn_laws.specs.Uploads.{PostExample, UploadExample, RecodingExample, UnroutedExample};
 ghost use Rattle.turn_laws.specs.Downloads.{PipelineExample, OldExample, UnmodifiedExample, EndlessExample};
@@ -87,4 +88,9 @@ pub fn worked_closing()
     ensures old { OldExample }
     ensures unmodified { UnmodifiedExample }
     ensures endless { EndlessExample }
+{}
+
+/// An exchange begins with the map, the framing and the version of the head that was judged, and with nothing sent.
+pub fn exchanges_begin_new()
+    ensures { ExchangesBeginNew }
 {}
