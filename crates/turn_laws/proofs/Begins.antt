@@ -31,10 +31,10 @@ placed_there : (number : ℕ) (fields : Headers) (xs : List (Option parts.Exchan
 placed_there number fields xs None is = ap view_of (last_there xs (Some (new_exchange number fields)) None)
 placed_there number fields xs (Some n) is = ap view_of (set_there xs n (Some (new_exchange number fields)) None (position-Some is_none xs n None is).0)
 
-no_stages : (dead : List ℕ) (filters : List Filter) → filters ≡ [] → ◌≡◌ {A = List Stage} (map (new_stage false) (filter (is_live dead) filters)) []
+pub no_stages : (dead : List ℕ) (filters : List Filter) → filters ≡ [] → ◌≡◌ {A = List Stage} (map (new_stage false) (filter (is_live dead) filters)) []
 no_stages dead filters is = ap (λ (l : List Filter). map (new_stage false) (filter (is_live dead) l)) is
 
-no_stages_back : (dead : List ℕ) (filters : List Filter) → filters ≡ [] → ◌≡◌ {A = List Stage} (reverse (map (new_stage true) (filter (is_live dead) filters))) []
+pub no_stages_back : (dead : List ℕ) (filters : List Filter) → filters ≡ [] → ◌≡◌ {A = List Stage} (reverse (map (new_stage true) (filter (is_live dead) filters))) []
 no_stages_back dead filters is = ap (λ (l : List Filter). reverse (map (new_stage true) (filter (is_live dead) l))) is
 
 pub begins_new : ExchangesBeginNew

@@ -2,6 +2,7 @@ pub mod General
 pub mod Following
 pub mod Texts
 pub mod Begins
+pub mod Noted
 pub mod Uploads
 pub mod Downloads
 pub mod Order

@@ -3,6 +3,7 @@ pub mod Tables
 pub mod Scenes
 pub mod Texts
 pub mod Begins
+pub mod Noted
 pub mod Uploads
 pub mod Downloads
 pub mod Order

@@ -1,6 +1,7 @@
 // What holds of turns, whatever the machines. The functions have nothing to do: their contracts are the laws.
 ghost use Rattle.turn_laws.specs.Laws.{TurnsAreFunctionsOver, MoreStepsChangeNothingOver};
 ghost use Rattle.turn_laws.specs.Begins.{ExchangesBeginNew};
+ghost use Rattle.turn_laws.specs.Noted.{NotesAreFair, NotesAreFairDown};
 ghost use Rattle.turn_laws.specs.Texts.{RequestTexts, ResponseTexts};
 ghost use Rattle.turn_laws.specs.Uploads.{PostExample, UploadExample, RecodingExample, UnroutedExample};
 ghost use Rattle.turn_laws.specs.Downloads.{PipelineExample, OldExample, UnmodifiedExample, EndlessExample};
@@ -93,4 +94,10 @@ pub fn worked_closing()
 /// An exchange begins with the map, the framing and the version of the head that was judged, and with nothing sent.
 pub fn exchanges_begin_new()
     ensures { ExchangesBeginNew }
+{}
+
+/// What a worker changes of an exchange by itself is among what the laws of exchanges allow to happen to one.
+pub fn notes_are_fair()
+    ensures up { NotesAreFair }
+    ensures down { NotesAreFairDown }
 {}

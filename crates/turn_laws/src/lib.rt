@@ -3,8 +3,9 @@
 
 mod laws;
 
-pub use laws::{exchanges_begin_new, 
-    more_steps_change_nothing_over, steps_in_order, turn_is_function_over, worked_answer,
-    worked_closing, worked_death, worked_effects, worked_order, worked_passage, worked_pipeline,
-    worked_routes, worked_texts, worked_uploads, worked_waiting,
+pub use laws::{
+    exchanges_begin_new, more_steps_change_nothing_over, notes_are_fair, steps_in_order,
+    turn_is_function_over, worked_answer, worked_closing, worked_death, worked_effects,
+    worked_order, worked_passage, worked_pipeline, worked_routes, worked_texts, worked_uploads,
+    worked_waiting,
 };
