@@ -1,3 +1,4 @@
+pub mod ListedLengths
 pub mod Lists
 pub mod Measured
 pub mod Origin

@@ -1,5 +1,6 @@
 pub mod Cuts
 pub mod Held
+pub mod Lengths
 pub mod Measures
 pub mod Seen
 pub mod Spans

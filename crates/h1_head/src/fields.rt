@@ -1,11 +1,13 @@
 // The fields of a head, as spans of its text.
-ghost use Rattle.std.specs.Prelude.{◌≡◌, ◌≤◌, codes, length, All, IfOk};
+ghost use Rattle.std.specs.Prelude.{◌≡◌, ◌≤◌, true, List, ℕ, length, All, IfOk};
 ghost use Rattle.http1_model.specs.Fields.{is_listed, is_hop_name, is_response_hop_name, values_of};
 ghost use Rattle.http1_model.specs.Lines.{head_limit};
 ghost use Rattle.http_header.specs.Token.{lowercase};
 ghost use Rattle.httparse.specs.Spans.{IsHeaderWithin, header_bytes};
+ghost use Rattle.h1_head.specs.Lengths.{IsBetween, IsConnectionOf};
 ghost use Rattle.h1_head.specs.Spans.{AreLines};
 
+use crate::lengths::Lengths;
 use crate::members::{is_same_word, lists};
 use gate_base::{Members, Octets, OutOfMemory};
 use header_maps::{HeaderEnd, HeaderList};
@@ -18,6 +20,13 @@ pub enum Lines<'t> {
     Absent,
     One(&'t [u8]),
     Many,
+}
+
+/// What the Connection fields of a head say, looked up once a head: their lines, and between which lengths all names lie that they list.
+#[derive(Clone, Copy)]
+pub struct Connection<'t> {
+    pub lines: Lines<'t>,
+    pub lengths: Lengths,
 }
 
 /// The fields of a head: its text, of 65,536 bytes at most, and the spans of their names and values.
@@ -109,22 +118,50 @@ impl<'t> Fields<'t> {
         false
     }
 
-    /// The same, by the field lines of Connection.
-    fn is_among(&self, connection: Lines<'t>, name: &[u8]) -> bool
-        requires { AreLines (values_of (codes "connection") (fields_of self.now)) connection }
+    /// Lengths between which all names lie that a Connection field lists.
+    fn listed_lengths(&self) -> Lengths
+        ensures { (name : List ℕ) → is_listed name (fields_of self.now) ≡ true → IsBetween result (length name) }
+    {
+        let mut lengths = Lengths::none();
+        for span in self.spans {
+            let (field, value) = self.pair_at(span);
+            if is_same_word(field, b"connection") {
+                lengths = lengths.with_members(value);
+            }
+        }
+        lengths
+    }
+
+    /// What the Connection fields say.
+    fn connection(&self) -> Connection<'t>
+        ensures { IsConnectionOf (fields_of self.now) result }
+    {
+        Connection {
+            lines: self.lines_of(b"connection"),
+            lengths: self.listed_lengths(),
+        }
+    }
+
+    /// Whether a Connection field lists a name, in any case of letters, by what these fields say; a name that is shorter or longer than all
+    /// that they list is looked for no further.
+    fn is_among(&self, connection: Connection<'t>, name: &[u8]) -> bool
+        requires { IsConnectionOf (fields_of self.now) connection }
         ensures { result ≡ is_listed (lowercase name.now) (fields_of self.now) }
     {
-        match connection {
+        if !connection.lengths.has(name.len()) {
+            return false;
+        }
+        match connection.lines {
             Lines::Absent => false,
             Lines::One(value) => lists(value, name),
             Lines::Many => self.is_listed(name),
         }
     }
 
-    /// Whether a field of this name, in any case of letters, is dropped, by the field lines of Connection; `host` may pass, as
+    /// Whether a field of this name, in any case of letters, is dropped, by what the Connection fields say; `host` may pass, as
     /// in a response.
-    fn is_dropped(&self, host_passes: bool, connection: Lines<'t>, name: &[u8]) -> bool
-        requires { AreLines (values_of (codes "connection") (fields_of self.now)) connection }
+    fn is_dropped(&self, host_passes: bool, connection: Connection<'t>, name: &[u8]) -> bool
+        requires { IsConnectionOf (fields_of self.now) connection }
         ensures { result ≡ dropped_from host_passes (fields_of self.now) (lowercase name.now) }
     {
         let is_hop = if host_passes {
@@ -145,7 +182,7 @@ impl<'t> Fields<'t> {
         ensures { IsListed (with_fields list (passing_in host_passes (fields_of self.now))) result }
     {
         let mut list = list;
-        let connection = self.lines_of(b"connection");
+        let connection = self.connection();
         for span in self.spans {
             let (name, value) = self.pair_at(span);
             if !self.is_dropped(host_passes, connection, name) {

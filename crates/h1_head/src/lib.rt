@@ -5,6 +5,7 @@ mod fields;
 mod head;
 mod item;
 mod length;
+mod lengths;
 mod lines;
 mod listed;
 mod members;
