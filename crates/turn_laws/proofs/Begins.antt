@@ -1,9 +1,7 @@
 -- How an exchange begins.
-use Rattle.std.proofs.Common.{◌≡◌, ◌<◌, ℕ, zero, suc, true, false, List, [], ◌∷◌, ◌++◌, length, map, filter, reverse, refl, ap, ◌∙◌, arith}
+use Rattle.std.proofs.Common.{◌≡◌, ◌<◌, ℕ, zero, suc, true, false, List, [], ◌∷◌, ◌++◌, length, map, filter, reverse, refl, ap, arith}
 use Rattle.std.proofs.lemmas.List.Quantifiers.{position-Some}
 use Rattle.std.specs.Prelude.{Option, None, Some, option_map, slice_set, position, is_none, slice_index_or}
-use Rattle.contexts.specs.declared.parts.Contexts.{Contexts}
-use Rattle.contexts.specs.declared.parts.ExchangeView.{ExchangeView}
 use Rattle.contexts.specs.declared.parts.Exchange as parts
 use Rattle.contexts.specs.Creating.{new_exchange, placed_at, place_or}
 use Rattle.exchange.specs.declared.types.Filter.{Filter}

@@ -1,12 +1,10 @@
 -- What a worker notes of an exchange.
-use Rattle.std.proofs.Common.{◌≡◌, ℕ, Bool, true, false, ◌||◌, List, [], refl, ap, ◌∙◌}
-use Rattle.std.specs.Prelude.{if◌then◌else◌}
+use Rattle.std.proofs.Common.{◌≡◌, ℕ, Bool, true, false, ◌||◌, List, [], refl}
 use Rattle.exchange.specs.declared.types.Exchange.{Exchange}
 use Rattle.exchange_laws.specs.Lives.{IsKin}
 use Rattle.exchange_laws.specs.Responses.{IsKinDown}
 use Rattle.exchange_laws.proofs.Quiet.{by_bool}
 use Rattle.filter_chain.specs.declared.item.Item.{Item}
-use Rattle.filter_chain.specs.declared.stage.Stage.{Stage}
 use Rattle.worker.specs.Steps.{noted, entered}
 use Rattle.turn_laws.specs.Noted.{NotesAreFair, NotesAreFairDown}
 use Rattle.turn_laws.proofs.Begins.{no_stages, no_stages_back}

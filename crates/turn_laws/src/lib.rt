@@ -1,4 +1,4 @@
-//! Laws of turns over any machines, and worked turns with filters.
+//! Laws of turns over any machines, and worked turns with and without filters.
 #![tactic(auto)]
 
 mod laws;
