@@ -180,11 +180,11 @@ left_of to_head status measure = without_body (is_without_body to_head status) m
 received_in_step : (minor : ℕ) (codings ls : List (List ℕ)) (measure : Measure) (to_head : Bool) (status : ℕ) (r : Response) (filtered : Bool) (q : Request) (out : ℕ)
     → response_measure minor codings ls ≡ Ok measure → IsReceived to_head status measure r → IsInStep q out (down_framing filtered q r (Some out))
 received_in_step minor codings ls measure to_head status r filtered q out judged is =
-    in_step filtered q r out status is.status_
+    in_step filtered q r out status is.code
     (λ bodied.
-    let here : is_without_body to_head status ≡ false = ap (λ b. is_without_body b status) (sym is.to_head_) ∙ bodied in
-    let len : r.length ≡ length_in measure.length = is.length_ ∙ ap (λ b. length_in (without_body b measure).length) here in
-    let told : r.told ≡ measure.told = is.told_ ∙ ap (λ b. (without_body b measure).told) here in
+    let here : is_without_body to_head status ≡ false = ap (λ b. is_without_body b status) (sym is.method) ∙ bodied in
+    let len : r.length ≡ length_in measure.length = is.length ∙ ap (λ b. length_in (without_body b measure).length) here in
+    let told : r.told ≡ measure.told = is.told ∙ ap (λ b. (without_body b measure).told) here in
     (λ i. frames_body (framing_of (is_bare (len i)) filtered q.old_client (Some status) (told i) (length_of (len i))))
     ∙ measured_frames filtered q.old_client status (may_tell_there to_head status here) minor codings ls measure judged)
 
@@ -223,16 +223,16 @@ responses_kept : (minor : ℕ) (codings ls : List (List ℕ)) (measure : Measure
     → response_measure minor codings ls ≡ Ok measure → IsReceived to_head status measure r → q.old_client ≡ false
     → is_without_body to_head status ≡ false → is_without_body q.is_head out ≡ false → measure_said (down_framing false q r (Some out)) ≡ measure
 responses_kept minor codings ls measure to_head status r q out judged is young here awaits =
-    let len : r.length ≡ length_in measure.length = is.length_ ∙ ap (λ b. length_in (without_body b measure).length) here in
-    let told : r.told ≡ measure.told = is.told_ ∙ ap (λ b. (without_body b measure).told) here in
+    let len : r.length ≡ length_in measure.length = is.length ∙ ap (λ b. length_in (without_body b measure).length) here in
+    let told : r.told ≡ measure.told = is.told ∙ ap (λ b. (without_body b measure).told) here in
     let one : down_framing false q r (Some out) ≡ (if lacks_body r.to_head r.status then by_length 0 else framing_of (is_bare r.length) false q.old_client r.status r.told (length_of r.length))
     = ap (λ b. if b then (if (is_bare r.length || not false) && not (is_204 r.status || is_204 (Some out)) then told_framing r.told else no_body)
     else (if lacks_body r.to_head r.status then by_length 0 else framing_of (is_bare r.length) false q.old_client r.status r.told (length_of r.length))) awaits in
-    let two : lacks_body r.to_head r.status ≡ false = (λ i. lacks_body (is.to_head_ i) (is.status_ i)) ∙ here in
+    let two : lacks_body r.to_head r.status ≡ false = (λ i. lacks_body (is.method i) (is.code i)) ∙ here in
     let three : (if lacks_body r.to_head r.status then by_length 0 else framing_of (is_bare r.length) false q.old_client r.status r.told (length_of r.length)) ≡ framing_of (is_bare r.length) false q.old_client r.status r.told (length_of r.length)
     = ap (λ b. if b then by_length 0 else framing_of (is_bare r.length) false q.old_client r.status r.told (length_of r.length)) two in
     let four : framing_of (is_bare r.length) false q.old_client r.status r.told (length_of r.length) ≡ down_for status measure
-    = λ i. framing_of (is_bare (len i)) false (young i) (is.status_ i) (told i) (length_of (len i)) in
+    = λ i. framing_of (is_bare (len i)) false (young i) (is.code i) (told i) (length_of (len i)) in
     ap measure_said (one ∙ (three ∙ four))
     ∙ by_response (λ m. measure_said (down_for status m) ≡ m) refl (number_down status (may_tell_there to_head status here)) refl minor codings ls measure judged
 

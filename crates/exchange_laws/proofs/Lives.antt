@@ -16,7 +16,7 @@ use Rattle.exchange_laws.specs.Laws.{GoesUpOnce, OneRequestGoesUp, IsQuiet, Noth
 use Rattle.exchange_laws.specs.Lives.{Deed, comes, responds, acts, resumes, closes, answers, dies, refuses, expires, turns, done_by, is_over, IsFair, out_item, items_by, Lives}
 use Rattle.exchange_laws.specs.Traffic.{Traffic, opens, byte, ups, item_traffic, traffic, IsFront}
 use Rattle.exchange_laws.proofs.Quiet.{by_bool, stays, responds_quiet, acts_quiet, resumes_quiet, closed_quiet, answer_quiet, dies_quiet, refused_quiet, expires_quiet}
-use Rattle.exchange_laws.proofs.Ups.{Up_, all_up, comes_over, comes_open}
+use Rattle.exchange_laws.proofs.Ups.{GoesUp, all_up, comes_over, comes_open}
 
 -- ---- one thing that happens
 
@@ -138,12 +138,12 @@ grows n framing (deed ∷ deeds) x y hub after came is framed live lives =
     read go items lives =
         let o : (x.has_ended ≡ false) × (x.is_answered ≡ false) = parts x.has_ended x.is_answered live in
         let p : Exchange × Hub = puts_all false n items (x, hub) in
-        let first : Up_ n x hub items p.0 p.1 = all_up n items x hub is o.0 o.1 in
+        let first : GoesUp n x hub items p.0 p.1 = all_up n items x hub is o.0 o.1 in
         let lives_on : Lives n p.0 p.1 deeds lives.0 y after = subst (λ (q : Exchange × Hub). Lives n q.0 q.1 deeds lives.0 y after) (comes_open n items x hub o.1) lives.3 in
         let still : is_over p.0 ≡ false = (λ i. first.ended i || first.answered i) ∙ live in
         let later : Grows n framing lives.0 p.1 y after = go p.0 p.1 lives.0 first.unfiltered (first.framed ∙ framed) still lives_on in
         grows_by n framing (map (out_item x hub) items) lives.0 came hub p.1 y after
-        (first.sends_ ∙ ap (λ (f : Framing). ups n hub.sent ++ traffic f (map (out_item x hub) items)) framed) lives.2 later
+        (first.sent ∙ ap (λ (f : Framing). ups n hub.sent ++ traffic f (map (out_item x hub) items)) framed) lives.2 later
 
     by_deed : Later → (deed : Deed) → Lives n x hub (deed ∷ deeds) came y after → Grows n framing came hub y after
     by_deed go (comes items) lives = read go items lives

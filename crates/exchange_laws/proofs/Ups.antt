@@ -20,8 +20,8 @@ use Rattle.exchange_laws.specs.Traffic.{opens, byte, ups, item_traffic, traffic}
 use Rattle.exchange_laws.proofs.Traffic.{here, up_is_all, adds}
 
 -- these items went up of an exchange, which is as before but for what comes back from the server
-pub record Up_ (n : ℕ) (x : Exchange) (hub : Hub) (items : List Item) (y : Exchange) (after : Hub) : Type 0 where
-  pub sends_ : ups n after.sent ≡ ups n hub.sent ++ traffic (goes_up x) (map (out_item x hub) items)
+pub record GoesUp (n : ℕ) (x : Exchange) (hub : Hub) (items : List Item) (y : Exchange) (after : Hub) : Type 0 where
+  pub sent : ups n after.sent ≡ ups n hub.sent ++ traffic (goes_up x) (map (out_item x hub) items)
   pub unfiltered : y.request ≡ []
   pub framed : goes_up y ≡ goes_up x
   pub ended : y.has_ended ≡ x.has_ended
@@ -52,10 +52,10 @@ puts_is n item x hub is live live_too =
 
 joined : (n : ℕ) (item : Item) (items : List Item) (x y : Exchange) (hub mid : Hub) → ups n mid.sent ≡ ups n hub.sent ++ item_traffic (goes_up x) (out_item x hub item)
     → y.has_ended ≡ x.has_ended → y.is_answered ≡ x.is_answered → goes_up y ≡ goes_up x → map (out_item y mid) items ≡ map (out_item x hub) items
-    → (z : Exchange) (after : Hub) → Up_ n y mid items z after → Up_ n x hub (item ∷ items) z after
+    → (z : Exchange) (after : Hub) → GoesUp n y mid items z after → GoesUp n x hub (item ∷ items) z after
 joined n item items x y hub mid sent ended answered framed same z after later = record {
-  sends_ =
-      later.sends_
+  sent =
+      later.sent
       ∙ ((λ i. sent i ++ traffic (framed i) (same i))
       ∙ append_assoc (ups n hub.sent) (item_traffic (goes_up x) (out_item x hub item)) (traffic (goes_up x) (map (out_item x hub) items)));
   unfiltered = later.unfiltered;
@@ -65,14 +65,14 @@ joined n item items x y hub mid sent ended answered framed same z after later = 
 }
 
 pub all_up : (n : ℕ) (items : List Item) (x : Exchange) (hub : Hub) → x.request ≡ [] → x.has_ended ≡ false → x.is_answered ≡ false
-    → Up_ n x hub items (puts_all false n items (x, hub)).0 (puts_all false n items (x, hub)).1
-all_up n [] x hub is live live_too = record { sends_ = sym (append-nil (ups n hub.sent)); unfiltered = is; framed = refl; ended = refl; answered = refl }
+    → GoesUp n x hub items (puts_all false n items (x, hub)).0 (puts_all false n items (x, hub)).1
+all_up n [] x hub is live live_too = record { sent = sym (append-nil (ups n hub.sent)); unfiltered = is; framed = refl; ended = refl; answered = refl }
 all_up n (item ∷ items) x hub is live live_too =
-    subst (λ (p : Exchange × Hub). Up_ n x hub (item ∷ items) (puts_all false n items p).0 (puts_all false n items p).1) (sym (puts_is n item x hub is live live_too))
+    subst (λ (p : Exchange × Hub). GoesUp n x hub (item ∷ items) (puts_all false n items p).0 (puts_all false n items p).1) (sym (puts_is n item x hub is live live_too))
     (by_item (λ y mid unstaged unended unanswered. all_up n items y mid unstaged unended unanswered) item)
   where
-    by_item : ((y : Exchange) (mid : Hub) → y.request ≡ [] → y.has_ended ≡ false → y.is_answered ≡ false → Up_ n y mid items (puts_all false n items (y, mid)).0 (puts_all false n items (y, mid)).1)
-        → (item : Item) → Up_ n x hub (item ∷ items) (puts_all false n items (up n item (no_stage x) hub)).0 (puts_all false n items (up n item (no_stage x) hub)).1
+    by_item : ((y : Exchange) (mid : Hub) → y.request ≡ [] → y.has_ended ≡ false → y.is_answered ≡ false → GoesUp n y mid items (puts_all false n items (y, mid)).0 (puts_all false n items (y, mid)).1)
+        → (item : Item) → GoesUp n x hub (item ∷ items) (puts_all false n items (up n item (no_stage x) hub)).0 (puts_all false n items (up n item (no_stage x) hub)).1
     by_item later (Head end) =
         let p : Exchange × Hub = up n (Head end) (no_stage x) hub in
         let last : Exchange × Hub = puts_all false n items p in

@@ -32,10 +32,10 @@ pub record IsInStep (q : Request) (out : ℕ) (framing : Framing) : Type 0 where
 
 -- a response that was read, of this status, in answer to a request that was sent up as HEAD or as another
 pub record IsReceived (to_head : Bool) (status : ℕ) (measure : Measure) (r : Response) : Type 0 where
-  pub to_head_ : r.to_head ≡ to_head
-  pub status_ : r.status ≡ Some status
-  pub length_ : r.length ≡ length_in (without_body (is_without_body to_head status) measure).length
-  pub told_ : r.told ≡ (without_body (is_without_body to_head status) measure).told
+  pub method : r.to_head ≡ to_head
+  pub code : r.status ≡ Some status
+  pub length : r.length ≡ length_in (without_body (is_without_body to_head status) measure).length
+  pub told : r.told ≡ (without_body (is_without_body to_head status) measure).told
 
 -- RESPONSES STAY IN STEP, whatever method filters sent up and whatever status they send down: those of servers, and those of the gateway and of
 -- filters. One that nobody filters, which may have a body here and there, keeps its length for a client of HTTP/1.1.
