@@ -516,8 +516,8 @@ def remembers_nothing(gateway, upstream):
     """Its memory grows no more with further lines and bodies, once there were as many."""
     body = b"x" * 50000
     sizes = []
-    for turn in range(4):
-        lines = [gateway.connect() for _ in range(20)]
+    for turn in range(3):
+        lines = [gateway.connect() for _ in range(15)]
         for n, s in enumerate(lines):
             get(s, Reader(s), "/held/%d/%d" % (turn, n), b"/held/%d/%d" % (turn, n))
         for s in lines:
@@ -590,7 +590,7 @@ GROUPS = [
             (descriptors, 21),
             (client_resets, 11),
             (by_curl, 1),
-            (remembers_nothing, 80),
+            (remembers_nothing, 45),
         ],
     ),
     ("a crowd", 1, "", b"", [(crowd, 200)]),
