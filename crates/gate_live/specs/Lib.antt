@@ -1,7 +1,9 @@
 pub mod Allowed
 pub mod Heard
+pub mod Homes
 pub mod Lines
 pub mod LogLine
+pub mod Numbers
 pub mod Sites
 pub mod Told
 pub mod Waiting

@@ -1,6 +1,7 @@
 // Where a worker's lines come from.
-ghost use Rattle.std.specs.Prelude.{◌≡◌};
+ghost use Rattle.std.specs.Prelude.{◌≡◌, ℕ, ◌+◌, ◌<◌, ◌≤◌, [], nat_le, vec_len, IfOk, IfSome};
 ghost use Rattle.std.specs.Arc.{arc_value};
+ghost use Rattle.gate_live.specs.Numbers.{MayGain, home_of};
 
 use gate_base::{LineNo, OutOfMemory};
 use handoff::{Giver, Handoff, HasLine, Taker};
@@ -71,7 +72,9 @@ pub fn join_queue(
     alloc: Global,
     waker: Waker,
     ended: Arc<AtomicU64>,
-) -> Result<(Neighbor, Mailbox), OutOfMemory> {
+) -> Result<(Neighbor, Mailbox), OutOfMemory>
+    ensures { IfOk result (λ ends. ends.0.giver.lines ≡ []) }
+{
     let (queue, giver, taker) = Handoff::new(alloc)?;
     let queue = Arc::new(alloc, queue)?;
     let theirs = Arc::try_clone(&queue)?;
@@ -93,7 +96,9 @@ pub fn join_queue(
 
 impl Neighbor {
     /// Hands a line over. One that there is no room for is closed.
-    fn hand<R: Wait>(&mut self, rt: &R, guest: Guest) {
+    fn hand<R: Wait>(&mut self, rt: &R, guest: Guest)
+        ensures { MayGain self.old.giver.lines guest.number self.new.giver.lines }
+    {
         if self.queue.offer(rt, &mut self.giver, guest).is_ok() {
             let _ = self.waker.wake();
         }
@@ -117,14 +122,27 @@ impl Mailbox {
     }
 }
 
+/// The place of the worker of a line, where so many others are beside the first, whose place is 0.
+fn home_of(number: LineNo, others: usize) -> usize
+    ensures { result ≡ home_of number others }
+{
+    (number.get() as usize - 1) % (others.saturating_add(1))
+}
+
 impl Acceptor {
+    ghost use Rattle.gate_live.specs.Homes.{AreHome};
+
     /// Accepts at a listener so many lines, for this worker and the others.
     pub fn new(
         listener: TcpListener,
         most: u32,
         others: Vec<Neighbor>,
         ended: Arc<AtomicU64>,
-    ) -> Self {
+    ) -> Self
+        ensures none { result.accepted ≡ 0 }
+        ensures most { result.most ≡ most }
+        ensures others { result.others ≡ others }
+    {
         Acceptor {
             listener,
             ready: true,
@@ -136,7 +154,9 @@ impl Acceptor {
     }
 
     /// Whether all lines were accepted.
-    fn is_done(&self) -> bool {
+    fn is_done(&self) -> bool
+        ensures { result ≡ nat_le self.now.most self.now.accepted }
+    {
         self.accepted >= self.most
     }
 
@@ -148,8 +168,15 @@ impl Acceptor {
         }
     }
 
-    /// The next line of this worker. Those of others that came before it are handed over.
-    fn accept<R: Wait>(&mut self, rt: &R) -> Option<Guest> {
+    /// The next line of this worker. Those of others that came before it are handed over. Lines are numbered as they come.
+    fn accept<R: Wait>(&mut self, rt: &R) -> Option<Guest>
+        ensures grows { self.old.accepted ≤ self.new.accepted }
+        ensures most { self.new.most ≡ self.old.most }
+        ensures within { self.old.accepted ≤ self.old.most → self.new.accepted ≤ self.new.most }
+        ensures number { IfSome result (λ guest. (self.old.accepted < guest.number) × (guest.number ≡ self.new.accepted)) }
+        ensures home { IfSome result (λ guest. home_of guest.number (vec_len self.new.others) ≡ 0) }
+        ensures offered { AreHome self.old.accepted self.old.others.items → AreHome self.new.accepted self.new.others.items }
+    {
         for _ in 0..u32::MAX {
             if !self.ready || self.is_done() {
                 return None;
@@ -168,22 +195,36 @@ impl Acceptor {
     }
 
     /// Numbers a line, and hands it over where it is another worker's.
-    fn place<R: Wait>(&mut self, rt: &R, stream: TcpStream) -> Option<Guest> {
-        self.accepted = self.accepted.saturating_add(1);
+    fn place<R: Wait>(&mut self, rt: &R, stream: TcpStream) -> Option<Guest>
+        requires { self.old.accepted < self.old.most }
+        ensures next { self.new.accepted ≡ self.old.accepted + 1 }
+        ensures most { self.new.most ≡ self.old.most }
+        ensures number { IfSome result (λ guest. guest.number ≡ self.new.accepted) }
+        ensures home { IfSome result (λ guest. home_of guest.number (vec_len self.new.others) ≡ 0) }
+        ensures offered { AreHome self.old.accepted self.old.others.items → AreHome self.new.accepted self.new.others.items }
+    {
+        self.accepted += 1;
         let number = LineNo::new(self.accepted)?;
-        let guest = Guest { number, stream };
-        let place = (number.get() as usize - 1) % (self.others.len().saturating_add(1));
-        let own = place == 0;
-        let own = if own {
-            Some(guest)
-        } else {
-            self.others[place - 1].hand(rt, guest);
-            None
-        };
+        let own = self.route(rt, Guest { number, stream });
         if self.is_done() {
             self.end();
         }
         own
+    }
+
+    /// Keeps a line of this worker, and hands over one of another.
+    fn route<R: Wait>(&mut self, rt: &R, guest: Guest) -> Option<Guest>
+        ensures own { IfSome result (λ own. own ≡ guest) }
+        ensures home { IfSome result (λ own. home_of guest.number (vec_len self.new.others) ≡ 0) }
+        ensures stays { (self.new.accepted ≡ self.old.accepted) × (self.new.most ≡ self.old.most) }
+        ensures offered { (last : ℕ) → guest.number ≡ last + 1 → AreHome last self.old.others.items → AreHome (last + 1) self.new.others.items }
+    {
+        let place = home_of(guest.number, self.others.len());
+        if place == 0 {
+            return Some(guest);
+        }
+        self.others[place - 1].hand(rt, guest);
+        None
     }
 }
 

@@ -104,7 +104,7 @@ impl<'a, R: Wait, G: Gate> Shared for StoreSeat<'a, R, G> {
 
     ghost performs = { SeatsGoOn };
 
-    // Each entry of the store's history is seen, and a call that takes no memory of any store is answered.
+    // An answer is one entry of the history of its store, and a refusal none. A call that takes no memory of any store is answered.
     fn call(&mut self, alloc: Global, vm: VmNo, call: &Call) -> Result<Reply, OutOfMemory>
         requires { vm < length self.old.stores }
         ensures stores { length self.new.stores ≡ length self.old.stores }
