@@ -1,14 +1,14 @@
 -- How a check ends, by what was loaded and printed.
 use Rattle.std.proofs.Common.{◌≡◌, ℕ, List, ◌∷◌, Result, Option, Ok, Err, subst}
-use Rattle.config_files.specs.Loading.{Told, modules_of}
+use Rattle.config_files.specs.Loading.{Told, IsLoaded, modules_of}
 use Rattle.config_files.specs.declared.reading.LoadEnd.{LoadEnd}
 use Rattle.gate_config.specs.Given.{Given}
 use Rattle.gate_io.specs.Told.{Gains}
-use Rattle.check_config.specs.Check.{IsChecked, IsOf, IsPrinted, ReadsAll, Reaches, counts_line}
+use Rattle.check_config.specs.Check.{IsChecked, IsPrinted, ReadsAll, Reaches, counts_line}
 use Rattle.check_config.specs.declared.checking.CheckEnd.{CheckEnd}
 use Rattle.check_config.specs.declared.checking.CheckEnd.TheVariants.{NotLoaded, OutFault, OutOfMemory}
 
-pub printed_checked : (files : Told) (path : List ℕ) (g : Given) (r : Result (Unit {0}) CheckEnd) (old new : Option (List ℕ)) → IsOf files path g → IsPrinted (counts_line g) r old new → IsChecked files path r old new
+pub printed_checked : (files : Told) (path : List ℕ) (g : Given) (r : Result (Unit {0}) CheckEnd) (old new : Option (List ℕ)) → IsLoaded files path g → IsPrinted (counts_line g) r old new → IsChecked files path r old new
 printed_checked files path g (Ok u) old new is h = (g, is, h)
 printed_checked files path g (Err OutFault) old new is h = (g, is, h)
 printed_checked files path g (Err OutOfMemory) old new is h = h
@@ -22,11 +22,11 @@ pub printed_as : (a b : List ℕ) (r : Result (Unit {0}) CheckEnd) (old new : Op
 printed_as a b r old new e h = subst (λ (l : List ℕ). IsPrinted l r old new) e h
 
 -- a configuration that is loaded was read with all its modules
-read_all : (files : Told) (path : List ℕ) (g : Given) (old new : Option (List (List ℕ))) → IsOf files path g → Gains old (path ∷ modules_of g.vms) new → ReadsAll files path old new
-read_all files path g old new is h text t = (g, is text t, h)
+read_all : (files : Told) (path : List ℕ) (g : Given) (old new : Option (List (List ℕ))) → IsLoaded files path g → Gains old (path ∷ modules_of g.vms) new → ReadsAll files path old new
+read_all files path g old new is h = (g, is, h)
 
 pub reaches_all : (files : Told) (path : List ℕ) (g : Given) (line : List ℕ) (r : Result (Unit {0}) CheckEnd) (old new : Option (List (List ℕ))) (before after : Option (List ℕ))
-    → IsOf files path g → IsPrinted line r before after → Gains old (path ∷ modules_of g.vms) new → Reaches files path r old new
+    → IsLoaded files path g → IsPrinted line r before after → Gains old (path ∷ modules_of g.vms) new → Reaches files path r old new
 reaches_all files path g line (Ok u) old new before after is p h = read_all files path g old new is h
 reaches_all files path g line (Err OutFault) old new before after is p h = read_all files path g old new is h
 reaches_all files path g line (Err OutOfMemory) old new before after is p h = tt

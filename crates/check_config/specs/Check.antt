@@ -1,7 +1,6 @@
 -- What `check` prints of a configuration, and how it ends.
-use Rattle.std.specs.Prelude.{◌≡◌, ℕ, List, [], ◌∷◌, ◌++◌, length, codes, decimal, Option, Some, Result, Ok, Err}
+use Rattle.std.specs.Prelude.{ℕ, List, [], ◌∷◌, ◌++◌, length, codes, decimal, Option, Result, Ok, Err}
 use Rattle.gate_io.specs.Told.{Gains, GainsFront}
-use Rattle.gate_io.specs.Paths.{told_at}
 use Rattle.config_files.specs.Loading.{Told, IsLoaded, IsNotLoaded, StopsAt, modules_of}
 use Rattle.gate_config.specs.Given.{Given}
 use Rattle.check_config.specs.declared.checking.CheckEnd.{CheckEnd}
@@ -16,16 +15,12 @@ abbrev pub counts_line : Given → List ℕ
 counts_line g =
     ((((codes "ok" ++ count (codes " workers ") g.workers) ++ count (codes " vms ") (length g.vms)) ++ count (codes " plugins ") (length g.plugins)) ++ count (codes " routes ") (length g.routes)) ++ codes "\n"
 
--- the configuration of this file, with the modules of its VMs, where the files tell it
-abbrev pub IsOf : Told → List ℕ → Given → Type 0
-IsOf files path g = (text : List ℕ) → told_at files path ≡ Some text → IsLoaded files text g
-
--- HOW A CHECK ENDS: the line of the configuration is printed, or a front of it where the output failed; else nothing is printed, and
+-- HOW A CHECK ENDS: the line of the configuration of this file is printed, or a front of it where the output failed; else nothing is printed, and
 -- the end tells the first refusal
 abbrev pub IsChecked : Told → List ℕ → Result (Unit {0}) CheckEnd → (old new : Option (List ℕ)) → Type 0
-IsChecked files path (Ok u) old new = (g : Given) × IsOf files path g × Gains old (counts_line g) new
-IsChecked files path (Err OutFault) old new = (g : Given) × IsOf files path g × GainsFront old (counts_line g) new
-IsChecked files path (Err (NotLoaded e)) old new = ((text : List ℕ) → told_at files path ≡ Some text → IsNotLoaded files text e) × Gains old [] new
+IsChecked files path (Ok u) old new = (g : Given) × IsLoaded files path g × Gains old (counts_line g) new
+IsChecked files path (Err OutFault) old new = (g : Given) × IsLoaded files path g × GainsFront old (counts_line g) new
+IsChecked files path (Err (NotLoaded e)) old new = IsNotLoaded files path e × Gains old [] new
 IsChecked files path (Err OutOfMemory) old new = Gains old [] new
 
 -- a line is printed, or a front of it, or there was no memory for it
@@ -35,9 +30,9 @@ IsPrinted line (Err OutFault) old new = GainsFront old line new
 IsPrinted line (Err OutOfMemory) old new = Gains old [] new
 IsPrinted line (Err (NotLoaded e)) old new = ⊥
 
--- where the text of the configuration is told, it was read and all its modules
+-- the configuration was read and all its modules
 abbrev pub ReadsAll : Told → List ℕ → (old new : Option (List (List ℕ))) → Type 0
-ReadsAll files path old new = (text : List ℕ) → told_at files path ≡ Some text → (g : Given) × IsLoaded files text g × Gains old (path ∷ modules_of g.vms) new
+ReadsAll files path old new = (g : Given) × IsLoaded files path g × Gains old (path ∷ modules_of g.vms) new
 
 -- HOW FAR A CHECK READS: to the refused file, or all of them
 abbrev pub Reaches : Told → List ℕ → Result (Unit {0}) CheckEnd → (old new : Option (List (List ℕ))) → Type 0

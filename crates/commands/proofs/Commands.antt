@@ -8,11 +8,11 @@ use Rattle.words.specs.Forms.{Command, replay, replay_config, serve, check, invo
 use Rattle.commands.specs.Call.{Calls}
 use Rattle.commands.specs.Generated.{Generated}
 use Rattle.generating.specs.declared.running.GenerateEnd.TheVariants as generating
-use Rattle.commands.specs.Doing.{IsForm, Checks, LoadsFile, LoadsPlain, RefusesFile, ServesFile, Obeys}
+use Rattle.commands.specs.Doing.{IsForm, Checks, LoadsFile, LoadsPlain, ServesFile, Obeys}
 use Rattle.commands.specs.Scripts.{Replays}
 use Rattle.config_files.specs.Plain.{IsNoPlain}
 use Rattle.statuses.specs.declared.status.Status.{Status}
-use Rattle.config_files.specs.Loading.{Told}
+use Rattle.config_files.specs.Loading.{Told, IsNotLoaded}
 use Rattle.serving.specs.Serving.{Eyes, Seen}
 
 -- it names 16 modules at most, where it is a command
@@ -85,7 +85,7 @@ unfolding Obeys
 obeys_replay eyes files script modules status site old new h = (refl, h)
 
 pub obeys_replay_config : {W : Type 0} (eyes : Eyes W) (files : Told) (config script : List ℕ) (status : Status) (site : Seen W) (old new : Option (List ℕ))
-    → Replays files (LoadsFile files config) (RefusesFile files config) script status old new → Obeys eyes files (Some (replay_config config script)) status site site old new
+    → Replays files (LoadsFile files config) (IsNotLoaded files config) script status old new → Obeys eyes files (Some (replay_config config script)) status site site old new
 unfolding Obeys
 obeys_replay_config eyes files config script status site old new h = (refl, h)
 

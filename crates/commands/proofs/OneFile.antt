@@ -1,6 +1,7 @@
 -- What the read of one file tells: of a script, and of the module of a call.
-use Rattle.std.proofs.Common.{◌≡◌, ℕ, List, [], ◌∷◌, Option, None, Some, Ok, Err, refl, sym, subst, inl}
-use Rattle.config_files.specs.Loading.{Told}
+use Rattle.std.proofs.Common.{◌≡◌, ℕ, List, [], ◌∷◌, Option, None, Some, Ok, Err, refl, subst, inl}
+use Rattle.config_files.proofs.Read.{of_file, of_long}
+use Rattle.config_files.specs.Loading.{Told, OfFile}
 use Rattle.gate_config.specs.declared.config.Config.{Config as Configured}
 use Rattle.gate_io.specs.Paths.{ReadsTold}
 use Rattle.gate_io.specs.Told.{Gains, gains_nothing}
@@ -8,15 +9,11 @@ use Rattle.gate_io.specs.declared.ends.FileEnd.TheVariants as ends
 use Rattle.statuses.specs.declared.status.Status.{Status}
 use Rattle.statuses.specs.declared.status.Status.TheVariants.{Done, Usage, Config, Module, Refused, FileFault, SiteFault, OutFault, OutOfMemory, Script, Invoke}
 use Rattle.commands.specs.Call.{IsCalled, OfCall, WasRead}
-use Rattle.commands.specs.Files.{HoldsOf, IsThere, OfFile, OfText}
+use Rattle.commands.specs.Files.{IsThere, OfText}
 use Rattle.commands.specs.Reading.{ReadsOne}
 use Rattle.commands.specs.Scripts.{IsCutShort, IsPlayed, IsRefusedAt, Plays, PlaysText, script_limit}
 
--- what holds of the bytes that were read
-of_file : (files : Told) (path text : List ℕ) (most : ℕ) (P : List ℕ → Type 0) → ReadsTold files path most (Ok text) → P text → OfFile files path P
-of_file None path text most P h p = tt
-of_file (Some told) path text most P h p = subst (λ (o : Option (List ℕ)). HoldsOf o P) (sym h) p
-
+-- what holds of the bytes that were read, where they are told
 of_text : (files : Told) (path text : List ℕ) (most : ℕ) (P : List ℕ → Type 0) → ReadsTold files path most (Ok text) → P text → OfText files path P
 of_text None path text most P h p = λ t e. absurd (cc)
 of_text (Some told) path text most P h p = λ t e. (let same : text ≡ t = cc in subst P same p)
@@ -38,8 +35,7 @@ plays_text files path text most config SiteFault old new h p = absurd p
 plays_text files path text most config (Invoke end) old new h p = absurd p
 
 long_at : (files : Told) (path : List ℕ) (workers : ℕ) → ReadsTold files path script_limit (Err ends.TooLong) → OfFile files path (λ text. IsRefusedAt workers text 0)
-long_at None path workers h = tt
-long_at (Some told) path workers h = subst (λ (o : Option (List ℕ)). HoldsOf o (λ text. IsRefusedAt workers text 0)) (sym h.1) (inl (h.2, refl))
+long_at files path workers h = of_long files path script_limit (λ text. IsRefusedAt workers text 0) h (λ text long. inl (long, refl))
 
 pub long_script : (files : Told) (path : List ℕ) (config : Configured) (old : Option (List ℕ)) → ReadsTold files path script_limit (Err ends.TooLong) → Plays files path config (Script 0) old old
 long_script files path config old h = (long_at files path config.workers h, gains_nothing old)
@@ -81,8 +77,7 @@ pub called_text : (files : Told) (path text export : List ℕ) (words : List (Li
 called_text files path text export words most status before after h p = of_text files path text most (λ t. IsCalled t export words status before after) h p
 
 pub long_module : (files : Told) (path : List ℕ) (most : ℕ) → ReadsTold files path most (Err ends.TooLong) → IsThere files path
-long_module None path most h = tt
-long_module (Some told) path most h = subst (λ (o : Option (List ℕ)). HoldsOf o (λ text. Unit {0})) (sym h.1) tt
+long_module files path most h = of_long files path most (λ text. Unit {0}) h (λ text long. tt)
 
 pub call_read : (path : List ℕ) (status : Status) (before after : Option (List ℕ)) (old new : Option (List (List ℕ))) → OfCall status before after → Gains old (path ∷ []) new → ReadsOne path status old new
 call_read path Done before after old new p h = h

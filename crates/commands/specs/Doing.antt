@@ -3,10 +3,9 @@ use Rattle.std.specs.Prelude.{◌≡◌, ◌⊎◌, ℕ, ◌≤◌, List, [], le
 use Rattle.gate_config.specs.declared.config.Config.{Config as Configured}
 use Rattle.gate_config.specs.Given.{Given, given}
 use Rattle.gate_io.specs.Told.{Gains, GainsFront, Rose}
-use Rattle.check_config.specs.Check.{IsOf, counts_line}
+use Rattle.check_config.specs.Check.{counts_line}
 use Rattle.config_files.specs.Loading.{Told, IsLoaded, IsNotLoaded}
 use Rattle.config_files.specs.Plain.{IsPlainLoaded, IsNoPlain}
-use Rattle.config_files.specs.declared.reading.LoadEnd.{LoadEnd}
 use Rattle.serve_filters.specs.Filtered.{ServesFiltered}
 use Rattle.serving.specs.Serving.{Eyes, Seen}
 use Rattle.serving.specs.declared.running.ServeEnd.{ServeEnd}
@@ -16,27 +15,22 @@ use Rattle.statuses.specs.declared.status.Status.TheVariants.{Done, Usage, Confi
 use Rattle.words.specs.Forms.{Command, replay, replay_config, serve, check, invoke, generate}
 use Rattle.commands.specs.Call.{Calls}
 use Rattle.commands.specs.Generated.{Generated}
-use Rattle.commands.specs.Files.{OfText}
 use Rattle.commands.specs.Scripts.{IsUnloaded, Replays}
 
--- the configuration of this file, with the modules of its VMs, where the files tell it
+-- the configuration of this file, with the modules of its VMs
 abbrev pub LoadsFile : Told → List ℕ → Configured → Type 0
-LoadsFile files path config = OfText files path (λ text. IsLoaded files text (given config))
+LoadsFile files path config = IsLoaded files path (given config)
 
 -- the plain configuration over the modules of these paths, each of which its VM holds
 abbrev pub LoadsPlain : Told → List (List ℕ) → Configured → Type 0
 LoadsPlain files modules config = IsPlainLoaded files modules (given config)
 
--- why the file of this path, or one that it names, is refused
-abbrev pub RefusesFile : Told → List ℕ → LoadEnd → Type 0
-RefusesFile files path end = OfText files path (λ text. IsNotLoaded files text end)
-
--- HOW `check` ENDS: the line of the configuration is printed, or a front of it where the output failed; else nothing is printed
+-- HOW `check` ENDS: the line of the configuration of this file is printed, or a front of it where the output failed; else nothing is printed
 abbrev pub Checks : Told → List ℕ → Status → (old new : Option (List ℕ)) → Type 0
-Checks files path Done old new = (config : Given) × IsOf files path config × Gains old (counts_line config) new
-Checks files path OutFault old new = (config : Given) × IsOf files path config × GainsFront old (counts_line config) new
-Checks files path (Config number key) old new = IsUnloaded (RefusesFile files path) (Config number key) × Gains old [] new
-Checks files path (Module vm fault) old new = IsUnloaded (RefusesFile files path) (Module vm fault) × Gains old [] new
+Checks files path Done old new = (config : Given) × IsLoaded files path config × Gains old (counts_line config) new
+Checks files path OutFault old new = (config : Given) × IsLoaded files path config × GainsFront old (counts_line config) new
+Checks files path (Config number key) old new = IsUnloaded (IsNotLoaded files path) (Config number key) × Gains old [] new
+Checks files path (Module vm fault) old new = IsUnloaded (IsNotLoaded files path) (Module vm fault) × Gains old [] new
 Checks files path FileFault old new = Gains old [] new
 Checks files path OutOfMemory old new = Gains old [] new
 Checks files path Usage old new = ⊥
@@ -58,7 +52,7 @@ IsForm (generate n) = Unit {0}
 abbrev pub Does : Told → Option Command → Status → (old new : Option (List ℕ)) → Type 0
 Does files None status old new = (status ≡ Usage) × Gains old [] new
 Does files (Some (replay script modules)) status old new = Replays files (LoadsPlain files modules) (IsNoPlain files modules) script status old new
-Does files (Some (replay_config config script)) status old new = Replays files (LoadsFile files config) (RefusesFile files config) script status old new
+Does files (Some (replay_config config script)) status old new = Replays files (LoadsFile files config) (IsNotLoaded files config) script status old new
 Does files (Some (serve config stop_after)) status old new = ⊥
 Does files (Some (check config)) status old new = Checks files config status old new
 Does files (Some (invoke file export arguments)) status old new = Calls files file export arguments status old new
@@ -80,7 +74,7 @@ module _ {W : Type 0} (eyes : Eyes W) where
 
   -- nothing was loaded, and no socket opened
   pub record NotServed (files : Told) (path : List ℕ) (status : Status) (site after : Seen W) (old new : Option (List ℕ)) : Type 0 where
-    pub why : IsUnloaded (RefusesFile files path) status
+    pub why : IsUnloaded (IsNotLoaded files path) status
     pub site_is : after ≡ site
     pub nothing : Gains old [] new
 

@@ -1,13 +1,16 @@
 -- Worked examples: the files that commands read.
 use Rattle.std.specs.Prelude.{◌≡◌, ℕ, List, [], ◌∷◌, Option, Some, Ok, Err, codes}
-use Rattle.config_files.specs.Loading.{Told}
+use Rattle.config_files.specs.Loading.{Told, IsCode, IsNotLoaded}
 use Rattle.config_files.specs.Plain.{plain_over}
+use Rattle.config_files.specs.declared.reading.LoadEnd.TheVariants as ends
 use Rattle.gate_config.specs.declared.config.Config.{Config as Configured}
 use Rattle.read_config.specs.Whole.{Judged}
 use Rattle.statuses.specs.declared.status.Status.TheVariants.{Config, Done}
+use Rattle.wasm_syntax.specs.declared.module.Module.{Module}
 use Rattle.words.specs.Forms.{replay, replay_config, check, invoke, generate}
 use Rattle.commands.specs.Call.{WasRead}
-use Rattle.commands.specs.Reading.{NoneRefused, Reaches, paths_of}
+use Rattle.commands.specs.Doing.{Checks, LoadsFile}
+use Rattle.commands.specs.Reading.{IsJudgedFor, NoneRefused, Reaches, paths_of}
 use Rattle.commands.specs.Scripts.{Plays}
 
 abbrev a : List ℕ
@@ -46,3 +49,10 @@ pub record RefusalExamples : Type 0 where
   pub not_played : (config : Configured) (old new : Option (List ℕ)) → Plays no_module b config Done old new → ⊥
   pub not_called : WasRead no_module b Done → ⊥
   pub called : WasRead no_module a Done
+  -- a configuration that is not there is not loaded, is not refused as one that is there, and nothing is read behind it
+  pub not_loaded : (config : Configured) → LoadsFile no_module c config → ⊥
+  pub not_refused : (number : ℕ) (key : List ℕ) → IsNotLoaded no_module c (ends.Config number key) → ⊥
+  pub not_checked : (old new : Option (List ℕ)) → Checks no_module c Done old new → ⊥
+  pub none_behind : (judged : Judged) (reads : List (List ℕ)) → IsJudgedFor no_module (Some c) judged → NoneRefused no_module (Some (check c)) judged (c ∷ a ∷ reads) → ⊥
+  -- a module that is not there is held by no VM
+  pub not_held : (pages : ℕ) (m : Module) → IsCode no_module b pages m → ⊥

@@ -1,11 +1,10 @@
 -- Which files a command reads, and how far it comes.
 use Rattle.std.specs.Prelude.{◌≡◌, ℕ, List, [], ◌∷◌, ◌++◌, Option, None, Some, Ok, Err}
-use Rattle.gate_io.specs.Paths.{told_at}
 use Rattle.gate_io.specs.Told.{Gains, GainsFront}
-use Rattle.config_files.specs.Loading.{Told, NoneBehind, NoneBehindConfig, StopsAtBad, StopsAtModule, modules_of}
+use Rattle.config_files.specs.Loading.{Told, IsJudged, NoneBehind, NoneBehindConfig, StopsAtBad, StopsAtModule, modules_of}
 use Rattle.config_files.specs.Plain.{vms_over}
 use Rattle.config_files.specs.declared.modules.ModuleFault.{ModuleFault}
-use Rattle.read_config.specs.Whole.{Judged, config_of}
+use Rattle.read_config.specs.Whole.{Judged}
 use Rattle.statuses.specs.declared.status.Status.{Status}
 use Rattle.statuses.specs.declared.status.Status.TheVariants.{Done, Usage, Config, Module, Refused, FileFault, SiteFault, OutFault, OutOfMemory, Script, Invoke}
 use Rattle.words.specs.Forms.{Command, replay, replay_config, serve, check, invoke, generate}
@@ -35,10 +34,10 @@ paths_of (Some (check config)) judged = config ∷ behind_config judged []
 paths_of (Some (invoke file export arguments)) judged = file ∷ []
 paths_of (Some (generate n)) judged = []
 
--- this holds where the file of this path, if there is one, is told
-abbrev pub IfTold : Told → Option (List ℕ) → Type 0 → Type 0
-IfTold files None P = P
-IfTold files (Some path) P = (text : List ℕ) → told_at files path ≡ Some text → P
+-- this is what the file of this path, where a command names one, comes to as a configuration
+abbrev pub IsJudgedFor : Told → Option (List ℕ) → Judged → Type 0
+IsJudgedFor files None judged = Unit {0}
+IsJudgedFor files (Some path) judged = IsJudged files path judged
 
 -- none of these reads stands behind a refusal: behind that of a module comes another only where its file is one that its VM can run, and
 -- behind that of a configuration only where it is one
@@ -74,19 +73,19 @@ Reaches files command judged (Config number key) old new = StopsAtConfig (config
 Reaches files command judged (Module vm fault) old new = StopsAtVm files command vm fault old new
 Reaches files command judged FileFault old new = Unit {0}
 Reaches files command judged OutOfMemory old new = Unit {0}
-Reaches files command judged Done old new = IfTold files (config_path command) (Gains old (paths_of command judged) new)
-Reaches files command judged SiteFault old new = IfTold files (config_path command) (Gains old (paths_of command judged) new)
-Reaches files command judged OutFault old new = IfTold files (config_path command) (Gains old (paths_of command judged) new)
-Reaches files command judged (Script line) old new = IfTold files (config_path command) (Gains old (paths_of command judged) new)
-Reaches files command judged (Refused refusal) old new = IfTold files (config_path command) (Gains old (paths_of command judged) new)
-Reaches files command judged (Invoke end) old new = IfTold files (config_path command) (Gains old (paths_of command judged) new)
+Reaches files command judged Done old new = Gains old (paths_of command judged) new
+Reaches files command judged SiteFault old new = Gains old (paths_of command judged) new
+Reaches files command judged OutFault old new = Gains old (paths_of command judged) new
+Reaches files command judged (Script line) old new = Gains old (paths_of command judged) new
+Reaches files command judged (Refused refusal) old new = Gains old (paths_of command judged) new
+Reaches files command judged (Invoke end) old new = Gains old (paths_of command judged) new
 
 -- THE FILES THAT A COMMAND READS, on every end: those of a front of its paths, each once and in their order, and none behind a refusal
 pub record ReadsFor (files : Told) (command : Option Command) (status : Status) (old new : Option (List (List ℕ))) : Type 0 where
   pub judged : Judged
-  pub told : (path text : List ℕ) → config_path command ≡ Some path → told_at files path ≡ Some text → judged ≡ config_of text
+  pub of_file : IsJudgedFor files (config_path command) judged
   pub gained : GainsFront old (paths_of command judged) new
-  pub none_refused : IfTold files (config_path command) (NoneRefused files command judged gained.front)
+  pub none_refused : NoneRefused files command judged gained.front
   pub reaches : Reaches files command judged status old new
 
 -- ---- a step on the way

@@ -2,7 +2,7 @@
 use Rattle.std.specs.Prelude.{◌≡◌, ◌⊎◌, ℕ, ◌<◌, ◌≤◌, List, [], length, Option}
 use Rattle.gate_config.specs.declared.config.Config.{Config as Configured}
 use Rattle.gate_io.specs.Told.{Gains}
-use Rattle.config_files.specs.Loading.{Told}
+use Rattle.config_files.specs.Loading.{Told, OfFile}
 use Rattle.config_files.specs.declared.reading.LoadEnd.{LoadEnd}
 use Rattle.config_files.specs.declared.reading.LoadEnd.TheVariants as ends
 use Rattle.replay_script.specs.declared.command.Command.{Command}
@@ -11,7 +11,7 @@ use Rattle.play_filters.specs.Filtered.{filtered}
 use Rattle.script_play.specs.Replay.{Prints, PrintsFront}
 use Rattle.statuses.specs.declared.status.Status.{Status}
 use Rattle.statuses.specs.declared.status.Status.TheVariants.{Done, Usage, Config, Module, Refused, FileFault, SiteFault, OutFault, OutOfMemory, Script, Invoke}
-use Rattle.commands.specs.Files.{OfFile, OfText}
+use Rattle.commands.specs.Files.{OfText}
 
 -- how many bytes a script has at most: 64 MiB
 abbrev pub script_limit : ℕ

@@ -1,12 +1,13 @@
 // A script over a configuration.
 ghost use Rattle.std.specs.Prelude.{◌≡◌, ◌⊎◌, ◌≤◌, ◌∷◌, [], Some, None, ℕ, List, All, length, map, string_bytes};
 ghost use Rattle.gate_io.specs.Told.{Gains, GainsFront, Rose};
+ghost use Rattle.config_files.specs.Loading.{IsNotLoaded};
 ghost use Rattle.config_files.specs.Plain.{IsNoPlain};
 ghost use Rattle.machines.specs.Making.{HasFilter};
 ghost use Rattle.words.specs.Forms.{replay as plain_replay, replay_config as config_replay};
 ghost use Rattle.replay_script.specs.Scripts.{AreLines, at_start};
 ghost use Rattle.commands.specs.Scripts.{Plays, PlaysText, PlaysLines, Replays};
-ghost use Rattle.commands.specs.Doing.{LoadsFile, LoadsPlain, RefusesFile};
+ghost use Rattle.commands.specs.Doing.{LoadsFile, LoadsPlain};
 ghost use Rattle.commands.specs.Reading.{ReadsFor, ReadsOne};
 
 use config_files::{load, load_plain};
@@ -51,7 +52,7 @@ pub fn replay_config<F: Files, O: Sink>(
     files: &mut F,
     out: &mut O,
 ) -> Status
-    ensures replays { Replays (F.holds files.old) (LoadsFile (F.holds files.old) config.now) (RefusesFile (F.holds files.old) config.now) script.now result (O.taken out.old) (O.taken out.new) }
+    ensures replays { Replays (F.holds files.old) (LoadsFile (F.holds files.old) config.now) (IsNotLoaded (F.holds files.old) config.now) script.now result (O.taken out.old) (O.taken out.new) }
     ensures reads { ReadsFor (F.holds files.old) (Some (config_replay config.now script.now)) result (F.paths files.old) (F.paths files.new) }
     ensures file_faults { F.faults files.old ≤ F.faults files.new }
     ensures file_fault { result ≡ Status.FileFault → Rose (F.faults files.old) (F.faults files.new) }

@@ -2,32 +2,32 @@
 use Rattle.std.proofs.Common.{◌≡◌, ℕ, ◌<◌, Bool, false, nat_le, nat_lt, true, if◌then◌else◌, List, [], ◌∷◌, length, Result, Option, None, Some, Ok, Err, refl, sym, subst, arith, ◌^◌, codes}
 use Rattle.std.specs.Result.{OnOk, OnErr, IfOk, IfErr}
 use Rattle.std.proofs.lemmas.Bool.Decides.{nat_tests}
-use Rattle.gate_io.specs.Paths.{told_at, ReadsTold, noted}
+use Rattle.gate_io.specs.Paths.{ReadsTold, file_at, noted}
 use Rattle.gate_io.specs.Told.{Gains, GainsFront}
 use Rattle.gate_io.specs.declared.ends.FileEnd.{FileEnd}
 use Rattle.gate_io.specs.declared.ends.FileEnd.TheVariants.{Failed, TooLong, OutOfMemory}
 use Rattle.wasm_syntax.specs.Grammar.{header, header_read, body_read, most_bytes, module_read, FirstFault}
+use Rattle.gate_config.specs.Given.{given}
+use Rattle.gate_config.specs.declared.config.Config.{Config}
 use Rattle.read_config.specs.Whole.{config_of}
 use Rattle.wasm_syntax.specs.declared.module.Module.{Module}
-use Rattle.config_files.specs.Modules.{IsModule, IsFilter}
-use Rattle.config_files.specs.Loading.{Told, IsCode, IsNoCodeOf, IsNoCode, ReadsNoCode, ReadsRefused}
+use Rattle.config_files.specs.Modules.{HasFault, IsFilter, IsModule}
+use Rattle.config_files.specs.Loading.{Told, HoldsOf, IsCode, IsConfigEnd, IsNoCode, IsNoCodeOf, IsNoConfig, IsNoConfigAt, IsRead, OfFile, ReadsNoCode, ReadsRefused}
 use Rattle.config_files.specs.declared.reading.CodeEnd.{CodeEnd}
 use Rattle.config_files.specs.declared.reading.CodeEnd.TheVariants as code
 use Rattle.config_files.specs.declared.reading.LoadEnd.{LoadEnd}
 use Rattle.config_files.specs.declared.reading.LoadEnd.TheVariants as load
 use Rattle.config_files.specs.declared.modules.ModuleFault.{ModuleFault}
 
-pub told_bytes : (files : Told) (path : List ℕ) (most : ℕ) (r : Result (List ℕ) FileEnd) → ReadsTold files path most r → IfOk r (λ bytes. (text : List ℕ) → told_at files path ≡ Some text → bytes ≡ text)
-told_bytes None path most (Ok bytes) h = λ text e. absurd (cc)
-told_bytes (Some fs) path most (Ok bytes) h = λ text e. cc
-told_bytes files path most (Err e) h = tt
+-- what holds of the bytes that were read holds of the file
+pub of_file : (files : Told) (path bytes : List ℕ) (most : ℕ) (P : List ℕ → Type 0) → ReadsTold files path most (Ok bytes) → P bytes → OfFile files path P
+of_file None path bytes most P h p = tt
+of_file (Some fs) path bytes most P h p = subst (λ (o : Option (List ℕ)). HoldsOf o P) (sym h) p
 
-pub long_bytes : (files : Told) (path : List ℕ) (most : ℕ) (r : Result (List ℕ) FileEnd) → ReadsTold files path most r → r ≡ Err TooLong → (text : List ℕ) → told_at files path ≡ Some text → most < length text
-long_bytes files path most (Ok bytes) h e text t = cc
-long_bytes None path most (Err TooLong) h e text t = absurd (cc)
-long_bytes (Some fs) path most (Err TooLong) h e text t = let same : h.0 ≡ text = cc (h.1) in subst (λ (b : List ℕ). most < length b) same h.2
-long_bytes files path most (Err Failed) h e text t = cc
-long_bytes files path most (Err OutOfMemory) h e text t = cc
+-- what holds of all longer texts holds of a file that is longer
+pub of_long : (files : Told) (path : List ℕ) (most : ℕ) (P : List ℕ → Type 0) → ReadsTold files path most (Err TooLong) → ((text : List ℕ) → most < length text → P text) → OfFile files path P
+of_long None path most P h p = tt
+of_long (Some fs) path most P h p = subst (λ (o : Option (List ℕ)). HoldsOf o P) (sym h.1) (p h.0 h.2)
 
 pub one_path : (path : List ℕ) (old new : Option (List (List ℕ))) (r : Result (List ℕ) FileEnd) → Gains old (noted path r) new → OnOk r (Gains old (path ∷ []) new)
 one_path path old new (Ok bytes) h = h
@@ -93,11 +93,41 @@ long_config text long =
     let past : nat_lt (2 ^ 20) (length text) ≡ true = grind (arith, nat_tests) in
     rw past
 
--- what is said of the bytes of a file is said of the file
-pub no_code : (files : Told) (path bytes : List ℕ) (pages : ℕ) (e : CodeEnd) → ((text : List ℕ) → told_at files path ≡ Some text → bytes ≡ text) → IsNoCodeOf bytes pages e → IsNoCode files path pages e
-no_code files path bytes pages (code.Refused fault) same h = λ text told. subst (λ (b : List ℕ). IsNoCodeOf b pages (code.Refused fault)) (same text told) h
-no_code files path bytes pages code.FileFault same h = absurd h
-no_code files path bytes pages code.OutOfMemory same h = tt
+-- nothing holds of a file that is missing
+pub of_missing : (files : List (List ℕ × List ℕ)) (path : List ℕ) (P : List ℕ → Type 0) → file_at files path ≡ None → OfFile (Some files) path P → ⊥
+of_missing files path P missing h = subst (λ (o : Option (List ℕ)). HoldsOf o P) missing h
 
-pub code_is : (files : Told) (path bytes : List ℕ) (pages : ℕ) (m : Module) → ((text : List ℕ) → told_at files path ≡ Some text → bytes ≡ text) → IsFilter bytes pages m → IsCode files path pages m
-code_is files path bytes pages m same h = record { file = λ text told. subst (λ (b : List ℕ). IsModule b m) (same text told) h.is; fits = h.fits }
+-- ---- what is said of the bytes of a file is said of the file
+
+pub no_code : (files : Told) (path bytes : List ℕ) (most pages : ℕ) (e : CodeEnd) → ReadsTold files path most (Ok bytes) → IsNoCodeOf bytes pages e → IsNoCode files path pages e
+no_code files path bytes most pages (code.Refused fault) read h = of_file files path bytes most (λ b. HasFault b pages fault) read h
+no_code files path bytes most pages code.FileFault read h = absurd h
+no_code files path bytes most pages code.OutOfMemory read h = tt
+
+pub no_codes : {T : Type 0} (files : Told) (path bytes : List ℕ) (most pages : ℕ) (r : Result T CodeEnd) → ReadsTold files path most (Ok bytes) → IfErr r (IsNoCodeOf bytes pages) → IfErr r (IsNoCode files path pages)
+no_codes files path bytes most pages (Ok x) read h = tt
+no_codes files path bytes most pages (Err e) read h = no_code files path bytes most pages e read h
+
+pub codes_are : (files : Told) (path bytes : List ℕ) (most pages : ℕ) (r : Result Module CodeEnd) → ReadsTold files path most (Ok bytes) → IfOk r (IsFilter bytes pages) → IfOk r (IsCode files path pages)
+codes_are files path bytes most pages (Ok m) read h = record { file = of_file files path bytes most (λ b. IsModule b m) read h.is; fits = h.fits }
+codes_are files path bytes most pages (Err e) read h = tt
+
+pub no_config : (files : Told) (path bytes : List ℕ) (most : ℕ) (e : LoadEnd) → ReadsTold files path most (Ok bytes) → IsNoConfig bytes e → IsNoConfigAt files path e
+no_config files path bytes most (load.Config number key) read h = of_file files path bytes most (λ b. config_of b ≡ Err (number, key)) read h
+no_config files path bytes most (load.Module vm fault) read h = h
+no_config files path bytes most load.FileFault read h = tt
+no_config files path bytes most load.OutOfMemory read h = tt
+
+pub no_configs : {T : Type 0} (files : Told) (path bytes : List ℕ) (most : ℕ) (r : Result T LoadEnd) → ReadsTold files path most (Ok bytes) → IfErr r (IsNoConfig bytes) → IfErr r (IsNoConfigAt files path)
+no_configs files path bytes most (Ok x) read h = tt
+no_configs files path bytes most (Err e) read h = no_config files path bytes most e read h
+
+pub configs_are : (files : Told) (path bytes : List ℕ) (most : ℕ) (r : Result Config LoadEnd) → ReadsTold files path most (Ok bytes) → IfOk r (λ c. config_of bytes ≡ Ok (given c)) → IfOk r (λ c. IsRead files path (Ok (given c)))
+configs_are files path bytes most (Ok c) read h = of_file files path bytes most (λ b. config_of b ≡ Ok (given c)) read h
+configs_are files path bytes most (Err e) read h = tt
+
+pub long_no_config : (files : Told) (path : List ℕ) (most : ℕ) (e : LoadEnd) → ReadsTold files path most (Err TooLong) → ((text : List ℕ) → most < length text → IsNoConfig text e) → IsConfigEnd e → IsNoConfigAt files path e
+long_no_config files path most (load.Config number key) read h is = of_long files path most (λ b. config_of b ≡ Err (number, key)) read h
+long_no_config files path most (load.Module vm fault) read h is = is
+long_no_config files path most load.FileFault read h is = tt
+long_no_config files path most load.OutOfMemory read h is = tt

@@ -8,12 +8,12 @@ use Rattle.gate_config.specs.declared.entries.VmEntry.{VmEntry}
 use Rattle.gate_config.specs.Given.{Given, holding}
 use Rattle.gate_config.specs.Kept.{IsVm}
 use Rattle.machines.specs.Making.{FitsBy, HasFilter}
-use Rattle.gate_io.specs.Paths.{told_at}
+use Rattle.gate_io.specs.Paths.{file_at}
 use Rattle.read_config.specs.Whole.{Judged, config_of}
 use Rattle.config_files.specs.declared.modules.ModuleFault.{ModuleFault}
 use Rattle.config_files.specs.declared.reading.LoadEnd.{LoadEnd}
 use Rattle.config_files.specs.declared.reading.LoadEnd.TheVariants.{Config as NoConfig, Module as NoModule, FileFault, OutOfMemory}
-use Rattle.config_files.specs.Loading.{Told, IsCode, HasCode, HoldsCode, AllHold, Holding, IsBad, IsBadAt, IsBadIn, IsConfigEnd, IsFirstBadAt, IsNoConfig, IsNotLoaded, HasModule, NoneBehind, NoneBehindConfig, ReadsInOrder, ReadsModules, ReadsRefused, StopsAt, StopsIn, modules_of, module_at, pages_at, paths_of}
+use Rattle.config_files.specs.Loading.{Told, IsCode, HasCode, HoldsCode, AllHold, Holding, IsBad, IsBadAt, IsBadIn, HoldsOf, IsConfigEnd, IsFirstBadAt, IsJudged, IsNoConfig, IsNoConfigAt, IsNotLoaded, IsOfText, IsRead, HasModule, NoneBehind, NoneBehindConfig, ReadsInOrder, ReadsModules, ReadsRefused, StopsAt, StopsIn, modules_of, module_at, pages_at}
 
 pub module_same : (files : Told) (n : ℕ) (old held : List VmEntry) → Holding files n old held → module_at n held ≡ module_at n old
 module_same files zero old held h = ap (module_at 0) h
@@ -207,11 +207,11 @@ one_read files path (Ok said) (x ∷ y ∷ front) rest e = absurd (cc)
 one_read files path (Err refusal) (x ∷ y ∷ front) rest e = absurd (cc)
 
 -- at most the configuration was read
-reads_one : (files : Told) (path : List ℕ) (judged : Judged) (old new : Option (List (List ℕ))) → ((text : List ℕ) → told_at files path ≡ Some text → judged ≡ config_of text)
+reads_one : (files : Told) (path : List ℕ) (judged : Judged) (old new : Option (List (List ℕ))) → IsJudged files path judged
     → GainsFront old (path ∷ []) new → ReadsInOrder files path old new
-reads_one files path (Ok said) old new told h = record {
+reads_one files path (Ok said) old new is h = record {
   judged = Ok said;
-  told = told;
+  of_file = is;
   gained = record {
     front = h.front;
     rest = h.rest ++ modules_of said.vms;
@@ -220,26 +220,44 @@ reads_one files path (Ok said) old new told h = record {
   };
   none_behind = one_read files path (Ok said) h.front h.rest h.whole_is;
 }
-reads_one files path (Err refusal) old new told h = record {
+reads_one files path (Err refusal) old new is h = record {
   judged = Err refusal;
-  told = told;
+  of_file = is;
   gained = h;
   none_behind = one_read files path (Err refusal) h.front h.rest h.whole_is;
 }
 
-by_told : (files : Told) (path : List ℕ) (old new : Option (List (List ℕ))) (o : Option (List ℕ)) → told_at files path ≡ o → GainsFront old (path ∷ []) new → ReadsInOrder files path old new
-by_told files path old new None e h = reads_one files path (Err (1, [])) old new (λ text t. absurd (let bad : None ≡ Some text = sym e ∙ t in cc)) h
-by_told files path old new (Some bytes) e h = reads_one files path (config_of bytes) old new (λ text t. ap config_of (let same : Some bytes ≡ Some text = sym e ∙ t in cc)) h
+-- what the text of a file comes to as a configuration, and some refusal where it is missing
+abbrev judged_at : Option (List ℕ) → Judged
+judged_at None = Err (0, [])
+judged_at (Some text) = config_of text
+
+judged_is : (o : Option (List ℕ)) → IsOfText o (judged_at o)
+judged_is None = tt
+judged_is (Some text) = refl
+
+pub some_judged : (files : Told) (path : List ℕ) → (judged : Judged) × IsJudged files path judged
+some_judged None path = (Err (0, []), tt)
+some_judged (Some fs) path = (judged_at (file_at fs path), judged_is (file_at fs path))
 
 pub first_read : (files : Told) (path : List ℕ) (old new : Option (List (List ℕ))) → GainsFront old (path ∷ []) new → ReadsInOrder files path old new
-first_read files path old new h = by_told files path old new (told_at files path) refl h
+first_read files path old new h = let j = some_judged files path in reads_one files path j.0 old new j.1 h
+
+judged_text : (o : Option (List ℕ)) (judged : Judged) → HoldsOf o (λ text. config_of text ≡ judged) → IsOfText o judged
+judged_text None judged h = absurd h
+judged_text (Some text) judged h = h
+
+-- what is read of a file is what it comes to
+pub judged_of : (files : Told) (path : List ℕ) (judged : Judged) → IsRead files path judged → IsJudged files path judged
+judged_of None path judged h = tt
+judged_of (Some fs) path judged h = judged_text (file_at fs path) judged h
 
 -- the configuration was read, and then modules
-pub then_read : (files : Told) (path : List ℕ) (said : Given) (a b c : Option (List (List ℕ))) → ((text : List ℕ) → told_at files path ≡ Some text → config_of text ≡ Ok said)
+pub then_read : (files : Told) (path : List ℕ) (said : Given) (a b c : Option (List (List ℕ))) → IsRead files path (Ok said)
     → Gains a (path ∷ []) b → ReadsModules files said.vms b c → ReadsInOrder files path a c
 then_read files path said a b c read one r = record {
   judged = Ok said;
-  told = λ text t. sym (read text t);
+  of_file = judged_of files path (Ok said) read;
   gained = record {
     front = path ∷ r.gained.front;
     rest = r.gained.rest;
@@ -249,7 +267,7 @@ then_read files path said a b c read one r = record {
   none_behind = r.none_behind;
 }
 
-pub then_stops : (files : Told) (path : List ℕ) (said : Given) (e : LoadEnd) (a b c : Option (List (List ℕ))) → ((text : List ℕ) → told_at files path ≡ Some text → config_of text ≡ Ok said)
+pub then_stops : (files : Told) (path : List ℕ) (said : Given) (e : LoadEnd) (a b c : Option (List (List ℕ))) → IsRead files path (Ok said)
     → Gains a (path ∷ []) b → StopsIn files said.vms e b c → StopsAt files path e a c
 then_stops files path said (NoModule name fault) a b c read one s = record {
   said = said;
@@ -280,8 +298,14 @@ pub text_read : {T : Type 0} (files : Told) (path text : List ℕ) (r : Result T
 text_read files path text (Ok x) a c is one = tt
 text_read files path text (Err e) a c is one = text_stops files path text e a c is one
 
-pub not_loaded : (files : Told) (text : List ℕ) (said : Given) (e : LoadEnd) → config_of text ≡ Ok said → IsBadIn files said.vms e → IsNotLoaded files text e
-not_loaded files text said (NoModule name fault) read h = record { said = said; read = read; first = h }
-not_loaded files text said (NoConfig number key) read h = absurd h
-not_loaded files text said FileFault read h = tt
-not_loaded files text said OutOfMemory read h = tt
+pub not_loaded : (files : Told) (path : List ℕ) (said : Given) (e : LoadEnd) → IsRead files path (Ok said) → IsBadIn files said.vms e → IsNotLoaded files path e
+not_loaded files path said (NoModule name fault) read h = record { said = said; read = read; first = h }
+not_loaded files path said (NoConfig number key) read h = absurd h
+not_loaded files path said FileFault read h = tt
+not_loaded files path said OutOfMemory read h = tt
+
+pub no_config_loaded : (files : Told) (path : List ℕ) (e : LoadEnd) → IsNoConfigAt files path e → IsNotLoaded files path e
+no_config_loaded files path (NoConfig number key) h = h
+no_config_loaded files path (NoModule name fault) h = absurd h
+no_config_loaded files path FileFault h = tt
+no_config_loaded files path OutOfMemory h = tt

@@ -1,6 +1,6 @@
 -- What is read from files: the text of a configuration, and then the module of each of its VMs, in their order.
 use Rattle.std.specs.Prelude.{◌≡◌, ◌⊎◌, ℕ, zero, suc, List, [], ◌∷◌, map, take, Option, None, Some, Ok, Err}
-use Rattle.gate_io.specs.Paths.{told_at}
+use Rattle.gate_io.specs.Paths.{file_at}
 use Rattle.gate_io.specs.Told.{Gains, GainsFront}
 use Rattle.wasm_syntax.specs.declared.module.Module.{Module}
 use Rattle.gate_config.specs.declared.entries.VmEntry.{VmEntry}
@@ -20,14 +20,24 @@ use Rattle.config_files.specs.declared.reading.LoadEnd.TheVariants.{Config as No
 abbrev pub Told : Type 0
 Told = Option (List (List ℕ × List ℕ))
 
--- this module is one of a filter whose memory may have so many pages, and the file of this path is it, where that is told
+-- a file is there, and this holds of its bytes
+abbrev pub HoldsOf : Option (List ℕ) → (List ℕ → Type 0) → Type 0
+HoldsOf None P = ⊥
+HoldsOf (Some bytes) P = P bytes
+
+-- where the files are told, that of this path is among them, and this holds of its bytes
+abbrev pub OfFile : Told → List ℕ → (List ℕ → Type 0) → Type 0
+OfFile None path P = Unit {0}
+OfFile (Some files) path P = HoldsOf (file_at files path) P
+
+-- the file of this path is this module, which is one of a filter whose memory may have so many pages
 pub record IsCode (files : Told) (path : List ℕ) (pages : ℕ) (m : Module) : Type 0 where
-  pub file : (bytes : List ℕ) → told_at files path ≡ Some bytes → IsModule bytes m
+  pub file : OfFile files path (λ bytes. IsModule bytes m)
   pub fits : fit_fault m pages ≡ None
 
--- the file of this path has this fault as a module with so many pages, where it is told
+-- the file of this path has this fault as a module with so many pages
 abbrev pub HasFaultAt : Told → List ℕ → (pages : ℕ) → ModuleFault → Type 0
-HasFaultAt files path pages fault = (bytes : List ℕ) → told_at files path ≡ Some bytes → HasFault bytes pages fault
+HasFaultAt files path pages fault = OfFile files path (λ bytes. HasFault bytes pages fault)
 
 -- the second is the first with the module of its file
 pub record HoldsCode (files : Told) (vm held : VmEntry) : Type 0 where
@@ -57,24 +67,28 @@ IsFirstBad files (vm ∷ vms) name fault =
     ((vm.name ≡ name) × HasFaultAt files vm.«module» vm.pages fault)
     ⊎ ((m : Module) × IsCode files vm.«module» vm.pages m × IsFirstBad files vms name fault)
 
--- THE CONFIGURATION OF A FILE: what its text says, and each VM holds the module of its file
-pub record IsLoaded (files : Told) (text : List ℕ) (config : Given) : Type 0 where
+-- the text of the file of this path comes to this as a configuration
+abbrev pub IsRead : Told → List ℕ → Judged → Type 0
+IsRead files path judged = OfFile files path (λ text. config_of text ≡ judged)
+
+-- THE CONFIGURATION OF A FILE: what its text says, and each VM holds the module of its file. None of these files is missing.
+pub record IsLoaded (files : Told) (path : List ℕ) (config : Given) : Type 0 where
   pub said : Given
-  pub read : config_of text ≡ Ok said
+  pub read : IsRead files path (Ok said)
   pub holds : HoldsAll files said config
 
--- the text is a configuration, and this module is the first bad one of its VMs
-pub record HasBadModule (files : Told) (text name : List ℕ) (fault : ModuleFault) : Type 0 where
+-- the text of the file of this path is a configuration, and this module is the first bad one of its VMs
+pub record HasBadModule (files : Told) (path name : List ℕ) (fault : ModuleFault) : Type 0 where
   pub said : Given
-  pub read : config_of text ≡ Ok said
+  pub read : IsRead files path (Ok said)
   pub first : IsFirstBad files said.vms name fault
 
--- why nothing was loaded, where the files tell the text of the configuration
+-- why nothing was loaded from the file of this path: it is there and is refused, or a module's is
 abbrev pub IsNotLoaded : Told → List ℕ → LoadEnd → Type 0
-IsNotLoaded files text (NoConfig number key) = config_of text ≡ Err (number, key)
-IsNotLoaded files text (NoModule vm fault) = HasBadModule files text vm fault
-IsNotLoaded files text FileFault = Unit {0}
-IsNotLoaded files text OutOfMemory = Unit {0}
+IsNotLoaded files path (NoConfig number key) = IsRead files path (Err (number, key))
+IsNotLoaded files path (NoModule vm fault) = HasBadModule files path vm fault
+IsNotLoaded files path FileFault = Unit {0}
+IsNotLoaded files path OutOfMemory = Unit {0}
 
 -- ---- the steps on the way
 
@@ -83,6 +97,12 @@ IsNoConfig text (NoConfig number key) = config_of text ≡ Err (number, key)
 IsNoConfig text (NoModule vm fault) = ⊥
 IsNoConfig text FileFault = Unit {0}
 IsNoConfig text OutOfMemory = Unit {0}
+
+abbrev pub IsNoConfigAt : Told → List ℕ → LoadEnd → Type 0
+IsNoConfigAt files path (NoConfig number key) = IsRead files path (Err (number, key))
+IsNoConfigAt files path (NoModule vm fault) = ⊥
+IsNoConfigAt files path FileFault = Unit {0}
+IsNoConfigAt files path OutOfMemory = Unit {0}
 
 abbrev pub refusal_of : ConfigEnd → LoadEnd
 refusal_of (Refused number key) = NoConfig number key
@@ -159,7 +179,7 @@ abbrev pub paths_of : List ℕ → Judged → List (List ℕ)
 paths_of path (Ok said) = path ∷ modules_of said.vms
 paths_of path (Err refusal) = path ∷ []
 
--- the file of this VM is a module that it can run, where it is told
+-- the file of this VM is a module that it can run
 abbrev pub HasCode : Told → VmEntry → Type 0
 HasCode files vm = (m : Module) × IsCode files vm.«module» vm.pages m
 
@@ -177,10 +197,21 @@ NoneBehindConfig files judged [] = Unit {0}
 NoneBehindConfig files (Ok said) (read ∷ reads) = NoneBehind files said.vms reads
 NoneBehindConfig files (Err refusal) (read ∷ reads) = reads ≡ []
 
+-- this is what a text comes to as a configuration; where there is none, it is not one
+abbrev pub IsOfText : Option (List ℕ) → Judged → Type 0
+IsOfText None (Ok said) = ⊥
+IsOfText None (Err refusal) = Unit {0}
+IsOfText (Some text) judged = config_of text ≡ judged
+
+-- the same of the text of the file of this path, where the files are told: a file that is missing names no module
+abbrev pub IsJudged : Told → List ℕ → Judged → Type 0
+IsJudged None path judged = Unit {0}
+IsJudged (Some files) path judged = IsOfText (file_at files path) judged
+
 -- THE FILES THAT ARE READ, on every end: those of a front of these paths, each once and in their order, and none behind a refusal
 pub record ReadsInOrder (files : Told) (path : List ℕ) (old new : Option (List (List ℕ))) : Type 0 where
   pub judged : Judged
-  pub told : (text : List ℕ) → told_at files path ≡ Some text → judged ≡ config_of text
+  pub of_file : IsJudged files path judged
   pub gained : GainsFront old (paths_of path judged) new
   pub none_behind : NoneBehindConfig files judged gained.front
 
@@ -199,7 +230,7 @@ pub record StopsAtBad (files : Told) (vms : List VmEntry) (name : List ℕ) (fau
 -- exactly the configuration and its modules up to and with the first bad one were read
 pub record StopsAtModule (files : Told) (path name : List ℕ) (fault : ModuleFault) (old new : Option (List (List ℕ))) : Type 0 where
   pub said : Given
-  pub read : (text : List ℕ) → told_at files path ≡ Some text → config_of text ≡ Ok said
+  pub read : IsRead files path (Ok said)
   pub place : ℕ
   pub first : IsFirstBadAt files place said.vms name fault
   pub gained : Gains old (path ∷ modules_of (take (suc place) said.vms)) new

@@ -1,12 +1,12 @@
 // A configuration and its modules from files.
 ghost use Rattle.std.specs.Prelude.{◌≡◌, ◌≢◌, ◌≤◌, ◌<◌, ◌∷◌, [], Some, Ok, Err, ℕ, List, All, IfOk, IfErr, OnOk, OnErr, length};
 ghost use Rattle.gate_config.specs.Given.{given};
-ghost use Rattle.gate_io.specs.Paths.{told_at};
+ghost use Rattle.gate_io.specs.Paths.{ReadsTold};
 ghost use Rattle.gate_io.specs.Told.{Gains, GainsFront, Rose};
 ghost use Rattle.read_config.specs.Whole.{config_of};
 ghost use Rattle.machines.specs.Making.{HasFilter};
 ghost use Rattle.config_files.specs.Modules.{IsFilter};
-ghost use Rattle.config_files.specs.Loading.{HasModule, HoldsAll, HoldsAt, IsBad, IsBadAt, IsBadIn, IsCode, IsConfigEnd, IsLoaded, IsModuleEnd, IsNoCode, IsNoCodeOf, IsNoConfig, IsNotLoaded, ReadsInOrder, ReadsModules, ReadsNoCode, ReadsRefused, StopsAt, StopsIn, module_at, modules_of, refusal_of};
+ghost use Rattle.config_files.specs.Loading.{HasModule, HoldsAll, HoldsAt, IsBad, IsBadAt, IsBadIn, IsCode, IsConfigEnd, IsLoaded, IsModuleEnd, IsNoCode, IsNoCodeOf, IsNoConfig, IsNoConfigAt, IsNotLoaded, IsRead, ReadsInOrder, ReadsModules, ReadsNoCode, ReadsRefused, StopsAt, StopsIn, module_at, modules_of, refusal_of};
 
 use crate::modules::{ModuleEnd, ModuleFault, read_code};
 use gate_base::{Octets, Text, VmNo};
@@ -49,8 +49,8 @@ enum CodeEnd {
 /// The configuration of the file of a path, each VM of which holds the module of its own file, which is one of a filter with the VM's
 /// pages. The files are read one by one, the configuration's first, then the modules' in the order of the VMs, and none behind a refusal.
 pub fn load<F: Files>(alloc: Global, path: &str, files: &mut F) -> Result<Config, LoadEnd>
-    ensures loaded { IfOk result (λ c. (text : List ℕ) → told_at (F.holds files.old) path.now ≡ Some text → IsLoaded (F.holds files.old) text (given c)) }
-    ensures refused { IfErr result (λ e. (text : List ℕ) → told_at (F.holds files.old) path.now ≡ Some text → IsNotLoaded (F.holds files.old) text e) }
+    ensures loaded { IfOk result (λ c. IsLoaded (F.holds files.old) path.now (given c)) }
+    ensures refused { IfErr result (IsNotLoaded (F.holds files.old) path.now) }
     ensures modules { IfOk result (λ c. All HasModule c.vms) }
     ensures filters { IfOk result (λ c. All HasFilter c.vms) }
     ensures all_read { IfOk result (λ c. Gains (F.paths files.old) (path.now ∷ modules_of c.vms) (F.paths files.new)) }
@@ -72,8 +72,8 @@ pub fn load<F: Files>(alloc: Global, path: &str, files: &mut F) -> Result<Config
 
 /// The configuration of the file of a path, without modules.
 fn read_text<F: Files>(alloc: Global, path: &str, files: &mut F) -> Result<Config, LoadEnd>
-    ensures read { IfOk result (λ c. (text : List ℕ) → told_at (F.holds files.old) path.now ≡ Some text → config_of text ≡ Ok (given c)) }
-    ensures refused { IfErr result (λ e. (text : List ℕ) → told_at (F.holds files.old) path.now ≡ Some text → IsNoConfig text e) }
+    ensures read { IfOk result (λ c. IsRead (F.holds files.old) path.now (Ok (given c))) }
+    ensures refused { IfErr result (IsNoConfigAt (F.holds files.old) path.now) }
     ensures one { OnOk result (Gains (F.paths files.old) (path.now ∷ []) (F.paths files.new)) }
     ensures front { OnErr result (GainsFront (F.paths files.old) (path.now ∷ []) (F.paths files.new)) }
     ensures stopped { IfErr result (λ e. StopsAt (F.holds files.old) path.now e (F.paths files.old) (F.paths files.new)) }
@@ -256,8 +256,7 @@ fn read_file<F: Files>(
     files: &mut F,
 ) -> Result<Octets, FileEnd>
     requires { most ≤ 67108864 }
-    ensures told { IfOk result (λ bytes. (text : List ℕ) → told_at (F.holds files.old) path.now ≡ Some text → bytes ≡ text) }
-    ensures long { result ≡ Err FileEnd.TooLong → (text : List ℕ) → told_at (F.holds files.old) path.now ≡ Some text → most < length text }
+    ensures content { ReadsTold (F.holds files.old) path.now most result }
     ensures one { OnOk result (Gains (F.paths files.old) (path.now ∷ []) (F.paths files.new)) }
     ensures front { OnErr result (GainsFront (F.paths files.old) (path.now ∷ []) (F.paths files.new)) }
     ensures long_read { result ≡ Err FileEnd.TooLong → Gains (F.paths files.old) (path.now ∷ []) (F.paths files.new) }

@@ -2,7 +2,7 @@ use Rattle.std.proofs.Common.{inl, inr, subst, sym, Some}
 use Rattle.gate_config.specs.Given.{given}
 use Rattle.gate_io.specs.Told.{gains_nothing}
 use Rattle.statuses.specs.declared.status.Status.{Status}
-use Rattle.commands.specs.Doing.{RefusesFile}
+use Rattle.config_files.specs.Loading.{IsNotLoaded}
 use Rattle.commands.specs.Scripts.{IsUnloaded, Plays}
 use Rattle.commands.proofs.Loaded.{unloaded}
 use Rattle.commands.proofs.FilesRead.{reads_config, reads_config_stopped}
@@ -21,8 +21,8 @@ returns-in-Ok-clause-replays g c =
 pub returns-in-Err-clause-replays : goal.returns-in-Err-clause-replays
 returns-in-Err-clause-replays g c =
     inl (
-      subst (λ (s : Status). IsUnloaded (RefusesFile (g.F.Files.holds c.args.files.now) c.args.config.now) s) (sym c.of_load.ensures)
-          (unloaded (RefusesFile (g.F.Files.holds c.args.files.now) c.args.config.now) c.in-Err.end c.in-Err.ensures.refused),
+      subst (λ (s : Status). IsUnloaded (IsNotLoaded (g.F.Files.holds c.args.files.now) c.args.config.now) s) (sym c.of_load.ensures)
+          (unloaded (IsNotLoaded (g.F.Files.holds c.args.files.now) c.args.config.now) c.in-Err.end c.in-Err.ensures.refused),
       gains_nothing (g.O.Sink.taken c.args.out.now),
     )
 

@@ -2,16 +2,19 @@ use Rattle.std.proofs.Common.{List, ℕ, [], ◌∷◌, sym, subst}
 use Rattle.gate_config.specs.Given.{given}
 use Rattle.gate_io.specs.Told.{Gains, gains_more}
 use Rattle.config_files.specs.Loading.{Told, HoldsAll, IsBadIn, ReadsModules, StopsIn, modules_of}
-use Rattle.config_files.proofs.Steps.{first_read, modules_held, not_loaded, then_read, then_stops}
+use Rattle.config_files.proofs.Steps.{first_read, modules_held, no_config_loaded, not_loaded, then_read, then_stops}
 use Rattle.config_files.proofs.reading.load.Goals as goal
+
+pub returns-in-Err-clause-refused : goal.returns-in-Err-clause-refused
+returns-in-Err-clause-refused g c = no_config_loaded (g.F.Files.holds c.args.files.now) c.args.path.now c.in-Err.end c.in-Err.ensures.refused
 
 pub returns-in-Err-clause-paths : goal.returns-in-Err-clause-paths
 returns-in-Err-clause-paths g c = first_read (g.F.Files.holds c.args.files.now) c.args.path.now (g.F.Files.paths c.args.files.now) (g.F.Files.paths c.read_text.new.files) c.in-Err.ensures.front
 
 pub returns-in-Ok-load_modules-clause-loaded : goal.returns-in-Ok-load_modules-clause-loaded
-returns-in-Ok-load_modules-clause-loaded g c text told = record {
+returns-in-Ok-load_modules-clause-loaded g c = record {
   said = given c.in-Ok.config;
-  read = c.in-Ok.ensures.read text told;
+  read = c.in-Ok.ensures.read;
   holds = subst (λ (t : Told). HoldsAll t (given c.in-Ok.config) (given c.load_modules.new.config)) c.read_text.ensures.holds c.in-Ok-load_modules.ensures.holding;
 }
 
@@ -29,8 +32,8 @@ returns-in-Ok-load_modules-clause-paths g c =
     then_read (g.F.Files.holds c.args.files.now) c.args.path.now (given c.in-Ok.config) (g.F.Files.paths c.args.files.now) mid new c.in-Ok.ensures.read c.in-Ok.ensures.one reads
 
 pub returns-in-Err-load_modules-clause-refused : goal.returns-in-Err-load_modules-clause-refused
-returns-in-Err-load_modules-clause-refused g c text told =
-    not_loaded (g.F.Files.holds c.args.files.now) text (given c.in-Ok.config) c.in-Err-load_modules.end (c.in-Ok.ensures.read text told)
+returns-in-Err-load_modules-clause-refused g c =
+    not_loaded (g.F.Files.holds c.args.files.now) c.args.path.now (given c.in-Ok.config) c.in-Err-load_modules.end c.in-Ok.ensures.read
     (subst (λ (t : Told). IsBadIn t c.in-Ok.config.vms c.in-Err-load_modules.end) c.read_text.ensures.holds c.in-Err-load_modules.ensures.refused)
 
 pub returns-in-Err-load_modules-clause-paths : goal.returns-in-Err-load_modules-clause-paths

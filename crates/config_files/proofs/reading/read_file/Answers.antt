@@ -1,11 +1,5 @@
-use Rattle.config_files.proofs.Read.{told_bytes, long_bytes, one_path, front_path, long_path}
+use Rattle.config_files.proofs.Read.{one_path, front_path, long_path}
 use Rattle.config_files.proofs.reading.read_file.Goals as goal
-
-pub returns-clause-told : goal.returns-clause-told
-returns-clause-told g c = told_bytes (g.F.Files.holds c.args.files.now) c.args.path.now c.args.most c.read.result c.read.ensures.content
-
-pub returns-clause-long : goal.returns-clause-long
-returns-clause-long g c = long_bytes (g.F.Files.holds c.args.files.now) c.args.path.now c.args.most c.read.result c.read.ensures.content
 
 pub returns-clause-one : goal.returns-clause-one
 returns-clause-one g c = one_path c.args.path.now (g.F.Files.paths c.args.files.now) (g.F.Files.paths c.read.new.self) c.read.result c.read.ensures.paths
