@@ -4,6 +4,7 @@ mod Eaches
 mod Ending
 mod Faults
 mod Listing
+mod Meant
 mod Moving
 mod Posting
 mod Sharing

@@ -32,7 +32,7 @@ module _ {H S : Type 0} (calling : Calling H) (performs : S → List Made → S 
   -- so many turns that took an event each, which was not Stop
   abbrev pub Turns : ℕ → S → Option (List Passed) → Standing H → Standing H → S → Option (List Passed) → Type 0
   Turns zero s old from to t new = (to ≡ from) × (t ≡ s) × (new ≡ old)
-  Turns (suc n) s old from to t new = (at : Standing H) × (u : S) × (mid : Option (List Passed)) × Turns n s old from at u mid × Turned calling performs u mid at Went to t new
+  Turns (suc n) s old from to t new = (at : Standing H) × (u : S) × (mid : Option (List Passed)) × Turns n s old from at u mid × Turned calling performs u mid at Went to t new × (to.setting ≡ at.setting)
 
   -- turns from a standing on, of which the last ended so, and was not one after which a worker goes on
   pub record Life (s : S) (old : Option (List Passed)) (from : Standing H) (end : Turn) (to : Standing H) (t : S) (new : Option (List Passed)) : Type 0 where
@@ -42,6 +42,7 @@ module _ {H S : Type 0} (calling : Calling H) (performs : S → List Made → S 
     pub mid : Option (List Passed)
     pub went : Turns count s old from before at mid
     pub last : Turned calling performs at mid before end to t new
+    pub setting_is : to.setting ≡ before.setting
     pub ended : end ≢ Went
 
   module _ (first : Standing H) where

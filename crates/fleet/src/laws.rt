@@ -1,5 +1,5 @@
 // What holds of all lives and of all fleets, as functions without a body.
-ghost use Rattle.fleet.specs.Laws.{EachVmHasOne, SeatsGoOnByLives, two_vms_leave_two};
+ghost use Rattle.fleet.specs.Laws.{EachVmHasOne, LivesAreMeant, SeatsGoOnByLives, two_vms_leave_two};
 
 use course::Host;
 use gate_io::World;
@@ -7,6 +7,11 @@ use gate_io::World;
 /// A worker's seats go on by the calls and asks that the turns of its lives made, one after the other.
 pub fn seats_go_on_by_lives<H: Host>()
     ensures { SeatsGoOnByLives H.calling }
+{}
+
+/// The turns of a life are those that its events mean, from where it began, with the replies of the worker's seats.
+pub fn lives_are_meant<H: Host>()
+    ensures { LivesAreMeant H.calling }
 {}
 
 /// However the workers of a fleet ended, each VM of the configuration came to one store, with one history of the calls of all workers, and

@@ -1,8 +1,10 @@
 mod Answered
 mod Fronts
+mod Meant
 mod Printing
 mod Progresses
 mod Starts
 mod Turns
 mod Once
+mod OneRun
 mod Stops

@@ -14,7 +14,7 @@ use Rattle.replay_script.specs.Scripts.{events_of, workers_of}
 use Rattle.course.specs.Course.{ends, Goes}
 use Rattle.store_model.specs.Sequential.{Stores, Performs}
 use Rattle.worker.specs.Plan.{Plan}
-use Rattle.worker.specs.State.{Setting, Standing, rules_of}
+use Rattle.worker.specs.State.{Standing, rules_of}
 use Rattle.worker.specs.Steps.{Both}
 use Rattle.worker.specs.Turn.{Outcome, outcome, turn}
 use Rattle.script_play.specs.Replay.{Setup, Placed, placed, place_all, placed_of, first_worker, first_workers, for_worker, plan_for, state_at, state_of, stores_for, Plays, PlaysFirst, Prints, PrintsFront, IsReady, Flushed, Advances}

@@ -1,7 +1,7 @@
 // What holds of every script, as functions without a body.
 ghost use Rattle.std.specs.Prelude.{List};
 ghost use Rattle.replay_script.specs.declared.command.Command.{Command};
-ghost use Rattle.script_play.specs.Laws.{EachHasItsWorker, OneReplay, FrontsOfOne, StopStandsForAll};
+ghost use Rattle.script_play.specs.Laws.{EachHasItsWorker, EachWorkerMeans, OneReplay, FrontsOfOne, ScriptsOfOneAreRuns, StopStandsForAll};
 
 /// Each event of a script happens at its worker, and nothing else happens.
 pub fn each_has_its_worker()
@@ -21,4 +21,15 @@ pub fn fronts_of_one<H>()
 /// Stop at further workers, behind a script's end, sends nothing.
 pub fn stop_stands_for_all<H>()
     ensures { StopStandsForAll H }
+{}
+
+/// Each worker of a script does what its events mean, with the replies of the stores that all share, and what the script sends is what these turns
+/// send.
+pub fn each_worker_means<H>()
+    ensures { EachWorkerMeans H }
+{}
+
+/// A script of one worker is one run of it, and any run of that worker at the same events, over such stores, sends the same.
+pub fn scripts_of_one_are_runs<H>()
+    ensures { ScriptsOfOneAreRuns H }
 {}

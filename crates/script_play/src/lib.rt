@@ -5,5 +5,8 @@ mod crew;
 mod laws;
 mod playing;
 
-pub use laws::{each_has_its_worker, fronts_of_one, one_replay, stop_stands_for_all};
+pub use laws::{
+    each_has_its_worker, each_worker_means, fronts_of_one, one_replay, scripts_of_one_are_runs,
+    stop_stands_for_all,
+};
 pub use playing::{PlayEnd, play};
