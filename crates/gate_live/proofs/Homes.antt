@@ -1,5 +1,5 @@
 -- Lines that go to the workers of their places.
-use Rattle.std.proofs.Common.{◌≡◌, ⊎_elim, inl, inr, ℕ, zero, suc, ◌+◌, ◌<◌, ◌≤◌, List, [], ◌∷◌, ◌++◌, set, get_or, length, length-set, refl, ap, sym, subst, ◌∙◌, arith}
+use Rattle.std.proofs.Common.{◌≡◌, inl, inr, ℕ, zero, suc, ◌+◌, ◌<◌, List, [], ◌∷◌, ◌++◌, set, get_or, length, length-set, sym, subst, arith}
 use Rattle.gate_live.specs.Numbers.{MayGain, home_of}
 use Rattle.gate_live.specs.Homes.{AreHome, AreHomeFrom, AreOf}
 use Rattle.gate_live.specs.declared.origin.Neighbor.{Neighbor}

@@ -1,5 +1,5 @@
 -- What is heard of the lines of a worker.
-use Rattle.std.specs.Prelude.{◌≡◌, ℕ, List, Option, Some, slice_get}
+use Rattle.std.specs.Prelude.{◌≡◌, ℕ, List, Some, slice_get}
 use Rattle.gate_io.specs.declared.event.What.{What}
 use Rattle.gate_live.specs.Allowed.{HoldsBack}
 use Rattle.gate_live.specs.Told.{IsOf}

@@ -1,4 +1,4 @@
-use Rattle.std.proofs.Common.{◌≡◌, ◌<◌, ◌+◌, ◌-◌, ◌∙◌, sym, subst, ap, length, get_or, arith}
+use Rattle.std.proofs.Common.{◌≡◌, ◌<◌, ◌+◌, ◌-◌, ◌∙◌, sym, subst, ap, length, arith}
 use Rattle.std.proofs.Math.Nat.{mod-lt}
 use Rattle.gate_live.specs.Numbers.{MayGain, home_of}
 use Rattle.gate_live.proofs.Homes.{home_own, home_offered}
