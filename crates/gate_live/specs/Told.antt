@@ -1,6 +1,7 @@
 -- Which line and bytes an event tells of.
 use Rattle.std.specs.Prelude.{◌≡◌, ℕ, List, [], length, take, Option, None, Some}
 use Rattle.gate_io.specs.declared.event.Side.{Side}
+use Rattle.gate_io.specs.declared.event.Side.TheVariants.{Down, Up}
 use Rattle.gate_io.specs.declared.event.What.{What}
 use Rattle.gate_io.specs.declared.event.What.TheVariants.{Opened, Bytes, End, Gone, Joined, Refused, Room, Clock, Stop}
 
@@ -27,6 +28,19 @@ IsOf line (Refused l) = l ≡ line
 IsOf line (Room l side) = l ≡ line
 IsOf line Clock = ⊥
 IsOf line Stop = ⊥
+
+-- an event of this connection of this line: what a read of it gave, of the client's that it has room again, of the server's that it was
+-- joined or refused
+abbrev pub IsHeardFrom : ℕ → Side → What → Type 0
+IsHeardFrom line side (Bytes l s bytes) = (l ≡ line) × (s ≡ side)
+IsHeardFrom line side (End l s) = (l ≡ line) × (s ≡ side)
+IsHeardFrom line side (Gone l s) = (l ≡ line) × (s ≡ side)
+IsHeardFrom line side (Room l s) = (l ≡ line) × ((s ≡ side) × (side ≡ Down))
+IsHeardFrom line side (Joined l) = (l ≡ line) × (side ≡ Up)
+IsHeardFrom line side (Refused l) = (l ≡ line) × (side ≡ Up)
+IsHeardFrom line side (Opened l) = ⊥
+IsHeardFrom line side Clock = ⊥
+IsHeardFrom line side Stop = ⊥
 
 -- its bytes are the first that lie in the room
 abbrev pub LiesIn : List ℕ → What → Type 0

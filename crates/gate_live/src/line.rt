@@ -3,7 +3,8 @@ ghost use Rattle.std.specs.Prelude.{◌≡◌, ◌≤◌, ◌↔◌, Bool, lengt
 ghost use Rattle.gate_io.specs.Events.{wanted};
 ghost use Rattle.gate_io.specs.Told.{Gains};
 ghost use Rattle.gate_live.specs.Allowed.{IsAllowed, HoldsBack};
-ghost use Rattle.gate_live.specs.Told.{IsOf, IsReadOf, LiesIn, bytes_told};
+ghost use Rattle.gate_live.specs.Told.{IsOf, IsReadOf, IsHeardFrom, LiesIn, bytes_told};
+ghost use Rattle.gate_io.specs.declared.event.Side.TheVariants as sides;
 ghost use Rattle.gate_live.specs.Waiting.{is_full};
 
 use crate::duplex::{Duplex, Heard};
@@ -71,6 +72,7 @@ fn heard_down(
 ) -> Result<Option<What>, OutOfMemory>
     ensures allowed { IfOk result (λ told. IfSome told (IsAllowed wants.now)) }
     ensures of { IfOk result (λ told. IfSome told (IsOf line)) }
+    ensures side { IfOk result (λ told. IfSome told (IsHeardFrom line sides.Down)) }
     ensures read { IfOk result (λ told. IfSome told (LiesIn room.new.bytes.items)) }
     ensures held { IfOk result (λ told. IfSome told (HoldsBack is_full)) }
 {
@@ -97,6 +99,7 @@ fn heard_up(
 ) -> Result<Option<What>, OutOfMemory>
     ensures allowed { IfOk result (λ told. IfSome told (IsAllowed wants.now)) }
     ensures of { IfOk result (λ told. IfSome told (IsOf line)) }
+    ensures side { IfOk result (λ told. IfSome told (IsHeardFrom line sides.Up)) }
     ensures read { IfOk result (λ told. IfSome told (LiesIn room.new.bytes.items)) }
     ensures free { (full : Bool) → IfOk result (λ told. IfSome told (HoldsBack full)) }
 {
@@ -150,6 +153,7 @@ impl Line {
     ) -> Result<Option<What>, OutOfMemory>
         ensures allowed { IfOk result (λ told. IfSome told (IsAllowed wants.now)) }
         ensures of { IfOk result (λ told. IfSome told (IsOf self.old.number)) }
+        ensures side { IfOk result (λ told. IfSome told (IsHeardFrom self.old.number sides.Down)) }
         ensures read { IfOk result (λ told. IfSome told (LiesIn room.new.bytes.items)) }
         ensures held { IfOk result (λ told. IfSome told (HoldsBack (is_full self.old.up))) }
         ensures number { self.new.number ≡ self.old.number }
@@ -174,6 +178,7 @@ impl Line {
     ) -> Result<Option<What>, OutOfMemory>
         ensures allowed { IfOk result (λ told. IfSome told (IsAllowed wants.now)) }
         ensures of { IfOk result (λ told. IfSome told (IsOf self.old.number)) }
+        ensures side { IfOk result (λ told. IfSome told (IsHeardFrom self.old.number sides.Up)) }
         ensures read { IfOk result (λ told. IfSome told (LiesIn room.new.bytes.items)) }
         ensures free { (full : Bool) → IfOk result (λ told. IfSome told (HoldsBack full)) }
     {

@@ -1,5 +1,6 @@
 // The sockets of one worker.
-ghost use Rattle.std.specs.Prelude.{◌≡◌, ◌<◌, ◌≤◌, length, vec_len, IfOk, IfSome};
+ghost use Rattle.std.specs.Prelude.{◌≡◌, ◌==◌, ◌<◌, ◌≤◌, length, vec_len, IfOk, IfSome};
+ghost use Rattle.std.specs.List.{position};
 ghost use Rattle.gate_live.specs.Allowed.{IsAllowed};
 ghost use Rattle.gate_live.specs.Lines.{IsHeardOf};
 ghost use Rattle.gate_live.specs.Told.{LiesIn};
@@ -74,9 +75,10 @@ pub fn moment<R: Clock>(rt: &R) -> Result<u64, WorldEnd> {
     }
 }
 
-/// The place of a line.
+/// The place of the line of this number.
 fn place_of(lines: &[Line], number: LineNo) -> Option<usize>
-    ensures { IfSome result (λ i. i < length lines.now) }
+    ensures place { result ≡ position (λ line. line.number == number) lines.now }
+    ensures within { IfSome result (λ i. i < length lines.now) }
 {
     lines.iter().position(|line| line.number == number)
 }
