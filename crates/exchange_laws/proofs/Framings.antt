@@ -1,5 +1,6 @@
 -- Framings on their way out.
-use Rattle.std.proofs.Common.{◌≡◌, ℕ, ◌==◌, Bool, true, false, not, ◌||◌, ◌&&◌, List, [], ◌∷◌, length, refl, ap, ◌∙◌, sym, subst}
+use Rattle.std.proofs.Common.{◌≡◌, ◌⊎◌, inl, inr, ℕ, ◌==◌, Bool, true, false, not, ◌||◌, ◌&&◌, List, [], ◌∷◌, length, refl, ap, ◌∙◌, sym, subst}
+use Rattle.std.proofs.lemmas.Bool.Decides.{eqb_tells}
 use Rattle.std.specs.Prelude.{if◌then◌else◌, Option, None, Some, Result, Ok, Err, nat_lt}
 use Rattle.std.specs.List.{flat_map}
 use Rattle.exchange.specs.declared.types.Request.{Request}
@@ -13,6 +14,7 @@ use Rattle.http1_model.specs.Length.{BodyLength, nothing, exactly, chunked, unti
 use Rattle.h1_write.specs.Heads.{frames_body, measure_said}
 use Rattle.h1_write.specs.Requests.{request_said}
 use Rattle.exchange_laws.specs.Framings.{RequestsKeepTheirLength, IsInStep, IsReceived, ResponsesStayInStep, is_chunks}
+use Rattle.exchange_laws.specs.Responses.{WasJudged}
 use Rattle.exchange_laws.proofs.Quiet.{by_bool}
 
 -- ---- the measures that are judged
@@ -98,7 +100,7 @@ told_unchunked None = refl
 told_unchunked (Some n) = refl
 
 -- a client of HTTP/1.0 is sent no chunks, whatever the response
-no_chunks_down : (filtered : Bool) (q : Request) (r : Response) (out : Option ℕ) → q.old_client ≡ true → is_chunks (down_framing filtered q r out) ≡ false
+pub no_chunks_down : (filtered : Bool) (q : Request) (r : Response) (out : Option ℕ) → q.old_client ≡ true → is_chunks (down_framing filtered q r out) ≡ false
 no_chunks_down filtered q r out old =
     by_bool (λ f. is_chunks f ≡ false) (lacks_body q.is_head out) _ _
     (λ e. by_bool (λ f. is_chunks f ≡ false) ((is_bare r.length || not filtered) && not (is_204 r.status || is_204 out)) (told_framing r.told) no_body (λ d. told_unchunked r.told) (λ d. refl))
@@ -156,19 +158,23 @@ measured_frames filtered old status may minor codings ls measure judged =
     (still_frames old (body_framing filtered chunked) (kept_frames filtered chunked refl)) minor codings ls measure judged
 
 -- where the client awaits a body: what was received had none whatever it told, or it is framed as a response with a body
-frames_down : (filtered : Bool) (q : Request) (r : Response) (out status : ℕ) → r.status ≡ Some status → is_without_body q.is_head out ≡ false
-    → (is_without_body r.to_head status ≡ false → Frames filtered q.old_client status r.told r.length) → frames_body (down_framing filtered q r (Some out)) ≡ true
-frames_down filtered q r out status is awaits else_ =
-    let later : frames_body (if lacks_body r.to_head r.status then by_length 0 else framing_of (is_bare r.length) filtered q.old_client r.status r.told (length_of r.length)) ≡ true
-    = subst (λ (o : Option ℕ). frames_body (if lacks_body r.to_head o then by_length 0 else framing_of (is_bare r.length) filtered q.old_client o r.told (length_of r.length)) ≡ true) (sym is)
-    (by_bool (λ f. frames_body f ≡ true) (is_without_body r.to_head status) (by_length 0) (framing_of (is_bare r.length) filtered q.old_client (Some status) r.told (length_of r.length)) (λ e. refl) else_) in
-    subst (λ b. frames_body (if b then (if (is_bare r.length || not filtered) && not (is_204 r.status || is_204 (Some out)) then told_framing r.told else no_body)
-    else (if lacks_body r.to_head r.status then by_length 0 else framing_of (is_bare r.length) filtered q.old_client r.status r.told (length_of r.length))) ≡ true) (sym awaits) later
+by_down : (P : Framing → Type 0) (filtered : Bool) (q : Request) (r : Response) (out : Option ℕ) (status : ℕ) → r.status ≡ Some status → lacks_body q.is_head out ≡ false → P (by_length 0)
+    → (is_without_body r.to_head status ≡ false → P (framing_of (is_bare r.length) filtered q.old_client (Some status) r.told (length_of r.length))) → P (down_framing filtered q r out)
+by_down P filtered q r out status is awaits empty else_ =
+    let later : P (if lacks_body r.to_head r.status then by_length 0 else framing_of (is_bare r.length) filtered q.old_client r.status r.told (length_of r.length))
+    = subst (λ (o : Option ℕ). P (if lacks_body r.to_head o then by_length 0 else framing_of (is_bare r.length) filtered q.old_client o r.told (length_of r.length))) (sym is)
+    (by_bool P (is_without_body r.to_head status) (by_length 0) (framing_of (is_bare r.length) filtered q.old_client (Some status) r.told (length_of r.length)) (λ e. empty) else_) in
+    subst (λ b. P (if b then (if (is_bare r.length || not filtered) && not (is_204 r.status || is_204 out) then told_framing r.told else no_body)
+    else (if lacks_body r.to_head r.status then by_length 0 else framing_of (is_bare r.length) filtered q.old_client r.status r.told (length_of r.length)))) (sym awaits) later
+
+frames_down : (filtered : Bool) (q : Request) (r : Response) (out : Option ℕ) (status : ℕ) → r.status ≡ Some status → lacks_body q.is_head out ≡ false
+    → (is_without_body r.to_head status ≡ false → Frames filtered q.old_client status r.told r.length) → frames_body (down_framing filtered q r out) ≡ true
+frames_down filtered q r out status is awaits else_ = by_down (λ f. frames_body f ≡ true) filtered q r out status is awaits refl else_
 
 in_step : (filtered : Bool) (q : Request) (r : Response) (out status : ℕ) → r.status ≡ Some status
     → (is_without_body r.to_head status ≡ false → Frames filtered q.old_client status r.told r.length) → IsInStep q out (down_framing filtered q r (Some out))
 in_step filtered q r out status is frames = record {
-  tells = λ awaits. frames_down filtered q r out status is awaits frames;
+  tells = λ awaits. frames_down filtered q r (Some out) status is awaits frames;
   written = λ awaits. ap (λ b. if b then no_body else down_framing filtered q r (Some out)) awaits;
   no_chunks = λ old. no_chunks_down filtered q r (Some out) old;
   none = λ awaits. ap (λ b. if b then no_body else down_framing filtered q r (Some out)) awaits;
@@ -177,16 +183,19 @@ in_step filtered q r out status is frames = record {
 abbrev left_of : Bool → ℕ → Measure → Measure
 left_of to_head status measure = without_body (is_without_body to_head status) measure
 
-received_in_step : (minor : ℕ) (codings ls : List (List ℕ)) (measure : Measure) (to_head : Bool) (status : ℕ) (r : Response) (filtered : Bool) (q : Request) (out : ℕ)
-    → response_measure minor codings ls ≡ Ok measure → IsReceived to_head status measure r → IsInStep q out (down_framing filtered q r (Some out))
-received_in_step minor codings ls measure to_head status r filtered q out judged is =
-    in_step filtered q r out status is.code
-    (λ bodied.
+received_frames : (minor : ℕ) (codings ls : List (List ℕ)) (measure : Measure) (to_head : Bool) (status : ℕ) (r : Response) (filtered old : Bool)
+    → response_measure minor codings ls ≡ Ok measure → IsReceived to_head status measure r → is_without_body r.to_head status ≡ false → Frames filtered old status r.told r.length
+received_frames minor codings ls measure to_head status r filtered old judged is bodied =
     let here : is_without_body to_head status ≡ false = ap (λ b. is_without_body b status) (sym is.method) ∙ bodied in
     let len : r.length ≡ length_in measure.length = is.length ∙ ap (λ b. length_in (without_body b measure).length) here in
     let told : r.told ≡ measure.told = is.told ∙ ap (λ b. (without_body b measure).told) here in
-    (λ i. frames_body (framing_of (is_bare (len i)) filtered q.old_client (Some status) (told i) (length_of (len i))))
-    ∙ measured_frames filtered q.old_client status (may_tell_there to_head status here) minor codings ls measure judged)
+    (λ i. frames_body (framing_of (is_bare (len i)) filtered old (Some status) (told i) (length_of (len i))))
+    ∙ measured_frames filtered old status (may_tell_there to_head status here) minor codings ls measure judged
+
+received_in_step : (minor : ℕ) (codings ls : List (List ℕ)) (measure : Measure) (to_head : Bool) (status : ℕ) (r : Response) (filtered : Bool) (q : Request) (out : ℕ)
+    → response_measure minor codings ls ≡ Ok measure → IsReceived to_head status measure r → IsInStep q out (down_framing filtered q r (Some out))
+received_in_step minor codings ls measure to_head status r filtered q out judged is =
+    in_step filtered q r out status is.code (received_frames minor codings ls measure to_head status r filtered q.old_client judged is)
 
 -- an answer with a body tells its length
 without_head : (to_head : Bool) (status : ℕ) → is_without_body to_head status ≡ false → is_without_body false status ≡ false
@@ -207,6 +216,83 @@ answered_in_step : (answered_to q : Request) (status : ℕ) (body : List ℕ) (f
     → IsInStep q out (down_framing filtered q (answer_of answered_to status body) (Some out))
 answered_in_step answered_to q status body filtered out =
     in_step filtered q (answer_of answered_to status body) out status refl (λ bodied. answer_told answered_to.is_head filtered q.old_client status body bodied)
+
+-- ---- heads with an end flag
+
+-- where a body is awaited, one of no bytes is told
+abbrev Empties : Bool → Bool → ℕ → Option ℕ → Length → Type 0
+Empties filtered old status told l = is_bare l ≡ true → framing_of (is_bare l) filtered old (Some status) told (length_of l) ≡ by_length 0
+
+told_empty : (filtered old : Bool) (status n : ℕ) → may_tell (Some status) ≡ true → n ≡ 0 → framing_of true filtered old (Some status) (Some n) nothing ≡ by_length 0
+told_empty filtered old status n may none = ap (λ b. for_client old (if b then by_length n else no_body)) may ∙ ap by_length none
+
+is_zero : (n : ℕ) → (n == 0) ≡ true → n ≡ 0
+is_zero n is = by_test (eqb_tells n 0)
+  where
+    by_test : (((n == 0) ≡ true) × (n ≡ 0)) ⊎ (((n == 0) ≡ false) × (n ≡ 0 → ⊥)) → n ≡ 0
+    by_test (inl equal) = equal.1
+    by_test (inr other) = let e : ◌≡◌ {A = Bool} false true = sym other.0 ∙ is in absurd (cc)
+
+abbrev EmptyMeasure : Bool → Bool → ℕ → Measure → Type 0
+EmptyMeasure filtered old status m = Empties filtered old status m.told (length_in m.length)
+
+number_empty : (filtered old : Bool) (status : ℕ) → may_tell (Some status) ≡ true → (n : ℕ) → EmptyMeasure filtered old status (record { length = if n == 0 then nothing else exactly n; told = Some n })
+number_empty filtered old status may n = by_zero (n == 0) (λ e. is_zero n e)
+  where
+    by_zero : (b : Bool) → (b ≡ true → n ≡ 0) → EmptyMeasure filtered old status (record { length = if b then nothing else exactly n; told = Some n })
+    by_zero true zeroed = λ bare. told_empty filtered old status n may (zeroed refl)
+    by_zero false zeroed = λ bare. absurd (cc)
+
+measured_empty : (filtered old : Bool) (status : ℕ) → may_tell (Some status) ≡ true → (minor : ℕ) (codings lengths : List (List ℕ)) (measure : Measure)
+    → response_measure minor codings lengths ≡ Ok measure → EmptyMeasure filtered old status measure
+measured_empty filtered old status may minor codings ls measure judged =
+    by_response (EmptyMeasure filtered old status) (λ bare. absurd (cc)) (number_empty filtered old status may) (λ bare. absurd (cc)) minor codings ls measure judged
+
+received_empty : (minor : ℕ) (codings ls : List (List ℕ)) (measure : Measure) (to_head : Bool) (status : ℕ) (r : Response) (filtered old : Bool)
+    → response_measure minor codings ls ≡ Ok measure → IsReceived to_head status measure r → is_without_body r.to_head status ≡ false → Empties filtered old status r.told r.length
+received_empty minor codings ls measure to_head status r filtered old judged is bodied =
+    let here : is_without_body to_head status ≡ false = ap (λ b. is_without_body b status) (sym is.method) ∙ bodied in
+    let len : r.length ≡ length_in measure.length = is.length ∙ ap (λ b. length_in (without_body b measure).length) here in
+    let told : r.told ≡ measure.told = is.told ∙ ap (λ b. (without_body b measure).told) here in
+    λ bare.
+    (λ i. framing_of (is_bare (len i)) filtered old (Some status) (told i) (length_of (len i)))
+    ∙ measured_empty filtered old status (may_tell_there to_head status here) minor codings ls measure judged (ap is_bare (sym len) ∙ bare)
+
+answer_empty : (to_head filtered old : Bool) (status : ℕ) (body : List ℕ) → is_without_body to_head status ≡ false
+    → Empties filtered old status (if is_without_body false status then None else Some (length body)) (sent_length (is_without_body to_head status) body)
+answer_empty to_head filtered old status body is =
+    λ bare.
+    (λ i. framing_of (is_bare (sent_length (is i) body)) filtered old (Some status) (if without_head to_head status is i then None else Some (length body)) (length_of (sent_length (is i) body)))
+    ∙ by_body body (ap (λ b. is_bare (sent_length b body)) (sym is) ∙ bare)
+  where
+    by_body : (body : List ℕ) → Empties filtered old status (Some (length body)) (sent_length false body)
+    by_body [] bare = told_empty filtered old status 0 (may_tell_there to_head status is) refl
+    by_body (b ∷ body) bare = absurd (cc)
+
+-- What a head of a response tells on its way down, whatever frames it there: where a body is awaited, one; and one of no bytes where it has an
+-- end flag.
+pub record IsSound (end : Bool) (r : Response) : Type 0 where
+  pub tells : (filtered : Bool) (q : Request) (out : Option ℕ) → lacks_body q.is_head out ≡ false → frames_body (down_framing filtered q r out) ≡ true
+  pub empty : (filtered : Bool) (q : Request) (out : Option ℕ) → lacks_body q.is_head out ≡ false → end ≡ true → down_framing filtered q r out ≡ by_length 0
+
+pub judged_sound : (end : Bool) (r : Response) → WasJudged end r → IsSound end r
+judged_sound end r is = record {
+  tells = λ filtered q out awaits.
+      frames_down filtered q r out is.status is.received.code awaits
+      (received_frames is.minor is.codings is.lengths is.measure is.to_head is.status r filtered q.old_client is.judged is.received);
+  empty = λ filtered q out awaits flagged.
+      by_down (λ f. f ≡ by_length 0) filtered q r out is.status is.received.code awaits refl
+      (λ bodied. received_empty is.minor is.codings is.lengths is.measure is.to_head is.status r filtered q.old_client is.judged is.received bodied (sym is.ends ∙ flagged));
+}
+
+pub answer_sound : (end : Bool) (q : Request) (status : ℕ) (body : List ℕ) → (end ≡ true → is_bare (answer_of q status body).length ≡ true) → IsSound end (answer_of q status body)
+answer_sound end asked status body ends = record {
+  tells = λ filtered q out awaits.
+      frames_down filtered q (answer_of asked status body) out status refl awaits (λ bodied. answer_told asked.is_head filtered q.old_client status body bodied);
+  empty = λ filtered q out awaits flagged.
+      by_down (λ f. f ≡ by_length 0) filtered q (answer_of asked status body) out status refl awaits refl
+      (λ bodied. answer_empty asked.is_head filtered q.old_client status body bodied (ends flagged));
+}
 
 -- one that nobody filters
 abbrev down_for : ℕ → Measure → Framing

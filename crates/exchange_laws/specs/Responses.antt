@@ -1,5 +1,5 @@
 -- What goes down in the life of an exchange without filters.
-use Rattle.std.specs.Prelude.{◌≡◌, ◌⊎◌, ℕ, ◌==◌, Bool, true, false, List, [], ◌∷◌, ◌++◌, if◌then◌else◌}
+use Rattle.std.specs.Prelude.{◌≡◌, ℕ, ◌==◌, Bool, true, false, not, List, [], ◌∷◌, ◌++◌, Ok, if◌then◌else◌}
 use Rattle.std.specs.List.{flat_map}
 use Rattle.filter_chain.specs.declared.item.Item.{Item}
 use Rattle.filter_chain.specs.declared.item.Item.TheVariants.{Head, Piece, Trailers}
@@ -8,13 +8,18 @@ use Rattle.gate_io.specs.declared.event.Sent.TheVariants as to
 use Rattle.gate_io.specs.declared.event.Side.{Side}
 use Rattle.gate_io.specs.declared.event.Side.TheVariants.{Down, Up}
 use Rattle.http1_model.specs.Fields.{Pair}
-use Rattle.http1_model.specs.Framing.{Framing, no_body, OutItem, head_wire, items_wire}
+use Rattle.http1_model.specs.Framing.{Framing, no_body, by_length, OutItem, head_wire, items_wire}
 use Rattle.http1_model.specs.Framing as out
-use Rattle.http1_model.specs.Head as model
 use Rattle.http1_model.specs.LocalReply.{local_reply_of}
 use Rattle.exchange.specs.declared.types.Exchange.{Exchange}
 use Rattle.exchange.specs.declared.types.Hub.{Hub}
+use Rattle.exchange.specs.declared.types.Response.{Response}
+use Rattle.exchange.specs.Heads.{is_bare, is_by_close, is_final, lacks_body, sent_head, down_tail, status_in}
 use Rattle.exchange.specs.Leaving.{written_framing}
+use Rattle.h1_write.specs.Heads.{frames_body}
+use Rattle.header_maps.specs.Headers.{Headers}
+use Rattle.http1_model.specs.Length.{Measure, response_measure}
+use Rattle.exchange_laws.specs.Framings.{IsReceived, is_chunks}
 use Rattle.exchange_laws.specs.Lives.{Deed, comes, responds, acts, resumes, closes, answers, dies, refuses, expires, turns, done_by}
 
 -- ---- the bytes for the client of a line
@@ -65,21 +70,45 @@ responses_in deeds = flat_map response_in deeds
 
 -- ---- what else becomes of it
 
--- It still has no filters, and was neither answered nor had a head sent down by that; what frames the body of a response that is on its way is as
--- before; and once it has ended that stays so. Where it ends by that, its line does not stay.
+-- It still has no filters, and was neither answered nor had a head sent down by that. What its client awaits is as before: whether it sent HEAD, and
+-- whether it speaks HTTP/1.0. Of a response that is on its way, what its body is written by and whether the line stays open are as before; and once
+-- it has ended that stays so. Where it ends by that, its line does not stay.
 pub record IsKinDown (x y : Exchange) : Type 0 where
   pub request : y.request ≡ []
   pub response : y.response ≡ []
   pub head : y.is_head_out ≡ x.is_head_out
   pub answered : y.is_answered ≡ x.is_answered
+  pub method : y.asked.is_head ≡ x.asked.is_head
+  pub version : y.asked.old_client ≡ x.asked.old_client
   pub framed : x.is_head_out ≡ true → written_framing y ≡ written_framing x
+  pub stays : x.is_head_out ≡ true → y.has_ended ≡ false → y.stays ≡ x.stays
   pub ended : x.has_ended ≡ true → (y.has_ended ≡ true) × (y.stays ≡ x.stays)
   pub ends : x.has_ended ≡ false → y.has_ended ≡ true → y.stays ≡ false
 
--- no byte goes down by that (an interim head that is handed on is none of the response's)
+-- What is kept of the head of a response is what was judged of its Transfer-Encoding and Content-Length lines, and it has an end flag exactly
+-- where that has no bytes.
+pub record WasJudged (end : Bool) (r : Response) : Type 0 where
+  pub minor : ℕ
+  pub codings : List (List ℕ)
+  pub lengths : List (List ℕ)
+  pub measure : Measure
+  pub to_head : Bool
+  pub status : ℕ
+  pub judged : response_measure minor codings lengths ≡ Ok measure
+  pub received : IsReceived to_head status measure r
+  pub ends : end ≡ is_bare r.length
+
+-- the head of a response that is read is one that was judged, where the exchange runs and was not answered
+abbrev pub IsHeard : List Item → Exchange → Type 0
+IsHeard [] x = Unit {0}
+IsHeard (Head end ∷ items) x = x.has_ended ≡ false → x.is_answered ≡ false → WasJudged end x.told
+IsHeard (Piece bytes end ∷ items) x = Unit {0}
+IsHeard (Trailers ∷ items) x = Unit {0}
+
+-- What else becomes of it sends no byte down. So a life in which an interim head is handed on is none of these lives: its bytes go down by no deed.
 abbrev pub IsFairDown : ℕ → Deed → Exchange → Hub → Type 0
 IsFairDown n (comes items) x hub = Unit {0}
-IsFairDown n (responds items) x hub = Unit {0}
+IsFairDown n (responds items) x hub = IsHeard items x
 IsFairDown n (acts response k value) x hub = Unit {0}
 IsFairDown n (resumes vm context response) x hub = Unit {0}
 IsFairDown n closes x hub = Unit {0}
@@ -95,17 +124,17 @@ LivesDown n x hub (deed ∷ deeds) y after = IsFairDown n deed x hub × LivesDow
 
 -- ---- one response
 
--- the bytes of an answer that passes no filter
-pub record IsReply (wire : List ℕ) : Type 0 where
+-- The bytes of an answer that passes no filter, to a HEAD request or another, behind which the line stays open or not: the answer tells which,
+-- and it has a status of a final response.
+pub record IsReply (to_head stays : Bool) (wire : List ℕ) : Type 0 where
   pub status : ℕ
   pub fields : List Pair
   pub body : List ℕ
-  pub to_head : Bool
-  pub closes : Bool
   pub now : ℕ
-  pub is : wire ≡ local_reply_of status fields body to_head closes now
+  pub final : is_final status ≡ true
+  pub is : wire ≡ local_reply_of status fields body to_head (not stays) now
 
--- a front of a body, or a whole one
+-- a front of a body, or one whose last item is there
 abbrev pub IsOutBody : List OutItem → (whole : Bool) → Type 0
 IsOutBody [] whole = whole ≡ false
 IsOutBody (out.head h ∷ items) whole = ⊥
@@ -118,22 +147,38 @@ abbrev pub IsOutRest : (bare : Bool) → List OutItem → (whole : Bool) → Typ
 IsOutRest true items whole = (items ≡ []) × (whole ≡ true)
 IsOutRest false items whole = IsOutBody items whole
 
--- the bytes of one response: a head that tells its framing, and what its body is written as: by that framing, or nothing of it
-pub record IsResponse (wire : List ℕ) (whole : Bool) : Type 0 where
+-- The bytes of one response, to a client that sent HEAD or another method and speaks HTTP/1.0 or not: a head, and the items of a body behind it.
+-- Whole means that its last item is there, or that its head is all of it; that the pieces of a body with a length have that many bytes is none of
+-- this.
+pub record IsResponse (to_head old_client stays : Bool) (wire : List ℕ) (whole : Bool) : Type 0 where
   pub framing : Framing
   pub written : Framing
-  pub head : model.Head
+  -- what it is the head of, and the moment; it tells `connection: close` unless the line is to stay open
+  pub fields : Headers
+  pub now : ℕ
+  pub keeps : Bool
   pub bare : Bool
   pub items : List OutItem
-  pub is : wire ≡ head_wire framing head ++ items_wire written items
+  pub is : wire ≡ head_wire framing (sent_head fields (down_tail keeps now fields)) ++ items_wire written items
   pub rest : IsOutRest bare items whole
-  pub framed : (written ≡ framing) ⊎ (written ≡ no_body)
+  -- where the client awaits a body, the head tells the end of one, or the line does, and it is written so; an end flag tells an empty one
+  pub tells : lacks_body to_head (status_in fields) ≡ false → frames_body framing ≡ true
+  pub follows : lacks_body to_head (status_in fields) ≡ false → written ≡ framing
+  pub empty : lacks_body to_head (status_in fields) ≡ false → bare ≡ true → framing ≡ by_length 0
+  -- where it awaits none, none is written
+  pub none : lacks_body to_head (status_in fields) ≡ true → written ≡ no_body
+  -- a client of HTTP/1.0 is sent no chunks, and behind a body that ends with the line the line does not stay
+  pub no_chunks : old_client ≡ true → is_chunks framing ≡ false
+  pub unending : is_by_close framing ≡ true → keeps ≡ false
+  -- behind a whole one the line does as its head tells; it is closed behind another
+  pub as_told : whole ≡ true → stays ≡ keeps
+  pub part : whole ≡ false → stays ≡ false
 
--- nothing went down; or the bytes of one answer; or of one response, whole where the line stays open behind it
-pub data IsOneResponse (wire : List ℕ) (stays : Bool) : Type 0 where
-  sends_nothing : wire ≡ [] → stays ≡ false → IsOneResponse wire stays
-  sends_reply : IsReply wire → IsOneResponse wire stays
-  sends_response : (whole : Bool) → IsResponse wire whole → (stays ≡ true → whole ≡ true) → IsOneResponse wire stays
+-- nothing went down; or the bytes of one answer; or of one response
+pub data IsOneResponse (to_head old_client stays : Bool) (wire : List ℕ) : Type 0 where
+  sends_nothing : wire ≡ [] → stays ≡ false → IsOneResponse to_head old_client stays wire
+  sends_reply : IsReply to_head stays wire → IsOneResponse to_head old_client stays wire
+  sends_response : (whole : Bool) → IsResponse to_head old_client stays wire whole → IsOneResponse to_head old_client stays wire
 
 pub record IsNew (x : Exchange) : Type 0 where
   pub request : x.request ≡ []
@@ -146,14 +191,15 @@ pub record IsNew (x : Exchange) : Type 0 where
 abbrev pub stays_behind : Exchange → Bool
 stays_behind y = if y.has_ended then y.stays else false
 
-pub record GoesDownOnce (n : ℕ) (hub : Hub) (y : Exchange) (after : Hub) : Type 0 where
+pub record GoesDownOnce (n : ℕ) (x : Exchange) (hub : Hub) (y : Exchange) (after : Hub) : Type 0 where
   pub went : List ℕ
   pub adds : downs n after.sent ≡ downs n hub.sent ++ went
-  pub one : IsOneResponse went (stays_behind y)
+  pub one : IsOneResponse x.asked.is_head x.asked.old_client (stays_behind y) went
 
--- NO CLIENT SEES TWO RESPONSES: whatever happens to a new exchange, and what is read of its response is a front of one message, what goes down on
--- its line is nothing, one answer, or one response; and the line stays open only behind a whole one.
+-- NO CLIENT SEES TWO RESPONSES: whatever happens to a new exchange but that an interim head is handed on, and what is read of its response is a front
+-- of one message whose head was judged, what goes down on its line is nothing, one answer, or one response, framed as its client awaits it; and the
+-- line stays open only behind an answer that tells so or behind a response that does and whose last item went down.
 abbrev pub OneResponseGoesDown : Type 0
 OneResponseGoesDown =
     (n : ℕ) (x y : Exchange) (hub after : Hub) (deeds : List Deed) → IsNew x → LivesDown n x hub deeds y after → IsMessage (responses_in deeds)
-    → GoesDownOnce n hub y after
+    → GoesDownOnce n x hub y after

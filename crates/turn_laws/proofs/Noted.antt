@@ -40,7 +40,10 @@ itself_down x is back = record {
   response = back;
   head = refl;
   answered = refl;
+  method = refl;
+  version = refl;
   framed = λ o. refl;
+  stays = λ o r. refl;
   ended = λ e. (e, refl);
   ends = λ runs e. never x.has_ended runs e;
 }
@@ -51,7 +54,10 @@ item_noted_down false item x is back = record {
   response = back;
   head = refl;
   answered = refl;
+  method = refl;
+  version = refl;
   framed = λ o. refl;
+  stays = λ o r. refl;
   ended = λ e. (e, refl);
   ends = λ runs e. never x.has_ended runs e;
 }
@@ -60,7 +66,10 @@ item_noted_down true item x is back = record {
   response = back;
   head = refl;
   answered = refl;
+  method = refl;
+  version = refl;
   framed = λ o. refl;
+  stays = λ o r. refl;
   ended = λ e. (e, refl);
   ends = λ runs e. never x.has_ended runs e;
 }
@@ -73,7 +82,10 @@ stages_made_down dead x is back none =
       response = no_stages_back dead x.filters none;
       head = refl;
       answered = refl;
+      method = refl;
+      version = refl;
       framed = λ o. refl;
+      stays = λ o r. refl;
       ended = λ d. (d, refl);
       ends = λ runs d. never x.has_ended runs d;
     })
@@ -85,7 +97,10 @@ notes_are_fair_down = record {
     response = back;
     head = refl;
     answered = refl;
+    method = refl;
+    version = refl;
     framed = λ o. refl;
+    stays = λ o r. refl;
     ended = λ e. (e, refl);
     ends = λ runs e. never x.has_ended runs e;
   };
@@ -95,7 +110,10 @@ notes_are_fair_down = record {
     response = back;
     head = refl;
     answered = refl;
+    method = refl;
+    version = refl;
     framed = λ o. refl;
+    stays = λ o r. refl;
     ended = λ e. (e, refl);
     ends = λ runs e. never x.has_ended runs e;
   };
@@ -104,7 +122,10 @@ notes_are_fair_down = record {
     response = back;
     head = refl;
     answered = refl;
+    method = refl;
+    version = refl;
     framed = λ o. never x.is_head_out unsent o;
+    stays = λ o r. refl;
     ended = λ e. (e, refl);
     ends = λ runs e. never x.has_ended runs e;
   };
@@ -114,7 +135,10 @@ notes_are_fair_down = record {
     response = back;
     head = refl;
     answered = refl;
+    method = refl;
+    version = refl;
     framed = λ o. refl;
+    stays = λ o r. absurd (cc);
     ended = λ e. never x.has_ended runs e;
     ends = λ r e. refl;
   };
