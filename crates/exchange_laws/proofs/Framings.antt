@@ -5,7 +5,7 @@ use Rattle.std.specs.Prelude.{if◌then◌else◌, Option, None, Some, Result, O
 use Rattle.std.specs.List.{flat_map}
 use Rattle.exchange.specs.declared.types.Request.{Request}
 use Rattle.exchange.specs.declared.types.Response.{Response}
-use Rattle.exchange.specs.Heads.{is_bare, length_in, length_of, lacks_body, is_204, up_framing, down_framing, answer_of, sent_length}
+use Rattle.exchange.specs.Heads.{is_bare, length_in, length_of, lacks_body, is_204, may_stay, up_framing, down_framing, answer_of, sent_length}
 use Rattle.h1_head.specs.declared.head.Length.{Length}
 use Rattle.h1_head.specs.declared.head.Length.TheVariants as lengths
 use Rattle.http1_model.specs.Fields.{members}
@@ -108,6 +108,32 @@ no_chunks_down filtered q r out old =
     (λ d. subst (λ b. is_chunks (framing_of (is_bare r.length) filtered b r.status r.told (length_of r.length)) ≡ false) (sym old)
     (unchunked (if is_bare r.length then bare_framing r.status r.told else body_framing filtered (length_of r.length)))))
 
+or_true : (a : Bool) → (a || true) ≡ true
+or_true true = refl
+or_true false = refl
+
+pub never_both : (a : Bool) → (a && false) ≡ false
+never_both true = refl
+never_both false = refl
+
+-- where no body is awaited no chunks are told, and of 204 nothing is
+pub bare_unchunked : (filtered : Bool) (q : Request) (r : Response) (out : Option ℕ) → lacks_body q.is_head out ≡ true → is_chunks (down_framing filtered q r out) ≡ false
+bare_unchunked filtered q r out lacks =
+    subst (λ b. is_chunks (if b then (if (is_bare r.length || not filtered) && not (is_204 r.status || is_204 out) then told_framing r.told else no_body)
+    else (if lacks_body r.to_head r.status then by_length 0 else framing_of (is_bare r.length) filtered q.old_client r.status r.told (length_of r.length))) ≡ false) (sym lacks)
+    (by_bool (λ f. is_chunks f ≡ false) ((is_bare r.length || not filtered) && not (is_204 r.status || is_204 out)) (told_framing r.told) no_body (λ d. told_unchunked r.told) (λ d. refl))
+
+pub untold_204 : (filtered : Bool) (q : Request) (r : Response) (out : Option ℕ) → is_204 out ≡ true → down_framing filtered q r out ≡ no_body
+untold_204 filtered q r None is = absurd (cc)
+untold_204 filtered q r (Some status) is =
+    let lacks : lacks_body q.is_head (Some status) ≡ true
+    = ap (λ b. (q.is_head || nat_lt status 200) || (b || status == 304)) is ∙ or_true (q.is_head || nat_lt status 200) in
+    ap (λ b. if b then (if (is_bare r.length || not filtered) && not (is_204 r.status || status == 204) then told_framing r.told else no_body)
+    else (if lacks_body r.to_head r.status then by_length 0 else framing_of (is_bare r.length) filtered q.old_client r.status r.told (length_of r.length))) lacks
+    ∙ (ap (λ b. if (is_bare r.length || not filtered) && not (is_204 r.status || b) then told_framing r.told else no_body) is
+    ∙ (ap (λ b. if (is_bare r.length || not filtered) && not b then told_framing r.told else no_body) (or_true (is_204 r.status))
+    ∙ ap (λ b. if b then told_framing r.told else no_body) (never_both (is_bare r.length || not filtered))))
+
 -- what the framing of a response with a body has to be, for a body of this length
 abbrev Frames : Bool → Bool → ℕ → Option ℕ → Length → Type 0
 Frames filtered old status told l = frames_body (framing_of (is_bare l) filtered old (Some status) told (length_of l)) ≡ true
@@ -178,6 +204,8 @@ in_step filtered q r out status is frames = record {
   written = λ awaits. ap (λ b. if b then no_body else down_framing filtered q r (Some out)) awaits;
   no_chunks = λ old. no_chunks_down filtered q r (Some out) old;
   none = λ awaits. ap (λ b. if b then no_body else down_framing filtered q r (Some out)) awaits;
+  unchunked = λ awaits. bare_unchunked filtered q r (Some out) awaits;
+  no_content = λ is. untold_204 filtered q r (Some out) is;
 }
 
 abbrev left_of : Bool → ℕ → Measure → Measure
@@ -323,4 +351,9 @@ responses_kept minor codings ls measure to_head status r q out judged is young h
     ∙ by_response (λ m. measure_said (down_for status m) ≡ m) refl (number_down status (may_tell_there to_head status here)) refl minor codings ls measure judged
 
 pub responses_stay : ResponsesStayInStep
-responses_stay = record { received = received_in_step; answered = answered_in_step; kept = responses_kept }
+responses_stay = record {
+  received = received_in_step;
+  answered = answered_in_step;
+  kept = responses_kept;
+  unending = λ x framing endless. ap (λ b. (may_stay x.asked && not x.closes) && not b) endless ∙ never_both (may_stay x.asked && not x.closes);
+}

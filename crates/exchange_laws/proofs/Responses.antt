@@ -24,7 +24,7 @@ use Rattle.http1_model.specs.Framing as out
 use Rattle.exchange_laws.specs.Lives.{Deed, comes, responds, acts, resumes, closes, answers, dies, refuses, expires, turns, done_by}
 use Rattle.exchange_laws.specs.Responses.{down_of, downs, IsBody, IsMessage, response_in, responses_in, IsHeard, IsFairDown, LivesDown, IsReply, IsOutBody, IsOutRest, IsResponse, IsOneResponse, sends_nothing, sends_reply, sends_response, stays_behind, GoesDownOnce, OneResponseGoesDown}
 use Rattle.exchange_laws.proofs.Ends.{nothing_follows_end}
-use Rattle.exchange_laws.proofs.Framings.{IsSound, judged_sound, answer_sound, no_chunks_down}
+use Rattle.exchange_laws.proofs.Framings.{IsSound, judged_sound, answer_sound, no_chunks_down, bare_unchunked, untold_204, never_both}
 use Rattle.exchange_laws.proofs.Quiet.{by_bool, reply_to}
 use Rattle.exchange_laws.proofs.Traffic.{same}
 use Rattle.exchange_laws.proofs.Ups.{no_stage, puts_is, comes_open}
@@ -83,10 +83,6 @@ untold : (b : Bool) → not b ≡ false → b ≡ true
 untold true is = refl
 untold false is = absurd (cc)
 
-never_both : (a : Bool) → (a && false) ≡ false
-never_both true = refl
-never_both false = refl
-
 -- ---- heads and bodies
 
 abbrev no_response : Exchange → Exchange
@@ -140,6 +136,8 @@ responded w bare x hub items whole wire stays method version sound is rest as_to
       follows = λ awaits. ap (λ b. if b then no_body else framing) awaits;
       empty = λ awaits flagged. sound.empty x.filters_responses x.asked status awaits flagged;
       none = λ awaits. ap (λ b. if b then no_body else framing) awaits;
+      unchunked = λ awaits. bare_unchunked x.filters_responses x.asked x.told status awaits;
+      no_content = λ is_it. untold_204 x.filters_responses x.asked x.told status is_it;
       no_chunks = λ old. no_chunks_down x.filters_responses x.asked x.told status old;
       unending = λ endless. ap (λ b. (may_stay x.asked && not x.closes) && not b) endless ∙ never_both (may_stay x.asked && not x.closes);
       as_told = as_told;

@@ -14,7 +14,7 @@ use Rattle.http1_model.specs.LocalReply.{local_reply_of}
 use Rattle.exchange.specs.declared.types.Exchange.{Exchange}
 use Rattle.exchange.specs.declared.types.Hub.{Hub}
 use Rattle.exchange.specs.declared.types.Response.{Response}
-use Rattle.exchange.specs.Heads.{is_bare, is_by_close, is_final, lacks_body, sent_head, down_tail, status_in}
+use Rattle.exchange.specs.Heads.{is_204, is_bare, is_by_close, is_final, lacks_body, sent_head, down_tail, status_in}
 use Rattle.exchange.specs.Leaving.{written_framing}
 use Rattle.h1_write.specs.Heads.{frames_body}
 use Rattle.header_maps.specs.Headers.{Headers}
@@ -165,8 +165,10 @@ pub record IsResponse (to_head old_client stays : Bool) (wire : List ℕ) (whole
   pub tells : lacks_body to_head (status_in fields) ≡ false → frames_body framing ≡ true
   pub follows : lacks_body to_head (status_in fields) ≡ false → written ≡ framing
   pub empty : lacks_body to_head (status_in fields) ≡ false → bare ≡ true → framing ≡ by_length 0
-  -- where it awaits none, none is written
+  -- where it awaits none, none is written and no chunks are told; of 204 nothing of a body is told
   pub none : lacks_body to_head (status_in fields) ≡ true → written ≡ no_body
+  pub unchunked : lacks_body to_head (status_in fields) ≡ true → is_chunks framing ≡ false
+  pub no_content : is_204 (status_in fields) ≡ true → framing ≡ no_body
   -- a client of HTTP/1.0 is sent no chunks, and behind a body that ends with the line the line does not stay
   pub no_chunks : old_client ≡ true → is_chunks framing ≡ false
   pub unending : is_by_close framing ≡ true → keeps ≡ false
