@@ -17,7 +17,8 @@ IsOwn (refuses status) = Unit {0}
 IsOwn expires = Unit {0}
 IsOwn (turns y hub) = ⊥
 
--- NOTHING FOLLOWS THE END: once an exchange has ended, it stays as it is, and nothing is sent
+-- NOTHING FOLLOWS THE END: once an exchange has ended, it stays as it is, and nothing is sent. What is held for its stages among the contexts may
+-- still change.
 pub record StaysEnded (x : Exchange) (hub : Hub) (y : Exchange) (after : Hub) : Type 0 where
   pub same : y ≡ x
   pub sends : after.sent ≡ hub.sent

@@ -17,15 +17,17 @@ pub record GoesUpOnce (q : OutRequest) (came : List OutItem) (is_over : Bool) (b
   pub adds : after ≡ before ++ went
   -- one connection, and the front of the request's bytes
   pub front : IsFront went (opens ∷ map byte (out_wire q))
-  -- all that was read, and so all of the request where it was read whole
+  -- Where the exchange was neither answered nor has ended: all that was read, and so all of the request where it was read whole. Of one that has
+  -- ended, as each does behind its response, the front alone is said.
   pub all : is_over ≡ false → went ≡ traffic q.framing came
   pub whole : is_over ≡ false → came ≡ out_items q → went ≡ opens ∷ map byte (out_wire q)
-  -- its bytes are read back as that request and nothing else
+  -- a reader with room for its head reads its bytes back as that request and nothing else
   pub read_back : (ended : Bool) → IsReadableRequest q.framing q.head → Suits q.framing q.pieces q.ending ended []
       → IsReadAs (out_wire q) ended None head (in_items q) (stop_behind ended None)
 
--- NO SERVER SEES TWO MESSAGES: whatever happens to an exchange of which nothing was read, and the items that are read are a front of one
--- request, framed as the exchange frames it, what goes up on its line is a front of that one request's bytes.
+-- NO SERVER SEES TWO MESSAGES: whatever happens to an exchange without request filters, and the items that are read in that are a front of one
+-- request, framed as the exchange frames it, what goes up in that on its line is a front of one connection and that one request's bytes. What was
+-- read and sent before is not spoken of: that an exchange begins with nothing read and nothing sent is no premise here.
 abbrev pub OneRequestGoesUp : Type 0
 OneRequestGoesUp =
     (n : ℕ) (x y : Exchange) (hub after : Hub) (deeds : List Deed) (came : List OutItem) (q : OutRequest) → x.request ≡ [] → Lives n x hub deeds came y after

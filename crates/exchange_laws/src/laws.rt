@@ -5,28 +5,33 @@ ghost use Rattle.exchange_laws.specs.Laws.{OneRequestGoesUp, NothingElseGoesUp};
 ghost use Rattle.exchange_laws.specs.Own.{ExchangesSendOnTheirLine};
 ghost use Rattle.exchange_laws.specs.Responses.{OneResponseGoesDown};
 
-/// Of an exchange without request filters, whatever happens to it, no server sees two messages: what goes up is one connection and the front
-/// of one request's bytes, all that was read of it where the exchange was neither answered nor ended. Those bytes are read back as that
-/// request. Nothing but what is read of the request goes up.
+/// Of an exchange without request filters, whatever happens to it, no server sees two messages: where what is read in that is a front of one
+/// request, what goes up in that is a front of one connection and that request's bytes, and all that was read where the exchange was neither
+/// answered nor has ended. A reader with room for its head reads those bytes back as that request. Nothing but what is read of the request goes
+/// up.
 pub fn one_request_goes_up()
     ensures once { OneRequestGoesUp }
     ensures alone { NothingElseGoesUp }
 {}
 
-/// A request goes up with the length that it was received with. A response goes down so that the client's line stays in step, whatever method
-/// filters sent up and whatever status they send down.
+/// A request goes up with the length that it was received with, or in chunks where a filter may change its body. A response goes down so that the
+/// client's line stays in step, whatever method filters sent up and whatever status they send down.
 pub fn lines_stay_in_step()
     ensures requests { RequestsKeepTheirLength }
     ensures responses { ResponsesStayInStep }
 {}
 
-/// Whatever filters an exchange has, nothing follows its end: neither for the client nor for the server.
+/// Whatever filters an exchange has, nothing follows its end: neither for the client nor for the server. What is held for its stages among the
+/// contexts may still change.
 pub fn nothing_follows_the_end()
     ensures { NothingFollowsTheEnd }
 {}
 
-/// Of an exchange without filters, whatever happens to it, no client sees two responses: what goes down is nothing, one answer, or one response,
-/// and the line stays open only behind a whole one.
+/// Of a new exchange without filters, no client sees two responses, whatever happens to it but that an interim head is handed on: lives with one,
+/// such as `100 Continue`, are left out. What goes down is nothing, one answer, or one response that is framed as its client awaits it. The line
+/// stays open only behind an answer that tells so, or behind a response whose head tells so and that is whole: its last item went down, or its
+/// head has an end flag, which it has only where no body is awaited or one of no bytes is told. That the pieces of a body with a length have that
+/// many bytes is not said here.
 pub fn one_response_goes_down()
     ensures { OneResponseGoesDown }
 {}
