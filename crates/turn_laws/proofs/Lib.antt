@@ -12,3 +12,4 @@ pub mod Death
 pub mod Parts
 pub mod Passage
 pub mod Waiting
+pub mod Backlog

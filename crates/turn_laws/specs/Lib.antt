@@ -13,3 +13,4 @@ pub mod Death
 pub mod Parts
 pub mod Passage
 pub mod Waiting
+pub mod Backlog

@@ -12,6 +12,7 @@ ghost use Rattle.turn_laws.specs.Death.{DeathExample};
 ghost use Rattle.turn_laws.specs.Parts.{PartsExample};
 ghost use Rattle.turn_laws.specs.Passage.{PassageExample};
 ghost use Rattle.turn_laws.specs.Waiting.{WaitingExample};
+ghost use Rattle.turn_laws.specs.Backlog.{RoomExamples, TextExamples, LineExamples, BacklogIsBounded, UnreadIsBounded, ReaderIsBounded};
 
 /// Whatever the machines are, a turn is a function of what the shared stores reply.
 pub fn turn_is_function_over<H>()
@@ -100,4 +101,21 @@ pub fn exchanges_begin_new()
 pub fn notes_are_fair()
     ensures up { NotesAreFair }
     ensures down { NotesAreFairDown }
+{}
+
+/// What a worker asks of its world in worked rooms: where nothing waits, where 65,535 or 65,536 bytes do on a side of a line, or are unread of
+/// its texts, and where 128 lines are open, beyond which none is.
+pub fn worked_wants()
+    ensures waiting { RoomExamples }
+    ensures unread { TextExamples }
+    ensures lines { LineExamples }
+{}
+
+/// Where a world gives what its worker asked for, bytes of a client come where fewer than 65,536 wait on each side of its line, and bytes of a
+/// server where fewer wait for its client; what is unread of their text is then at most 81,919 bytes with them, where no two lines have one
+/// number. A reader that gets text in this way alone never has more unread.
+pub fn backlog_is_bounded()
+    ensures waiting { BacklogIsBounded }
+    ensures unread { UnreadIsBounded }
+    ensures reader { ReaderIsBounded }
 {}

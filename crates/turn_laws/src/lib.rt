@@ -4,8 +4,8 @@
 mod laws;
 
 pub use laws::{
-    exchanges_begin_new, more_steps_change_nothing_over, notes_are_fair, steps_in_order,
-    turn_is_function_over, worked_answer, worked_closing, worked_death, worked_effects,
-    worked_order, worked_passage, worked_pipeline, worked_routes, worked_texts, worked_uploads,
-    worked_waiting,
+    backlog_is_bounded, exchanges_begin_new, more_steps_change_nothing_over, notes_are_fair,
+    steps_in_order, turn_is_function_over, worked_answer, worked_closing, worked_death,
+    worked_effects, worked_order, worked_passage, worked_pipeline, worked_routes, worked_texts,
+    worked_uploads, worked_waiting, worked_wants,
 };
