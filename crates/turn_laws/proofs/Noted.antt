@@ -1,6 +1,7 @@
 -- What a worker notes of an exchange.
-use Rattle.std.proofs.Common.{◌≡◌, ℕ, Bool, true, false, ◌||◌, List, [], refl}
+use Rattle.std.proofs.Common.{◌≡◌, ℕ, Bool, true, false, ◌||◌, List, [], refl, ap}
 use Rattle.exchange.specs.declared.types.Exchange.{Exchange}
+use Rattle.exchange.specs.Heads.{length_in}
 use Rattle.exchange_laws.specs.Lives.{IsKin}
 use Rattle.exchange_laws.specs.Responses.{IsKinDown}
 use Rattle.exchange_laws.proofs.Quiet.{by_bool}
@@ -141,5 +142,16 @@ notes_are_fair_down = record {
     stays = λ o r. absurd (cc);
     ended = λ e. never x.has_ended runs e;
     ends = λ r e. refl;
+  };
+  heard = λ h items x is. λ runs unanswered. record {
+    minor = is.minor;
+    codings = is.codings;
+    lengths = is.lengths;
+    measure = is.measure;
+    to_head = x.is_head_up;
+    status = is.status;
+    judged = is.judged;
+    received = record { method = refl; code = is.code; length = ap length_in is.length; told = is.told };
+    ends = refl;
   };
 }

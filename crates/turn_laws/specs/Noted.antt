@@ -1,12 +1,14 @@
 -- What a worker changes of an exchange by itself, against the lives that the laws of exchanges speak of.
-use Rattle.std.specs.Prelude.{◌≡◌, ℕ, Bool, false, List, []}
+use Rattle.std.specs.Prelude.{◌≡◌, ℕ, Bool, false, List, [], ◌∷◌, Some, Ok}
 use Rattle.exchange.specs.declared.types.Exchange.{Exchange}
+use Rattle.exchange.specs.Heads.{status_in}
 use Rattle.exchange_laws.specs.Lives.{IsKin}
-use Rattle.exchange_laws.specs.Responses.{IsKinDown}
+use Rattle.exchange_laws.specs.Responses.{IsKinDown, IsHeard}
 use Rattle.filter_chain.specs.declared.item.Item.{Item}
 use Rattle.http1_model.specs.Head.{Head}
+use Rattle.http1_model.specs.Length.{Measure, response_measure, is_without_body, without_body}
 use Rattle.http1_model.specs.Unread.{Reading}
-use Rattle.worker.specs.Steps.{with_reader, noted, with_further, keeps_response, entered, lost_exchange}
+use Rattle.worker.specs.Steps.{with_reader, noted, with_further, keeps_response, head_item, entered, lost_exchange}
 
 -- WHAT A WORKER NOTES IS FAIR TO THE REQUEST: what it keeps of a reader, of an item that was read and of the head of a response, that text has come
 -- or has ended, that stages are made where there are no filters, and that the client is gone
@@ -18,7 +20,19 @@ pub record NotesAreFair : Type 0 where
   pub stages : (dead : List ℕ) (x : Exchange) → x.request ≡ [] → x.filters ≡ [] → IsKin x (entered dead x)
   pub client_gone : (x : Exchange) → x.request ≡ [] → IsKin x (lost_exchange x)
 
--- and to the response; the head of one is read before one went out
+-- a head of a response as it is judged: with its status, and with the length that its lines give it where its status and the method let it have one
+pub record IsJudgedHead (to_head : Bool) (h : Head) : Type 0 where
+  pub minor : ℕ
+  pub codings : List (List ℕ)
+  pub lengths : List (List ℕ)
+  pub measure : Measure
+  pub status : ℕ
+  pub judged : response_measure minor codings lengths ≡ Ok measure
+  pub code : status_in h.fields ≡ Some status
+  pub length : h.length ≡ (without_body (is_without_body to_head status) measure).length
+  pub told : h.told ≡ (without_body (is_without_body to_head status) measure).told
+
+-- And to the response; the head of one is read before one went out. A head that was judged comes as one that is heard.
 pub record NotesAreFairDown : Type 0 where
   pub reader : (reading : Reading) (x : Exchange) → x.request ≡ [] → x.response ≡ [] → IsKinDown x (with_reader reading x)
   pub item : (up : Bool) (item : Item) (x : Exchange) → x.request ≡ [] → x.response ≡ [] → IsKinDown x (noted up item x)
@@ -26,3 +40,4 @@ pub record NotesAreFairDown : Type 0 where
   pub head : (h : Head) (x : Exchange) → x.request ≡ [] → x.response ≡ [] → x.is_head_out ≡ false → IsKinDown x (keeps_response h x)
   pub stages : (dead : List ℕ) (x : Exchange) → x.request ≡ [] → x.response ≡ [] → x.filters ≡ [] → IsKinDown x (entered dead x)
   pub client_gone : (x : Exchange) → x.request ≡ [] → x.response ≡ [] → x.has_ended ≡ false → IsKinDown x (lost_exchange x)
+  pub heard : (h : Head) (items : List Item) (x : Exchange) → IsJudgedHead x.is_head_up h → IsHeard (head_item h ∷ items) (keeps_response h x)
