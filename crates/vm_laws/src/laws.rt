@@ -1,0 +1,19 @@
+// What holds of the VMs of a worker whatever their modules do. The functions have nothing to do: their contracts are the laws.
+ghost use Rattle.vm_laws.specs.Apart.{CallbacksAreApart};
+ghost use Rattle.vm_laws.specs.Silent.{DeadVmsAreSilent, MissingCallbacksAreSilent, TiesBegin, TiesStay};
+
+/// A callback of one VM, whatever its module does and whatever the shared stores reply, leaves every other VM just as it was, and of its own what
+/// is known of the module. A VM whose callback trapped or spent its fuel is no more.
+pub fn callbacks_are_apart()
+    ensures { CallbacksAreApart }
+{}
+
+/// Nothing is run of a VM that is no more, and nothing where a module does not export the callback: the callback returns without a value, no
+/// line is written, neither the machines nor the contexts change, and no shared store is asked. What says which callbacks a module exports is of
+/// the module that runs: it is so of every VM that begins, and stays so whatever callbacks do.
+pub fn nothing_runs()
+    ensures dead { DeadVmsAreSilent }
+    ensures missing { MissingCallbacksAreSilent }
+    ensures begins { TiesBegin }
+    ensures stays { TiesStay }
+{}

@@ -1,0 +1,6 @@
+//! Laws of all VMs of a worker, and of what a callback of one leaves of the others.
+#![tactic(auto)]
+
+mod laws;
+
+pub use laws::{callbacks_are_apart, nothing_runs};
