@@ -1,0 +1,13 @@
+pub mod Readings
+pub mod Tests
+pub mod Sums
+pub mod Exchanges
+pub mod Picking
+pub mod Lines
+pub mod Rooms
+pub mod Moving
+pub mod Jobs
+pub mod Works
+pub mod Hearing
+pub mod Steps
+pub mod Settling

@@ -1,0 +1,94 @@
+-- A TURN COMES TO REST, whatever the machines do, whatever the shared stores reply, and whatever is read.
+use Rattle.std.specs.Prelude.{◌≡◌, ◌<◌, ◌↔◌, ℕ, ◌+◌, true, false, List, [], ◌∷◌, Option, None, Some, position}
+use Rattle.contexts.specs.declared.parts.Contexts.{Contexts}
+use Rattle.course.specs.Called.{Called}
+use Rattle.course.specs.Course.{ends, Met, Reaches}
+use Rattle.course.specs.declared.host.Callback.{Callback}
+use Rattle.exchange.specs.declared.types.Exchange.{Exchange}
+use Rattle.gate_config.specs.declared.config.Config.{Config}
+use Rattle.gate_io.specs.Events.{is_stop}
+use Rattle.gate_io.specs.declared.event.Event.{Event}
+use Rattle.store_model.specs.Program.{Program}
+use Rattle.worker.specs.declared.room.Room.{Room}
+use Rattle.worker.specs.declared.types.Line.{Line}
+use Rattle.worker.specs.Making.{first_room}
+use Rattle.worker.specs.Plan.{Plan}
+use Rattle.worker.specs.Rooms.{moves, is_over, is_released, next_of}
+use Rattle.worker.specs.Settling.{settling, rests}
+use Rattle.worker.specs.State.{Setting, rules_of}
+use Rattle.worker.specs.Steps.{Both, step}
+use Rattle.worker.specs.Turn.{Outcome, turn, facing, most_steps}
+use Rattle.rest_laws.specs.Left.{left, AllFit, RoutesFit}
+
+-- what callbacks do: of machines, a VM, a callback, its context and two numbers, the moment and the contexts
+abbrev pub Calling : (H : Type 0) → Type 0
+Calling H = H → ℕ → Callback → ℕ → ℕ → ℕ → ℕ → Contexts → Program (Called H)
+
+-- everything is at rest
+abbrev pub IsAtRest : Room → Type 0
+IsAtRest room = rests (next_of room) ≡ true
+
+-- EACH STEP LEAVES LESS TO DO. Of a callback nothing is asked: it may list any effects, leave any contexts, or die.
+abbrev pub StepsLeaveLess : (H : Type 0) → Type 0
+StepsLeaveLess H =
+    (calling : Calling H) (plan : Plan) (s : ℕ) (b c : Both H) (ms : List Met) → RoutesFit s plan.routes → AllFit s b.room.lines
+    → rests (next_of b.room) ≡ false → Reaches (step calling plan (next_of b.room) b.host b.room) ms (ends c)
+    → AllFit s c.room.lines × (left s c.room < left s b.room)
+
+-- SO MANY STEPS COME TO REST, where what is left to do is below their number
+abbrev pub StepsComeToRest : (H : Type 0) → Type 0
+StepsComeToRest H =
+    (calling : Calling H) (plan : Plan) (s n : ℕ) (b c : Both H) (ms : List Met) → RoutesFit s plan.routes → AllFit s b.room.lines
+    → left s b.room < n → Reaches (settling calling plan n b.host b.room) ms (ends c) → AllFit s c.room.lines × IsAtRest c.room
+
+-- THE BOUND CHANGES NOTHING above what is left to do: with more steps the same is met, and it comes to the same.
+abbrev pub BoundsChangeNothing : (H : Type 0) → Type 0
+BoundsChangeNothing H =
+    (calling : Calling H) (plan : Plan) (s n k : ℕ) (b c : Both H) (ms : List Met) → RoutesFit s plan.routes → AllFit s b.room.lines
+    → left s b.room < n
+    → Reaches (settling calling plan n b.host b.room) ms (ends c) ↔ Reaches (settling calling plan (n + k) b.host b.room) ms (ends c)
+
+-- ---- turns
+
+-- A TURN AT WHOSE START LESS IS LEFT TO DO THAN A TURN HAS STEPS IS AT REST AT ITS END. Where the exchanges of a room fit at its start, they do
+-- at its end, and so they do in the first room of a worker.
+pub record TurnsComeToRest (H : Type 0) : Type 0 where
+  pub at_rest : (calling : Calling H) (plan : Plan) (s : ℕ) (state : Both H) (event : Event) (ms : List Met) (end : Outcome H)
+      → RoutesFit s plan.routes → AllFit s state.room.lines → is_stop event.what ≡ false → left s (facing plan event state.room) < most_steps
+      → Reaches (turn calling plan state event) ms (ends end) → IsAtRest end.state.room
+  pub fits : (calling : Calling H) (plan : Plan) (s : ℕ) (state : Both H) (event : Event) (ms : List Met) (end : Outcome H)
+      → RoutesFit s plan.routes → AllFit s state.room.lines → Reaches (turn calling plan state event) ms (ends end) → AllFit s end.state.room.lines
+  pub first : (s : ℕ) (config : Config) (seed : List ℕ) → AllFit s (first_room config seed).lines
+  -- no route of a configuration has more than 16 filters
+  pub routes : (setting : Setting) → RoutesFit 16 (rules_of setting).routes
+
+-- ---- any room
+
+-- an exchange that was answered has no stages of its request left (as each room of a worker keeps it)
+abbrev pub IsClear : Option Exchange → Type 0
+IsClear None = Unit {0}
+IsClear (Some x) = x.is_answered ≡ true → x.request ≡ []
+
+abbrev pub AllClear : List Line → Type 0
+AllClear [] = Unit {0}
+AllClear (line ∷ lines) = IsClear line.exchange × AllClear lines
+
+-- FROM EACH ROOM THERE IS A NUMBER OF STEPS, told by the configuration and the room alone, at which all is at rest, whatever the machines do.
+abbrev pub RoomsComeToRest : (H : Type 0) → Type 0
+RoomsComeToRest H =
+    (plan : Plan) (room : Room) → AllClear room.lines
+    → (n : ℕ) × ((calling : Calling H) (host : H) (k : ℕ) (ms : List Met) (c : Both H)
+    → Reaches (settling calling plan (n + k) host room) ms (ends c) → IsAtRest c.room)
+
+-- WHAT REST IS: nothing is being read, no stage is to be asked, no job is in hand, no context that waited was released, no exchange has ended,
+-- and no part of the turn is left
+pub record NothingIsLeft (room : Room) : Type 0 where
+  pub reading : room.reading ≡ None
+  pub moving : position moves room.lines ≡ None
+  pub jobs : room.jobs ≡ []
+  pub released : position (is_released room) room.waits ≡ None
+  pub ended : position is_over room.lines ≡ None
+  pub agenda : room.agenda ≡ []
+
+abbrev pub RestIsRest : Type 0
+RestIsRest = (room : Room) → IsAtRest room → NothingIsLeft room

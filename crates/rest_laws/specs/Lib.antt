@@ -1,0 +1,4 @@
+pub mod Readings
+pub mod Moves
+pub mod Left
+pub mod Laws

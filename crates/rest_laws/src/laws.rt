@@ -1,0 +1,24 @@
+// A turn comes to rest, whatever the machines do. The functions have nothing to do: their contracts are the laws.
+ghost use Rattle.rest_laws.specs.Laws.{StepsLeaveLess, StepsComeToRest, RestIsRest};
+ghost use Rattle.rest_laws.specs.Readings.{ReadingsUseBytes};
+
+/// What a reader hands on uses up bytes that were unread, but for an end that came alone; and nothing that it says adds any.
+pub fn readings_use_bytes()
+    ensures { ReadingsUseBytes }
+{}
+
+/// Each step of a turn leaves less to do, whatever the machines do, the shared stores reply and is read.
+pub fn steps_leave_less<H>()
+    ensures { StepsLeaveLess H }
+{}
+
+/// As many steps as there is left to do, and one, come to rest.
+pub fn steps_come_to_rest<H>()
+    ensures { StepsComeToRest H }
+{}
+
+/// At rest nothing is being read, no stage is to be asked, no job is in hand, no context that waited was released, no exchange has ended, and
+/// no part of the turn is left.
+pub fn rest_is_rest()
+    ensures { RestIsRest }
+{}

@@ -1,0 +1,6 @@
+//! A turn comes to rest, whatever the machines do.
+#![tactic(auto)]
+
+mod laws;
+
+pub use laws::{readings_use_bytes, rest_is_rest, steps_come_to_rest, steps_leave_less};
