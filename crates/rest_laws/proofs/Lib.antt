@@ -11,3 +11,4 @@ pub mod Works
 pub mod Hearing
 pub mod Steps
 pub mod Settling
+pub mod Turns

@@ -1,5 +1,5 @@
 // A turn comes to rest, whatever the machines do. The functions have nothing to do: their contracts are the laws.
-ghost use Rattle.rest_laws.specs.Laws.{StepsLeaveLess, StepsComeToRest, RestIsRest};
+ghost use Rattle.rest_laws.specs.Laws.{StepsLeaveLess, StepsComeToRest, BoundsChangeNothing, TurnsComeToRest, RoomsComeToRest, RestIsRest};
 ghost use Rattle.rest_laws.specs.Readings.{ReadingsUseBytes};
 
 /// What a reader hands on uses up bytes that were unread, but for an end that came alone; and nothing that it says adds any.
@@ -21,4 +21,19 @@ pub fn steps_come_to_rest<H>()
 /// no part of the turn is left.
 pub fn rest_is_rest()
     ensures { RestIsRest }
+{}
+
+/// Above what is left to do the number of steps changes nothing: the same is met, and all comes to the same.
+pub fn bounds_change_nothing<H>()
+    ensures { BoundsChangeNothing H }
+{}
+
+/// A turn at whose start less is left to do than a turn has steps is at rest at its end.
+pub fn turns_come_to_rest<H>()
+    ensures { TurnsComeToRest H }
+{}
+
+/// From each room there is a number of steps at which all is at rest, whatever the machines do.
+pub fn rooms_come_to_rest<H>()
+    ensures { RoomsComeToRest H }
 {}
