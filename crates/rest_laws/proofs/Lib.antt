@@ -12,3 +12,4 @@ pub mod Hearing
 pub mod Steps
 pub mod Settling
 pub mod Turns
+pub mod Sizes

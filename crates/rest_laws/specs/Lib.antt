@@ -2,3 +2,4 @@ pub mod Readings
 pub mod Moves
 pub mod Left
 pub mod Laws
+pub mod Sizes

@@ -1,6 +1,7 @@
 // A turn comes to rest, whatever the machines do. The functions have nothing to do: their contracts are the laws.
 ghost use Rattle.rest_laws.specs.Laws.{StepsLeaveLess, StepsComeToRest, BoundsChangeNothing, TurnsComeToRest, RoomsComeToRest, RestIsRest};
 ghost use Rattle.rest_laws.specs.Readings.{ReadingsUseBytes};
+ghost use Rattle.rest_laws.specs.Sizes.{WorkersComeToRest};
 
 /// What a reader hands on uses up bytes that were unread, but for an end that came alone; and nothing that it says adds any.
 pub fn readings_use_bytes()
@@ -36,4 +37,9 @@ pub fn turns_come_to_rest<H>()
 /// From each room there is a number of steps at which all is at rest, whatever the machines do.
 pub fn rooms_come_to_rest<H>()
     ensures { RoomsComeToRest H }
+{}
+
+/// A worker is at rest behind each of its turns, so long as no room of it holds more than 2^56 things.
+pub fn workers_come_to_rest<H>()
+    ensures { WorkersComeToRest H }
 {}
