@@ -1,16 +1,16 @@
 -- How much is left to do at the start of a turn, by the size of its room.
-use Rattle.std.proofs.Common.{◌≡◌, ℕ, zero, suc, ◌+◌, ◌*◌, ◌^◌, ◌-◌, ◌<◌, ◌≤◌, Bool, true, false, List, [], ◌∷◌, ◌++◌, length, ap, ◌∙◌, sym, refl, subst, arith}
+use Rattle.std.proofs.Common.{◌≡◌, ℕ, zero, suc, ◌+◌, ◌*◌, ◌^◌, ◌-◌, ◌<◌, ◌≤◌, Bool, true, false, List, [], ◌∷◌, ◌++◌, length, ap, sym, refl, subst, arith}
 use Rattle.std.proofs.lemmas.Bool.{leb-true}
 use Rattle.std.specs.List.{list_any}
-use Rattle.std.specs.Prelude.{Option, None, Some, slice_get, nat_le, ◌==◌, if◌then◌else◌}
+use Rattle.std.specs.Prelude.{Option, None, Some, slice_get, nat_le, ◌==◌}
 use Rattle.contexts.specs.declared.parts.Context.{Context}
 use Rattle.contexts.specs.declared.parts.Contexts.{Contexts}
 use Rattle.contexts.specs.declared.parts.Plugin.{Plugin}
 use Rattle.contexts.specs.Reached.{vm_in}
-use Rattle.course.specs.Course.{Course, ends, Met, Reaches}
+use Rattle.course.specs.Course.{ends, Met, Reaches}
 use Rattle.course.proofs.Holds.{AllEnds, all_reached}
 use Rattle.exchange.specs.declared.types.Exchange.{Exchange}
-use Rattle.filter_chain.specs.Costs.{costs, held_cost, stage_cost, chain_cost}
+use Rattle.filter_chain.specs.Costs.{costs, held_cost, chain_cost}
 use Rattle.filter_chain.specs.declared.item.Held.{Held}
 use Rattle.filter_chain.specs.declared.item.Held.TheVariants as held
 use Rattle.filter_chain.specs.declared.item.Item.{Item}
@@ -23,19 +23,19 @@ use Rattle.worker.specs.declared.room.Room.{Room}
 use Rattle.worker.specs.declared.types.Job.{Job}
 use Rattle.worker.specs.declared.types.Job.TheVariants as jobs
 use Rattle.worker.specs.declared.types.Line.{Line}
-use Rattle.worker.specs.declared.types.Reads.{Reads}
-use Rattle.worker.specs.Making.{first_room}
 use Rattle.worker.specs.Plan.{Plan}
+use Rattle.store_model.specs.Made.{Made}
+use Rattle.worker.specs.Settling.{settling}
 use Rattle.worker.specs.State.{Setting, rules_of}
 use Rattle.worker.specs.Steps.{Both, both}
-use Rattle.worker.specs.Turn.{is_of, roots_from, start_of, starts_of, first_vms, vms_in, starts, is_due_now, ticks_in, ticks_of, ticks_due, deadlines, registers_at, notice_of, notices_of, agenda_of, at_moment, facing, Outcome, turn, turn_by, most_steps}
-use Rattle.rest_laws.specs.Laws.{Calling, IsAtRest, NothingIsLeft}
-use Rattle.rest_laws.specs.Left.{reading_cost, end_cost, byte_cost, left, line_left, lines_left, open_left, reader_left, exchange_left, job_left, jobs_left, parts_left, reading_left, bytes_of, Fits, OpenFits, AllFit}
-use Rattle.rest_laws.specs.Moves.{for_each, moves_left, moves_of, spare, spare_of, chains_left}
-use Rattle.rest_laws.specs.Sizes.{stages_size, reader_size, open_size, lines_size, vms_size, room_size, OneTurn, Follow, WorkersComeToRest}
+use Rattle.worker.specs.Turn.{is_of, roots_from, start_of, starts_of, first_vms, vms_in, starts, is_due_now, ticks_in, ticks_of, ticks_due, deadlines, registers_at, notice_of, notices_of, agenda_of, at_moment, Outcome, outcome, turn, turn_by, most_steps}
+use Rattle.rest_laws.specs.Laws.{Calling}
+use Rattle.rest_laws.specs.Left.{byte_cost, left, lines_left, open_left, reader_left, jobs_left, parts_left, reading_left, bytes_of, OpenFits, AllFit}
+use Rattle.rest_laws.specs.Moves.{for_each, moves_of, spare, spare_of, chains_left}
+use Rattle.rest_laws.specs.Sizes.{stages_size, reader_size, open_size, lines_size, vms_size, OneTurn, first_state, turn_start, start_size, IsReady, Follow, WorkersComeToRest, WholeTurnsComeToRest}
 use Rattle.rest_laws.proofs.Settling.{Settled, rest_is_rest}
 use Rattle.rest_laws.proofs.Tests.{of_if}
-use Rattle.rest_laws.proofs.Turns.{turn_rests, turn_fits, setting_fits}
+use Rattle.rest_laws.proofs.Turns.{turn_rests, fewer_steps, setting_fits}
 
 -- ---- bytes, chains, exchanges and lines
 
@@ -194,50 +194,76 @@ agenda_small plan what room =
 
 -- ---- the whole
 
-pub left_small : (plan : Plan) (event : Event) (room : Room) → AllFit 16 room.lines → IsAtRest room
-    → left 16 (facing plan event room) ≤ 248 * (room_size room + length (bytes_of event.what)) + 953
-left_small plan event room fit rested =
-    let none = rest_is_rest room rested in
-    let l = lines_small room.lines fit in
-    let a = agenda_small plan event.what (at_moment event.now room) in
-    let w = bytes_small 3 room.waits (omega arith) in
-    let j : jobs_left 16 room.jobs ≡ 0 = ap (jobs_left 16) none.jobs in
-    let r : reading_left 16 room.reading ≡ 0 = ap (reading_left 16) none.reading in
+left_small : {H : Type 0} (setting : Setting) (state : Both H) (event : Event) → IsReady state → left 16 (turn_start setting state event) ≤ 248 * start_size state event + 953
+left_small setting state event ready =
+    let none = rest_is_rest state.room ready.rested in
+    let l = lines_small state.room.lines ready.fits in
+    let a = agenda_small (rules_of setting) event.what (at_moment event.now state.room) in
+    let w = bytes_small 3 state.room.waits (omega arith) in
+    let j : jobs_left 16 state.room.jobs ≡ 0 = ap (jobs_left 16) none.jobs in
+    let r : reading_left 16 state.room.reading ≡ 0 = ap (reading_left 16) none.reading in
     omega arith
 
 -- so it is less than a turn has steps
 enough : (m n : ℕ) → m ≤ 248 * n + 953 → n ≤ 2 ^ 56 → m < most_steps
 enough m n less few = omega arith
 
+within : (n : ℕ) → n ≤ 2 ^ 56 → 248 * n + 954 ≤ most_steps
+within n few = omega arith
+
+ready_of : {H : Type 0} (state : Both H) → Settled 16 state.room → IsReady state
+ready_of state s = record { fits = s.fit; rested = s.rested }
+
 -- FROM REST A TURN COMES TO REST
-turn_settles : {H : Type 0} (calling : Calling H) (setting : Setting) (state : Both H) (event : Event) → AllFit 16 state.room.lines → IsAtRest state.room
-    → room_size state.room + length (bytes_of event.what) ≤ 2 ^ 56 → AllEnds (λ (o : Outcome H). Settled 16 o.state.room) (turn calling (rules_of setting) state event)
-turn_settles calling setting state event fit rested few = by_stop (is_stop event.what) refl
+turn_settles : {H : Type 0} (calling : Calling H) (setting : Setting) (state : Both H) (event : Event) → IsReady state → start_size state event ≤ 2 ^ 56
+    → AllEnds (λ (o : Outcome H). Settled 16 o.state.room) (turn calling (rules_of setting) state event)
+turn_settles calling setting state event ready few = by_stop (is_stop event.what) refl
   where
     by_stop : (b : Bool) → is_stop event.what ≡ b → AllEnds (λ (o : Outcome _). Settled 16 o.state.room) (turn calling (rules_of setting) state event)
     by_stop true is =
-        subst (λ (b : Bool). AllEnds (λ (o : Outcome _). Settled 16 o.state.room) (turn_by calling (rules_of setting) b state event)) (sym is) (record { fit = fit; rested = rested })
+        subst (λ (b : Bool). AllEnds (λ (o : Outcome _). Settled 16 o.state.room) (turn_by calling (rules_of setting) b state event)) (sym is) (record { fit = ready.fits; rested = ready.rested })
     by_stop false is =
-        turn_rests calling (rules_of setting) 16 (setting_fits setting) state event fit is
-        (enough (left 16 (facing (rules_of setting) event state.room)) (room_size state.room + length (bytes_of event.what)) (left_small (rules_of setting) event state.room fit rested) few)
+        turn_rests calling (rules_of setting) 16 (setting_fits setting) state event ready.fits is
+        (enough (left 16 (turn_start setting state event)) (start_size state event) (left_small setting state event ready) few)
 
-turn_settled : {H : Type 0} (calling : Calling H) (setting : Setting) (state : Both H) (event : Event) (ms : List Met) (end : Outcome H) → AllFit 16 state.room.lines → IsAtRest state.room
-    → room_size state.room + length (bytes_of event.what) ≤ 2 ^ 56 → Reaches (turn calling (rules_of setting) state event) ms (ends end) → Settled 16 end.state.room
-turn_settled calling setting state event ms end fit rested few reaches =
-    all_reached (λ (o : Outcome _). Settled 16 o.state.room) ms (turn calling (rules_of setting) state event) end (turn_settles calling setting state event fit rested few) reaches
+turn_ready : {H : Type 0} (calling : Calling H) (setting : Setting) (state : Both H) (event : Event) (ms : List Met) (end : Outcome H) → IsReady state → start_size state event ≤ 2 ^ 56
+    → Reaches (turn calling (rules_of setting) state event) ms (ends end) → IsReady end.state
+turn_ready calling setting state event ms end ready few reaches =
+    ready_of end.state (all_reached (λ (o : Outcome _). Settled 16 o.state.room) ms (turn calling (rules_of setting) state event) end (turn_settles calling setting state event ready few) reaches)
 
-turns_settle : {H : Type 0} (calling : Calling H) (setting : Setting) (state : Both H) (turns : List (OneTurn H)) (last : Both H) → AllFit 16 state.room.lines → IsAtRest state.room
-    → Follow calling setting state turns last → Settled 16 last.room
-turns_settle calling setting state [] last fit rested follow = subst (λ (b : Both _). Settled 16 b.room) (sym follow) (record { fit = fit; rested = rested })
-turns_settle calling setting state (t ∷ turns) last fit rested follow =
-    let one = turn_settled calling setting state t.event t.met t.end fit rested follow.0 follow.1 in
-    turns_settle calling setting t.end.state turns last one.fit one.rested follow.2
+turns_ready : {H : Type 0} (calling : Calling H) (setting : Setting) (state : Both H) (turns : List (OneTurn H)) (last : Both H) → IsReady state → Follow calling setting state turns last → IsReady last
+turns_ready calling setting state [] last ready follow = subst (λ (b : Both _). IsReady b) (sym follow) ready
+turns_ready calling setting state (t ∷ turns) last ready follow =
+    turns_ready calling setting t.end.state turns last (turn_ready calling setting state t.event t.met t.end ready follow.0 follow.1) follow.2
+
+few_steps : {H : Type 0} (calling : Calling H) (setting : Setting) (state : Both H) (event : Event) (ms : List Met) (c : Both H) → IsReady state → start_size state event ≤ 2 ^ 56
+    → Reaches (settling calling (rules_of setting) most_steps state.host (turn_start setting state event)) ms (ends c)
+    → Reaches (settling calling (rules_of setting) (248 * start_size state event + 954) state.host (turn_start setting state event)) ms (ends c)
+few_steps calling setting state event ms c ready few reaches =
+    let less = left_small setting state event ready in
+    let most = within (start_size state event) few in
+    fewer_steps calling (rules_of setting) 16 (setting_fits setting) (248 * start_size state event + 954) (most_steps - (248 * start_size state event + 954))
+    (both state.host (turn_start setting state event)) c ms ready.fits (omega arith)
+    (subst (λ (n : ℕ). Reaches (settling calling (rules_of setting) n state.host (turn_start setting state event)) ms (ends c)) (parts (248 * start_size state event + 954) most) reaches)
+  where
+    parts : (n : ℕ) → n ≤ most_steps → most_steps ≡ n + (most_steps - n)
+    parts n less = omega arith
+
+first_ready : {H : Type 0} (setting : Setting) (host : H) → IsReady (first_state setting host)
+first_ready setting host = record { fits = tt; rested = refl }
 
 pub workers_come_to_rest : (H : Type 0) → WorkersComeToRest H
 workers_come_to_rest H = record {
   small = left_small;
-  turn = λ calling setting state event ms end fit rested few reaches.
-      let s = turn_settled calling setting state event ms end fit rested few reaches in (s.fit, s.rested);
-  turns = λ calling setting host turns last follow.
-      let s = turns_settle calling setting (both host (first_room setting.config setting.seed)) turns last tt refl follow in (s.fit, s.rested);
+  turn = turn_ready;
+  steps = few_steps;
+  first = first_ready;
+  turns = λ calling setting host turns last follow. turns_ready calling setting (first_state setting host) turns last (first_ready setting host) follow;
+}
+
+pub whole_turns_come_to_rest : {S : Type 0} (H : Type 0) (performs : S → List Made → S → Type 0) → WholeTurnsComeToRest H performs
+whole_turns_come_to_rest H performs = record {
+  made = λ exported registering config who seed host. record { fits = tt; rested = refl };
+  whole = λ calling stop s t old new from to turn ready few.
+      turn_ready calling from.setting from.state turn.event turn.goes.met (outcome to.state turn.sent) ready few turn.goes.reaches;
 }

@@ -43,7 +43,7 @@ swaps P (measured m ∷ ms) (hears r k) f g c all same reaches = elim reaches [ 
 swaps P (heard h ∷ ms) (hears r k) f g c all same reaches = (reaches.0, swaps P ms (k h) f g c (all h reaches.0) same reaches.1)
 
 module _ {H : Type 0} (calling : Calling H) (plan : Plan) (s : ℕ) (routes : RoutesFit s plan.routes) where
-  fewer_steps : (n k : ℕ) (b c : Both H) (ms : List Met) → AllFit s b.room.lines → left s b.room < n → Reaches (settling calling plan (n + k) b.host b.room) ms (ends c)
+  pub fewer_steps : (n k : ℕ) (b c : Both H) (ms : List Met) → AllFit s b.room.lines → left s b.room < n → Reaches (settling calling plan (n + k) b.host b.room) ms (ends c)
       → Reaches (settling calling plan n b.host b.room) ms (ends c)
   fewer_steps zero k b c ms fit less reaches = absurd (omega arith)
   fewer_steps (suc n) k b c ms fit less reaches =

@@ -1,20 +1,25 @@
 -- HOW LARGE A ROOM IS: so many things are in it, each of which takes memory. What is left to do at the start of a turn is below a turn's number
 -- of steps, 2^64 - 1, for each room of at most 2^56 things.
-use Rattle.std.specs.Prelude.{◌≡◌, ◌≤◌, ℕ, zero, suc, ◌+◌, ◌*◌, ◌^◌, List, [], ◌∷◌, length, Option, None, Some}
+use Rattle.std.specs.Prelude.{◌≡◌, ◌≤◌, ℕ, zero, suc, ◌+◌, ◌*◌, ◌^◌, Bool, List, [], ◌∷◌, length, Option, None, Some}
 use Rattle.contexts.specs.declared.parts.Contexts.{Contexts}
 use Rattle.contexts.specs.Reached.{vm_in}
 use Rattle.course.specs.Course.{ends, Met, Reaches}
+use Rattle.course.specs.declared.host.Callback.{Callback}
 use Rattle.exchange.specs.declared.types.Exchange.{Exchange}
 use Rattle.filter_chain.specs.declared.stage.Stage.{Stage}
+use Rattle.gate_config.specs.declared.config.Config.{Config}
 use Rattle.gate_io.specs.declared.event.Event.{Event}
+use Rattle.gate_io.specs.declared.passed.Passed.{Passed}
 use Rattle.http1_model.specs.Unread.{Reading}
+use Rattle.store_model.specs.Made.{Made}
 use Rattle.worker.specs.declared.room.Room.{Room}
 use Rattle.worker.specs.declared.types.Line.{Line}
-use Rattle.worker.specs.Making.{first_room}
-use Rattle.worker.specs.Plan.{Plan}
-use Rattle.worker.specs.State.{Setting, rules_of}
+use Rattle.worker.specs.Making.{first_room, new_worker}
+use Rattle.worker.specs.Settling.{settling}
+use Rattle.worker.specs.State.{Setting, Standing, rules_of}
 use Rattle.worker.specs.Steps.{Both, both}
-use Rattle.worker.specs.Turn.{Outcome, turn, facing, vms_in}
+use Rattle.worker.specs.Turn.{Outcome, turn, facing, most_steps, vms_in}
+use Rattle.worker.specs.Turned.{Whole}
 use Rattle.rest_laws.specs.Laws.{Calling, IsAtRest}
 use Rattle.rest_laws.specs.Left.{left, bytes_of, AllFit}
 
@@ -53,21 +58,50 @@ pub record OneTurn (H : Type 0) : Type 0 where
   pub met : List Met
   pub end : Outcome H
 
--- from one state these turns lead to another, and before each of them the room and the bytes of its event are at most 2^56 things
+-- the state that a worker is made with
+abbrev pub first_state : {H : Type 0} → Setting → H → Both H
+first_state setting host = both host (first_room setting.config setting.seed)
+
+-- where a turn begins, and how large that is
+abbrev pub turn_start : {H : Type 0} → Setting → Both H → Event → Room
+turn_start setting state event = facing (rules_of setting) event state.room
+
+abbrev pub start_size : {H : Type 0} → Both H → Event → ℕ
+start_size state event = room_size state.room + length (bytes_of event.what)
+
+-- each exchange of the state fits, and everything is at rest
+pub record IsReady {H : Type 0} (state : Both H) : Type 0 where
+  pub fits : AllFit 16 state.room.lines
+  pub rested : IsAtRest state.room
+
+-- from one state these turns lead to another, and each begins with at most 2^56 things
 abbrev pub Follow : {H : Type 0} → Calling H → Setting → Both H → List (OneTurn H) → Both H → Type 0
 Follow calling setting state [] last = last ≡ state
 Follow calling setting state (t ∷ turns) last =
-    (room_size state.room + length (bytes_of t.event.what) ≤ 2 ^ 56) × Reaches (turn calling (rules_of setting) state t.event) t.met (ends t.end)
+    (start_size state t.event ≤ 2 ^ 56) × Reaches (turn calling (rules_of setting) state t.event) t.met (ends t.end)
     × Follow calling setting t.end.state turns last
 
 pub record WorkersComeToRest (H : Type 0) : Type 0 where
-  -- what is left to do, where there are at most 16 filters on each route
-  pub small : (plan : Plan) (event : Event) (room : Room) → AllFit 16 room.lines → IsAtRest room
-      → left 16 (facing plan event room) ≤ 248 * (room_size room + length (bytes_of event.what)) + 953
+  -- what is left to do where a turn begins
+  pub small : (setting : Setting) (state : Both H) (event : Event) → IsReady state → left 16 (turn_start setting state event) ≤ 248 * start_size state event + 953
   -- FROM REST A TURN COMES TO REST
   pub turn : (calling : Calling H) (setting : Setting) (state : Both H) (event : Event) (ms : List Met) (end : Outcome H)
-      → AllFit 16 state.room.lines → IsAtRest state.room → room_size state.room + length (bytes_of event.what) ≤ 2 ^ 56
-      → Reaches (turn calling (rules_of setting) state event) ms (ends end) → AllFit 16 end.state.room.lines × IsAtRest end.state.room
-  -- A WORKER IS AT REST BEHIND EACH OF ITS TURNS, from the room that it was made with on
+      → IsReady state → start_size state event ≤ 2 ^ 56 → Reaches (turn calling (rules_of setting) state event) ms (ends end) → IsReady end.state
+  -- it takes 248 steps at most for each thing, and 954: with that bound the same is met, and it comes to the same
+  pub steps : (calling : Calling H) (setting : Setting) (state : Both H) (event : Event) (ms : List Met) (c : Both H)
+      → IsReady state → start_size state event ≤ 2 ^ 56
+      → Reaches (settling calling (rules_of setting) most_steps state.host (turn_start setting state event)) ms (ends c)
+      → Reaches (settling calling (rules_of setting) (248 * start_size state event + 954) state.host (turn_start setting state event)) ms (ends c)
+  -- A WORKER IS AT REST when it is made, and behind each of its turns
+  pub first : (setting : Setting) (host : H) → IsReady (first_state setting host)
   pub turns : (calling : Calling H) (setting : Setting) (host : H) (turns : List (OneTurn H)) (last : Both H)
-      → Follow calling setting (both host (first_room setting.config setting.seed)) turns last → AllFit 16 last.room.lines × IsAtRest last.room
+      → Follow calling setting (first_state setting host) turns last → IsReady last
+
+-- ---- the code
+
+-- So a worker that its code made is ready, and so it is behind each whole turn of the code.
+pub record WholeTurnsComeToRest {S : Type 0} (H : Type 0) (performs : S → List Made → S → Type 0) : Type 0 where
+  pub made : (exported : H → ℕ → Callback → Bool) (registering : H → ℕ → Bool) (config : Config) (who : ℕ) (seed : List ℕ) (host : H)
+      → IsReady (new_worker exported registering config who seed host).state
+  pub whole : (calling : Calling H) (stop : Bool) (s t : S) (old new : Option (List Passed)) (from to : Standing H)
+      → (turn : Whole calling performs stop s old from to t new) → IsReady from.state → start_size from.state turn.event ≤ 2 ^ 56 → IsReady to.state

@@ -1,7 +1,9 @@
 // A turn comes to rest, whatever the machines do. The functions have nothing to do: their contracts are the laws.
 ghost use Rattle.rest_laws.specs.Laws.{StepsLeaveLess, StepsComeToRest, BoundsChangeNothing, TurnsComeToRest, RoomsComeToRest, RestIsRest};
 ghost use Rattle.rest_laws.specs.Readings.{ReadingsUseBytes};
-ghost use Rattle.rest_laws.specs.Sizes.{WorkersComeToRest};
+ghost use Rattle.rest_laws.specs.Sizes.{WorkersComeToRest, WholeTurnsComeToRest};
+
+use store_model::Shared;
 
 /// What a reader hands on uses up bytes that were unread, but for an end that came alone; and nothing that it says adds any.
 pub fn readings_use_bytes()
@@ -39,7 +41,13 @@ pub fn rooms_come_to_rest<H>()
     ensures { RoomsComeToRest H }
 {}
 
-/// A worker is at rest behind each of its turns, so long as no room of it holds more than 2^56 things.
+/// A worker is at rest behind each of its turns, where each begins with at most 2^56 things: bytes that are unread or come, exchanges, stages,
+/// items that wait, contexts, VMs and plug-ins. A turn takes at most 248 steps for each of them, and 954.
 pub fn workers_come_to_rest<H>()
     ensures { WorkersComeToRest H }
+{}
+
+/// A worker that its code made is at rest, and so it is behind each whole turn of the code that begins with at most 2^56 things.
+pub fn whole_turns_come_to_rest<H, S: Shared>()
+    ensures { WholeTurnsComeToRest H S.performs }
 {}
