@@ -13,3 +13,4 @@ pub mod Steps
 pub mod Settling
 pub mod Turns
 pub mod Sizes
+pub mod Examples

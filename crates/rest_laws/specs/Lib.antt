@@ -3,3 +3,4 @@ pub mod Moves
 pub mod Left
 pub mod Laws
 pub mod Sizes
+pub mod Examples

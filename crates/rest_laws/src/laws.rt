@@ -1,4 +1,5 @@
 // A turn comes to rest, whatever the machines do. The functions have nothing to do: their contracts are the laws.
+ghost use Rattle.rest_laws.specs.Examples.{MovingExample, ReadingExample};
 ghost use Rattle.rest_laws.specs.Laws.{StepsLeaveLess, StepsComeToRest, BoundsChangeNothing, TurnsComeToRest, RoomsComeToRest, RestIsRest};
 ghost use Rattle.rest_laws.specs.Readings.{ReadingsUseBytes};
 ghost use Rattle.rest_laws.specs.Sizes.{WorkersComeToRest, WholeTurnsComeToRest};
@@ -50,4 +51,10 @@ pub fn workers_come_to_rest<H>()
 /// A worker that its code made is at rest, and so it is behind each whole turn of the code that begins with at most 2^56 things.
 pub fn whole_turns_come_to_rest<H, S: Shared>()
     ensures { WholeTurnsComeToRest H S.performs }
+{}
+
+/// What is left to do in worked rooms: a head passes a filter, and a request is read.
+pub fn worked_rooms()
+    ensures moving { MovingExample }
+    ensures reading { ReadingExample }
 {}

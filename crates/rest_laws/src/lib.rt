@@ -6,5 +6,5 @@ mod laws;
 pub use laws::{
     bounds_change_nothing, readings_use_bytes, rest_is_rest, rooms_come_to_rest,
     steps_come_to_rest, steps_leave_less, turns_come_to_rest, whole_turns_come_to_rest,
-    workers_come_to_rest,
+    worked_rooms, workers_come_to_rest,
 };

@@ -1,0 +1,153 @@
+-- WHAT IS LEFT TO DO, in worked rooms, step by step.
+use Rattle.std.specs.Prelude.{◌≡◌, ℕ, Bool, true, false, List, [], ◌∷◌, Option, None, Some, codes}
+use Rattle.contexts.specs.Making.{no_contexts, with_vm}
+use Rattle.contexts.specs.declared.parts.Contexts.{Contexts}
+use Rattle.course.specs.Called.{Called, called_back}
+use Rattle.course.specs.Course.{Course, ends, asks, measures, hears}
+use Rattle.course.specs.declared.host.CallEnd.TheVariants.{Returned}
+use Rattle.course.specs.declared.host.Callback.{Callback}
+use Rattle.exchange.specs.declared.types.Exchange.{Exchange}
+use Rattle.exchange.specs.declared.types.Request.{Request}
+use Rattle.exchange.specs.declared.types.Response.{Response}
+use Rattle.filter_chain.specs.declared.item.Held.TheVariants as held
+use Rattle.filter_chain.specs.declared.item.Item.TheVariants.{Head}
+use Rattle.filter_chain.specs.declared.stage.Stage.{Stage}
+use Rattle.gate_base.specs.declared.level.Level.TheVariants.{Info}
+use Rattle.h1_head.specs.declared.head.Length.TheVariants as lengths
+use Rattle.header_maps.specs.Operations.{request_headers}
+use Rattle.http1_model.specs.Head as model
+use Rattle.http1_model.specs.Length.{nothing}
+use Rattle.http1_model.specs.Messages.{head}
+use Rattle.http1_model.specs.Unread.{head_part, new_reading, fed, moved_on}
+use Rattle.header_maps.specs.Operations.{no_headers}
+use Rattle.course.specs.Heard.{hands}
+use Rattle.store_model.specs.Program.{Program, done}
+use Rattle.worker.specs.Plan.{Plan}
+use Rattle.worker.specs.Rooms.{next_of}
+use Rattle.worker.specs.Steps.{Both, step, after_heard}
+use Rattle.worker.specs.declared.room.Room.{Room}
+use Rattle.worker.specs.declared.types.Job.{Job}
+use Rattle.worker.specs.declared.types.Job.TheVariants as jobs
+use Rattle.worker.specs.declared.types.Line.{Line}
+use Rattle.worker.specs.declared.types.Next.TheVariants as next
+use Rattle.worker.specs.declared.types.Reads.{Reads}
+use Rattle.rest_laws.specs.Left.{left}
+use Rattle.rest_laws.specs.Sizes.{room_size}
+
+-- ---- machines whose callbacks all return one value
+
+abbrev pub returns : ℕ → ℕ → ℕ → Callback → ℕ → ℕ → ℕ → ℕ → Contexts → Program (Called ℕ)
+returns value host vm name context first second now h = done (called_back (Returned (Some value)) [] host h)
+
+-- ---- a line with an exchange of one filter, at whose stage the whole head of a request waits
+
+abbrev get : Request
+get = record { old_client = false; close = false; is_head = false; minor = 1; length = lengths.Nothing; told = None; whole = true }
+
+abbrev no_response : Response
+no_response = record { to_head = false; status = None; length = lengths.Nothing; told = None }
+
+abbrev stage : Bool → Stage
+stage response = record { vm = 0; context = 2; response = response; waiting = []; held = held.Nothing; passes = false }
+
+abbrev exchange : Exchange
+exchange = record {
+  place = 0;
+  filters = record { plugin = 0; vm = 0; fails_open = true; created = true; context = 2 } ∷ [];
+  request = record (stage false) { waiting = Head true ∷ [] } ∷ [];
+  response = stage true ∷ [];
+  filters_requests = false;
+  filters_responses = false;
+  asked = get;
+  told = no_response;
+  out = None;
+  reader = None;
+  due = None;
+  refusal = None;
+  is_head_up = false;
+  is_read = false;
+  is_entered = true;
+  is_headed = false;
+  is_answered = false;
+  is_head_out = false;
+  has_ended = false;
+  stays = false;
+  closes = false;
+}
+
+abbrev room : List Line → Option Reads → List Job → Room
+room lines reading parts = record {
+  lines = lines;
+  hub = record { moment = 0; contexts = with_vm (codes "v") [] (no_contexts Info []); sent = [] };
+  reading = reading;
+  jobs = [];
+  agenda = parts;
+  waits = [];
+  dead = [];
+  is_begun = true;
+}
+
+-- deadlines are still to be looked at in this turn
+abbrev pub waiting : Room
+waiting = room (record { number = 1; requests = new_reading None; is_gone = false; exchange = Some exchange } ∷ []) None (jobs.Expire ∷ [])
+
+abbrev pub plan : Plan
+plan = record { routes = record { path = codes "/"; filters = [] } ∷ []; plugins = []; vms = 1; deadline = 1; bodies = []; registers = [] }
+
+-- the room behind a step that asks and reads nothing
+abbrev room_behind : Course (Both ℕ) → Room → Room
+room_behind (ends b) before = b.room
+room_behind (asks vm call k) before = before
+room_behind (measures vm call k) before = before
+room_behind (hears r k) before = before
+
+abbrev pub stepped : ℕ → Room → Room
+stepped value before = room_behind (step (returns value) plan (next_of before) 0 before) before
+
+-- Where the stage's callback answers Continue, the head goes up (2 less). Then the part of the turn becomes a job (1), which is done (1). What is
+-- left at rest is what the exchange may still come to.
+pub record MovingExample : Type 0 where
+  pub size : room_size waiting ≡ 5
+  pub first : next_of waiting ≡ next.Move 0
+  pub before : left 1 waiting ≡ 27
+  pub second : next_of (stepped 0 waiting) ≡ next.Begin
+  pub moved : left 1 (stepped 0 waiting) ≡ 25
+  pub third : next_of (stepped 0 (stepped 0 waiting)) ≡ next.Work
+  pub begun : left 1 (stepped 0 (stepped 0 waiting)) ≡ 24
+  pub fourth : next_of (stepped 0 (stepped 0 (stepped 0 waiting))) ≡ next.Rest
+  pub worked : left 1 (stepped 0 (stepped 0 (stepped 0 waiting))) ≡ 23
+  -- a stage that pauses holds the head (1 less)
+  pub paused : left 1 (stepped 1 waiting) ≡ 26
+
+-- ---- a request of 27 bytes is read of a line, whose route has no filters
+
+abbrev get_text : List ℕ
+get_text = codes "GET / HTTP/1.1\r\nHost: a\r\n\r\n"
+
+abbrev get_head : model.Head
+get_head = record {
+  fields = request_headers (codes "GET") (codes "http") (codes "a") (codes "/");
+  tail = no_headers;
+  form = None;
+  minor = 1;
+  length = nothing;
+  told = None;
+  close = false;
+  connection = [];
+}
+
+abbrev reads : Reads
+reads = record { line = 1; up = false; batch = [] }
+
+abbrev pub unread : Room
+unread = room (record { number = 1; requests = fed get_text (new_reading None); is_gone = false; exchange = None } ∷ []) (Some reads) []
+
+abbrev pub heard : Room
+heard = after_heard plan reads (hands (head_part get_head) (moved_on 27 head (fed get_text (new_reading None)))) (record unread { reading = None })
+
+-- Its bytes are used up (22 each), and the reading ends (12). What comes of it is an exchange (18, and 1), whose stages are made (5), and to
+-- which the head comes (3).
+pub record ReadingExample : Type 0 where
+  pub before : left 1 unread ≡ 606
+  pub behind : left 1 heard ≡ 27
+  pub next : next_of heard ≡ next.Work
