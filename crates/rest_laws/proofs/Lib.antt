@@ -13,4 +13,6 @@ pub mod Steps
 pub mod Settling
 pub mod Turns
 pub mod Sizes
+pub mod Limits
+pub mod Paid
 pub mod Examples

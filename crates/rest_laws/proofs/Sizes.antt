@@ -39,7 +39,7 @@ use Rattle.rest_laws.proofs.Turns.{turn_rests, fewer_steps, setting_fits}
 
 -- ---- bytes, chains, exchanges and lines
 
-bytes_small : {A : Type 0} (c : ℕ) (xs : List A) → c ≤ 248 → for_each c xs ≤ 248 * length xs
+pub bytes_small : {A : Type 0} (c : ℕ) (xs : List A) → c ≤ 248 → for_each c xs ≤ 248 * length xs
 bytes_small c [] less = omega arith
 bytes_small c (x ∷ xs) less = let e = bytes_small c xs less in omega arith
 
@@ -96,7 +96,7 @@ lines_small (line ∷ lines) fit =
 
 -- ---- the parts of a turn
 
-parts_left-append : (s : ℕ) (a b : List Job) → parts_left s (a ++ b) ≡ parts_left s a + parts_left s b
+pub parts_left-append : (s : ℕ) (a b : List Job) → parts_left s (a ++ b) ≡ parts_left s a + parts_left s b
 parts_left-append s [] b = omega arith
 parts_left-append s (j ∷ a) b = let e = parts_left-append s a b in omega arith
 
@@ -111,7 +111,7 @@ start_small vm plugins =
     of_if (λ (l : List Job). parts_left 16 l ≤ 2 + 4 * length plugins) (list_any (is_of vm) plugins) _ _ (λ is. let e = roots_small vm 0 true plugins in omega arith) (λ is. omega arith)
 
 -- so many times the same
-times : ℕ → ℕ → ℕ
+pub times : ℕ → ℕ → ℕ
 times zero k = 0
 times (suc n) k = k + times n k
 
@@ -125,10 +125,10 @@ sixteen : (k : ℕ) → times 16 k ≤ 16 * k
 unfolding times
 sixteen k = omega arith
 
-times_16 : (n k : ℕ) → n ≤ 16 → times n k ≤ 16 * k
+pub times_16 : (n k : ℕ) → n ≤ 16 → times n k ≤ 16 * k
 times_16 n k less = let e = times_fewer n 16 k less in let f = sixteen k in omega arith
 
-starts_small : (n : ℕ) (plugins : List Plugin) → parts_left 16 (starts_of n plugins) ≤ times n (2 + 4 * length plugins)
+pub starts_small : (n : ℕ) (plugins : List Plugin) → parts_left 16 (starts_of n plugins) ≤ times n (2 + 4 * length plugins)
 unfolding times
 starts_small zero plugins = omega arith
 starts_small (suc n) plugins =
@@ -137,7 +137,7 @@ starts_small (suc n) plugins =
     let a = parts_left-append 16 (starts_of n plugins) (start_of n plugins) in
     omega arith
 
-few_vms : (n : ℕ) → first_vms n ≤ 16
+pub few_vms : (n : ℕ) → first_vms n ≤ 16
 few_vms n = of_if (λ (m : ℕ). m ≤ 16) (nat_le n 16) _ _ (λ is. leb-true n 16 is) (λ is. omega arith)
 
 all_starts_small : (room : Room) → parts_left 16 (starts room) ≤ 32 + 64 * length room.hub.contexts.plugins
@@ -154,7 +154,7 @@ ticks_in_small now vm (c ∷ cs) =
     let e = ticks_in_small now vm cs in
     of_if (λ (l : List Job). parts_left 16 l ≤ 2 * suc (length cs)) (is_due_now now c.tick) _ _ (λ is. omega arith) (λ is. omega arith)
 
-ticks_small : (now n : ℕ) (h : Contexts) → parts_left 16 (ticks_of now n h) ≤ 2 * vms_size n h
+pub ticks_small : (now n : ℕ) (h : Contexts) → parts_left 16 (ticks_of now n h) ≤ 2 * vms_size n h
 ticks_small now zero h = omega arith
 ticks_small now (suc n) h =
     let e = ticks_small now n h in
@@ -162,13 +162,13 @@ ticks_small now (suc n) h =
     let a = parts_left-append 16 (ticks_of now n h) (ticks_in now n (vm_in h n).contexts) in
     omega arith
 
-deadlines_small : (plan : Plan) → parts_left 16 (deadlines plan) ≤ 2
+pub deadlines_small : (plan : Plan) → parts_left 16 (deadlines plan) ≤ 2
 deadlines_small plan = of_if (λ (l : List Job). parts_left 16 l ≤ 2) (plan.deadline == 0) _ _ (λ is. omega arith) (λ is. omega arith)
 
 notice_small : (plan : Plan) (vm : ℕ) → parts_left 16 (notice_of plan vm) ≤ 50
 notice_small plan vm = of_if (λ (l : List Job). parts_left 16 l ≤ 50) (registers_at (slice_get plan.registers vm)) _ _ (λ is. omega arith) (λ is. omega arith)
 
-notices_small : (plan : Plan) (n : ℕ) → parts_left 16 (notices_of plan n) ≤ times n 50
+pub notices_small : (plan : Plan) (n : ℕ) → parts_left 16 (notices_of plan n) ≤ times n 50
 unfolding times
 notices_small plan zero = omega arith
 notices_small plan (suc n) =
@@ -226,7 +226,7 @@ turn_settles calling setting state event ready few = by_stop (is_stop event.what
         turn_rests calling (rules_of setting) 16 (setting_fits setting) state event ready.fits is
         (enough (left 16 (turn_start setting state event)) (start_size state event) (left_small setting state event ready) few)
 
-turn_ready : {H : Type 0} (calling : Calling H) (setting : Setting) (state : Both H) (event : Event) (ms : List Met) (end : Outcome H) → IsReady state → start_size state event ≤ 2 ^ 56
+pub turn_ready : {H : Type 0} (calling : Calling H) (setting : Setting) (state : Both H) (event : Event) (ms : List Met) (end : Outcome H) → IsReady state → start_size state event ≤ 2 ^ 56
     → Reaches (turn calling (rules_of setting) state event) ms (ends end) → IsReady end.state
 turn_ready calling setting state event ms end ready few reaches =
     ready_of end.state (all_reached (λ (o : Outcome _). Settled 16 o.state.room) ms (turn calling (rules_of setting) state event) end (turn_settles calling setting state event ready few) reaches)
@@ -249,7 +249,7 @@ few_steps calling setting state event ms c ready few reaches =
     parts : (n : ℕ) → n ≤ most_steps → most_steps ≡ n + (most_steps - n)
     parts n less = omega arith
 
-first_ready : {H : Type 0} (setting : Setting) (host : H) → IsReady (first_state setting host)
+pub first_ready : {H : Type 0} (setting : Setting) (host : H) → IsReady (first_state setting host)
 first_ready setting host = record { fits = tt; rested = refl }
 
 pub workers_come_to_rest : (H : Type 0) → WorkersComeToRest H

@@ -1,8 +1,9 @@
 -- TURNS COME TO REST, and so does each room; above what is left to do the bound changes nothing.
-use Rattle.std.proofs.Common.{◌≡◌, ℕ, zero, suc, ◌+◌, ◌<◌, ◌≤◌, Bool, true, false, List, [], ◌∷◌, length, ◌∙◌, sym, refl, subst, arith}
+use Rattle.std.proofs.Common.{◌≡◌, ℕ, zero, suc, ◌+◌, ◌<◌, ◌≤◌, ◌++◌, ap, Bool, true, false, List, [], ◌∷◌, length, ◌∙◌, sym, refl, subst, arith}
 use Rattle.std.proofs.lemmas.List.Elements.{All-head, All-tail}
 use Rattle.std.specs.Prelude.{Option, None, Some, All}
 use Rattle.course.specs.Course.{Course, ends, asks, measures, hears, then_do, Met, called, measured, heard, Reaches}
+use Rattle.course.specs.Runs.{reaches_join, reaches_part}
 use Rattle.course.proofs.Holds.{AllEnds, all_then, all_reached}
 use Rattle.exchange.specs.declared.types.Exchange.{Exchange}
 use Rattle.gate_config.specs.declared.entries.RouteEntry.{RouteEntry}
@@ -12,12 +13,12 @@ use Rattle.gate_io.specs.declared.event.Event.{Event}
 use Rattle.worker.specs.declared.types.Line.{Line}
 use Rattle.worker.specs.Plan.{Plan}
 use Rattle.worker.specs.Rooms.{next_of}
-use Rattle.worker.specs.Settling.{settling, settling_step, settling_rest, rests}
+use Rattle.worker.specs.Settling.{settling, settling_step, settling_rest, settling_none, rests}
 use Rattle.worker.specs.State.{Setting, rules_of}
 use Rattle.worker.specs.Steps.{Both, both, step}
 use Rattle.worker.specs.Turn.{Outcome, turn, turn_by, turned, comes_to, facing, most_steps}
 use Rattle.worker.proofs.More.{more_steps}
-use Rattle.rest_laws.specs.Laws.{Calling, BoundsChangeNothing, TurnsComeToRest, IsClear, AllClear, RoomsComeToRest}
+use Rattle.rest_laws.specs.Laws.{Calling, BoundsChangeNothing, StepsArePaid, TurnsComeToRest, IsClear, AllClear, RoomsComeToRest}
 use Rattle.rest_laws.specs.Left.{left, OpenFits, AllFit, RoutesFit}
 use Rattle.rest_laws.proofs.Rooms.{IsLess}
 use Rattle.rest_laws.proofs.Settling.{Settled, settles, settles_fitting, steps_come_to_rest}
@@ -67,6 +68,75 @@ bounds_change_nothing H calling plan s n k b c ms routes fit less = (
   λ reaches. more_steps calling plan n k b c ms reaches (steps_come_to_rest H calling plan s n b c ms routes fit less reaches).1,
   λ reaches. fewer_steps calling plan s routes n k b c ms fit less reaches,
 )
+
+-- ---- the steps are paid
+
+-- a course that met these met some of them in its first part, and the others behind it
+pub splits : {A B : Type 0} (ms : List Met) (p : Course A) (f : A → Course B) (c : B) → Reaches (then_do p f) ms (ends c)
+    → (a : A) × (ns os : List Met) × (ms ≡ ns ++ os) × Reaches p ns (ends a) × Reaches (f a) os (ends c)
+splits ms (ends a) f c reaches = (a, [], ms, refl, refl, reaches)
+splits [] (asks vm call k) f c reaches = absurd (cc)
+splits (called m ∷ ms) (asks vm call k) f c reaches =
+    let r = splits ms (k m.reply) f c reaches.2 in
+    (r.0, called m ∷ r.1, r.2, ap (λ (l : List Met). called m ∷ l) r.3, (reaches.0, reaches.1, r.4), r.5)
+splits (measured m ∷ ms) (asks vm call k) f c reaches = elim reaches [ ]
+splits (heard h ∷ ms) (asks vm call k) f c reaches = elim reaches [ ]
+splits [] (measures vm call k) f c reaches = absurd (cc)
+splits (called m ∷ ms) (measures vm call k) f c reaches = elim reaches [ ]
+splits (measured m ∷ ms) (measures vm call k) f c reaches =
+    let r = splits ms (k m.reply) f c reaches.2 in
+    (r.0, measured m ∷ r.1, r.2, ap (λ (l : List Met). measured m ∷ l) r.3, (reaches.0, reaches.1, r.4), r.5)
+splits (heard h ∷ ms) (measures vm call k) f c reaches = elim reaches [ ]
+splits [] (hears t k) f c reaches = absurd (cc)
+splits (called m ∷ ms) (hears t k) f c reaches = elim reaches [ ]
+splits (measured m ∷ ms) (hears t k) f c reaches = elim reaches [ ]
+splits (heard h ∷ ms) (hears t k) f c reaches =
+    let r = splits ms (k h) f c reaches.1 in
+    (r.0, heard h ∷ r.1, r.2, ap (λ (l : List Met). heard h ∷ l) r.3, (reaches.0, r.4), r.5)
+
+-- and the other way round
+joins : {A B : Type 0} (ms ns os : List Met) (p : Course A) (f : A → Course B) (a : A) (c : B) → ms ≡ ns ++ os → Reaches p ns (ends a) → Reaches (f a) os (ends c) → Reaches (then_do p f) ms (ends c)
+joins ms ns os p f a c is first later =
+    subst (λ (l : List Met). Reaches (then_do p f) l (ends c)) (sym is) (reaches_join ns os (then_do p f) (f a) (ends c) (reaches_part ns p (ends a) f first) later)
+
+no_more_left : {H : Type 0} (s : ℕ) (b c : Both H) (ms : List Met) → Reaches (ends b) ms (ends c) → left s c.room ≤ left s b.room
+no_more_left s b c [] same = let one : b ≡ c = (cc) in let e : left s b.room ≡ left s c.room = ap (λ (x : Both _). left s x.room) one in omega arith
+no_more_left s b c (m ∷ ms) same = elim same [ ]
+
+module _ {H : Type 0} (calling : Calling H) (plan : Plan) (s : ℕ) (routes : RoutesFit s plan.routes) where
+  at_once : (b c : Both H) (ms : List Met) → Reaches (ends b) ms (ends c) → (k : ℕ) × (k + left s c.room ≤ left s b.room) × Reaches (settling calling plan k b.host b.room) ms (ends c)
+  at_once b c ms now =
+      (0, omega (arith, no_more_left s b c ms now), subst (λ (x : Course (Both H)). Reaches x ms (ends c)) (sym (settling_none calling plan b.host b.room)) now)
+
+  as_step : (n : ℕ) (b c : Both H) (ms : List Met) → rests (next_of b.room) ≡ false
+      → Reaches (then_do (step calling plan (next_of b.room) b.host b.room) (λ (d : Both H). settling calling plan n d.host d.room)) ms (ends c)
+      → Reaches (settling calling plan (suc n) b.host b.room) ms (ends c)
+  as_step n b c ms is now =
+      subst (λ (x : Course (Both H)). Reaches x ms (ends c)) (sym (settling_step calling plan n (next_of b.room) b.host b.room refl is)) now
+
+  pub pays : (n : ℕ) (b c : Both H) (ms : List Met) → AllFit s b.room.lines → Reaches (settling calling plan n b.host b.room) ms (ends c)
+      → (k : ℕ) × (k + left s c.room ≤ left s b.room) × Reaches (settling calling plan k b.host b.room) ms (ends c)
+  pays zero b c ms fit reaches = at_once b c ms (subst (λ (x : Course (Both H)). Reaches x ms (ends c)) (settling_none calling plan b.host b.room) reaches)
+  pays (suc n) b c ms fit reaches = by_rest (λ d os fits now. pays n d c os fits now) (rests (next_of b.room)) refl
+    where
+      by_rest : ((d : Both H) (os : List Met) → AllFit s d.room.lines → Reaches (settling calling plan n d.host d.room) os (ends c)
+          → (k : ℕ) × (k + left s c.room ≤ left s d.room) × Reaches (settling calling plan k d.host d.room) os (ends c)) → (r : Bool) → rests (next_of b.room) ≡ r
+          → (k : ℕ) × (k + left s c.room ≤ left s b.room) × Reaches (settling calling plan k b.host b.room) ms (ends c)
+      by_rest later true is =
+          at_once b c ms (subst (λ (x : Course (Both H)). Reaches x ms (ends c)) (settling_rest calling plan n (next_of b.room) b.host b.room refl is) reaches)
+      by_rest later false is =
+          let parts = splits ms (step calling plan (next_of b.room) b.host b.room) (λ d. settling calling plan n d.host d.room) c
+          (subst (λ (x : Course (Both H)). Reaches x ms (ends c)) (settling_step calling plan n (next_of b.room) b.host b.room refl is) reaches) in
+          let less = all_reached (λ (d : Both H). IsLess s b.room d.room) parts.1 (step calling plan (next_of b.room) b.host b.room) parts.0 (step_less calling plan s b.host b.room routes fit is) parts.4 in
+          let more = later parts.0 parts.2 less.fit parts.5 in (
+            suc more.0,
+            omega (arith, less.less, more.1),
+            as_step more.0 b c ms is
+                (joins ms parts.1 parts.2 (step calling plan (next_of b.room) b.host b.room) (λ (d : Both H). settling calling plan more.0 d.host d.room) parts.0 c parts.3 parts.4 more.2),
+          )
+
+pub steps_are_paid : (H : Type 0) → StepsArePaid H
+steps_are_paid H calling plan s n b c ms routes fit reaches = pays calling plan s routes n b c ms fit reaches
 
 -- ---- turns
 

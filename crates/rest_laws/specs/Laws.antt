@@ -1,5 +1,5 @@
 -- A TURN COMES TO REST, whatever the machines do, whatever the shared stores reply, and whatever is read.
-use Rattle.std.specs.Prelude.{◌≡◌, ◌<◌, ◌↔◌, ℕ, ◌+◌, true, false, List, [], ◌∷◌, Option, None, Some, position}
+use Rattle.std.specs.Prelude.{◌≡◌, ◌<◌, ◌≤◌, ◌↔◌, ℕ, ◌+◌, true, false, List, [], ◌∷◌, Option, None, Some, position}
 use Rattle.contexts.specs.declared.parts.Contexts.{Contexts}
 use Rattle.course.specs.Called.{Called}
 use Rattle.course.specs.Course.{ends, Met, Reaches}
@@ -48,16 +48,25 @@ BoundsChangeNothing H =
     → left s b.room < n
     → Reaches (settling calling plan n b.host b.room) ms (ends c) ↔ Reaches (settling calling plan (n + k) b.host b.room) ms (ends c)
 
+-- THE STEPS ARE PAID, each by what it leaves less: what a number of steps comes to is come to in no more steps than there is less left then.
+abbrev pub StepsArePaid : (H : Type 0) → Type 0
+StepsArePaid H =
+    (calling : Calling H) (plan : Plan) (s n : ℕ) (b c : Both H) (ms : List Met) → RoutesFit s plan.routes → AllFit s b.room.lines
+    → Reaches (settling calling plan n b.host b.room) ms (ends c)
+    → (k : ℕ) × (k + left s c.room ≤ left s b.room) × Reaches (settling calling plan k b.host b.room) ms (ends c)
+
 -- ---- turns
 
 -- A TURN AT WHOSE START LESS IS LEFT TO DO THAN A TURN HAS STEPS IS AT REST AT ITS END. Where the exchanges of a room fit at its start, they do
 -- at its end, and so they do in the first room of a worker.
 pub record TurnsComeToRest (H : Type 0) : Type 0 where
   pub at_rest : (calling : Calling H) (plan : Plan) (s : ℕ) (state : Both H) (event : Event) (ms : List Met) (end : Outcome H)
-      → RoutesFit s plan.routes → AllFit s state.room.lines → is_stop event.what ≡ false → left s (facing plan event state.room) < most_steps
+      → RoutesFit s plan.routes → AllFit s state.room.lines → is_stop event.what ≡ false
+      → left s (facing plan event state.room) < most_steps
       → Reaches (turn calling plan state event) ms (ends end) → IsAtRest end.state.room
   pub fits : (calling : Calling H) (plan : Plan) (s : ℕ) (state : Both H) (event : Event) (ms : List Met) (end : Outcome H)
-      → RoutesFit s plan.routes → AllFit s state.room.lines → Reaches (turn calling plan state event) ms (ends end) → AllFit s end.state.room.lines
+      → RoutesFit s plan.routes → AllFit s state.room.lines → Reaches (turn calling plan state event) ms (ends end)
+      → AllFit s end.state.room.lines
   pub first : (s : ℕ) (config : Config) (seed : List ℕ) → AllFit s (first_room config seed).lines
   -- no route of a configuration has more than 16 filters
   pub routes : (setting : Setting) → RoutesFit 16 (rules_of setting).routes

@@ -15,16 +15,19 @@ use Rattle.rest_laws.specs.Moves.{for_each, moves_left}
 
 -- ---- the unit costs
 
--- What is being read. When it has been, a context is made for each filter (s); the stages are made (1, and 4 at each for an answer that may
--- pass them); what was read comes to them (1, and 2 at each for an end that took no byte); it is refused (1); its line is closed (1).
+-- WHAT IS BEING READ. Behind it a context is made for each filter (s); the stages are made (1, and 4 at each for an answer that may pass
+-- them); what was read comes to them (1, and 2 at each for an end that took no byte); it is refused (1); its line is closed (1). That it ends
+-- is a step (1).
 abbrev pub reading_cost : ℕ → ℕ
 reading_cost s = 5 + 7 * s
 
--- An exchange, beside its moves. At its end the context of each filter is done with (4), and then what is unread of its line is read.
+-- AN EXCHANGE, beside its moves. Its end is a step (1), behind which the context of each filter is done with (4), its line stays open (1), and
+-- what is unread of that is read (as above).
 abbrev pub end_cost : ℕ → ℕ
 end_cost s = 7 + 11 * s
 
--- A byte that is unread. With it a head may be whole: that is an item (2 at each stage), with which an exchange begins, and its moves (1).
+-- A BYTE that is unread. That a reader uses it is a step (1). With it a head may be whole: an item (2 at each stage), with which an exchange
+-- begins (as above) that has a move (1).
 abbrev pub byte_cost : ℕ → ℕ
 byte_cost s = 9 + 13 * s
 

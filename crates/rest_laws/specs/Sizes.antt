@@ -83,10 +83,12 @@ Follow calling setting state (t ∷ turns) last =
 
 pub record WorkersComeToRest (H : Type 0) : Type 0 where
   -- what is left to do where a turn begins
-  pub small : (setting : Setting) (state : Both H) (event : Event) → IsReady state → left 16 (turn_start setting state event) ≤ 248 * start_size state event + 953
+  pub small : (setting : Setting) (state : Both H) (event : Event) → IsReady state
+      → left 16 (turn_start setting state event) ≤ 248 * start_size state event + 953
   -- FROM REST A TURN COMES TO REST
   pub turn : (calling : Calling H) (setting : Setting) (state : Both H) (event : Event) (ms : List Met) (end : Outcome H)
-      → IsReady state → start_size state event ≤ 2 ^ 56 → Reaches (turn calling (rules_of setting) state event) ms (ends end) → IsReady end.state
+      → IsReady state → start_size state event ≤ 2 ^ 56 → Reaches (turn calling (rules_of setting) state event) ms (ends end)
+      → IsReady end.state
   -- it takes 248 steps at most for each thing, and 954: with that bound the same is met, and it comes to the same
   pub steps : (calling : Calling H) (setting : Setting) (state : Both H) (event : Event) (ms : List Met) (c : Both H)
       → IsReady state → start_size state event ≤ 2 ^ 56

@@ -1,6 +1,8 @@
 // A turn comes to rest, whatever the machines do. The functions have nothing to do: their contracts are the laws.
 ghost use Rattle.rest_laws.specs.Examples.{MovingExample, ReadingExample};
-ghost use Rattle.rest_laws.specs.Laws.{StepsLeaveLess, StepsComeToRest, BoundsChangeNothing, TurnsComeToRest, RoomsComeToRest, RestIsRest};
+ghost use Rattle.rest_laws.specs.Laws.{StepsLeaveLess, StepsComeToRest, BoundsChangeNothing, StepsArePaid, TurnsComeToRest, RoomsComeToRest, RestIsRest};
+ghost use Rattle.rest_laws.specs.Limits.{LimitsAreSmall};
+ghost use Rattle.rest_laws.specs.Paid.{LivesArePaid};
 ghost use Rattle.rest_laws.specs.Readings.{ReadingsUseBytes};
 ghost use Rattle.rest_laws.specs.Sizes.{WorkersComeToRest, WholeTurnsComeToRest};
 
@@ -57,4 +59,20 @@ pub fn whole_turns_come_to_rest<H, S: Shared>()
 pub fn worked_rooms()
     ensures moving { MovingExample }
     ensures reading { ReadingExample }
+{}
+
+/// A room that keeps the limits of a worker has at most 2^38 things.
+pub fn limits_are_small()
+    ensures { LimitsAreSmall }
+{}
+
+/// The steps are paid, each by what it leaves less.
+pub fn steps_are_paid<H>()
+    ensures { StepsArePaid H }
+{}
+
+/// All turns of a worker, one behind the other, take no more steps than their events bring: 248 for each byte that comes, and for each event 2
+/// for each VM and context, and 921; and at the first one 64 for each plug-in, and 32.
+pub fn lives_are_paid<H>()
+    ensures { LivesArePaid H }
 {}
