@@ -73,7 +73,8 @@ pub record TurnsComeToRest (H : Type 0) : Type 0 where
 
 -- ---- any room
 
--- an exchange that was answered has no stages of its request left (as each room of a worker keeps it)
+-- An exchange that was answered has no stages of its request left. (Each room of a worker keeps it so; at a stage that was left there, a piece that
+-- is too large for it would be refused for ever.)
 abbrev pub IsClear : Option Exchange → Type 0
 IsClear None = Unit {0}
 IsClear (Some x) = x.is_answered ≡ true → x.request ≡ []

@@ -26,13 +26,13 @@ abbrev pub all_brought : {H : Type 0} → Both H → List (OneTurn H) → ℕ
 all_brought state [] = 0
 all_brought state (t ∷ turns) = brought state.room t.event + all_brought t.end.state turns
 
--- A turn comes to its end in so many steps. (At Stop nothing is done.)
+-- A turn comes to its end in at most so many steps. (At Stop nothing is done.)
 abbrev pub TakesBy : {H : Type 0} → (stop : Bool) → Calling H → Setting → Both H → OneTurn H → ℕ → Type 0
 TakesBy true calling setting state t k = k ≡ 0
 TakesBy {H} false calling setting state t k =
     (c : Both H) × Reaches (settling calling (rules_of setting) k state.host (turn_start setting state t.event)) t.met (ends c) × (t.end ≡ comes_to c)
 
--- turns one behind the other take so many
+-- turns one behind the other take at most so many
 abbrev pub TakeAll : {H : Type 0} → Calling H → Setting → Both H → List (OneTurn H) → ℕ → Type 0
 TakeAll calling setting state [] total = total ≡ 0
 TakeAll calling setting state (t ∷ turns) total =
@@ -41,5 +41,7 @@ TakeAll calling setting state (t ∷ turns) total =
 -- ALL TURNS OF A WORKER, from the room that it was made with on, take no more steps than their events brought, less what is left to do behind them.
 abbrev pub LivesArePaid : (H : Type 0) → Type 0
 LivesArePaid H =
-    (calling : Calling H) (setting : Setting) (host : H) (turns : List (OneTurn H)) (last : Both H) → Follow calling setting (first_state setting host) turns last
-    → (total : ℕ) × (total + left 16 last.room ≤ all_brought (first_state setting host) turns) × TakeAll calling setting (first_state setting host) turns total
+    (calling : Calling H) (setting : Setting) (host : H) (turns : List (OneTurn H)) (last : Both H)
+    → Follow calling setting (first_state setting host) turns last
+    → (total : ℕ) × (total + left 16 last.room ≤ all_brought (first_state setting host) turns)
+    × TakeAll calling setting (first_state setting host) turns total

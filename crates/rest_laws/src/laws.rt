@@ -1,6 +1,7 @@
 // A turn comes to rest, whatever the machines do. The functions have nothing to do: their contracts are the laws.
 ghost use Rattle.rest_laws.specs.Examples.{MovingExample, ReadingExample};
-ghost use Rattle.rest_laws.specs.Laws.{StepsLeaveLess, StepsComeToRest, BoundsChangeNothing, StepsArePaid, TurnsComeToRest, RoomsComeToRest, RestIsRest};
+ghost use Rattle.rest_laws.specs.Laws.{StepsLeaveLess, StepsComeToRest, BoundsChangeNothing, StepsArePaid, RestIsRest};
+ghost use Rattle.rest_laws.specs.Laws.{TurnsComeToRest, RoomsComeToRest};
 ghost use Rattle.rest_laws.specs.Limits.{LimitsAreSmall};
 ghost use Rattle.rest_laws.specs.Paid.{LivesArePaid};
 ghost use Rattle.rest_laws.specs.Readings.{ReadingsUseBytes};
@@ -34,14 +35,19 @@ pub fn bounds_change_nothing<H>()
     ensures { BoundsChangeNothing H }
 {}
 
-/// A turn at whose start less is left to do than a turn has steps is at rest at its end.
-pub fn turns_come_to_rest<H>()
-    ensures { TurnsComeToRest H }
+/// The steps are paid, each by what it leaves less.
+pub fn steps_are_paid<H>()
+    ensures { StepsArePaid H }
 {}
 
 /// From each room there is a number of steps at which all is at rest, whatever the machines do.
 pub fn rooms_come_to_rest<H>()
     ensures { RoomsComeToRest H }
+{}
+
+/// A turn at whose start less is left to do than a turn has steps is at rest at its end.
+pub fn turns_come_to_rest<H>()
+    ensures { TurnsComeToRest H }
 {}
 
 /// A worker is at rest behind each of its turns, where each begins with at most 2^56 things: bytes that are unread or come, exchanges, stages,
@@ -55,10 +61,10 @@ pub fn whole_turns_come_to_rest<H, S: Shared>()
     ensures { WholeTurnsComeToRest H S.performs }
 {}
 
-/// What is left to do in worked rooms: a head passes a filter, and a request is read.
-pub fn worked_rooms()
-    ensures moving { MovingExample }
-    ensures reading { ReadingExample }
+/// All turns of a worker, one behind the other, take no more steps than their events bring: 248 for each byte that comes, and for each event 2
+/// for each VM and context, and 921; and at the first one 64 for each plug-in, and 32.
+pub fn lives_are_paid<H>()
+    ensures { LivesArePaid H }
 {}
 
 /// A room that keeps the limits of a worker has at most 2^38 things.
@@ -66,13 +72,8 @@ pub fn limits_are_small()
     ensures { LimitsAreSmall }
 {}
 
-/// The steps are paid, each by what it leaves less.
-pub fn steps_are_paid<H>()
-    ensures { StepsArePaid H }
-{}
-
-/// All turns of a worker, one behind the other, take no more steps than their events bring: 248 for each byte that comes, and for each event 2
-/// for each VM and context, and 921; and at the first one 64 for each plug-in, and 32.
-pub fn lives_are_paid<H>()
-    ensures { LivesArePaid H }
+/// What is left to do in worked rooms: a head passes a filter, and a request is read.
+pub fn worked_rooms()
+    ensures moving { MovingExample }
+    ensures reading { ReadingExample }
 {}
