@@ -1,7 +1,7 @@
 -- Worked rooms.
 use Rattle.std.proofs.Common.{refl}
 use Rattle.matchit.proofs.OnLiterals.{matchit_on_literals}
-use Rattle.rest_laws.specs.Examples.{MovingExample, ReadingExample}
+use Rattle.rest_laws.specs.Examples.{MovingExample, ReadingExample, EventExample}
 
 pub moving_example : MovingExample
 moving_example = record {
@@ -20,3 +20,6 @@ moving_example = record {
 pub reading_example : ReadingExample
 unfolding matchit_on_literals
 reading_example = record { before = refl; behind = refl; next = refl }
+
+pub event_example : EventExample
+event_example = record { rested = refl; nothing = refl; begins = refl; brings = refl; size = refl }

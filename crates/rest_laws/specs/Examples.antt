@@ -13,6 +13,9 @@ use Rattle.filter_chain.specs.declared.item.Held.TheVariants as held
 use Rattle.filter_chain.specs.declared.item.Item.TheVariants.{Head}
 use Rattle.filter_chain.specs.declared.stage.Stage.{Stage}
 use Rattle.gate_base.specs.declared.level.Level.TheVariants.{Info}
+use Rattle.gate_io.specs.declared.event.Event.{Event}
+use Rattle.gate_io.specs.declared.event.Side.TheVariants.{Down}
+use Rattle.gate_io.specs.declared.event.What.TheVariants.{Bytes}
 use Rattle.h1_head.specs.declared.head.Length.TheVariants as lengths
 use Rattle.header_maps.specs.Operations.{request_headers}
 use Rattle.http1_model.specs.Head as model
@@ -24,7 +27,8 @@ use Rattle.course.specs.Heard.{hands}
 use Rattle.store_model.specs.Program.{Program, done}
 use Rattle.worker.specs.Plan.{Plan}
 use Rattle.worker.specs.Rooms.{next_of}
-use Rattle.worker.specs.Steps.{Both, step, after_heard}
+use Rattle.worker.specs.Steps.{Both, both, step, after_heard}
+use Rattle.worker.specs.Turn.{facing}
 use Rattle.worker.specs.declared.room.Room.{Room}
 use Rattle.worker.specs.declared.types.Job.{Job}
 use Rattle.worker.specs.declared.types.Job.TheVariants as jobs
@@ -32,7 +36,9 @@ use Rattle.worker.specs.declared.types.Line.{Line}
 use Rattle.worker.specs.declared.types.Next.TheVariants as next
 use Rattle.worker.specs.declared.types.Reads.{Reads}
 use Rattle.rest_laws.specs.Left.{left}
-use Rattle.rest_laws.specs.Sizes.{room_size}
+use Rattle.rest_laws.specs.Laws.{IsAtRest}
+use Rattle.rest_laws.specs.Paid.{brought}
+use Rattle.rest_laws.specs.Sizes.{room_size, start_size}
 
 -- ---- machines whose callbacks all return one value
 
@@ -151,3 +157,20 @@ pub record ReadingExample : Type 0 where
   pub before : left 1 unread ≡ 606
   pub behind : left 1 heard ≡ 27
   pub next : next_of heard ≡ next.Work
+
+-- ---- three bytes come of a client whose line is open, of a worker at rest
+
+abbrev pub resting : Room
+resting = room (record { number = 1; requests = new_reading None; is_gone = false; exchange = None } ∷ []) None []
+
+abbrev pub three_bytes : Event
+three_bytes = record { now = 5; what = Bytes 1 Down (codes "GET") }
+
+-- Deadlines are looked at (2), and the bytes happen (1 and 1), are read (117), and are used up (217 each). That is within what the event brings
+-- at most: 248 for each byte, 2 for the VM, and 921; and within 248 for each of the four things that are there then, and 953.
+pub record EventExample : Type 0 where
+  pub rested : IsAtRest resting
+  pub nothing : left 16 resting ≡ 0
+  pub begins : left 16 (facing plan three_bytes resting) ≡ 772
+  pub brings : brought resting three_bytes ≡ 1667
+  pub size : start_size {H = ℕ} (both 0 resting) three_bytes ≡ 4

@@ -1,5 +1,5 @@
 // A turn comes to rest, whatever the machines do. The functions have nothing to do: their contracts are the laws.
-ghost use Rattle.rest_laws.specs.Examples.{MovingExample, ReadingExample};
+ghost use Rattle.rest_laws.specs.Examples.{MovingExample, ReadingExample, EventExample};
 ghost use Rattle.rest_laws.specs.Laws.{StepsLeaveLess, StepsComeToRest, BoundsChangeNothing, StepsArePaid, RestIsRest};
 ghost use Rattle.rest_laws.specs.Laws.{TurnsComeToRest, RoomsComeToRest};
 ghost use Rattle.rest_laws.specs.Limits.{LimitsAreSmall};
@@ -72,8 +72,9 @@ pub fn limits_are_small()
     ensures { LimitsAreSmall }
 {}
 
-/// What is left to do in worked rooms: a head passes a filter, and a request is read.
+/// What is left to do in worked rooms: a head passes a filter, a request is read, and three bytes come.
 pub fn worked_rooms()
     ensures moving { MovingExample }
     ensures reading { ReadingExample }
+    ensures event { EventExample }
 {}
