@@ -4,6 +4,7 @@
 mod body;
 mod end;
 mod laws;
+mod pieces;
 
 pub use body::Body;
 pub use end::BodyEnd;
