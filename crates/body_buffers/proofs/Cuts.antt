@@ -123,6 +123,17 @@ parts_more out out' done p ps i skip left skip' left' here more skips lefts so =
     ∙ ap (λ q. part_of q skip left) (sym (concat_drop ps i)))
     ∙ so
 
+-- a piece that is passed over
+pub parts_past : (out done p : List ℕ) (ps : List (List ℕ)) (i skip left skip' : ℕ) → p ≡ piece_at ps i → length p ≤ skip → skip' ≡ skip - length p → out ++ part_of (concat (drop i ps)) skip left ≡ done → out ++ part_of (concat (drop (i + 1) ps)) skip' left ≡ done
+parts_past out done p ps i skip left skip' here past skips so =
+    let R = concat (drop (i + 1) ps) in
+    ap (λ l. out ++ take left l) (
+    ap (λ s. drop s R) skips
+    ∙ sym (drop_append p R skip ∙ ap (λ l. l ++ drop (skip - length p) R) (drop_all skip p past))
+    ∙ ap (λ q. drop skip (q ++ R)) here
+    ∙ ap (drop skip) (sym (concat_drop ps i)))
+    ∙ so
+
 -- there is room behind a place
 pub room_behind : (ps : List (List ℕ)) (from size first front : ℕ) → IsPlace ps from first front → from + size ≤ length (concat ps) → front + size ≤ length (concat (drop first ps))
 room_behind ps from size first front at fits =

@@ -4,7 +4,7 @@ ghost use Rattle.body_buffers.specs.Bodies.{spliced, part_of, IsOver, body_limit
 ghost use Rattle.body_buffers.specs.declared.end.BodyEnd.TheVariants as end;
 
 use crate::end::BodyEnd;
-use crate::pieces::{close, owned, put_part, put_parts, splice};
+use crate::pieces::{close, copied, owned, put_part, put_parts, splice};
 use bytes::Bytes;
 use gate_base::{Octets, OutOfMemory};
 use std::alloc::Global;
@@ -141,8 +141,8 @@ impl Body {
         Ok(())
     }
 
-    /// Puts bytes in place of so many from a place on.
-    fn put_in(
+    /// Puts bytes in place of so many from a place on, among the pieces.
+    fn cut_in(
         &mut self,
         alloc: Global,
         from: usize,
@@ -180,7 +180,11 @@ impl Body {
         if given.len() > BODY_LIMIT - (self.len() - cut) {
             return Err(BodyEnd::OverLimit);
         }
-        self.put_in(alloc, from, cut, given)?;
+        if self.pieces.is_empty() && self.len() - cut + given.len() < PIECE_SIZE {
+            self.last = copied(alloc, self.last.as_slice(), from, from + cut, given)?;
+            return Ok(());
+        }
+        self.cut_in(alloc, from, cut, given)?;
         Ok(())
     }
 

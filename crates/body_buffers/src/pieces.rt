@@ -44,12 +44,34 @@ pub fn put_parts(
         if left == 0 {
             return Ok(());
         }
+        if piece.len() <= skip {
+            skip -= piece.len();
+            continue;
+        }
         let before = out.len();
         put_part(out, piece.as_slice(), skip, left)?;
         left -= out.len() - before;
-        skip = skip.saturating_sub(piece.len());
+        skip = 0;
     }
     Ok(())
+}
+
+/// The bytes with others in place of those from one place to another.
+pub fn copied(
+    alloc: Global,
+    bytes: &[u8],
+    from: usize,
+    to: usize,
+    given: &[u8],
+) -> Result<Vec<u8>, OutOfMemory>
+    requires from { from ≤ to }
+    requires to { to ≤ length bytes.now }
+    ensures { IfOk result (λ v. v.items ≡ take from bytes.now ++ (given.now ++ drop to bytes.now)) }
+{
+    let mut out = Vec::from_slice(alloc, &bytes[..from])?;
+    out.extend_from_slice(given)?;
+    out.extend_from_slice(&bytes[to..])?;
+    Ok(out)
 }
 
 /// Puts a piece behind others, unless it is empty.

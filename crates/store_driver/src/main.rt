@@ -1,4 +1,4 @@
-//! Plays rows on the base types and on the shared store, one a line of standard input, and writes what each gives.
+//! Plays rows on the base types, on bodies and on the shared store, one a line of standard input, and writes what each gives.
 //!
 //! A row that begins with `#` is written as it is. Texts have escapes, as the library of rows says.
 #![tactic(auto)]
@@ -6,9 +6,11 @@
 ghost use Rattle.store_model.specs.Limits.{IsWithin};
 
 mod base;
+mod bodies;
 mod keys;
 mod queues;
 
+use body_buffers::Body;
 use gate_base::{OutOfMemory, VmNo};
 use rows::{number, word};
 use shared_data::SharedData;
@@ -17,9 +19,10 @@ use std::alloc::Global;
 use std::io;
 use store_model::{MOST_BYTES, MOST_NAMES, Used};
 
-/// What is kept from row to row: the keys and the queues of a store.
+/// What is kept from row to row: a body, and the keys and the queues of a store.
 #[derive(Drop)]
 struct Kept {
+    body: Body,
     keys: SharedData,
     queues: SharedQueues,
 }
@@ -38,6 +41,7 @@ fn used(names: u64, bytes: u64) -> Used
 fn opened(alloc: Global, vm: u64) -> Option<Kept> {
     let vm = VmNo::new(u8::try_from(vm).ok()?)?;
     Some(Kept {
+        body: Body::new(alloc),
         keys: SharedData::new(alloc),
         queues: SharedQueues::new(alloc, vm),
     })
@@ -87,6 +91,7 @@ fn played(alloc: Global, kept: &mut Kept, row: &str) -> Result<String, OutOfMemo
         "times" => repeated(alloc, kept, words),
         "used-by-keys" => base::uses(alloc, kept.keys.used()),
         "used-by-queues" => base::uses(alloc, kept.queues.used()),
+        "body" => bodies::played(alloc, &mut kept.body, words),
         "items" => queues::items(alloc, &kept.queues, words),
         "get" | "set" | "register" | "resolve" | "enqueue" | "dequeue" | "notice" => {
             on_store(alloc, kept, operation, words)
