@@ -4,7 +4,7 @@ ghost use Rattle.gate_io.specs.Told.{Gains, Rose};
 ghost use Rattle.machines.specs.Making.{HasFilter};
 ghost use Rattle.play_filters.specs.Filtered.{filtered};
 ghost use Rattle.replay_script.specs.Scripts.{AreLines, at_start};
-ghost use Rattle.script_play.specs.Replay.{Prints, PrintsFront};
+ghost use Rattle.script_play.specs.Delivered.{Prints, PrintsFront};
 
 use gate_config::Config;
 use gate_io::Sink;

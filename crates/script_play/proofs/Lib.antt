@@ -1,4 +1,5 @@
 mod Answered
+mod Delivering
 mod Fronts
 mod Meant
 mod Printing

@@ -13,22 +13,29 @@ use Rattle.store_model.specs.Sequential.{Stores}
 use Rattle.worker.specs.State.{Standing}
 use Rattle.worker.specs.Steps.{Both}
 use Rattle.worker.specs.Turn.{Outcome, turn}
-use Rattle.script_play.specs.Laws.{EachWorkerMeans, Step, Stepped, events_in, met_in, placed_step, sent_in, steps_of, turns_in}
-use Rattle.script_play.specs.Replay.{Placed, Plays, Setup, first_worker, first_workers, placed_of, plan_for, state_at, state_of, stores_for}
+use Rattle.script_play.specs.Delivered.{EachMeans, Step, Stepped, events_in, met_in, placed_step, sent_in, steps_of, turns_in}
+use Rattle.script_play.specs.Laws.{EachWorkerMeans}
+use Rattle.script_play.specs.Replay.{Placed, Plays, PlaysFirst, Setup, first_worker, first_workers, placed_of, plan_for, state_at, state_of, stores_for}
+use Rattle.script_play.proofs.Delivering.{AreQuiet, in_its_world, quiet_turn}
 use Rattle.script_play.proofs.Fronts.{all_placed}
 use Rattle.script_play.proofs.Starts.{workers_count}
 
 -- each of these is at a worker up to the last
-abbrev AreThere : ℕ → List Placed → Type 0
+abbrev pub AreThere : ℕ → List Placed → Type 0
 AreThere n [] = Unit {0}
 AreThere n (p ∷ events) = (1 ≤ p.who) × (p.who ≤ n) × AreThere n events
 
-there_placed : (n : ℕ) (events : List Placed) (whose : List ℕ) → map (λ (p : Placed). p.who) events ≡ whose → All (λ (who : ℕ). (1 ≤ who) × (who ≤ n)) whose → AreThere n events
+pub there_placed : (n : ℕ) (events : List Placed) (whose : List ℕ) → map (λ (p : Placed). p.who) events ≡ whose → All (λ (who : ℕ). (1 ≤ who) × (who ≤ n)) whose → AreThere n events
 there_placed n [] whose is all = tt
 there_placed n (p ∷ events) whose is all =
     let here = subst (All (λ (who : ℕ). (1 ≤ who) × (who ≤ n))) (sym is) all in
     let first = here 0 0 (omega arith) in
     (first.0, first.1, there_placed n events (map (λ (x : Placed). x.who) events) refl (λ k d low. here (suc k) d (omega (arith, low))))
+
+-- and so is each of some first of them
+pub there_front : (n : ℕ) (front more : List Placed) → AreThere n (front ++ more) → AreThere n front
+there_front n [] more there = tt
+there_front n (p ∷ front) more there = (there.0, there.1, there_front n front more there.2)
 
 module _ {H : Type 0} (setup : Setup H) where
   -- what a worker does at its steps, from a state on
@@ -40,6 +47,7 @@ module _ {H : Type 0} (setup : Setup H) where
     pub placed_are : map placed_step steps ≡ events
     pub stepped : Stepped s steps t
     pub sent_is : sent ≡ sent_in steps
+    pub quiet : AreQuiet steps
     pub means : (who : ℕ) → 1 ≤ who → who ≤ n → MeansFrom (state_at setup states who) (steps_of who steps)
 
   no_steps : (state : Both H) → MeansFrom state []
@@ -61,6 +69,7 @@ module _ {H : Type 0} (setup : Setup H) where
     placed_are = refl;
     stepped = plays.2;
     sent_is = plays.0;
+    quiet = tt;
     means = λ who low high. no_steps (state_at setup states who);
   }
   steps_of_plays n states s (p ∷ events) sent after t count there plays =
@@ -78,6 +87,7 @@ module _ {H : Type 0} (setup : Setup H) where
         placed_are = ap (λ (ps : List Placed). p ∷ ps) far.placed_are;
         stepped = (plays.1, goes.performed, far.stepped);
         sent_is = plays.5 ∙ ap (λ (l : List Told). tell p.who (solid end.sent) ++ l) far.sent_is;
+        quiet = (quiet_turn setup.calling (plan_for setup) (state_at setup states p.who) p.event goes.met end goes.reaches, far.quiet);
         means = λ who low high.
             ⊎_elim
             (λ (same : p.who ≡ who).
@@ -122,17 +132,23 @@ module _ {H : Type 0} (setup : Setup H) where
       ∙ ap state_of (first_get n (who - 1) (first_worker setup who) (omega (arith, low, high)))
       ∙ ap (λ (k : ℕ). (first_worker setup k).state) next
 
-pub each_worker_means : (H : Type 0) → EachWorkerMeans H
-each_worker_means H setup commands sent all r =
+-- events that lead through their turns are delivered so
+pub each_means : {H : Type 0} (setup : Setup H) (events : List Placed) (sent : List Told) (after : List (Both H)) (t : Stores) → AreThere setup.config.workers events
+    → PlaysFirst setup events sent after t → EachMeans setup events sent
+each_means setup events sent after t there plays =
     let n = setup.config.workers in
     let states = map state_of (first_workers setup n) in
-    let there = there_placed n (placed_of commands) (workers_of commands) (all_placed commands).workers all in
-    let far = steps_of_plays setup n states (stores_for (length setup.config.vms)) (placed_of commands) sent r.after r.stores (count_of setup n) there r.plays in
+    let far = steps_of_plays setup n states (stores_for (length setup.config.vms)) events sent after t (count_of setup n) there plays in
     record {
       steps = far.steps;
       placed_are = far.placed_are;
-      shared = r.stores;
+      shared = t;
       stepped = far.stepped;
       sent_is = far.sent_is;
-      means = λ who low high. subst (λ (b : Both H). MeansFrom setup b (steps_of who far.steps)) (first_at setup n who low high) (far.means who low high);
+      worlds = λ who low high.
+          in_its_world setup who far.steps sent far.sent_is far.quiet (subst (λ (b : Both _). MeansFrom setup b (steps_of who far.steps)) (first_at setup n who low high) (far.means who low high));
     }
+
+pub each_worker_means : (H : Type 0) → EachWorkerMeans H
+each_worker_means H setup commands sent all r =
+    each_means setup (placed_of commands) sent r.after r.stores (there_placed setup.config.workers (placed_of commands) (workers_of commands) (all_placed commands).workers all) r.plays

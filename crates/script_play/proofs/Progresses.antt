@@ -17,9 +17,12 @@ use Rattle.worker.specs.Plan.{Plan}
 use Rattle.worker.specs.State.{Standing, rules_of}
 use Rattle.worker.specs.Steps.{Both}
 use Rattle.worker.specs.Turn.{Outcome, outcome, turn}
-use Rattle.script_play.specs.Replay.{Setup, Placed, placed, place_all, placed_of, first_worker, first_workers, for_worker, plan_for, state_at, state_of, stores_for, Plays, PlaysFirst, Prints, PrintsFront, IsReady, Flushed, Advances}
-use Rattle.script_play.proofs.Fronts.{each_has_its_worker, gave_all, goes, place_both, placed_front}
+use Rattle.script_play.specs.Delivered.{Prints, PrintsFront}
+use Rattle.script_play.specs.Replay.{Setup, Placed, placed, place_all, placed_of, first_worker, first_workers, for_worker, plan_for, state_at, state_of, stores_for, Plays, PlaysFirst, IsReady, Flushed, Advances}
+use Rattle.script_play.proofs.Fronts.{all_placed, each_has_its_worker, gave_all, goes, place_both, placed_front}
+use Rattle.script_play.proofs.Meant.{AreThere, each_means, there_front, there_placed}
 use Rattle.script_play.proofs.Printing.{last_both, printed_both}
+use Rattle.script_play.proofs.Starts.{workers_count}
 
 -- some first events were played, and of what they print a part was written and the rest waits
 pub record Progress {H : Type 0} (setup : Setup H) (front : List Placed) (states : List (Both H)) (stores : Stores) (last : ℕ) (old new : Option (List ℕ)) (waits : List ℕ) : Type 0 where
@@ -141,37 +144,48 @@ module _ {H : Type 0} (setup : Setup H) where
       };
     }
 
+    -- each event of the script is at a worker that is there
+    all_there : All (λ (who : ℕ). (1 ≤ who) × (who ≤ setup.config.workers)) (workers_of commands) → AreThere setup.config.workers (placed_of commands)
+    all_there there = there_placed setup.config.workers (placed_of commands) (workers_of commands) (all_placed commands).workers there
+
+    pub all_in : (workers : List (Standing H)) (world : Playing) (shared : Stores) (last : ℕ) (whose : List ℕ) → IsReady setup commands workers world shared last → whose ≡ workers_of commands
+        → All (λ (who : ℕ). (1 ≤ who) × (who ≤ length workers)) whose → All (λ (who : ℕ). (1 ≤ who) × (who ≤ setup.config.workers)) (workers_of commands)
+    all_in workers world shared last whose ready are there =
+        let count : length workers ≡ setup.config.workers = ap length ready.workers_are ∙ workers_count setup setup.config.workers in
+        subst (λ (x : ℕ × List ℕ). All (λ (who : ℕ). (1 ≤ who) × (who ≤ x.0)) x.1) (λ j. (count j, are j)) there
+
     -- a front of what waits was written
     pub far_cut : (i : ℕ) (workers : List (Standing H)) (world : Playing) (shared : Stores) (last : ℕ) (old mid new : Option (List ℕ)) (waits : List ℕ) → i ≤ length (workers_of commands)
-        → Far setup commands i workers world shared last old mid waits → GainsFront mid waits new → PrintsFront setup commands old new
-    far_cut i workers world shared last old mid new waits low f g =
+        → All (λ (who : ℕ). (1 ≤ who) × (who ≤ setup.config.workers)) (workers_of commands) → Far setup commands i workers world shared last old mid waits → GainsFront mid waits new
+        → PrintsFront setup commands old new
+    far_cut i workers world shared last old mid new waits low there f g =
         let each = each_has_its_worker commands in
         let so_far = goes commands world f.nature_is (omega (arith, low, each, f.count)) in
         let p = f.progress in
+        let front = place_all (take i (workers_of commands)) (happened world.trace) in
+        let more = place_all (drop i (workers_of commands)) so_far.more in
+        let is = placed_front commands i (happened world.trace) so_far.more so_far.is f.count low in
         record {
           sent = p.sent;
-          replays = record {
-            front = place_all (take i (workers_of commands)) (happened world.trace);
-            more = place_all (drop i (workers_of commands)) so_far.more;
-            after = map state_of workers;
-            stores = shared;
-            is = placed_front commands i (happened world.trace) so_far.more so_far.is f.count low;
-            plays = p.plays;
-          };
+          replays = record { front = front; more = more; after = map state_of workers; stores = shared; is = is; plays = p.plays };
+          means = each_means setup front p.sent (map state_of workers) shared (there_front setup.config.workers front more (subst (AreThere setup.config.workers) is (all_there there))) p.plays;
           gained = subst (λ (t : List ℕ). GainsFront old t new) (sym p.text) (gains_then_front old p.written mid waits new p.gained g);
         }
 
     -- all the events were played
     pub far_done : (i : ℕ) (workers : List (Standing H)) (world : Playing) (shared : Stores) (last : ℕ) (old mid new : Option (List ℕ)) (waits : List ℕ) → i ≡ length (workers_of commands)
-        → Far setup commands i workers world shared last old mid waits → Gains mid waits new → Prints setup commands old new
-    far_done i workers world shared last old mid new waits whole f g =
+        → All (λ (who : ℕ). (1 ≤ who) × (who ≤ setup.config.workers)) (workers_of commands) → Far setup commands i workers world shared last old mid waits → Gains mid waits new
+        → Prints setup commands old new
+    far_done i workers world shared last old mid new waits whole there f g =
         let whose = workers_of commands in
         let p = f.progress in
         let all : happened world.trace ≡ events_of commands = gave_all commands world f.nature_is (f.count ∙ whole ∙ each_has_its_worker commands) in
         let front : place_all (take i whose) (happened world.trace) ≡ placed_of commands =
         ap (λ (x : List ℕ × List Event). place_all x.0 x.1) (λ j. (take_all i whose (omega (arith, whole)) j, all j)) in
+        let plays = subst (λ (x : List Placed). PlaysFirst setup x p.sent (map state_of workers) shared) front p.plays in
         record {
           sent = p.sent;
-          replays = record { after = map state_of workers; stores = shared; plays = subst (λ (x : List Placed). PlaysFirst setup x p.sent (map state_of workers) shared) front p.plays };
+          replays = record { after = map state_of workers; stores = shared; plays = plays };
+          means = each_means setup (placed_of commands) p.sent (map state_of workers) shared (all_there there) plays;
           gained = subst (λ (t : List ℕ). Gains old t new) (sym p.text) (gains_more old p.written mid waits new p.gained g);
         }

@@ -1,5 +1,5 @@
 -- One turn of a worker in the world of a script.
-use Rattle.std.proofs.Common.{◌≡◌, ℕ, ◌-◌, Bool, true, false, List, [], ◌∷◌, ◌++◌, length, set, get_or, ◌<◌, arith, refl, sym, ap, ◌∙◌, subst, Option, Some}
+use Rattle.std.proofs.Common.{◌≡◌, ℕ, ◌-◌, Bool, true, false, List, [], ◌∷◌, ◌++◌, length, set, get_or, arith, refl, sym, ap, ◌∙◌, subst, Some}
 use Rattle.std.proofs.lemmas.List.{append-nil, append_cancel_left}
 use Rattle.std.proofs.lemmas.List.Elements.{All-set}
 use Rattle.std.specs.Bool.{OnTrue}
@@ -14,7 +14,7 @@ use Rattle.gate_io.specs.declared.passed.Passed.TheVariants.{Asked, Gave}
 use Rattle.outbox.specs.Delivery.{solid, NeverShort}
 use Rattle.outbox.specs.Turns.{HandsOver, Delivers}
 use Rattle.outbox.proofs.Deliveries.{in_order}
-use Rattle.replay_script.specs.Prints.{Told, last_in, printed_by, tell}
+use Rattle.replay_script.specs.Prints.{last_in, printed_by, tell}
 use Rattle.replay_script.specs.ScriptWorld.{Playing, nature, taken_since}
 use Rattle.replay_script.proofs.Worlds.{plays_its_script}
 use Rattle.store_model.specs.Sequential.{Stores, Performs}

@@ -6,7 +6,7 @@ use Rattle.course.specs.Course.{ends, Goes}
 use Rattle.course.specs.declared.host.Callback.{Callback}
 use Rattle.gate_config.specs.declared.config.Config.{Config}
 use Rattle.gate_io.specs.Passing.{happened}
-use Rattle.gate_io.specs.Told.{Gains, GainsFront}
+use Rattle.gate_io.specs.Told.{Gains}
 use Rattle.gate_io.specs.declared.event.Event.{Event}
 use Rattle.gate_io.specs.declared.event.Sent.{Sent}
 use Rattle.outbox.specs.Delivery.{solid}
@@ -116,18 +116,6 @@ pub record ReplaysFront {H : Type 0} (setup : Setup H) (commands : List Command)
   pub stores : Stores
   pub is : placed_of commands ≡ front ++ more
   pub plays : PlaysFirst setup front sent after stores
-
--- all that the script sends was printed
-pub record Prints {H : Type 0} (setup : Setup H) (commands : List Command) (old new : Option (List ℕ)) : Type 0 where
-  pub sent : List Told
-  pub replays : Replays setup commands sent
-  pub gained : Gains old (printed_by 1 sent) new
-
--- a front of what the script prints was taken
-pub record PrintsFront {H : Type 0} (setup : Setup H) (commands : List Command) (old new : Option (List ℕ)) : Type 0 where
-  pub sent : List Told
-  pub replays : ReplaysFront setup commands sent
-  pub gained : GainsFront old (printed_by 1 sent) new
 
 -- workers, a world and stores that are to play these lines: nothing has happened as yet
 pub record IsReady {H : Type 0} (setup : Setup H) (commands : List Command) (workers : List (Standing H)) (world : Playing) (shared : Stores) (last : ℕ) : Type 0 where

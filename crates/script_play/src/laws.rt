@@ -1,6 +1,7 @@
 // What holds of every script, as functions without a body.
 ghost use Rattle.std.specs.Prelude.{List};
 ghost use Rattle.replay_script.specs.declared.command.Command.{Command};
+ghost use Rattle.script_play.specs.Delivered.{DeliveredExamples};
 ghost use Rattle.script_play.specs.Laws.{EachHasItsWorker, EachWorkerMeans, OneReplay, FrontsOfOne, ScriptsOfOneAreRuns, StopStandsForAll};
 
 /// Each event of a script happens at its worker, and nothing else happens.
@@ -23,8 +24,8 @@ pub fn stop_stands_for_all<H>()
     ensures { StopStandsForAll H }
 {}
 
-/// Each worker of a script does what its events mean, with the replies of the stores that all share, and what the script sends is what these turns
-/// send.
+/// Each worker of a script does what its events mean, with the replies of the stores that all share, what the script sends is what these turns
+/// send, and what a worker sends is what its world receives.
 pub fn each_worker_means<H>()
     ensures { EachWorkerMeans H }
 {}
@@ -32,4 +33,9 @@ pub fn each_worker_means<H>()
 /// A script of one worker is one run of it, and any run of that worker at the same events, over such stores, sends the same.
 pub fn scripts_of_one_are_runs<H>()
     ensures { ScriptsOfOneAreRuns H }
+{}
+
+/// What of a list is each worker's, and that a world in which no turn was taken, or Stop alone, receives nothing.
+pub fn worked_deliveries<H>()
+    ensures { DeliveredExamples H }
 {}

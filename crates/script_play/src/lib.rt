@@ -7,6 +7,6 @@ mod playing;
 
 pub use laws::{
     each_has_its_worker, each_worker_means, fronts_of_one, one_replay, scripts_of_one_are_runs,
-    stop_stands_for_all,
+    stop_stands_for_all, worked_deliveries,
 };
 pub use playing::{PlayEnd, play};

@@ -5,7 +5,8 @@ ghost use Rattle.gate_io.specs.Told.{Gains, GainsFront, Rose};
 ghost use Rattle.replay_script.specs.declared.command.Command.{Command};
 ghost use Rattle.replay_script.specs.Scripts.{AreLines, at_start, workers_of as workers_in};
 ghost use Rattle.script_play.specs.declared.playing.PlayEnd.TheVariants.{OutFault as OutFaultEnd, OutOfMemory as OutOfMemoryEnd};
-ghost use Rattle.script_play.specs.Replay.{CanTurn, Flushed, IsReady, Prints, PrintsFront, Setup, setup_of};
+ghost use Rattle.script_play.specs.Delivered.{Prints, PrintsFront};
+ghost use Rattle.script_play.specs.Replay.{CanTurn, Flushed, IsReady, Setup, setup_of};
 
 use crate::crew::{Crew, crew_of};
 use course::Host;

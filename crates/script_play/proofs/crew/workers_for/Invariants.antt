@@ -1,4 +1,4 @@
-use Rattle.std.proofs.Common.{◌≡◌, ◌≤◌, length}
+use Rattle.std.proofs.Common.{◌≡◌, length}
 use Rattle.std.specs.Prelude.{All}
 use Rattle.script_play.specs.Replay.{Seated, first_workers, setup_of}
 use Rattle.script_play.proofs.crew.workers_for.Given as goal

@@ -1,4 +1,4 @@
-use Rattle.std.proofs.Common.{◌≡◌, ◌≤◌, ◌∙◌, ℕ, List, inr, ap, sym, subst}
+use Rattle.std.proofs.Common.{◌≤◌, ◌∙◌, ℕ, List, inr, ap, sym, subst}
 use Rattle.std.specs.Prelude.{All}
 use Rattle.replay_script.specs.Scripts.{AreLines, at_start, workers_of}
 use Rattle.script_play.specs.declared.playing.PlayEnd.TheVariants.{OutFault, OutOfMemory}
