@@ -1,6 +1,6 @@
 -- How lives end.
-use Rattle.std.proofs.Common.{◌≡◌, ◌∙◌, ◌&&◌, ℕ, Bool, true, false, suc, List, Option, refl, sym, subst, inl, inr, true≢false}
-use Rattle.fleet.specs.Closing.{Closes, NothingStands}
+use Rattle.std.proofs.Common.{◌≡◌, ◌≤◌, ◌∙◌, ◌&&◌, ℕ, Bool, true, false, suc, List, Option, refl, sym, subst, inl, inr, true≢false}
+use Rattle.fleet.specs.Closing.{Closes, ClosesAll}
 use Rattle.fleet.specs.Lives.{Calling, Early, Lived, Lives, OneLife, is_memory}
 use Rattle.gate_io.specs.declared.passed.Passed.{Passed}
 use Rattle.store_model.specs.Made.{Made}
@@ -31,19 +31,19 @@ module _ {H S : Type 0} (calling : Calling H) (performs : S → List Made → S 
   lived_of end took s old t left is one = let two = both (is_memory end) took is in by_end end took s old t left (memory_is end two.0) two.1 one
 
   pub one_more_ended : (n : ℕ) (s : S) (old : Option (List Passed)) (at : S) (mid : Option (List Passed)) (end : Turn) (took : Bool) (t : S) (left new : Option (List Passed))
-      → Early calling performs first n s old at mid → (is_memory end && took) ≡ true → OneLife calling performs first at mid end took t left → Closes left new → NothingStands new
+      → Early calling performs first n s old at mid → (is_memory end && took) ≡ true → OneLife calling performs first at mid end took t left → ClosesAll left new
       → Early calling performs first (suc n) s old t new
-  one_more_ended n s old at mid end took t left new early is one closes all =
-      (at, mid, early, record { left = left; lived = lived_of end took at mid t left is one; closes = closes; all = all })
+  one_more_ended n s old at mid end took t left new early is one closes =
+      (at, mid, early, record { left = left; lived = lived_of end took at mid t left is one; closes = closes })
 
   pub lives_last : (n : ℕ) (s : S) (old : Option (List Passed)) (at : S) (mid : Option (List Passed)) (end : Turn) (took again : Bool) (t : S) (new : Option (List Passed))
-      → (again ≡ false → n ≡ 0) → Early calling performs first n s old at mid → (is_memory end && took) ≡ false → OneLife calling performs first at mid end took t new
+      → (again ≡ false → n ≡ 0) → (again ≡ true → 1 ≤ n) → Early calling performs first n s old at mid → (is_memory end && took) ≡ false → OneLife calling performs first at mid end took t new
       → Lives calling performs first s old end again t new
-  lives_last n s old at mid end took again t new once early is one =
-      record { count = n; at = at; mid = mid; early = early; once = once; last = inl (record { took = took; once = one; none = is }) }
+  lives_last n s old at mid end took again t new once more early is one =
+      record { count = n; at = at; mid = mid; early = early; once = once; more = λ e. inl (more e); last = inl (record { took = took; once = one; none = is }) }
 
   pub lives_cut : (n : ℕ) (s : S) (old : Option (List Passed)) (at : S) (mid : Option (List Passed)) (end : Turn) (took : Bool) (t : S) (left new : Option (List Passed))
       → Early calling performs first n s old at mid → (is_memory end && took) ≡ true → OneLife calling performs first at mid end took t left → Closes left new
       → Lives calling performs first s old OutOfMemory true t new
   lives_cut n s old at mid end took t left new early is one closes =
-      record { count = n; at = at; mid = mid; early = early; once = λ e. absurd (true≢false e); last = inr (record { end_is = refl; left = left; lived = lived_of end took at mid t left is one; closes = closes }) }
+      record { count = n; at = at; mid = mid; early = early; once = λ e. absurd (true≢false e); more = λ e. inr refl; last = inr (record { end_is = refl; left = left; lived = lived_of end took at mid t left is one; closes = closes }) }

@@ -1,4 +1,6 @@
 mod Calls
+mod Causes
+mod Closings
 mod Counting
 mod Eaches
 mod Ending

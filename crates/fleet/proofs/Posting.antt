@@ -1,5 +1,5 @@
 -- The seats of all posts go on.
-use Rattle.std.proofs.Common.{◌≡◌, ◌≤◌, ◌∙◌, ℕ, List, All, Result, Ok, Err, IfOk, IfNone, Some, None, inl, true, map, reverse, Option, length, ap, sym, subst}
+use Rattle.std.proofs.Common.{◌≡◌, ◌≤◌, ◌∙◌, ℕ, List, All, Result, Ok, Err, IfOk, IfErr, Some, None, inl, map, reverse, Option, length, ap, sym, subst}
 use lib.ListN.{length-map}
 use Rattle.gate_config.specs.declared.config.Config.{Config}
 use Rattle.gate_io.specs.Nature.{Nature}
@@ -15,9 +15,12 @@ use Rattle.worker.specs.State.{Standing}
 use Rattle.fleet.specs.Lives.{Calling}
 use Rattle.fleet.specs.Made.{made_in}
 use Rattle.fleet.specs.Moves.{seats_in, world_in}
-use Rattle.fleet.specs.Run.{Worked, Ran, is_clean}
+use Rattle.fleet.specs.Run.{Worked, Ran, end_of}
 use Rattle.fleet.specs.declared.post.Post.{Post}
+use Rattle.fleet.specs.declared.run.FleetEnd.{FleetEnd}
+use Rattle.fleet.specs.declared.run.FleetEnd.TheVariants as fleet_ends
 use Rattle.fleet.proofs.Calls.{lives_made}
+use Rattle.fleet.proofs.Causes.{all_clean}
 use Rattle.fleet.proofs.Eaches.{all_of, each_at, each_len, each_map, each_reverse, every_back, every_of, every_so}
 
 module _ {W H : Type 0} (trace_of : W → Option (List Passed)) (nature_of : W → Nature) (faults_of : W → ℕ) (calling : Calling H) (first : ℕ → List ℕ → Standing H) where
@@ -43,17 +46,16 @@ all_ready {W} tables config posts lists low is at =
     let every = every_back At seats_in posts (every_of At (reverse (map seats_in posts)) (subst (λ (ls : List SeatsOf). All At ls) (sym is) at)) in
     all_of (λ (p : Post W). IsReady tables config p) posts (every_so (λ (p : Post W). At (seats_in p)) (λ (p : Post W). IsReady tables config p) (λ p a. (a, enough tables p.seats (length config.vms) low a)) posts every)
 
-pub ran : {W H E : Type 0} (trace_of : W → Option (List Passed)) (nature_of : W → Nature) (faults_of : W → ℕ) (calling : Calling H) (first : ℕ → List ℕ → Standing H) (config : Config) (old new : List W) (result : Result ClosedOf E)
-    → (worked : Worked trace_of nature_of faults_of calling first config old new) → ((closed : ClosedOf) × AreShut worked.tables (reverse (map seats_in worked.after)) closed)
-    → IfOk result (AreShut worked.tables (reverse (map seats_in worked.after))) → IfOk result (λ closed. All (λ p. is_clean p ≡ true) worked.after)
-    → Ran trace_of nature_of faults_of calling first config old new result
-ran trace_of nature_of faults_of calling first config old new (Ok closed) worked some shut clean = record { ended = record { worked = worked; shut = shut }; clean = clean }
-ran trace_of nature_of faults_of calling first config old new (Err e) worked some shut clean = inl (some.0, record { worked = worked; shut = some.1 })
-
-pub cleanly : {T E A : Type 0} (end : Option A) (result : Result T E) (P : Type 0) → IfNone end P → IfOk result (λ (x : T). end ≡ None) → IfOk result (λ (x : T). P)
-cleanly None (Ok x) P p none = p
-cleanly (Some a) (Ok x) P p none = absurd (cc none)
-cleanly end (Err e) P p none = tt
+pub ran : {W H : Type 0} (trace_of : W → Option (List Passed)) (nature_of : W → Nature) (faults_of : W → ℕ) (calling : Calling H) (first : ℕ → List ℕ → Standing H) (config : Config) (old new : List W)
+    (result : Result ClosedOf FleetEnd) (end : Option FleetEnd) → (worked : Worked trace_of nature_of faults_of calling first config old new)
+    → ((closed : ClosedOf) × AreShut worked.tables (reverse (map seats_in worked.after)) closed) → IfOk result (AreShut worked.tables (reverse (map seats_in worked.after))) → end ≡ end_of worked.after
+    → IfOk result (λ closed. end ≡ None) → IfErr result (λ e. end ≡ Some e) → Ran trace_of nature_of faults_of calling first config old new result
+ran trace_of nature_of faults_of calling first config old new (Ok closed) end worked some shut is none err =
+    record { ended = record { worked = worked; shut = shut }; clean = all_clean trace_of nature_of faults_of calling first worked.before worked.after worked.worked (sym is ∙ none) }
+ran trace_of nature_of faults_of calling first config old new (Err fleet_ends.WorldFault) end worked some shut is none err =
+    record { closed = some.0; ended = record { worked = worked; shut = some.1 }; cause_is = sym is ∙ err }
+ran trace_of nature_of faults_of calling first config old new (Err fleet_ends.OutOfMemory) end worked some shut is none err =
+    inl (record { closed = some.0; ended = record { worked = worked; shut = some.1 }; cause_is = sym is ∙ err })
 
 pub as_many_worlds : {W H : Type 0} (trace_of : W → Option (List Passed)) (nature_of : W → Nature) (faults_of : W → ℕ) (calling : Calling H) (first : ℕ → List ℕ → Standing H) (before after : List (Post W)) (old new : List W)
     → Each (HasWorked trace_of nature_of faults_of calling first) before after → reverse (map world_in before) ≡ old → new ≡ reverse (map world_in after) → length new ≡ length old

@@ -1,5 +1,6 @@
 -- Which connections stand as more passes.
-use Rattle.std.proofs.Common.{◌≡◌, ◌∙◌, ℕ, Bool, true, false, List, [], ◌∷◌, ◌++◌, length, take, Option, None, Some, Result, Ok, Err, nat_lt, refl, ap, sym, subst, if◌then◌else◌}
+use Rattle.std.proofs.Common.{◌≡◌, ◌∙◌, ◌+◌, ◌&&◌, not, ℕ, Bool, true, false, List, [], ◌∷◌, ◌++◌, append_assoc, length, take, Option, None, Some, Result, Ok, Err, nat_lt, refl, ap, sym, subst, arith, if◌then◌else◌}
+use Rattle.std.proofs.lemmas.List.{append-nil}
 use Rattle.gate_io.specs.Passing.{asking, sending, taking, piece}
 use Rattle.gate_io.specs.Told.{Gains, gains_more, gains_nothing}
 use Rattle.gate_io.specs.declared.ends.WorldEnd.{WorldEnd}
@@ -10,8 +11,9 @@ use Rattle.gate_io.specs.declared.event.Side.{Side}
 use Rattle.gate_io.specs.declared.passed.Passed.{Passed}
 use Rattle.gate_io.specs.declared.passed.Passed.TheVariants.{Asked, Gave, Took, Short}
 use Rattle.gate_io.specs.declared.passed.Wants.{Wants}
-use Rattle.fleet.specs.Closing.{AreStanding, AreCloses, Closes, NothingStands, after_step, after_sent, is_in, stands_from}
+use Rattle.fleet.specs.Closing.{AllClosed, AreStanding, AreCloses, Behind, Closes, ClosesAll, NothingStands, SomeClosed, after_step, after_sent, closes_of, connection, is_in, is_one, one_if, stands, stands_from}
 use Rattle.fleet.specs.declared.watched.Connection.{Connection}
+use Rattle.fleet.proofs.Listing.{same}
 
 more_steps : (c : Connection) (now : Bool) (xs ys : List Passed) → stands_from c now (xs ++ ys) ≡ stands_from c (stands_from c now xs) ys
 more_steps c now [] ys = refl
@@ -61,16 +63,75 @@ one_more (Gave event ∷ steps) line side h = absurd h
 one_more (Took sent ∷ steps) line side h = (h.0, one_more steps line side h.1)
 one_more (Short l s ∷ steps) line side h = absurd h
 
-pub no_close : (told : Option (List Passed)) → Closes told told
-no_close told = record { steps = []; closes = tt; told = gains_nothing told }
+-- ---- how often each is closed
 
-pub closes_more : (old mid new : Option (List Passed)) (line : ℕ) (side : Side) → Closes old mid → Gains mid (Took (Close line side) ∷ []) new → Closes old new
-closes_more old mid new line side a b = record {
+closes_join : (c : Connection) (xs ys : List Passed) → closes_of c (xs ++ ys) ≡ closes_of c xs + closes_of c ys
+closes_join c [] ys = omega arith
+closes_join c (Asked wants ∷ xs) ys = closes_join c xs ys
+closes_join c (Gave event ∷ xs) ys = closes_join c xs ys
+closes_join c (Took sent ∷ xs) ys = let more = closes_join c xs ys in omega (arith, more)
+closes_join c (Short line side ∷ xs) ys = closes_join c xs ys
+
+-- one that stands and is closed stands no more, and another is as before
+counted : (it now : Bool) → (it ≡ true → now ≡ true) → one_if it + one_if (not it && now) ≡ one_if now
+counted true true h = refl
+counted true false h = absurd (cc (h refl))
+counted false true h = refl
+counted false false h = refl
+
+-- the connection stands, where that is told
+abbrev pub StandsNow : Option (List Passed) → Connection → Type 0
+StandsNow None c = Unit {0}
+StandsNow (Some trace) c = stands c trace ≡ true
+
+pub listed_stands : (told : Option (List Passed)) (list : List Connection) (c : Connection) → AreStanding told list → is_in c list ≡ true → StandsNow told c
+listed_stands None list c are here = tt
+listed_stands (Some trace) list c are here = sym (are c) ∙ here
+
+some_closed_none : (told : Option (List Passed)) → Behind SomeClosed told []
+some_closed_none None = tt
+some_closed_none (Some trace) = λ c. let same = ap (λ (t : List Passed). one_if (stands c t)) (append-nil trace) in omega (arith, same)
+
+some_closed_more : (trace steps : List Passed) (line : ℕ) (side : Side) → SomeClosed trace steps → stands (connection line side) (trace ++ steps) ≡ true → SomeClosed trace (steps ++ Took (Close line side) ∷ [])
+some_closed_more trace steps line side so stood c =
+    let it = is_one c (connection line side) in
+    let now = stands c (trace ++ steps) in
+    let is : it ≡ true → now ≡ true = λ one. ap (λ (d : Connection). stands d (trace ++ steps)) (same c (connection line side) one) ∙ stood in
+    let after : stands c (trace ++ (steps ++ Took (Close line side) ∷ [])) ≡ (not it && now) =
+    ap (stands c) (sym (append_assoc trace steps (Took (Close line side) ∷ []))) ∙ more_steps c false (trace ++ steps) (Took (Close line side) ∷ []) in
+    let left : one_if (stands c (trace ++ (steps ++ Took (Close line side) ∷ []))) ≡ one_if (not it && now) = ap one_if after in
+    let one : one_if it + one_if (not it && now) ≡ one_if now = counted it now is in
+    let both : closes_of c (steps ++ Took (Close line side) ∷ []) ≡ closes_of c steps + (one_if it + 0) = closes_join c steps (Took (Close line side) ∷ []) in
+    let before = so c in
+    omega (arith, left, one, both, before)
+
+one_more_closed : (old mid : Option (List Passed)) (steps : List Passed) (line : ℕ) (side : Side) → Behind SomeClosed old steps → Gains old steps mid → StandsNow mid (connection line side)
+    → Behind SomeClosed old (steps ++ Took (Close line side) ∷ [])
+one_more_closed None mid steps line side so told stood = tt
+one_more_closed (Some trace) mid steps line side so told stood =
+    some_closed_more trace steps line side so (subst (λ (o : Option (List Passed)). StandsNow o (connection line side)) told stood)
+
+pub no_close : (told : Option (List Passed)) → Closes told told
+no_close told = record { steps = []; closes = tt; some = some_closed_none told; told = gains_nothing told }
+
+pub closes_more : (old mid new : Option (List Passed)) (line : ℕ) (side : Side) → Closes old mid → StandsNow mid (connection line side) → Gains mid (Took (Close line side) ∷ []) new → Closes old new
+closes_more old mid new line side a stood b = record {
   steps = a.steps ++ Took (Close line side) ∷ [];
   closes = one_more a.steps line side a.closes;
+  some = one_more_closed old mid a.steps line side a.some a.told stood;
   told = gains_more old a.steps mid (Took (Close line side) ∷ []) new a.told b;
 }
 
 pub nothing_stands : (told : Option (List Passed)) (list : List Connection) → AreStanding told list → list ≡ [] → NothingStands told
 nothing_stands None list are none = tt
 nothing_stands (Some trace) list are none = λ c. sym (are c) ∙ ap (λ (l : List Connection). is_in c l) none
+
+-- where none stands, all were closed
+all_closed : (old : Option (List Passed)) (steps : List Passed) (new : Option (List Passed)) → Behind SomeClosed old steps → Gains old steps new → NothingStands new → Behind AllClosed old steps
+all_closed None steps new so told none = tt
+all_closed (Some trace) steps new so told none =
+    let nothing : NothingStands (Some (trace ++ steps)) = subst NothingStands told none in
+    λ c. (let left = ap one_if (nothing c) in let before = so c in omega (arith, left, before))
+
+pub closes_all : (old new : Option (List Passed)) → Closes old new → NothingStands new → ClosesAll old new
+closes_all old new a none = record { steps = a.steps; closes = a.closes; all = all_closed old a.steps new a.some a.told none; told = a.told; none_stands = none }

@@ -1,5 +1,5 @@
 -- Which connections stand, and the closes between two lives.
-use Rattle.std.specs.Prelude.{◌≡◌, ◌==◌, ◌&&◌, ◌||◌, not, ℕ, Bool, true, false, List, [], ◌∷◌, Option, None, Some}
+use Rattle.std.specs.Prelude.{◌≡◌, ◌==◌, ◌&&◌, ◌||◌, not, ℕ, ◌+◌, Bool, true, false, List, [], ◌∷◌, ◌++◌, Option, None, Some}
 use Rattle.std.specs.List.{list_any}
 use Rattle.gate_io.specs.Told.{Gains}
 use Rattle.gate_io.specs.declared.event.Sent.{Sent}
@@ -87,8 +87,81 @@ AreCloses (Gave event ∷ steps) = ⊥
 AreCloses (Took sent ∷ steps) = IsClose sent × AreCloses steps
 AreCloses (Short line side ∷ steps) = ⊥
 
--- what passed meanwhile, where that is told, are closes
+-- one where it is so, and else none
+abbrev pub one_if : Bool → ℕ
+one_if true = 1
+one_if false = 0
+
+abbrev pub closed_by : Connection → Sent → Bool
+closed_by c (sents.Connect line) = false
+closed_by c (sents.Bytes line side bytes) = false
+closed_by c (sents.Close line side) = is_one c (connection line side)
+closed_by c (sents.Log level text) = false
+
+-- HOW OFTEN A CONNECTION IS CLOSED in what passed
+abbrev pub closes_of : Connection → List Passed → ℕ
+closes_of c [] = 0
+closes_of c (Asked wants ∷ steps) = closes_of c steps
+closes_of c (Gave event ∷ steps) = closes_of c steps
+closes_of c (Took sent ∷ steps) = one_if (closed_by c sent) + closes_of c steps
+closes_of c (Short line side ∷ steps) = closes_of c steps
+
+-- each connection that stood is closed once, or stands still; and no other is closed
+abbrev pub SomeClosed : (trace steps : List Passed) → Type 0
+SomeClosed trace steps = (c : Connection) → closes_of c steps + one_if (stands c (trace ++ steps)) ≡ one_if (stands c trace)
+
+-- each connection that stood is closed once, and no other is closed
+abbrev pub AllClosed : (trace steps : List Passed) → Type 0
+AllClosed trace steps = (c : Connection) → closes_of c steps ≡ one_if (stands c trace)
+
+-- the same of what passed behind a trace, where that is told
+abbrev pub Behind : (List Passed → List Passed → Type 0) → Option (List Passed) → List Passed → Type 0
+Behind P None steps = Unit {0}
+Behind P (Some trace) steps = P trace steps
+
+-- What passed meanwhile, where that is told: closes alone, of connections that stood, each closed once or standing still.
 pub record Closes (old new : Option (List Passed)) : Type 0 where
   pub steps : List Passed
   pub closes : AreCloses steps
+  pub some : Behind SomeClosed old steps
   pub told : Gains old steps new
+
+-- ALL CONNECTIONS ARE CLOSED. What passed meanwhile, where that is told: closes alone, one of each connection that stood and none of any other. So
+-- none stands behind them.
+pub record ClosesAll (old new : Option (List Passed)) : Type 0 where
+  pub steps : List Passed
+  pub closes : AreCloses steps
+  pub all : Behind AllClosed old steps
+  pub told : Gains old steps new
+  pub none_stands : NothingStands new
+
+-- ---- worked examples
+
+abbrev pub opened : ℕ → Passed
+opened line = Gave (record { now = 0; what = whats.Opened line })
+
+abbrev pub gone : ℕ → Side → Passed
+gone line side = Gave (record { now = 0; what = whats.Gone line side })
+
+abbrev pub connected : ℕ → Passed
+connected line = Took (sents.Connect line)
+
+abbrev pub closed : ℕ → Side → Passed
+closed line side = Took (sents.Close line side)
+
+-- a client's line 3 was opened and its server connected, and of line 4 the client is gone and the server too
+abbrev pub three_stand : List Passed
+three_stand = opened 3 ∷ connected 3 ∷ opened 4 ∷ connected 4 ∷ gone 4 Down ∷ gone 4 Up ∷ []
+
+pub record ClosingExamples : Type 0 where
+  -- both sides of line 3 are closed, and the server's side of line 4, in any order
+  pub each_once : ClosesAll (Some three_stand) (Some (three_stand ++ closed 3 Up ∷ closed 3 Down ∷ closed 4 Up ∷ []))
+  pub other_order : ClosesAll (Some three_stand) (Some (three_stand ++ closed 4 Up ∷ closed 3 Down ∷ closed 3 Up ∷ []))
+  -- none is left out where all are closed; some may be where memory ran out
+  pub not_fewer : ClosesAll (Some three_stand) (Some (three_stand ++ closed 3 Up ∷ closed 3 Down ∷ [])) → ⊥
+  pub fewer_cut : Closes (Some three_stand) (Some (three_stand ++ closed 3 Up ∷ closed 3 Down ∷ []))
+  -- none is closed twice, none that does not stand, and nothing else passes
+  pub not_twice : Closes (Some three_stand) (Some (three_stand ++ closed 3 Up ∷ closed 3 Up ∷ [])) → ⊥
+  pub not_gone : Closes (Some three_stand) (Some (three_stand ++ closed 4 Down ∷ [])) → ⊥
+  pub not_never : Closes (Some three_stand) (Some (three_stand ++ closed 5 Up ∷ [])) → ⊥
+  pub not_connected : Closes (Some three_stand) (Some (three_stand ++ connected 5 ∷ [])) → ⊥

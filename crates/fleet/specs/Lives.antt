@@ -1,9 +1,9 @@
 -- The lives of a worker, one after another.
-use Rattle.std.specs.Prelude.{◌≡◌, ◌≢◌, ℕ, Bool, true, false, zero, suc, ◌⊎◌, ◌&&◌, List, Option}
+use Rattle.std.specs.Prelude.{◌≡◌, ◌≢◌, ◌≤◌, ℕ, Bool, true, false, zero, suc, ◌⊎◌, ◌&&◌, List, Option}
 use Rattle.contexts.specs.declared.parts.Contexts.{Contexts}
 use Rattle.course.specs.Called.{Called}
 use Rattle.course.specs.declared.host.Callback.{Callback}
-use Rattle.fleet.specs.Closing.{Closes, NothingStands}
+use Rattle.fleet.specs.Closing.{Closes, ClosesAll}
 use Rattle.gate_config.specs.declared.config.Config.{Config}
 use Rattle.gate_io.specs.declared.passed.Passed.{Passed}
 use Rattle.store_model.specs.Made.{Made}
@@ -62,14 +62,13 @@ module _ {H S : Type 0} (calling : Calling H) (performs : S → List Made → S 
     abbrev pub OneLife : S → Option (List Passed) → Turn → Bool → S → Option (List Passed) → Type 0
     OneLife s old end took t new = Lived s old end took t new ⊎ NotBegun s old end took t new
 
-    -- A life that took an event and ended for want of memory, and then closes, after which no connection stands
+    -- A life that took an event and ended for want of memory, and then each connection that stood at its end is closed, once, and nothing else passes
     pub record Ended (s : S) (old : Option (List Passed)) (t : S) (new : Option (List Passed)) : Type 0 where
       pub left : Option (List Passed)
       pub lived : Lived s old OutOfMemory true t left
-      pub closes : Closes left new
-      pub all : NothingStands new
+      pub closes : ClosesAll left new
 
-    -- the same where memory ran out among the closes
+    -- the same where memory ran out among the closes: some of them are closed, once, and the others stand still
     pub record Cut (s : S) (old : Option (List Passed)) (end : Turn) (t : S) (new : Option (List Passed)) : Type 0 where
       pub end_is : end ≡ OutOfMemory
       pub left : Option (List Passed)
@@ -88,11 +87,12 @@ module _ {H S : Type 0} (calling : Calling H) (performs : S → List Made → S 
       pub none : (is_memory end && took) ≡ false
 
     -- THE LIVES OF A WORKER: some that took an event and ended for want of memory, each with its connections closed; and then the last one,
-    -- or one whose connections could not all be closed. Where none ended before, it is the only one.
+    -- or one whose connections could not all be closed. It is told whether one ended for want of memory before the last: where not, there is no other.
     pub record Lives (s : S) (old : Option (List Passed)) (end : Turn) (again : Bool) (t : S) (new : Option (List Passed)) : Type 0 where
       pub count : ℕ
       pub at : S
       pub mid : Option (List Passed)
       pub early : Early count s old at mid
       pub once : again ≡ false → count ≡ 0
+      pub more : again ≡ true → (1 ≤ count) ⊎ (end ≡ OutOfMemory)
       pub last : Last at mid end t new ⊎ Cut at mid end t new

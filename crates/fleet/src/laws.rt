@@ -1,5 +1,7 @@
 // What holds of all lives and of all fleets, as functions without a body.
+ghost use Rattle.fleet.specs.Closing.{ClosingExamples};
 ghost use Rattle.fleet.specs.Laws.{EachVmHasOne, LivesAreMeant, SeatsGoOnByLives, two_vms_leave_two};
+ghost use Rattle.fleet.specs.Run.{EndExamples};
 
 use course::Host;
 use gate_io::World;
@@ -19,4 +21,14 @@ pub fn lives_are_meant<H: Host>()
 pub fn each_vm_has_one_history<H: Host, W: World>()
     ensures one { EachVmHasOne W.trace W.nature W.faults H.calling }
     ensures two { two_vms_leave_two W.trace W.nature W.faults H.calling }
+{}
+
+/// Which closes stand between two lives: one of each connection that stood, and of no other.
+pub fn worked_closes()
+    ensures { ClosingExamples }
+{}
+
+/// Why a fleet did not end well, by how its workers ended: a world that failed counts before want of memory.
+pub fn worked_ends<W: World>()
+    ensures { EndExamples W }
 {}

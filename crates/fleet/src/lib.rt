@@ -8,7 +8,9 @@ mod post;
 mod run;
 mod watched;
 
-pub use laws::{each_vm_has_one_history, lives_are_meant, seats_go_on_by_lives};
+pub use laws::{
+    each_vm_has_one_history, lives_are_meant, seats_go_on_by_lives, worked_closes, worked_ends,
+};
 pub use lives::live;
 pub use moves::{hand_back, post_all};
 pub use post::{Post, work, work_all, work_posts};

@@ -1,8 +1,8 @@
 // All workers of a configuration.
-ghost use Rattle.std.specs.Prelude.{◌≡◌, ◌≤◌, true, length, All, IfOk, IfErr, IfNone, IfSome, IsTrue, []};
+ghost use Rattle.std.specs.Prelude.{◌≡◌, ◌≤◌, length, All, IfOk, IfErr, IfSome, []};
 ghost use Rattle.std.specs.List.{list_any};
 ghost use Rattle.fleet.specs.Lives.{first_of};
-ghost use Rattle.fleet.specs.Run.{AnyRose, Ran, is_clean, is_fault};
+ghost use Rattle.fleet.specs.Run.{AnyRose, Ran, end_of, has_failed, is_fault, ran_short};
 ghost use Rattle.shared_seats.specs.Closed.{ClosedOf};
 ghost use Rattle.shared_seats.specs.Workers.{AreAll, AreShut};
 
@@ -34,37 +34,38 @@ fn is_fault(turn: Turn) -> bool
     matches!(turn, Turn::WorldFault)
 }
 
-/// Whether each post's worker had one life, which ended with Stop.
-fn are_clean<W: World>(posts: &[Post<W>]) -> bool
-    ensures { IsTrue result → All (λ p. is_clean p ≡ true) posts.now }
+/// Whether a life of a post's worker ended for want of memory.
+fn ran_short<W: World>(post: &Post<W>) -> bool
+    ensures { result ≡ ran_short post.now }
 {
-    for post in posts {
-        if !is_clean(post) {
-            return false;
-        }
-    }
-    true
+    matches!(post.end, Turn::OutOfMemory) || post.again
 }
 
-/// Whether a post's worker had one life, which ended with Stop.
-fn is_clean<W: World>(post: &Post<W>) -> bool
-    ensures { result ≡ is_clean post.now }
+/// Whether the world of a post failed.
+fn any_failed<W: World>(posts: &[Post<W>]) -> bool
+    ensures { result ≡ list_any has_failed posts.now }
 {
-    matches!(post.end, Turn::Stopped) && !post.again
+    posts.iter().any(|post| is_fault(post.end))
 }
 
-/// Why a post's worker ended, where it was not Stop.
+/// Whether a worker ran out of memory.
+fn any_short<W: World>(posts: &[Post<W>]) -> bool
+    ensures { result ≡ list_any ran_short posts.now }
+{
+    posts.iter().any(|post| ran_short(post))
+}
+
+/// Why a fleet did not end well, if so: a world that failed counts before want of memory.
 fn end_of<W: World>(posts: &[Post<W>]) -> Option<FleetEnd>
-    ensures fault { result ≡ Some FleetEnd.WorldFault → IsTrue (list_any (λ p. is_fault p.end) posts.now) }
-    ensures clean { IfNone result (All (λ p. is_clean p ≡ true) posts.now) }
+    ensures { result ≡ end_of posts.now }
 {
-    if posts.iter().any(|post| is_fault(post.end)) {
+    if any_failed(posts) {
         return Some(FleetEnd::WorldFault);
     }
-    if are_clean(posts) {
-        return None;
+    if any_short(posts) {
+        return Some(FleetEnd::OutOfMemory);
     }
-    Some(FleetEnd::OutOfMemory)
+    None
 }
 
 /// Shuts the tables, and tells what they came to where nothing went wrong.

@@ -1,6 +1,6 @@
 // A world, and which of its connections stand.
 ghost use Rattle.std.specs.Prelude.{◌≡◌, ◌&&◌, ◌||◌, not, ◌<◌, ◌≤◌, [], true, IfSome, IfNone, OnOk, vec_len, vec_capacity};
-ghost use Rattle.fleet.specs.Closing.{Closes, NothingStands, after_event, connection, is_in, is_one};
+ghost use Rattle.fleet.specs.Closing.{Closes, ClosesAll, after_event, connection, is_in, is_one};
 ghost use Rattle.fleet.specs.declared.watched.Connection.{Connection};
 
 use gate_base::{Level, LineNo, OutOfMemory};
@@ -131,11 +131,11 @@ impl<W: World> Watched<W> {
         world
     }
 
-    /// Closes all connections, lines rising, that to the server before that to the client. After a refusal the closes that it made before
-    /// stand.
+    /// Closes each connection that stands, once: lines rising, that to the server before that to the client. After a refusal the closes that it
+    /// made before stand.
     pub fn close_all(&mut self, alloc: Global) -> Result<(), OutOfMemory>
         ensures closes { Closes (W.trace self.old) (W.trace self.new) }
-        ensures all { OnOk result (NothingStands (W.trace self.new)) }
+        ensures all { OnOk result (ClosesAll (W.trace self.old) (W.trace self.new)) }
         ensures nature { W.nature self.new ≡ W.nature self.old }
         ensures faults { W.faults self.old ≤ W.faults self.new }
     {

@@ -1,10 +1,11 @@
 -- No world of the generator fails.
-use Rattle.std.proofs.Common.{◌≡◌, ◌⊎◌, ◌^◌, ◌<◌, ◌-◌, ℕ, List, [], ◌∷◌, ◌++◌, IsTrue, map, reverse, Option, Some, refl, sym, subst, inl, inr, arith}
+use Rattle.std.proofs.Common.{◌≡◌, ◌^◌, ◌<◌, ◌-◌, ℕ, List, [], ◌∷◌, ◌++◌, IsTrue, map, reverse, Option, Some, refl, sym, subst, inl, inr, arith}
 use Rattle.std.proofs.lemmas.Grind.{reverse_onto}
 use Rattle.fleet.specs.Fleet.{Each, HasWorked}
 use Rattle.fleet.specs.Lives.{Calling}
 use Rattle.fleet.specs.Moves.{world_in}
-use Rattle.fleet.specs.Run.{AnyRose, EndedOrNot}
+use Rattle.fleet.specs.Run.{AnyRose, EndedBy}
+use Rattle.fleet.specs.declared.run.FleetEnd.TheVariants.{WorldFault}
 use Rattle.fleet.specs.declared.post.Post.{Post}
 use Rattle.gate_config.specs.declared.config.Config.{Config}
 use Rattle.gate_io.specs.MemoryWorld.{MemoryWorld, nature_of, no_fault_counted}
@@ -68,10 +69,9 @@ module _ {H : Type 0} (calling : Calling H) (first : ℕ → List ℕ → Standi
   worked_sound (p ∷ ps) [] e a = absurd e
   worked_sound (p ∷ ps) (q ∷ qs) e a = (subst (λ (m : Nature). IsTrue m.fails_no_call) (sym e.0.nature) a.0, worked_sound ps qs e.1 a.1)
 
-  pub no_fault : (config : Config) (n : ℕ) (worlds : List MemoryWorld) → EndedOrNot trace_of nature_of faults_of calling first config (worlds_of n) worlds → AnyRose faults_of (worlds_of n) worlds → ⊥
-  no_fault config n worlds (inl e) rose =
-      let w = e.1.worked in
+  pub no_fault : (config : Config) (n : ℕ) (worlds : List MemoryWorld) → EndedBy trace_of nature_of faults_of calling first config WorldFault (worlds_of n) worlds → AnyRose faults_of (worlds_of n) worlds → ⊥
+  no_fault config n worlds e rose =
+      let w = e.ended.worked in
       let before : AreSound (map world_in w.before) = unreversed (map world_in w.before) (subst AreSound (sym w.old_is) (first_sound n)) in
       let after : AreSound (reverse (map world_in w.after)) = reversed (map world_in w.after) (worked_sound w.before w.after w.worked before) in
       none_rose (worlds_of n) worlds (subst AreSound (sym w.new_is) after) rose
-  no_fault config n worlds (inr e) rose = none_rose (worlds_of n) worlds (subst AreSound (sym e) (first_sound n)) rose

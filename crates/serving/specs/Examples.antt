@@ -4,7 +4,7 @@ use Rattle.gate_config.specs.declared.entries.VmEntry.{VmEntry}
 use Rattle.metric_seats.specs.declared.table.MetricsClosed.{MetricsClosed}
 use Rattle.shared_store.specs.declared.closed.ClosedStore.{ClosedStore}
 use Rattle.store_model.specs.MetricNames.{metric_name}
-use Rattle.store_model.specs.Queues.{Queue, Queues}
+use Rattle.store_model.specs.Queues.{Queue}
 use Rattle.store_model.specs.Store.{empty_store}
 use Rattle.store_model.specs.declared.metric.MetricKind.TheVariants.{Counter, Gauge}
 use Rattle.serving.specs.Summary.{summary}

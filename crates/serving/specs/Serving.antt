@@ -1,7 +1,7 @@
 -- What serving comes to.
 use Rattle.std.specs.Prelude.{◌≡◌, ◌⊎◌, ℕ, List, [], ◌∷◌, All, Option, map, length, Result, Ok, Err}
 use Rattle.fleet.specs.Lives.{Calling}
-use Rattle.fleet.specs.Run.{AnyRose, EndedOrNot, EndedWell}
+use Rattle.fleet.specs.Run.{AnyRose, EndedBy, EndedWell}
 use Rattle.fleet.specs.declared.run.FleetEnd.{FleetEnd}
 use Rattle.fleet.specs.declared.run.FleetEnd.TheVariants as fleet_ends
 use Rattle.gate_config.specs.declared.entries.VmEntry.{VmEntry}
@@ -58,19 +58,25 @@ Finishes vms (Err fleet_ends.WorldFault) end taken took = (end ≡ SiteFault) ×
 Finishes vms (Err fleet_ends.OutOfMemory) end taken took = (end ≡ OutOfMemory) × Gains taken [] took
 
 module _ {W H : Type 0} (eyes : Eyes W) (calling : Calling H) (first : ℕ → List ℕ → Standing H) (config : Config) where
+  -- no world failed: each worker had its one life; or memory ran out in one of them, or before they began
+  abbrev pub NoneFailed : List W → List W → Type 0
+  NoneFailed given back =
+      ((closed : ClosedOf) × EndedWell eyes.trace eyes.nature eyes.faults calling first config given back closed)
+      ⊎ (EndedBy eyes.trace eyes.nature eyes.faults calling first config fleet_ends.OutOfMemory given back ⊎ (back ≡ given))
+
   -- How it ended, where these worlds were handed out and those given back. At the end, and where the output failed, each worker had one
-  -- life, which ended with Stop, and the output took the summary of all VMs' stores and metrics, or a front of it. Else each worker had its
-  -- lives, up to where it ended, or none began, and nothing was written; and where it was a fault, the faults of a world rose. Wherever the
-  -- workers began, all their calls on a VM's store stand in one history, and so do their definitions of its metrics.
+  -- life, which ended with Stop, and the output took the summary of all VMs' stores and metrics, or a front of it. Else nothing was written.
+  -- It was a fault where the world of a worker failed, which ended its last life, and no want of memory elsewhere hides that; the faults of a
+  -- world rose. It was want of memory only where none failed. Wherever the workers began, all their calls on a VM's store stand in one history,
+  -- and so do their definitions of its metrics.
   abbrev pub Ends : ServeEnd → List W → List W → Option (List ℕ) → Option (List ℕ) → Type 0
   Ends Done given back taken took =
       (closed : ClosedOf) × EndedWell eyes.trace eyes.nature eyes.faults calling first config given back closed × Gains taken (summary config.vms closed) took
   Ends OutFault given back taken took =
       (closed : ClosedOf) × EndedWell eyes.trace eyes.nature eyes.faults calling first config given back closed × GainsFront taken (summary config.vms closed) took
   Ends SiteFault given back taken took =
-      EndedOrNot eyes.trace eyes.nature eyes.faults calling first config given back × AnyRose eyes.faults given back × Gains taken [] took
-  Ends OutOfMemory given back taken took =
-      EndedOrNot eyes.trace eyes.nature eyes.faults calling first config given back × Gains taken [] took
+      EndedBy eyes.trace eyes.nature eyes.faults calling first config fleet_ends.WorldFault given back × AnyRose eyes.faults given back × Gains taken [] took
+  Ends OutOfMemory given back taken took = NoneFailed given back × Gains taken [] took
 
   -- The site was started once, with the settings, and handed out as many worlds as there are workers, in which nothing had happened. It was
   -- given back all of them, each in its place.

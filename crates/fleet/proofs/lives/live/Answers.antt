@@ -18,7 +18,8 @@ lives-preserved g c =
         suc so.early.0,
         (λ e. absurd (true≢false e)),
         one_more_ended g.H.Host.calling g.S.Shared.performs (first (g.W.World.nature c.args.watched.now)) so.early.0 c.args.shared.now (g.W.World.trace c.args.watched.now) c.lives.shared (g.W.World.trace c.lives.watched)
-            c.live_once-end.result.0 c.live_once-end.result.1 c.live_once-end.new.shared (g.W.World.trace c.live_once-end.new.world) (g.W.World.trace c.close_all.new.self) so.early.2 both one c.in-Ok.ensures.closes c.in-Ok.ensures.all,
+            c.live_once-end.result.0 c.live_once-end.result.1 c.live_once-end.new.shared (g.W.World.trace c.live_once-end.new.world) (g.W.World.trace c.close_all.new.self) so.early.2 both one c.in-Ok.ensures.all,
+        (λ e. omega arith),
       );
     }
 

@@ -1,16 +1,16 @@
-use Rattle.std.proofs.Common.{arith, ◌≡◌, ◌≤◌, ◌∙◌, ℕ, List, length, map, reverse, subst, sym, IfOk, IfErr, IfNone, IsTrue, Result, Some, true, All}
+use Rattle.std.proofs.Common.{arith, ◌≡◌, ◌≤◌, ◌∙◌, ℕ, List, length, map, reverse, subst, sym, IfOk, IfErr, Result, Some}
 use Rattle.gate_config.specs.declared.config.Config.{Config}
 use Rattle.shared_seats.specs.Closed.{ClosedOf}
 use Rattle.shared_seats.specs.Seats.{SeatsOf, TablesOf}
 use Rattle.shared_seats.specs.Workers.{AreAll, AreNew, AreShut}
-use Rattle.std.specs.List.{list_any}
 use Rattle.fleet.specs.declared.run.FleetEnd.{FleetEnd}
 use Rattle.fleet.specs.Moves.{seats_in, world_in}
-use Rattle.fleet.specs.Run.{AnyRose, Worked, is_clean, is_fault}
+use Rattle.fleet.specs.Run.{AnyRose, Worked, end_of}
 use Rattle.fleet.specs.Lives.{first_of}
 use Rattle.fleet.specs.declared.post.Post.{Post}
+use Rattle.fleet.proofs.Causes.{some_failed}
 use Rattle.fleet.proofs.Faults.{worlds_rose}
-use Rattle.fleet.proofs.Posting.{all_ready, all_went, as_many_metrics, as_many_stores, as_many_worlds, cleanly, ran}
+use Rattle.fleet.proofs.Posting.{all_ready, all_went, as_many_metrics, as_many_stores, as_many_worlds, ran}
 use Rattle.fleet.proofs.run.run_fleet.Goals as goal
 
 pub work_posts-requires-clause-ready : goal.work_posts-requires-clause-ready
@@ -47,12 +47,11 @@ returns-clause-ran g c =
       seats = subst (λ (ls : List SeatsOf). AreNew tables c.args.config.now.workers ls) (sym c.post_all.ensures.lists) c.in-Ok-make.ensures.lists;
       worked = c.work_posts.ensures.each;
     } in
-    let all_clean = subst (λ (l : List (Post g.row.W.Denot)). IfNone c.end_of-end.result (All (λ (p : Post g.row.W.Denot). is_clean p ≡ true) l)) c.as_slice.ensures.value c.end_of-end.ensures.clean in
-    let clean : IfOk c.finish.result (λ closed. All (λ (p : Post g.row.W.Denot). is_clean p ≡ true) after) = cleanly c.end_of-end.result c.finish.result (All (λ (p : Post g.row.W.Denot). is_clean p ≡ true) after) all_clean c.finish.ensures.none in
-    ran g.W.World.trace g.W.World.nature g.W.World.faults g.H.Host.calling (first_of g.H.Host.exported g.H.Host.registering c.args.config.now (g.M.MakesHost.made c.args.maker.now c.args.config.now)) c.args.config.now c.args.worlds.now.items c.hand_back.new.worlds.items c.finish.result worked
+    let end = subst (λ (l : List (Post g.row.W.Denot)). c.end_of-end.result ≡ end_of l) c.as_slice.ensures.value c.end_of-end.ensures in
+    ran g.W.World.trace g.W.World.nature g.W.World.faults g.H.Host.calling (first_of g.H.Host.exported g.H.Host.registering c.args.config.now (g.M.MakesHost.made c.args.maker.now c.args.config.now)) c.args.config.now c.args.worlds.now.items c.hand_back.new.worlds.items c.finish.result c.end_of-end.result worked
     (subst (λ (ls : List SeatsOf). (closed : ClosedOf) × AreShut tables ls closed) c.hand_back.ensures.lists c.finish.ensures.shut)
     (subst (λ (ls : List SeatsOf). IfOk c.finish.result (AreShut tables ls)) c.hand_back.ensures.lists c.finish.ensures.ok)
-    clean
+    end c.finish.ensures.none c.finish.ensures.err
 
 pub returns-clause-fault : goal.returns-clause-fault
 returns-clause-fault g c = λ is.
@@ -61,7 +60,8 @@ returns-clause-fault g c = λ is.
     let before : List (Post W) = c.post_all.new.posts.items in
     let after : List (Post W) = c.work_posts.new.posts.items in
     let ended = subst (λ (r : Result ClosedOf FleetEnd). IfErr r (λ (e : FleetEnd). c.end_of-end.result ≡ Some e)) is c.finish.ensures.err in
-    let any = subst (λ (l : List (Post W)). IsTrue (list_any (λ (p : Post W). is_fault p.end) l)) c.as_slice.ensures.value (c.end_of-end.ensures.fault ended) in
+    let end = subst (λ (l : List (Post W)). c.end_of-end.result ≡ end_of l) c.as_slice.ensures.value c.end_of-end.ensures in
+    let any = some_failed after (sym end ∙ ended) in
     let rose = worlds_rose g.W.World.trace g.W.World.nature f g.H.Host.calling (first_of g.H.Host.exported g.H.Host.registering c.args.config.now (g.M.MakesHost.made c.args.maker.now c.args.config.now)) before after c.work_posts.ensures.each any in
     subst (λ (xs : List W). AnyRose f xs c.hand_back.new.worlds.items) c.post_all.ensures.worlds
     (subst (λ (ys : List W). AnyRose f (reverse (map world_in before)) ys) (sym c.hand_back.ensures.worlds) rose)

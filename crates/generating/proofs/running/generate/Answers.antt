@@ -1,6 +1,8 @@
-use Rattle.std.proofs.Common.{◌≡◌, ◌⊎◌, ℕ, List, Err, ap, refl, subst}
+use Rattle.std.proofs.Common.{ℕ, List, Err, ap, refl, subst}
 use Rattle.fleet.specs.Lives.{first_of}
-use Rattle.fleet.specs.Run.{AnyRose, EndedOrNot, EndedWell}
+use Rattle.fleet.specs.Run.{AnyRose, EndedBy, EndedWell, Ran}
+use Rattle.fleet.specs.declared.run.FleetEnd.{FleetEnd}
+use Rattle.fleet.specs.declared.run.FleetEnd.TheVariants.{WorldFault}
 use Rattle.gate_io.specs.MemoryWorld.{MemoryWorld, nature_of}
 use Rattle.worker.specs.State.{Standing}
 use Rattle.generating.specs.Generating.{summary}
@@ -21,8 +23,9 @@ unreachable-requires g c =
     let first : ℕ → List ℕ → Standing g.row.H.Denot = first_of g.H.Host.exported g.H.Host.registering c.in-Ok.config (g.M.MakesHost.made c.args.maker.now c.in-Ok.config) in
     let config = c.in-Ok.config in
     let worlds = c.run_fleet.new.worlds.items in
+    let ran = subst (λ (e : FleetEnd). Ran trace_of nature_of faults_of g.H.Host.calling first config c.in-Ok-worlds_of.worlds.items worlds (Err e)) c.in-Err-WorldFault.field-0-is c.in-Err-WorldFault.ensures.ran in
     no_fault g.H.Host.calling first config c.args.n worlds
-    (subst (λ (ws : List MemoryWorld). EndedOrNot trace_of nature_of faults_of g.H.Host.calling first config ws worlds) c.in-Ok-worlds_of.ensures c.in-Err-WorldFault.ensures.ran)
+    (subst (λ (ws : List MemoryWorld). EndedBy trace_of nature_of faults_of g.H.Host.calling first config WorldFault ws worlds) c.in-Ok-worlds_of.ensures ran)
     (subst (λ (ws : List MemoryWorld). AnyRose faults_of ws worlds) c.in-Ok-worlds_of.ensures (c.in-Err-WorldFault.ensures.fault (ap Err c.in-Err-WorldFault.field-0-is)))
 
 pub returns-in-Ok-run_fleet-clause-generates : goal.returns-in-Ok-run_fleet-clause-generates

@@ -1,4 +1,4 @@
-use Rattle.std.proofs.Common.{◌≡◌, ◌∙◌, ℕ, List, [], ◌∷◌, map, Option, ap, sym, subst, inr}
+use Rattle.std.proofs.Common.{◌∙◌, ℕ, List, [], ◌∷◌, map, Option, ap, sym, subst, inr}
 use Rattle.fleet.specs.Lives.{first_of}
 use Rattle.gate_io.specs.Told.{Gains}
 use Rattle.gate_io.specs.declared.settings.Settings.{Settings}
