@@ -1,5 +1,5 @@
 -- What the read of one file tells: of a script, and of the module of a call.
-use Rattle.std.proofs.Common.{◌≡◌, ℕ, List, [], ◌∷◌, Option, None, Some, Ok, Err, refl, subst, inl}
+use Rattle.std.proofs.Common.{◌≡◌, ℕ, List, [], ◌∷◌, Option, None, Some, Ok, Err, refl, subst, inl, inr}
 use Rattle.config_files.proofs.Read.{of_file, of_long}
 use Rattle.config_files.specs.Loading.{Told, OfFile}
 use Rattle.gate_config.specs.declared.config.Config.{Config as Configured}
@@ -9,7 +9,7 @@ use Rattle.gate_io.specs.declared.ends.FileEnd.TheVariants as ends
 use Rattle.statuses.specs.declared.status.Status.{Status}
 use Rattle.statuses.specs.declared.status.Status.TheVariants.{Done, Usage, Config, Module, Refused, FileFault, SiteFault, OutFault, OutOfMemory, Script, Invoke}
 use Rattle.commands.specs.Call.{IsCalled, OfCall, WasRead}
-use Rattle.commands.specs.Files.{IsThere, OfText}
+use Rattle.commands.specs.Files.{HasText, IsThere, OfText}
 use Rattle.commands.specs.Reading.{ReadsOne}
 use Rattle.commands.specs.Scripts.{IsCutShort, IsPlayed, IsRefusedAt, Plays, PlaysText, script_limit}
 
@@ -18,13 +18,22 @@ of_text : (files : Told) (path text : List ℕ) (most : ℕ) (P : List ℕ → T
 of_text None path text most P h p = λ t e. absurd (cc)
 of_text (Some told) path text most P h p = λ t e. (let same : text ≡ t = cc in subst P same p)
 
+has_text : (files : Told) (path text : List ℕ) (most : ℕ) (P : List ℕ → Type 0) → ReadsTold files path most (Ok text) → P text → HasText files path P
+has_text None path text most P h p = (text, tt, p)
+has_text (Some told) path text most P h p = (text, h, p)
+
 -- ---- a script
+
+cut_text : (files : Told) (path text : List ℕ) (most : ℕ) (config : Configured) (old new : Option (List ℕ)) → ReadsTold files path most (Ok text) → PlaysText config text OutOfMemory old new
+    → Plays files path config OutOfMemory old new
+cut_text files path text most config old new h (inl nothing) = inl nothing
+cut_text files path text most config old new h (inr cut) = inr (has_text files path text most (λ t. IsCutShort config t old new) h cut)
 
 pub plays_text : (files : Told) (path text : List ℕ) (most : ℕ) (config : Configured) (status : Status) (old new : Option (List ℕ))
     → ReadsTold files path most (Ok text) → PlaysText config text status old new → Plays files path config status old new
-plays_text files path text most config Done old new h p = of_file files path text most (λ t. IsPlayed config t old new) h p
-plays_text files path text most config OutFault old new h p = of_file files path text most (λ t. IsCutShort config t old new) h p
-plays_text files path text most config OutOfMemory old new h p = of_text files path text most (λ t. PlaysText config t OutOfMemory old new) h p
+plays_text files path text most config Done old new h p = has_text files path text most (λ t. IsPlayed config t old new) h p
+plays_text files path text most config OutFault old new h p = has_text files path text most (λ t. IsCutShort config t old new) h p
+plays_text files path text most config OutOfMemory old new h p = cut_text files path text most config old new h p
 plays_text files path text most config (Script line) old new h p = (of_file files path text most (λ t. IsRefusedAt config.workers t line) h p.0, p.1)
 plays_text files path text most config FileFault old new h p = absurd p
 plays_text files path text most config Usage old new h p = absurd p
@@ -36,6 +45,10 @@ plays_text files path text most config (Invoke end) old new h p = absurd p
 
 long_at : (files : Told) (path : List ℕ) (workers : ℕ) → ReadsTold files path script_limit (Err ends.TooLong) → OfFile files path (λ text. IsRefusedAt workers text 0)
 long_at files path workers h = of_long files path script_limit (λ text. IsRefusedAt workers text 0) h (λ text long. inl (long, refl))
+
+-- where its file was not read nothing was printed
+pub unread_script : (files : Told) (path : List ℕ) (config : Configured) (old : Option (List ℕ)) → Plays files path config OutOfMemory old old
+unread_script files path config old = inl (gains_nothing old)
 
 pub long_script : (files : Told) (path : List ℕ) (config : Configured) (old : Option (List ℕ)) → ReadsTold files path script_limit (Err ends.TooLong) → Plays files path config (Script 0) old old
 long_script files path config old h = (long_at files path config.workers h, gains_nothing old)

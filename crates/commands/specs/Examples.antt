@@ -4,8 +4,9 @@ use Rattle.config_files.specs.Loading.{Told, IsCode, IsNotLoaded}
 use Rattle.config_files.specs.Plain.{plain_over}
 use Rattle.config_files.specs.declared.reading.LoadEnd.TheVariants as ends
 use Rattle.gate_config.specs.declared.config.Config.{Config as Configured}
+use Rattle.gate_io.specs.Told.{Gains}
 use Rattle.read_config.specs.Whole.{Judged}
-use Rattle.statuses.specs.declared.status.Status.TheVariants.{Config, Done}
+use Rattle.statuses.specs.declared.status.Status.TheVariants.{Config, Done, OutFault, OutOfMemory}
 use Rattle.wasm_syntax.specs.declared.module.Module.{Module}
 use Rattle.words.specs.Forms.{replay, replay_config, check, invoke, generate}
 use Rattle.commands.specs.Call.{WasRead}
@@ -47,6 +48,9 @@ pub record RefusalExamples : Type 0 where
   pub alone : (judged : Judged) (number : ℕ) (key : List ℕ) (new : Option (List (List ℕ))) → Reaches no_module (Some (check c)) judged (Config number key) (Some []) new → new ≡ Some (c ∷ [])
   -- a file that is not there is neither played nor called
   pub not_played : (config : Configured) (old new : Option (List ℕ)) → Plays no_module b config Done old new → ⊥
+  pub not_cut : (config : Configured) (old new : Option (List ℕ)) → Plays no_module b config OutFault old new → ⊥
+  -- where memory ran out nothing was printed of it
+  pub nothing_printed : (config : Configured) (old new : Option (List ℕ)) → Plays no_module b config OutOfMemory old new → Gains old [] new
   pub not_called : WasRead no_module b Done → ⊥
   pub called : WasRead no_module a Done
   -- a configuration that is not there is not loaded, is not refused as one that is there, and nothing is read behind it

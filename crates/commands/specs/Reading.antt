@@ -1,5 +1,5 @@
 -- Which files a command reads, and how far it comes.
-use Rattle.std.specs.Prelude.{◌≡◌, ℕ, List, [], ◌∷◌, ◌++◌, Option, None, Some, Ok, Err}
+use Rattle.std.specs.Prelude.{ℕ, List, [], ◌∷◌, ◌++◌, Option, None, Some, Ok, Err}
 use Rattle.gate_io.specs.Told.{Gains, GainsFront}
 use Rattle.config_files.specs.Loading.{Told, IsJudged, NoneBehind, NoneBehindConfig, StopsAtBad, StopsAtModule, modules_of}
 use Rattle.config_files.specs.Plain.{vms_over}

@@ -8,10 +8,10 @@ use Rattle.config_files.specs.declared.reading.LoadEnd.TheVariants as ends
 use Rattle.replay_script.specs.declared.command.Command.{Command}
 use Rattle.replay_script.specs.Scripts.{IsScript, FirstBad}
 use Rattle.play_filters.specs.Filtered.{filtered}
-use Rattle.script_play.specs.Replay.{Prints, PrintsFront}
+use Rattle.script_play.specs.Delivered.{Prints, PrintsFront}
 use Rattle.statuses.specs.declared.status.Status.{Status}
 use Rattle.statuses.specs.declared.status.Status.TheVariants.{Done, Usage, Config, Module, Refused, FileFault, SiteFault, OutFault, OutOfMemory, Script, Invoke}
-use Rattle.commands.specs.Files.{OfText}
+use Rattle.commands.specs.Files.{HasText}
 
 -- how many bytes a script has at most: 64 MiB
 abbrev pub script_limit : ℕ
@@ -21,14 +21,14 @@ script_limit = 67108864
 abbrev pub IsRefusedAt : (workers : ℕ) → List ℕ → ℕ → Type 0
 IsRefusedAt workers text line = ((script_limit < length text) × (line ≡ 0)) ⊎ ((length text ≤ script_limit) × FirstBad workers text line)
 
--- the text is a script, and all that it sends over this configuration was printed
+-- the text is a script, all that it sends over this configuration was printed, and that is what the worlds of its workers receive
 pub record IsPlayed (config : Configured) (text : List ℕ) (old new : Option (List ℕ)) : Type 0 where
   pub commands : List Command
   pub short : length text ≤ script_limit
   pub script : IsScript config.workers text commands
   pub prints : Prints (filtered config) commands old new
 
--- the text is a script, and a front of what it prints was taken
+-- the text is a script, and a front of what some first events of it print was taken
 pub record IsCutShort (config : Configured) (text : List ℕ) (old new : Option (List ℕ)) : Type 0 where
   pub commands : List Command
   pub short : length text ≤ script_limit
@@ -63,11 +63,11 @@ PlaysText config text SiteFault old new = ⊥
 PlaysText config text (Invoke end) old new = ⊥
 
 -- HOW A SCRIPT ENDS over a configuration: its file is there, and all that it sends is printed, or a front of it where the output failed or
--- memory ran out; else nothing is printed, and the status tells why
+-- memory ran out; else nothing is printed, and the status tells why. So nothing is printed of a script that is missing, whatever the status.
 abbrev pub Plays : Told → (script : List ℕ) → Configured → Status → (old new : Option (List ℕ)) → Type 0
-Plays files script config Done old new = OfFile files script (λ text. IsPlayed config text old new)
-Plays files script config OutFault old new = OfFile files script (λ text. IsCutShort config text old new)
-Plays files script config OutOfMemory old new = OfText files script (λ text. Gains old [] new ⊎ IsCutShort config text old new)
+Plays files script config Done old new = HasText files script (λ text. IsPlayed config text old new)
+Plays files script config OutFault old new = HasText files script (λ text. IsCutShort config text old new)
+Plays files script config OutOfMemory old new = Gains old [] new ⊎ HasText files script (λ text. IsCutShort config text old new)
 Plays files script config (Script line) old new = OfFile files script (λ text. IsRefusedAt config.workers text line) × Gains old [] new
 Plays files script config FileFault old new = Gains old [] new
 Plays files script config Usage old new = ⊥

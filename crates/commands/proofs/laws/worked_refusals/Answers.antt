@@ -1,4 +1,4 @@
-use Rattle.std.proofs.Common.{◌∷◌, List, ℕ, [], None, Ok, Err, refl}
+use Rattle.std.proofs.Common.{◌∷◌, List, ℕ, [], None, Ok, Err, ⊎_elim}
 use Rattle.read_config.specs.Whole.{Judged}
 use Rattle.config_files.specs.Loading.{Told, IsOfText, NoneBehindConfig}
 use Rattle.commands.specs.Examples.{no_module}
@@ -20,7 +20,9 @@ returns c = record {
   no_script_behind = λ judged h. not_spelled h.0.0 h.0.1.file.spelled;
   itself = λ judged. tt;
   alone = λ judged number key new h. h;
-  not_played = λ config old new h. h;
+  not_played = λ config old new h. absurd (cc (h.1));
+  not_cut = λ config old new h. absurd (cc (h.1));
+  nothing_printed = λ config old new h. ⊎_elim (λ nothing. nothing) (λ cut. absurd (cc (cut.1))) h;
   not_called = λ h. h;
   called = tt;
   not_loaded = λ config h. h.read;
