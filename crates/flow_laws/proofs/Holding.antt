@@ -1,0 +1,192 @@
+-- What asking, letting go and returning make of what stages hold among the contexts.
+use Rattle.std.proofs.Common.{◌≡◌, ◌<◌, ℕ, zero, suc, Bool, true, false, List, [], ◌∷◌, ◌++◌, length, ap, ◌∙◌, sym, refl, subst, ⊎_elim}
+use Rattle.std.specs.Prelude.{Option, None, Some, slice_get, slice_set, drop}
+use Rattle.std.specs.Option.{option_map}
+use Rattle.std.proofs.Math.ListN.{length-set}
+use Rattle.std.proofs.lemmas.Bool.{cases_eq}
+use Rattle.std.proofs.lemmas.List.{append-nil}
+use Rattle.contexts.specs.declared.parts.Stage as parts
+use Rattle.contexts.specs.declared.parts.Context.{Context}
+use Rattle.contexts.specs.declared.parts.Contexts.{Contexts}
+use Rattle.contexts.specs.declared.parts.Own.{Own}
+use Rattle.contexts.specs.declared.parts.VmContexts.{VmContexts}
+use Rattle.contexts.specs.Keyed.{found}
+use Rattle.contexts.specs.Reached.{no_changes, vm_in, vm_after, context_no, context_in, reach_by, fitted}
+use Rattle.contexts.specs.Lending.{stage_in, with_stage, own_put_of}
+use Rattle.contexts.specs.Stages.{own_at, held_at, stage_after, stage_changed, with_bytes, let_go, returned, filled, emptied, answered}
+use Rattle.contexts.specs.Holding.{IsThere}
+use Rattle.contexts.proofs.Holding.{holds_its_own}
+use Rattle.contexts.proofs.Isolation.{put_is_seen, all_else_stays}
+use Rattle.filter_chain.specs.declared.stage.Stage.{Stage}
+use Rattle.filter_chain.specs.Items.{holds_bytes}
+use Rattle.filter_chain.specs.Chains.{bytes_at, bytes_held, without_held, paused, paused_at}
+use Rattle.filter_chain.specs.Flow.{IsOtherThan, NoneIs, IsAlone}
+use Rattle.flow_laws.specs.Acts.{AreThere, HoldSame}
+use Rattle.flow_laws.specs.PassThrough.{AreApart}
+use Rattle.flow_laws.proofs.Alike.{alone_at, there_at}
+
+-- ---- contexts stay there
+
+own_mapped : (h : Contexts) (v : VmContexts) (c : Option Context) → (reach_by h v c).own ≡ option_map (λ (b : Context). b.own) c
+own_mapped h v None = refl
+own_mapped h v (Some b) = refl
+
+own_after : (h : Contexts) (vm e : ℕ) (o w : Own) → vm < length h.vms → own_at h vm e ≡ Some o → own_at (own_put_of h vm e w) vm e ≡ Some w
+own_after h vm e o w within is =
+    ap (λ s. s.reach.own) (put_is_seen (record no_changes { own = Some w }) vm e h within) ∙ ap (λ p. fitted p (Some w)) is
+
+own_other : (h : Contexts) (vm e wm d : ℕ) (w : Own) → vm < length h.vms → (wm ≡ vm → d ≡ e → ⊥) → own_at (own_put_of h vm e w) wm d ≡ own_at h wm d
+own_other h vm e wm d w within apart =
+    let k : Contexts = own_put_of h vm e w in
+    let stays = all_else_stays (record no_changes { own = Some w }) vm e h within in
+    own_mapped k (vm_in k wm) (context_in k wm d)
+    ∙ ⊎_elim
+    (λ (same : wm ≡ vm).
+    subst (λ m. option_map (λ (b : Context). b.own) (context_in k m d) ≡ option_map (λ (b : Context). b.own) (context_in h m d)) (sym same) (stays.owns d (apart same)))
+    (λ (other : wm ≡ vm → ⊥). ap (λ (v : VmContexts). option_map (λ (b : Context). b.own) (found context_no d v.contexts)) (stays.vms wm other))
+    (cases_eq wm vm)
+    ∙ sym (own_mapped h (vm_in h wm) (context_in h wm d))
+
+as_many : (h : Contexts) (vm e : ℕ) (w : Own) → length (own_put_of h vm e w).vms ≡ length h.vms
+as_many h vm e w = length-set h.vms vm (vm_after (record no_changes { own = Some w }) e (context_in h vm e) (vm_in h vm))
+
+there_put : (h : Contexts) (vm e : ℕ) (o w : Own) (wm d : ℕ) → vm < length h.vms → own_at h vm e ≡ Some o → IsThere h wm d → IsThere (own_put_of h vm e w) wm d
+there_put h vm e o w wm d within is there =
+    let less : wm < length (own_put_of h vm e w).vms = subst (λ (n : ℕ). wm < n) (sym (as_many h vm e w)) there.0 in
+    ⊎_elim
+    (λ (same : wm ≡ vm). ⊎_elim
+    (λ (one : d ≡ e). (less, w, (λ i. own_at (own_put_of h vm e w) (same i) (one i)) ∙ own_after h vm e o w within is))
+    (λ (two : d ≡ e → ⊥). (less, there.1, own_other h vm e wm d w within (λ _ one. two one) ∙ there.2))
+    (cases_eq d e))
+    (λ (other : wm ≡ vm → ⊥). (less, there.1, own_other h vm e wm d w within (λ same _. other same) ∙ there.2))
+    (cases_eq wm vm)
+
+there_changed : (f : parts.Stage → parts.Stage) (h : Contexts) (vm e : ℕ) (r : Bool) (wm d : ℕ) → IsThere h vm e → IsThere h wm d → IsThere (stage_changed f h vm e r) wm d
+there_changed f h vm e r wm d here there =
+    subst (λ (p : Option Own). IsThere (stage_after f h vm e r p) wm d) (sym here.2)
+    (there_put h vm e here.1 (with_stage r (f (stage_in r here.1)) here.1) wm d here.0 here.2 there)
+
+-- the contexts of stages are there behind a change of one of them
+pub all_there : (f : parts.Stage → parts.Stage) (h : Contexts) (vm e : ℕ) (r : Bool) (ss : List Stage) → IsThere h vm e → AreThere h ss → AreThere (stage_changed f h vm e r) ss
+all_there f h vm e r [] here there = tt
+all_there f h vm e r (s ∷ ss) here there = (there_changed f h vm e r s.vm s.context here there.0, all_there f h vm e r ss here there.1)
+
+-- ---- all stages hold what they held, or all but one
+
+pub hold_all : (b : Contexts) (ss : List Stage) → HoldSame b b ss
+hold_all b [] = tt
+hold_all b (s ∷ ss) = (refl, hold_all b ss)
+
+pub hold_then : (b c d : Contexts) (ss : List Stage) → HoldSame b c ss → HoldSame c d ss → HoldSame b d ss
+hold_then b c d [] first next = tt
+hold_then b c d (s ∷ ss) first next = (next.0 ∙ first.0, hold_then b c d ss first.1 next.1)
+
+pub hold_drop : (n : ℕ) (b c : Contexts) (ss : List Stage) → HoldSame b c ss → HoldSame b c (drop n ss)
+hold_drop zero b c ss same = same
+hold_drop (suc n) b c [] same = tt
+hold_drop (suc n) b c (s ∷ ss) same = hold_drop n b c ss same.1
+
+pub hold_at : (b c : Contexts) (ss : List Stage) (k : ℕ) (s : Stage) → slice_get ss k ≡ Some s → HoldSame b c ss → bytes_at c s ≡ bytes_at b s
+hold_at b c [] k s at same = absurd (cc)
+hold_at b c (x ∷ xs) zero s at same =
+    let here : x ≡ s = (cc) in
+    subst (λ (y : Stage). bytes_at c y ≡ bytes_at b y) here same.0
+hold_at b c (x ∷ xs) (suc k) s at same = hold_at b c xs k s at same.1
+
+abbrev pub HoldBut : Contexts → Contexts → ℕ → List Stage → Type 0
+HoldBut b c k [] = Unit {0}
+HoldBut b c zero (s ∷ ss) = HoldSame b c ss
+HoldBut b c (suc k) (s ∷ ss) = (bytes_at c s ≡ bytes_at b s) × HoldBut b c k ss
+
+pub but_all : (b : Contexts) (k : ℕ) (ss : List Stage) → HoldBut b b k ss
+but_all b k [] = tt
+but_all b zero (s ∷ ss) = hold_all b ss
+but_all b (suc k) (s ∷ ss) = (refl, but_all b k ss)
+
+pub but_at : (b c : Contexts) (ss : List Stage) (k j : ℕ) (s : Stage) → slice_get ss j ≡ Some s → HoldBut b c k ss → (j ≡ k → ⊥) → bytes_at c s ≡ bytes_at b s
+but_at b c [] k j s at same apart = absurd (cc)
+but_at b c (x ∷ xs) zero zero s at same apart = absurd (apart refl)
+but_at b c (x ∷ xs) zero (suc j) s at same apart = hold_at b c xs j s at same
+but_at b c (x ∷ xs) (suc k) zero s at same apart =
+    let here : x ≡ s = (cc) in
+    subst (λ (y : Stage). bytes_at c y ≡ bytes_at b y) here same.0
+but_at b c (x ∷ xs) (suc k) (suc j) s at same apart = but_at b c xs k j s at same.1 (λ e. apart (ap suc e))
+
+hold_with : (b c : Contexts) (ss : List Stage) (k : ℕ) (s : Stage) → slice_get ss k ≡ Some s → bytes_at c s ≡ bytes_at b s → HoldBut b c k ss → HoldSame b c ss
+hold_with b c [] k s at one same = tt
+hold_with b c (x ∷ xs) zero s at one same =
+    let here : x ≡ s = (cc) in
+    (subst (λ (y : Stage). bytes_at c y ≡ bytes_at b y) (sym here) one, same)
+hold_with b c (x ∷ xs) (suc k) s at one same = (same.0, hold_with b c xs k s at one same.1)
+
+Keeps : Contexts → Contexts → Stage → Type 0
+Keeps b c s = (t : Stage) → IsOtherThan s t → bytes_at c t ≡ bytes_at b t
+
+none_changed : (b c : Contexts) (s : Stage) (ss : List Stage) → Keeps b c s → NoneIs s ss → HoldSame b c ss
+unfolding Keeps
+none_changed b c s [] keeps none = tt
+none_changed b c s (t ∷ ss) keeps none = (keeps t none.0, none_changed b c s ss keeps none.1)
+
+one_changed : (b c : Contexts) (s : Stage) (k : ℕ) (ss : List Stage) → Keeps b c s → IsAlone s k ss → HoldBut b c k ss
+unfolding Keeps
+one_changed b c s k [] keeps alone = tt
+one_changed b c s zero (t ∷ ss) keeps alone = none_changed b c s ss keeps alone
+one_changed b c s (suc k) (t ∷ ss) keeps alone = (keeps t alone.0, one_changed b c s k ss keeps alone.1)
+
+-- a change of the stage at a place
+pub but_changed : (f : parts.Stage → parts.Stage) (h : Contexts) (ss : List Stage) (k : ℕ) (s : Stage) → slice_get ss k ≡ Some s → AreApart ss → AreThere h ss
+    → HoldBut h (stage_changed f h s.vm s.context s.response) k ss
+unfolding Keeps
+but_changed f h ss k s at apart there =
+    one_changed h (stage_changed f h s.vm s.context s.response) s k ss
+    (λ t other. holds_its_own.others f h s.vm s.context s.response t.vm t.context t.response (there_at h ss k s at there).0 other) (alone_at ss k s at apart)
+
+-- ---- the callback has returned
+
+pub paused_same : (h : Contexts) (ss : List Stage) (k : ℕ) → AreApart ss → AreThere h ss → HoldSame h (paused h k ss) ss
+paused_same h ss k apart there = by_stage (slice_get ss k) refl
+  where
+    by_stage : (o : Option Stage) → slice_get ss k ≡ o → HoldSame h (paused_at h o) ss
+    by_stage None at = hold_all h ss
+    by_stage (Some s) at =
+        hold_with h (answered h s.vm s.context s.response) ss k s at (holds_its_own.answered_here h s.vm s.context s.response (there_at h ss k s at there))
+        (but_changed returned h ss k s at apart there)
+
+pub paused_there : (h : Contexts) (ss : List Stage) (k : ℕ) → AreThere h ss → AreThere (paused h k ss) ss
+paused_there h ss k there = by_stage (slice_get ss k) refl
+  where
+    by_stage : (o : Option Stage) → slice_get ss k ≡ o → AreThere (paused_at h o) ss
+    by_stage None at = there
+    by_stage (Some s) at = all_there returned h s.vm s.context s.response ss (there_at h ss k s at there) there
+
+-- ---- what it holds is let go
+
+pub gone_but : (h : Contexts) (ss : List Stage) (k : ℕ) (s : Stage) → slice_get ss k ≡ Some s → AreApart ss → AreThere h ss → HoldBut h (without_held h s) k ss
+gone_but h ss k s at apart there = by_held (holds_bytes s.held) refl
+  where
+    by_held : (b : Bool) → holds_bytes s.held ≡ b → HoldBut h (without_held h s) k ss
+    by_held true is = rw is (but_changed let_go h ss k s at apart there)
+    by_held false is = rw is (but_all h k ss)
+
+pub gone_there : (h : Contexts) (ss : List Stage) (k : ℕ) (s : Stage) → slice_get ss k ≡ Some s → AreThere h ss → AreThere (without_held h s) ss
+gone_there h ss k s at there = by_held (holds_bytes s.held) refl
+  where
+    by_held : (b : Bool) → holds_bytes s.held ≡ b → AreThere (without_held h s) ss
+    by_held true is = rw is (all_there let_go h s.vm s.context s.response ss (there_at h ss k s at there) there)
+    by_held false is = rw is there
+
+-- nothing is left in the buffer, where there was nothing in it unless it held bytes
+pub gone_here : (h : Contexts) (s : Stage) → IsThere h s.vm s.context → (holds_bytes s.held ≡ false → bytes_at h s ≡ []) → bytes_at (without_held h s) s ≡ []
+gone_here h s there clean = by_held (holds_bytes s.held) refl
+  where
+    by_held : (b : Bool) → holds_bytes s.held ≡ b → bytes_at (without_held h s) s ≡ []
+    by_held true is = rw is (holds_its_own.emptied_here h s.vm s.context s.response there)
+    by_held false is = rw is (clean is)
+
+-- its bytes go with what it held
+pub gone_bytes : (h : Contexts) (s : Stage) → IsThere h s.vm s.context → bytes_held h s ++ bytes_at (without_held h s) s ≡ bytes_at h s
+gone_bytes h s there = by_held (holds_bytes s.held) refl
+  where
+    by_held : (b : Bool) → holds_bytes s.held ≡ b → bytes_held h s ++ bytes_at (without_held h s) s ≡ bytes_at h s
+    by_held true is = rw is (ap (λ (l : List ℕ). bytes_at h s ++ l) (holds_its_own.emptied_here h s.vm s.context s.response there) ∙ append-nil (bytes_at h s))
+    by_held false is = rw is
