@@ -6,3 +6,4 @@ pub mod Calm
 pub mod Asks
 pub mod Steps
 pub mod Through
+pub mod Examples

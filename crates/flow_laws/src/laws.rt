@@ -1,8 +1,14 @@
 // What flows through one direction of an exchange. The functions have nothing to do: their contracts are the laws.
+ghost use Rattle.flow_laws.specs.Examples.{PassThroughExamples};
 ghost use Rattle.flow_laws.specs.PassThrough.{BodiesPassThrough};
 
 /// Where the callbacks for bodies and trailers of one direction all answer Continue, the bytes that left its chain are a front of what the body
 /// callbacks of its last such stage left, and of what came where no buffer is changed; and all of it once the end has left.
 pub fn bodies_pass_through()
     ensures { BodiesPassThrough }
+{}
+
+/// Two filters, worked: three pieces of which the second filter changes one, and a head that the first filter holds.
+pub fn worked_bodies()
+    ensures { PassThroughExamples }
 {}

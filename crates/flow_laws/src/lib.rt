@@ -3,4 +3,4 @@
 
 mod laws;
 
-pub use laws::bodies_pass_through;
+pub use laws::{bodies_pass_through, worked_bodies};
