@@ -7,3 +7,4 @@ pub mod Asks
 pub mod Steps
 pub mod Through
 pub mod Examples
+pub mod Deeds

@@ -1,3 +1,5 @@
 pub mod Acts
 pub mod PassThrough
 pub mod Examples
+pub mod Deeds
+pub mod Exchanges

@@ -1,11 +1,17 @@
 // What flows through one direction of an exchange. The functions have nothing to do: their contracts are the laws.
 ghost use Rattle.flow_laws.specs.Examples.{PassThroughExamples};
+ghost use Rattle.flow_laws.specs.Exchanges.{ExchangesPassBodies};
 ghost use Rattle.flow_laws.specs.PassThrough.{BodiesPassThrough};
 
 /// Where the callbacks for bodies and trailers of one direction all answer Continue, the bytes that left its chain are a front of what the body
 /// callbacks of its last such stage left, and of what came where no buffer is changed; and all of it once the end has left.
 pub fn bodies_pass_through()
     ensures { BodiesPassThrough }
+{}
+
+/// The same of an exchange, whatever happens to it while it runs and is not answered: what left the chain of a direction is what is written.
+pub fn exchanges_pass_bodies()
+    ensures { ExchangesPassBodies }
 {}
 
 /// Two filters, worked: three pieces of which the second filter changes one, and a head that the first filter holds.

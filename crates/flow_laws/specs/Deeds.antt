@@ -1,0 +1,126 @@
+-- WHAT HAPPENS TO AN EXCHANGE, as one direction of it sees that.
+use Rattle.std.specs.Prelude.{◌≡◌, ℕ, Bool, true, false, List, [], ◌∷◌, ◌++◌, Option, None, Some}
+use Rattle.contexts.specs.declared.parts.Contexts.{Contexts}
+use Rattle.exchange.specs.declared.types.Exchange.{Exchange}
+use Rattle.exchange.specs.declared.types.Hub.{Hub}
+use Rattle.exchange.specs.Leaving.{left}
+use Rattle.exchange.specs.Passing.{chain_of, with_chain, puts, acts, stage_of}
+use Rattle.exchange.specs.Passing as passing
+use Rattle.filter_chain.specs.declared.stage.Stage.{Stage}
+use Rattle.filter_chain.specs.declared.item.Ask.{Ask}
+use Rattle.filter_chain.specs.declared.item.Asking.{Asking}
+use Rattle.filter_chain.specs.declared.item.Asking.TheVariants.{Nothing, Over, Asks}
+use Rattle.filter_chain.specs.declared.item.Item.{Item}
+use Rattle.filter_chain.specs.Chains.{asked}
+use Rattle.flow_laws.specs.Acts.{Act, Standing, AreActs}
+use Rattle.flow_laws.specs.Acts as at_chain
+
+-- An item is read. A stage of the direction is asked, and its callback runs, which leaves what all lines have in common so. The action that it
+-- returned is put in force. The stage of a context of a VM goes on, since another callback asked for that. Something else becomes of the exchange, of
+-- what all lines have in common and of what is sent.
+pub data Deed : Type 0 where
+  comes : Item → Deed
+  calls : Hub → Deed
+  answers : ℕ → Deed
+  resumes : ℕ → ℕ → Deed
+  turns : Exchange → Hub → Deed
+
+-- an exchange with what was asked in the direction and is not answered yet
+pub record Running : Type 0 where
+  pub due : Option Ask
+  pub exchange : Exchange
+  pub hub : Hub
+
+-- how its direction stands
+abbrev pub standing : Bool → Running → Standing
+standing response w = record { due = w.due; contexts = w.hub.contexts; stages = chain_of response w.exchange }
+
+-- ---- what a deed does, on the line of a number
+
+abbrev pub done : Option Ask → Exchange × Hub → Running
+done due (x, hub) = record { due = due; exchange = x; hub = hub }
+
+abbrev pub called : Bool → Hub → Running → Asking × List Stage × Contexts → Running
+called response after w (Nothing, stages, h) = w
+called response after w (Over k, stages, h) = w
+called response after w (Asks ask, stages, h) = record { due = Some ask; exchange = with_chain response stages w.exchange; hub = after }
+
+abbrev pub answered : Bool → ℕ → ℕ → Running → Option Ask → Running
+answered response n value w None = w
+answered response n value w (Some ask) = done None (acts response ask.stage value n w.exchange w.hub)
+
+abbrev pub done_by : Bool → ℕ → Deed → Running → Running
+done_by response n (comes item) w = done w.due (puts response n item (w.exchange, w.hub))
+done_by response n (calls after) w = called response after w (asked w.hub.contexts (chain_of response w.exchange))
+done_by response n (answers value) w = answered response n value w w.due
+done_by response n (resumes vm context) w = done w.due (passing.resumes vm context response n w.exchange w.hub)
+done_by response n (turns y after) w = record w { exchange = y; hub = after }
+
+-- ---- the acts that a deed is at the chain of the direction
+
+abbrev pub resumed : Option ℕ → List Act
+resumed None = []
+resumed (Some k) = at_chain.resumes k ∷ []
+
+abbrev pub acts_of : Bool → Deed → Running → List Act
+acts_of response (comes item) w = at_chain.comes item ∷ []
+acts_of response (calls after) w = at_chain.calls after.contexts ∷ []
+acts_of response (answers value) w = at_chain.answers value ∷ []
+acts_of response (resumes vm context) w = resumed (stage_of vm context (chain_of response w.exchange))
+acts_of response (turns y after) w = at_chain.turns after.contexts ∷ []
+
+-- what left the chain, what came to it, and what the body callbacks of the stage at a place left
+abbrev pub left_by : Bool → ℕ → List Deed → Running → List Item
+left_by response n [] w = []
+left_by response n (deed ∷ deeds) w = at_chain.left_by (acts_of response deed w) (standing response w) ++ left_by response n deeds (done_by response n deed w)
+
+abbrev pub came : List Deed → List Item
+came [] = []
+came (comes item ∷ deeds) = item ∷ came deeds
+came (calls after ∷ deeds) = came deeds
+came (answers value ∷ deeds) = came deeds
+came (resumes vm context ∷ deeds) = came deeds
+came (turns y after ∷ deeds) = came deeds
+
+abbrev pub buffers_by : Bool → ℕ → ℕ → List Deed → Running → List ℕ
+buffers_by response n k [] w = []
+buffers_by response n k (deed ∷ deeds) w =
+    at_chain.buffers_by k (acts_of response deed w) (standing response w) ++ buffers_by response n k deeds (done_by response n deed w)
+
+-- ---- which deeds there are
+
+-- what else becomes of the exchange leaves the chain of the direction as it was
+abbrev pub LeavesChain : Bool → Deed → Running → Type 0
+LeavesChain response (comes item) w = Unit {0}
+LeavesChain response (calls after) w = Unit {0}
+LeavesChain response (answers value) w = Unit {0}
+LeavesChain response (resumes vm context) w = Unit {0}
+LeavesChain response (turns y after) w = chain_of response y ≡ chain_of response w.exchange
+
+-- A DEED OF THE LAW: the exchange runs and was not answered, and the acts at the chain are those of the law.
+pub record IsDeed (response : Bool) (count : ℕ) (deed : Deed) (w : Running) : Type 0 where
+  pub runs : w.exchange.has_ended ≡ false
+  pub unanswered : w.exchange.is_answered ≡ false
+  pub acts : AreActs count (acts_of response deed w) (standing response w)
+  pub chain : LeavesChain response deed w
+
+abbrev pub AreDeeds : Bool → ℕ → ℕ → List Deed → Running → Type 0
+AreDeeds response n count [] w = Unit {0}
+AreDeeds response n count (deed ∷ deeds) w = IsDeed response count deed w × AreDeeds response n count deeds (done_by response n deed w)
+
+-- ---- what left the chain is what is written
+
+-- behind what was sent before comes what these items are
+pub record Writes (response : Bool) (n : ℕ) (items : List Item) (before after : Running) : Type 0 where
+  pub exchange : Exchange
+  pub hub : Hub
+  pub sent : hub.sent ≡ before.hub.sent
+  pub writes : (after.exchange, after.hub) ≡ left response n items (exchange, hub)
+
+abbrev pub IsWritten : Bool → ℕ → Deed → Running → Type 0
+IsWritten response n (comes item) w = Writes response n (at_chain.left_by (acts_of response (comes item) w) (standing response w)) w (done_by response n (comes item) w)
+IsWritten response n (calls after) w = at_chain.left_by (acts_of response (calls after) w) (standing response w) ≡ []
+IsWritten response n (answers value) w = Writes response n (at_chain.left_by (acts_of response (answers value) w) (standing response w)) w (done_by response n (answers value) w)
+IsWritten response n (resumes vm context) w =
+    Writes response n (at_chain.left_by (acts_of response (resumes vm context) w) (standing response w)) w (done_by response n (resumes vm context) w)
+IsWritten response n (turns y after) w = at_chain.left_by (acts_of response (turns y after) w) (standing response w) ≡ []
