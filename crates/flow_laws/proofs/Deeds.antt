@@ -134,10 +134,10 @@ resumes_does response n count w (Some k) runs are = goes_stands response n k w.d
 -- the direction stands as behind the acts
 deed_does : (response : Bool) (n count : ℕ) (deed : Deed) (w : Running) → IsDeed response count deed w
     → standing response (done_by response n deed w) ≡ stands_after (acts_of response deed w) (standing response w)
-deed_does response n count (comes item) w is = comes_does response n item w is.runs is.unanswered is.acts.0
+deed_does response n count (comes item) w is = comes_does response n item w is.runs.0 is.runs.1 is.acts.0
 deed_does response n count (calls after) w is = calls_does response count after w (asked w.hub.contexts (chain_of response w.exchange)) is.acts.0.1
-deed_does response n count (answers value) w is = answers_does response n value w w.due is.runs is.acts.0
-deed_does response n count (resumes vm context) w is = resumes_does response n count w (stage_of vm context (chain_of response w.exchange)) is.runs is.acts
+deed_does response n count (answers value) w is = answers_does response n value w w.due is.runs.0 is.acts.0
+deed_does response n count (resumes vm context) w is = resumes_does response n count w (stage_of vm context (chain_of response w.exchange)) is.runs.0 is.acts
 deed_does response n count (turns y after) w is = λ i. record { due = w.due; contexts = after.contexts; stages = is.chain i }
 
 -- ---- all deeds
@@ -250,10 +250,10 @@ resumes_written response n count w None runs are = nothing_written response n w.
 resumes_written response n count w (Some k) runs are = goes_written response n k w.due w.exchange w.hub w refl runs are.0.1
 
 written : (response : Bool) (n count : ℕ) (deed : Deed) (w : Running) → IsDeed response count deed w → IsWritten response n deed w
-written response n count (comes item) w is = comes_written response n item w is.runs is.unanswered is.acts.0
+written response n count (comes item) w is = comes_written response n item w is.runs.0 is.runs.1 is.acts.0
 written response n count (calls after) w is = calls_written after.contexts (standing response w) (asked w.hub.contexts (chain_of response w.exchange))
-written response n count (answers value) w is = answers_written response n value w w.due is.runs is.acts.0
-written response n count (resumes vm context) w is = resumes_written response n count w (stage_of vm context (chain_of response w.exchange)) is.runs is.acts
+written response n count (answers value) w is = answers_written response n value w w.due is.runs.0 is.acts.0
+written response n count (resumes vm context) w is = resumes_written response n count w (stage_of vm context (chain_of response w.exchange)) is.runs.0 is.acts
 written response n count (turns y after) w is = refl
 
 -- ---- THE LAW

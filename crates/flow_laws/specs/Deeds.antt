@@ -97,10 +97,17 @@ LeavesChain response (answers value) w = Unit {0}
 LeavesChain response (resumes vm context) w = Unit {0}
 LeavesChain response (turns y after) w = chain_of response y ≡ chain_of response w.exchange
 
+-- what an exchange does that runs and was not answered
+abbrev pub Runs : Deed → Exchange → Type 0
+Runs (comes item) x = (x.has_ended ≡ false) × (x.is_answered ≡ false)
+Runs (calls after) x = (x.has_ended ≡ false) × (x.is_answered ≡ false)
+Runs (answers value) x = (x.has_ended ≡ false) × (x.is_answered ≡ false)
+Runs (resumes vm context) x = (x.has_ended ≡ false) × (x.is_answered ≡ false)
+Runs (turns y after) x = Unit {0}
+
 -- A DEED OF THE LAW: the exchange runs and was not answered, and the acts at the chain are those of the law.
 pub record IsDeed (response : Bool) (count : ℕ) (deed : Deed) (w : Running) : Type 0 where
-  pub runs : w.exchange.has_ended ≡ false
-  pub unanswered : w.exchange.is_answered ≡ false
+  pub runs : Runs deed w.exchange
   pub acts : AreActs count (acts_of response deed w) (standing response w)
   pub chain : LeavesChain response deed w
 
