@@ -132,7 +132,7 @@ resumes_does response n count w None runs are = refl
 resumes_does response n count w (Some k) runs are = goes_stands response n k w.due w.exchange w.hub runs are.0.1
 
 -- the direction stands as behind the acts
-deed_does : (response : Bool) (n count : ℕ) (deed : Deed) (w : Running) → IsDeed response count deed w
+pub deed_does : (response : Bool) (n count : ℕ) (deed : Deed) (w : Running) → IsDeed response count deed w
     → standing response (done_by response n deed w) ≡ stands_after (acts_of response deed w) (standing response w)
 deed_does response n count (comes item) w is = comes_does response n item w is.runs.0 is.runs.1 is.acts.0
 deed_does response n count (calls after) w is = calls_does response count after w (asked w.hub.contexts (chain_of response w.exchange)) is.acts.0.1

@@ -1,6 +1,6 @@
 -- What asking, letting go and returning make of what stages hold among the contexts.
 use Rattle.std.proofs.Common.{◌≡◌, ◌<◌, ℕ, zero, suc, Bool, true, false, List, [], ◌∷◌, ◌++◌, length, ap, ◌∙◌, sym, refl, subst, ⊎_elim}
-use Rattle.std.specs.Prelude.{Option, None, Some, slice_get, slice_set, drop}
+use Rattle.std.specs.Prelude.{Option, None, Some, slice_get, slice_set, slice_index_or, drop}
 use Rattle.std.specs.Option.{option_map}
 use Rattle.std.proofs.Math.ListN.{length-set}
 use Rattle.std.proofs.lemmas.Bool.{cases_eq}
@@ -11,9 +11,9 @@ use Rattle.contexts.specs.declared.parts.Contexts.{Contexts}
 use Rattle.contexts.specs.declared.parts.Own.{Own}
 use Rattle.contexts.specs.declared.parts.VmContexts.{VmContexts}
 use Rattle.contexts.specs.Keyed.{found}
-use Rattle.contexts.specs.Reached.{no_changes, vm_in, vm_after, context_no, context_in, reach_by, fitted}
+use Rattle.contexts.specs.Reached.{no_changes, no_vm, vm_in, vm_after, context_no, context_in, reach_by, fitted}
 use Rattle.contexts.specs.Lending.{stage_in, with_stage, own_put_of}
-use Rattle.contexts.specs.Stages.{own_at, held_at, stage_after, stage_changed, with_bytes, let_go, returned, filled, emptied, answered}
+use Rattle.contexts.specs.Stages.{own_at, held_in, held_at, stage_after, stage_changed, with_bytes, let_go, returned, filled, emptied, answered}
 use Rattle.contexts.specs.Holding.{IsThere}
 use Rattle.contexts.proofs.Holding.{holds_its_own}
 use Rattle.contexts.proofs.Isolation.{put_is_seen, all_else_stays}
@@ -190,3 +190,25 @@ gone_bytes h s there = by_held (holds_bytes s.held) refl
     by_held : (b : Bool) → holds_bytes s.held ≡ b → bytes_held h s ++ bytes_at (without_held h s) s ≡ bytes_at h s
     by_held true is = rw is (ap (λ (l : List ℕ). bytes_at h s ++ l) (holds_its_own.emptied_here h s.vm s.context s.response there) ∙ append-nil (bytes_at h s))
     by_held false is = rw is
+
+-- ---- what of the contexts counts: those of the VMs
+
+own_by_vms : (b c : Contexts) (vm e : ℕ) → c.vms ≡ b.vms → own_at c vm e ≡ own_at b vm e
+own_by_vms b c vm e same =
+    own_mapped c (vm_in c vm) (context_in c vm e)
+    ∙ (ap (λ (vms : List VmContexts). option_map (λ (k : Context). k.own) (found context_no e (slice_index_or vms vm no_vm).contexts)) same
+    ∙ sym (own_mapped b (vm_in b vm) (context_in b vm e)))
+
+bytes_by_vms : (b c : Contexts) (s : Stage) → c.vms ≡ b.vms → bytes_at c s ≡ bytes_at b s
+bytes_by_vms b c s same = ap (held_in s.response) (own_by_vms b c s.vm s.context same)
+
+pub hold_by_vms : (b c : Contexts) (ss : List Stage) → c.vms ≡ b.vms → HoldSame b c ss
+hold_by_vms b c [] same = tt
+hold_by_vms b c (s ∷ ss) same = (bytes_by_vms b c s same, hold_by_vms b c ss same)
+
+pub there_by_vms : (b c : Contexts) (ss : List Stage) → c.vms ≡ b.vms → AreThere b ss → AreThere c ss
+there_by_vms b c [] same there = tt
+there_by_vms b c (s ∷ ss) same there = (
+  (subst (λ (vms : List VmContexts). s.vm < length vms) (sym same) there.0.0, there.0.1, own_by_vms b c s.vm s.context same ∙ there.0.2),
+  there_by_vms b c ss same there.1,
+)

@@ -8,3 +8,5 @@ pub mod Steps
 pub mod Through
 pub mod Examples
 pub mod Deeds
+pub mod Lines
+pub mod Rooms

@@ -108,7 +108,7 @@ idle_clean zero h (s ∷ ss) idle = (λ _. idle.0.empty, idle_clean zero h ss id
 idle_clean (suc n) h [] idle = tt
 idle_clean (suc n) h (s ∷ ss) idle = idle_clean n h ss idle.1
 
-new_keeps : (n : ℕ) (w : Standing) → IsNew w → n ≤ length w.stages → Keeps n w
+pub new_keeps : (n : ℕ) (w : Standing) → IsNew w → n ≤ length w.stages → Keeps n w
 new_keeps n w new within = record {
   apart = new.apart;
   there = new.there;

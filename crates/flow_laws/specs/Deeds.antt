@@ -56,6 +56,10 @@ done_by response n (answers value) w = answered response n value w w.due
 done_by response n (resumes vm context) w = done w.due (passing.resumes vm context response n w.exchange w.hub)
 done_by response n (turns y after) w = record w { exchange = y; hub = after }
 
+abbrev pub done_all : Bool → ℕ → List Deed → Running → Running
+done_all response n [] w = w
+done_all response n (deed ∷ deeds) w = done_all response n deeds (done_by response n deed w)
+
 -- ---- the acts that a deed is at the chain of the direction
 
 abbrev pub resumed : Option ℕ → List Act

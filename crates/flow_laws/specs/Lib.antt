@@ -3,3 +3,5 @@ pub mod PassThrough
 pub mod Examples
 pub mod Deeds
 pub mod Exchanges
+pub mod Rooms
+pub mod Workers

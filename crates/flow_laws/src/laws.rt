@@ -2,6 +2,7 @@
 ghost use Rattle.flow_laws.specs.Examples.{PassThroughExamples};
 ghost use Rattle.flow_laws.specs.Exchanges.{ExchangesPassBodies};
 ghost use Rattle.flow_laws.specs.PassThrough.{BodiesPassThrough};
+ghost use Rattle.flow_laws.specs.Workers.{WorkersPassBodies, LastStagesPass, UnchangedPass};
 
 /// Where the callbacks for bodies and trailers of one direction all answer Continue, the bytes that left its chain are a front of what the body
 /// callbacks of its last such stage left, and of what came where no buffer is changed; and all of it once the end has left.
@@ -12,6 +13,14 @@ pub fn bodies_pass_through()
 /// The same of an exchange, whatever happens to it while it runs and is not answered: what left the chain of a direction is what is written.
 pub fn exchanges_pass_bodies()
     ensures { ExchangesPassBodies }
+{}
+
+/// The same of the exchange on a line, whatever the machines are and whatever its worker does meanwhile of moves of the direction, puts of what
+/// was read, and what else resumes a stage of the direction or leaves that as it was.
+pub fn workers_pass_bodies<H>()
+    ensures deeds { WorkersPassBodies H }
+    ensures last_stage { LastStagesPass H }
+    ensures unchanged { UnchangedPass H }
 {}
 
 /// Two filters, worked: three pieces of which the second filter changes one, and a head that the first filter holds.

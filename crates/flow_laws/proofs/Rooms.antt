@@ -1,0 +1,351 @@
+-- What a worker does are deeds on the exchange of a line.
+use Rattle.std.proofs.Common.{◌≡◌, ◌<◌, ◌≤◌, ℕ, zero, suc, ◌+◌, ◌==◌, Bool, true, false, List, [], ◌∷◌, ◌++◌, length, map, ap, ◌∙◌, sym, refl, subst, arith}
+use Rattle.std.specs.Prelude.{Option, None, Some, slice_get, slice_set, drop, if◌then◌else◌}
+use Rattle.std.proofs.lemmas.List.{append_assoc, append-nil}
+use Rattle.contexts.specs.declared.parts.Contexts.{Contexts}
+use Rattle.contexts.specs.declared.parts.Effect.{Effect}
+use Rattle.course.specs.Called.{Called}
+use Rattle.exchange.specs.declared.types.Exchange.{Exchange}
+use Rattle.exchange.specs.declared.types.Hub.{Hub}
+use Rattle.exchange.specs.Passing.{chain_of, with_chain, put_in, puts, puts_all, acts}
+use Rattle.exchange.specs.Passing as passing
+use Rattle.filter_chain.specs.declared.stage.Stage.{Stage}
+use Rattle.filter_chain.specs.declared.item.Ask.{Ask}
+use Rattle.filter_chain.specs.declared.item.Asking.{Asking}
+use Rattle.filter_chain.specs.declared.item.Asking.TheVariants.{Nothing, Over, Asks}
+use Rattle.filter_chain.specs.declared.item.Item.{Item}
+use Rattle.filter_chain.specs.Chains.{asked}
+use Rattle.filter_chain.specs.Items.{joined}
+use Rattle.worker.specs.declared.room.Room.{Room}
+use Rattle.worker.specs.declared.types.Own.{Own}
+use Rattle.worker.specs.declared.types.Own.TheVariants as owns
+use Rattle.worker.specs.Rooms.{Changes, marking, on_number, on_context, does, effects_of}
+use Rattle.worker.specs.Steps.{action_of}
+use Rattle.flow_laws.specs.Acts.{HoldSame, AreThere, AreActs, IsCall, is_body, where_one, buffer_in, buffer_at, buffer_due, buffer_called, Standing}
+use Rattle.flow_laws.specs.Acts as at_chain
+use Rattle.flow_laws.specs.Deeds.{Deed, comes, calls, answers, resumes, turns, Running, standing, done, called, resumed, done_by, done_all, acts_of, left_by, came, buffers_by, IsDeed, AreDeeds}
+use Rattle.flow_laws.specs.PassThrough.{IsInOrder, IsNew, PassesThrough}
+use Rattle.flow_laws.specs.Rooms.{IsOn, running, Leaves, Wakes, Other, wakes, leaves, Others, asked_room, quiet_room, IsMove, affected, moved_exchange, moved_room, IsPut, Part, moves, puts as puts_part, others, Run, rests, goes, other_deeds, effect_deeds, part_deeds, run_deeds, part_items, run_items, part_buffers, run_buffers}
+use Rattle.flow_laws.specs.Workers.{AreTheDeeds, WorkersPassBodies, LastStagesPass, UnchangedPass}
+use Rattle.flow_laws.proofs.Deeds.{deed_does, exchanges_pass}
+use Rattle.flow_laws.proofs.Holding.{hold_then, hold_drop, hold_by_vms, there_by_vms}
+use Rattle.flow_laws.proofs.Lines.{with_exchange, on_set, on_number_is, on_context_is, marking_vms}
+use Rattle.flow_laws.proofs.Steps.{Keeps}
+use Rattle.flow_laws.proofs.Through.{Went, went, stands_after, new_keeps}
+
+-- ---- deeds, one list behind the other
+
+-- what these deeds come to: the items that came, and what the body callbacks of each stage left
+record Told (response : Bool) (n count : ℕ) (deeds : List Deed) (w v : Running) (items : List Item) (buffers : ℕ → List ℕ) : Type 0 where
+  are : AreDeeds response n count deeds w
+  last : done_all response n deeds w ≡ v
+  cames : came deeds ≡ items
+  lefts : (k : ℕ) → buffers_by response n k deeds w ≡ buffers k
+
+deeds_more : (response : Bool) (n count : ℕ) (a b : List Deed) (w : Running) → AreDeeds response n count a w → AreDeeds response n count b (done_all response n a w)
+    → AreDeeds response n count (a ++ b) w
+deeds_more response n count [] b w first later = later
+deeds_more response n count (deed ∷ a) b w first later = (first.0, deeds_more response n count a b (done_by response n deed w) first.1 later)
+
+done_more : (response : Bool) (n : ℕ) (a b : List Deed) (w : Running) → done_all response n (a ++ b) w ≡ done_all response n b (done_all response n a w)
+done_more response n [] b w = refl
+done_more response n (deed ∷ a) b w = done_more response n a b (done_by response n deed w)
+
+came_more : (a b : List Deed) → came (a ++ b) ≡ came a ++ came b
+came_more [] b = refl
+came_more (comes item ∷ a) b = ap (λ (l : List Item). item ∷ l) (came_more a b)
+came_more (calls after ∷ a) b = came_more a b
+came_more (answers value ∷ a) b = came_more a b
+came_more (resumes vm context ∷ a) b = came_more a b
+came_more (turns y after ∷ a) b = came_more a b
+
+buffers_more : (response : Bool) (n k : ℕ) (a b : List Deed) (w : Running)
+    → buffers_by response n k (a ++ b) w ≡ buffers_by response n k a w ++ buffers_by response n k b (done_all response n a w)
+buffers_more response n k [] b w = refl
+buffers_more response n k (deed ∷ a) b w =
+    ap (λ (l : List ℕ). at_chain.buffers_by k (acts_of response deed w) (standing response w) ++ l) (buffers_more response n k a b (done_by response n deed w))
+    ∙ sym (append_assoc (at_chain.buffers_by k (acts_of response deed w) (standing response w)) (buffers_by response n k a (done_by response n deed w))
+    (buffers_by response n k b (done_all response n (deed ∷ a) w)))
+
+told_more : (response : Bool) (n count : ℕ) (a b : List Deed) (w u v : Running) (i j : List Item) (f g : ℕ → List ℕ) → Told response n count a w u i f → Told response n count b u v j g
+    → Told response n count (a ++ b) w v (i ++ j) (λ k. f k ++ g k)
+told_more response n count a b w u v i j f g first later = record {
+  are = deeds_more response n count a b w first.are (subst (AreDeeds response n count b) (sym first.last) later.are);
+  last = done_more response n a b w ∙ (ap (done_all response n b) first.last ∙ later.last);
+  cames = came_more a b ∙ (λ t. first.cames t ++ later.cames t);
+  lefts = λ k. buffers_more response n k a b w ∙ (ap (λ (u : Running). buffers_by response n k a w ++ buffers_by response n k b u) first.last ∙ (λ t. first.lefts k t ++ later.lefts k t));
+}
+
+told_none : (response : Bool) (n count : ℕ) (w : Running) → Told response n count [] w w [] (λ k. [])
+told_none response n count w = record { are = tt; last = refl; cames = refl; lefts = λ k. refl }
+
+-- what holds between acts holds behind deeds
+deeds_keep : (response : Bool) (n count : ℕ) (deeds : List Deed) (w : Running) → AreDeeds response n count deeds w → Keeps count (standing response w)
+    → Keeps count (standing response (done_all response n deeds w))
+deeds_keep response n count [] w are keeps = keeps
+deeds_keep response n count (deed ∷ deeds) w are keeps =
+    let all : Went count (acts_of response deed w) (standing response w) = went count (acts_of response deed w) (standing response w) keeps are.0.acts in
+    deeds_keep response n count deeds (done_by response n deed w) are.1 (subst (Keeps count) (sym (deed_does response n count deed w are.0)) all.keeps)
+
+told_keeps : (response : Bool) (n count : ℕ) (deeds : List Deed) (w v : Running) (i : List Item) (f : ℕ → List ℕ) → Told response n count deeds w v i f → Keeps count (standing response w)
+    → Keeps count (standing response v)
+told_keeps response n count deeds w v i f told keeps = subst (λ (u : Running). Keeps count (standing response u)) told.last (deeds_keep response n count deeds w told.are keeps)
+
+-- ---- what host calls are told of the exchange
+
+marked_told : (response : Bool) (n count : ℕ) (due : Option Ask) (x : Exchange) (hub after : Hub) → after.contexts.vms ≡ hub.contexts.vms → AreThere hub.contexts (chain_of response x)
+    → Told response n count (turns x after ∷ []) (record { due = due; exchange = x; hub = hub }) (record { due = due; exchange = x; hub = after }) [] (λ k. [])
+marked_told response n count due x hub after same there = record {
+  are = (
+    record {
+      runs = tt;
+      acts = ((hold_by_vms hub.contexts after.contexts (chain_of response x) same, there_by_vms hub.contexts after.contexts (chain_of response x) same there), tt);
+      chain = refl;
+    },
+    tt,
+  );
+  last = refl;
+  cames = refl;
+  lefts = λ k. refl;
+}
+
+-- ---- what else a worker does
+
+wakes_told : (response : Bool) (n count : ℕ) (due : Option Ask) (x : Exchange) (room : Room) (y : Exchange) (after : Room) → Keeps count (standing response (running due x room))
+    → (w : Wakes response n count due x room y after)
+    → Told response n count (resumes w.vm w.context ∷ turns y after.hub ∷ []) (running due x room) (running due y after) [] (λ k. [])
+wakes_told response n count due x room y after keeps w =
+    let r : Exchange × Hub = passing.resumes w.vm w.context response n x room.hub in
+    let first : Told response n count (resumes w.vm w.context ∷ []) (running due x room) (done due r) [] (λ k. [])
+    = record { are = (w.deed, tt); last = refl; cames = refl; lefts = λ k. no_buffer k (passing.stage_of w.vm w.context (chain_of response x)) } in
+    let there : AreThere r.1.contexts (chain_of response r.0) = (told_keeps response n count (resumes w.vm w.context ∷ []) (running due x room) (done due r) [] (λ k. []) first keeps).there in
+    let is : after ≡ with_exchange w.on.place w.on.line (marking r) room
+    = w.room_is ∙ on_context_is (passing.resumes w.vm w.context response) w.vm w.context n room x w.on w.line in
+    let vms : after.hub.contexts.vms ≡ r.1.contexts.vms = ap (λ (q : Room). q.hub.contexts.vms) is ∙ marking_vms r in
+    let second : Told response n count (turns r.0 after.hub ∷ []) (done due r) (record { due = due; exchange = r.0; hub = after.hub }) [] (λ k. [])
+    = marked_told response n count due r.0 r.1 after.hub vms there in
+    subst (λ (z : Exchange). Told response n count (resumes w.vm w.context ∷ turns z after.hub ∷ []) (running due x room) (running due z after) [] (λ k. [])) (sym w.exchange)
+    (told_more response n count (resumes w.vm w.context ∷ []) (turns r.0 after.hub ∷ []) (running due x room) (done due r) (running due r.0 after) [] [] (λ k. []) (λ k. []) first second)
+  where
+    no_buffer : (k : ℕ) (o : Option ℕ) → at_chain.buffers_by k (resumed o) (standing response (running due x room)) ++ [] ≡ []
+    no_buffer k None = refl
+    no_buffer k (Some j) = refl
+
+wakes_on : (response : Bool) (n count : ℕ) (due : Option Ask) (x : Exchange) (room : Room) (y : Exchange) (after : Room) → Wakes response n count due x room y after → IsOn n after y
+wakes_on response n count due x room y after w =
+    let r : Exchange × Hub = passing.resumes w.vm w.context response n x room.hub in
+    let is : after ≡ with_exchange w.on.place w.on.line (marking r) room
+    = w.room_is ∙ on_context_is (passing.resumes w.vm w.context response) w.vm w.context n room x w.on w.line in
+    subst (λ (q : Room). IsOn n q y) (sym is) (subst (IsOn n (with_exchange w.on.place w.on.line (marking r) room)) (sym w.exchange) (on_set n room x w.on (marking r)))
+
+leaves_told : (response : Bool) (n count : ℕ) (due : Option Ask) (x : Exchange) (room : Room) (y : Exchange) (after : Room) → Leaves response n x room y after
+    → Told response n count (turns y after.hub ∷ []) (running due x room) (running due y after) [] (λ k. [])
+leaves_told response n count due x room y after l = record {
+  are = (record { runs = tt; acts = ((l.holds, l.there), tt); chain = l.chain }, tt);
+  last = refl;
+  cames = refl;
+  lefts = λ k. refl;
+}
+
+other_told : (response : Bool) (n count : ℕ) (due : Option Ask) (x : Exchange) (room : Room) (y : Exchange) (after : Room) → Keeps count (standing response (running due x room))
+    → (o : Other response n count due x room y after) → Told response n count (other_deeds o) (running due x room) (running due y after) [] (λ k. [])
+other_told response n count due x room y after keeps (wakes w) = wakes_told response n count due x room y after keeps w
+other_told response n count due x room y after keeps (leaves l) = leaves_told response n count due x room y after l
+
+other_on : (response : Bool) (n count : ℕ) (due : Option Ask) (x : Exchange) (room : Room) (y : Exchange) (after : Room) → Other response n count due x room y after → IsOn n after y
+other_on response n count due x room y after (wakes w) = wakes_on response n count due x room y after w
+other_on response n count due x room y after (leaves l) = l.on
+
+-- the effects of a callback
+others_told : (response : Bool) (n count : ℕ) (due : Option Ask) (vm : ℕ) (own : Own) (es : List Effect) (x : Exchange) (room : Room) (z : Exchange)
+    → Keeps count (standing response (running due x room)) → (are : Others response n count due vm own es x room z)
+    → Told response n count (effect_deeds response n count due vm own es x room z are) (running due x room) (running due z (effects_of vm own es room)) [] (λ k. [])
+others_told response n count due vm own [] x room z keeps are =
+    subst (λ (y : Exchange). Told response n count [] (running due x room) (running due y room) [] (λ k. [])) (sym are.0) (told_none response n count (running due x room))
+others_told response n count due vm own (e ∷ es) x room z keeps are =
+    let mid : Room = does vm own e.context e.what room in
+    let first : Told response n count (other_deeds are.1) (running due x room) (running due are.0 mid) [] (λ k. []) = other_told response n count due x room are.0 mid keeps are.1 in
+    let later_keeps : Keeps count (standing response (running due are.0 mid))
+    = told_keeps response n count (other_deeds are.1) (running due x room) (running due are.0 mid) [] (λ k. []) first keeps in
+    told_more response n count (other_deeds are.1) (effect_deeds response n count due vm own es are.0 mid z are.2) (running due x room) (running due are.0 mid)
+    (running due z (effects_of vm own es mid)) [] [] (λ k. []) (λ k. []) first (others_told response n count due vm own es are.0 mid z later_keeps are.2)
+
+others_on : (response : Bool) (n count : ℕ) (due : Option Ask) (vm : ℕ) (own : Own) (es : List Effect) (x : Exchange) (room : Room) (z : Exchange)
+    → Others response n count due vm own es x room z → IsOn n (effects_of vm own es room) z
+others_on response n count due vm own [] x room z are = subst (IsOn n room) (sym are.0) are.1
+others_on response n count due vm own (e ∷ es) x room z are = others_on response n count due vm own es are.0 (does vm own e.context e.what room) z are.2
+
+-- ---- a move
+
+call_by_vms : (count : ℕ) (b c : Contexts) (r : Asking × List Stage × Contexts) → c.vms ≡ b.vms → IsCall count b r → IsCall count c r
+call_by_vms count b c (Nothing, stages, h) same call = absurd call
+call_by_vms count b c (Over k, stages, h) same call = absurd call
+call_by_vms count b c (Asks ask, stages, h) same call =
+    (hold_then h b c (drop count stages) call.0 (hold_by_vms b c (drop count stages) same), there_by_vms b c stages same call.1)
+
+buffer_by_vms : (b c : Contexts) (stages : List Stage) (k : ℕ) → c.vms ≡ b.vms → buffer_at c stages k ≡ buffer_at b stages k
+buffer_by_vms b c stages k same = by_stage (slice_get stages k)
+  where
+    by_stage : (o : Option Stage) → buffer_in c o ≡ buffer_in b o
+    by_stage None = refl
+    by_stage (Some s) = (hold_by_vms b c (s ∷ []) same).0
+
+called_by_vms : (k : ℕ) (b c : Contexts) (r : Asking × List Stage × Contexts) → c.vms ≡ b.vms → buffer_called k c r ≡ buffer_called k b r
+called_by_vms k b c (Nothing, stages, h) same = refl
+called_by_vms k b c (Over j, stages, h) same = refl
+called_by_vms k b c (Asks ask, stages, h) same = ap (λ (l : List ℕ). if is_body ask.kind then where_one k ask.stage l else []) (buffer_by_vms b c stages k same)
+
+module _ {H : Type 0} (response : Bool) (n count : ℕ) (c : Called H) (x : Exchange) (room : Room) (m : IsMove response n count c x room) where
+  abbrev first_exchange : Exchange
+  first_exchange = with_chain response m.stages x
+
+  abbrev first_room : Room
+  first_room = quiet_room c (asked_room m.on.place m.on.line first_exchange m.contexts room)
+
+  call_told : Told response n count (calls first_room.hub ∷ []) (running None x room) (running (Some m.ask) first_exchange first_room) []
+      (λ k. buffer_called k c.contexts (asked room.hub.contexts (chain_of response x)))
+  call_told = record {
+    are = (
+      record {
+        runs = m.runs;
+        acts = ((refl, call_by_vms count c.contexts first_room.hub.contexts (asked room.hub.contexts (chain_of response x)) refl m.call), tt);
+        chain = tt;
+      },
+      tt,
+    );
+    last = ap (called response first_room.hub (running None x room)) m.asks;
+    cames = refl;
+    lefts = λ k.
+        append-nil (buffer_called k first_room.hub.contexts (asked room.hub.contexts (chain_of response x)) ++ [])
+        ∙ (append-nil (buffer_called k first_room.hub.contexts (asked room.hub.contexts (chain_of response x)))
+        ∙ called_by_vms k c.contexts first_room.hub.contexts (asked room.hub.contexts (chain_of response x)) refl);
+  }
+
+  answer_told : Told response n count (answers (action_of m.value) ∷ []) (running (Some m.ask) m.behind (affected m))
+      (done None (acts response m.ask.stage (action_of m.value) n m.behind (affected m).hub)) [] (λ k. [])
+  answer_told = record { are = (m.answer, tt); last = refl; cames = refl; lefts = λ k. refl }
+
+  moved_on : IsOn n (moved_room m) (moved_exchange m)
+  moved_on =
+      let on : IsOn n (affected m) m.behind
+      = others_on response n count (Some m.ask) m.stage.vm (owns.Stage m.stage.context response) c.contexts.effects first_exchange first_room m.behind m.effects in
+      let change : Changes = acts response m.ask.stage (action_of m.value) in
+      subst (λ (q : Room). IsOn n q (moved_exchange m)) (sym (on_number_is change n (affected m) m.behind on))
+      (on_set n (affected m) m.behind on (marking (change n m.behind (affected m).hub)))
+
+  move_told : Keeps count (standing response (running None x room))
+      → Told response n count (part_deeds (moves c m)) (running None x room) (running None (moved_exchange m) (moved_room m)) []
+      (λ k. buffer_called k c.contexts (asked room.hub.contexts (chain_of response x)))
+  move_told keeps =
+      let es : List Effect = c.contexts.effects in
+      let own : Own = owns.Stage m.stage.context response in
+      let f : ℕ → List ℕ = λ k. buffer_called k c.contexts (asked room.hub.contexts (chain_of response x)) in
+      let none : ℕ → List ℕ = λ k. [] in
+      let w1 : Running = running (Some m.ask) first_exchange first_room in
+      let w2 : Running = running (Some m.ask) m.behind (affected m) in
+      let change : Changes = acts response m.ask.stage (action_of m.value) in
+      let r : Exchange × Hub = change n m.behind (affected m).hub in
+      let keeps1 : Keeps count (standing response w1) = told_keeps response n count (calls first_room.hub ∷ []) (running None x room) w1 [] f call_told keeps in
+      let effects : List Deed = effect_deeds response n count (Some m.ask) m.stage.vm own es first_exchange first_room m.behind m.effects in
+      let second : Told response n count effects w1 w2 [] none = others_told response n count (Some m.ask) m.stage.vm own es first_exchange first_room m.behind keeps1 m.effects in
+      let keeps2 : Keeps count (standing response w2) = told_keeps response n count effects w1 w2 [] none second keeps1 in
+      let keeps3 : Keeps count (standing response (done None r)) = told_keeps response n count (answers (action_of m.value) ∷ []) w2 (done None r) [] none answer_told keeps2 in
+      let on : IsOn n (affected m) m.behind = others_on response n count (Some m.ask) m.stage.vm own es first_exchange first_room m.behind m.effects in
+      let vms : (moved_room m).hub.contexts.vms ≡ r.1.contexts.vms
+      = ap (λ (q : Room). q.hub.contexts.vms) (on_number_is change n (affected m) m.behind on) ∙ marking_vms r in
+      let last : Told response n count (turns r.0 (moved_room m).hub ∷ []) (done None r) (running None r.0 (moved_room m)) [] none
+      = marked_told response n count None r.0 r.1 (moved_room m).hub vms keeps3.there in
+      let two : Told response n count (answers (action_of m.value) ∷ turns r.0 (moved_room m).hub ∷ []) w2 (running None r.0 (moved_room m)) [] none
+      = told_more response n count (answers (action_of m.value) ∷ []) (turns r.0 (moved_room m).hub ∷ []) w2 (done None r) (running None r.0 (moved_room m)) [] [] none none answer_told last in
+      let three : Told response n count (effects ++ answers (action_of m.value) ∷ turns r.0 (moved_room m).hub ∷ []) w1 (running None r.0 (moved_room m)) [] none
+      = told_more response n count effects (answers (action_of m.value) ∷ turns r.0 (moved_room m).hub ∷ []) w1 w2 (running None r.0 (moved_room m)) [] [] none none second two in
+      let all : Told response n count (calls first_room.hub ∷ (effects ++ answers (action_of m.value) ∷ turns r.0 (moved_room m).hub ∷ [])) (running None x room) (running None r.0 (moved_room m)) []
+      (λ k. f k ++ [])
+      = told_more response n count (calls first_room.hub ∷ []) (effects ++ answers (action_of m.value) ∷ turns r.0 (moved_room m).hub ∷ []) (running None x room) w1
+      (running None r.0 (moved_room m)) [] [] f none call_told three in
+      record { are = all.are; last = all.last; cames = all.cames; lefts = λ k. all.lefts k ∙ append-nil (f k) }
+
+-- ---- a put
+
+puts_done : (response : Bool) (n : ℕ) (due : Option Ask) (items : List Item) (xh : Exchange × Hub)
+    → done_all response n (map comes items) (done due xh) ≡ done due (puts_all response n items xh)
+puts_done response n due [] xh = refl
+puts_done response n due (item ∷ items) xh = puts_done response n due items (puts response n item xh)
+
+puts_came : (items : List Item) → came (map comes items) ≡ items
+puts_came [] = refl
+puts_came (item ∷ items) = ap (λ (l : List Item). item ∷ l) (puts_came items)
+
+puts_buffers : (response : Bool) (n k : ℕ) (items : List Item) (w : Running) → buffers_by response n k (map comes items) w ≡ []
+puts_buffers response n k [] w = refl
+puts_buffers response n k (item ∷ items) w = puts_buffers response n k items (done_by response n (comes item) w)
+
+put_told : (H : Type 0) (response : Bool) (n count : ℕ) (items : List Item) (x : Exchange) (room : Room) (is : IsPut response n count items x room)
+    → Keeps count (standing response (running None x room))
+    → Told response n count (map comes items ++ turns (put_in response items n x room.hub).0 (on_number (put_in response items) n room).hub ∷ []) (running None x room)
+    (running None (put_in response items n x room.hub).0 (on_number (put_in response items) n room)) items (λ k. [])
+put_told H response n count items x room is keeps =
+    let w : Running = running None x room in
+    let r : Exchange × Hub = put_in response items n x room.hub in
+    let none : ℕ → List ℕ = λ k. [] in
+    let all : put_in response items n x room.hub ≡ puts_all response n items (x, room.hub)
+    = ap (λ (b : Bool). if b then (x, room.hub) else puts_all response n items (x, room.hub)) is.unanswered in
+    let first : Told response n count (map comes items) w (done None r) items none
+    = record {
+      are = is.deeds;
+      last = puts_done response n None items (x, room.hub) ∙ ap (done None) (sym all);
+      cames = puts_came items;
+      lefts = λ k. puts_buffers response n k items w;
+    } in
+    let keeps1 : Keeps count (standing response (done None r)) = told_keeps response n count (map comes items) w (done None r) items none first keeps in
+    let after : Room = on_number (put_in response items) n room in
+    let vms : after.hub.contexts.vms ≡ r.1.contexts.vms
+    = ap (λ (q : Room). q.hub.contexts.vms) (on_number_is (put_in response items) n room x is.on) ∙ marking_vms r in
+    let last : Told response n count (turns r.0 after.hub ∷ []) (done None r) (running None r.0 after) [] none = marked_told response n count None r.0 r.1 after.hub vms keeps1.there in
+    let two : Told response n count (map comes items ++ turns r.0 after.hub ∷ []) w (running None r.0 after) (items ++ []) (λ k. [])
+    = told_more response n count (map comes items) (turns r.0 after.hub ∷ []) w (done None r) (running None r.0 after) items [] none none first last in
+    record { are = two.are; last = two.last; cames = two.cames ∙ append-nil items; lefts = two.lefts }
+
+-- ---- one behind the other
+
+part_told : {H : Type 0} {response : Bool} {n count : ℕ} {x : Exchange} {room : Room} {y : Exchange} {after : Room} → (part : Part H response n count x room y after)
+    → Keeps count (standing response (running None x room))
+    → Told response n count (part_deeds part) (running None x room) (running None y after) (part_items part) (λ k. part_buffers k part)
+part_told {H} {response} {n} {count} {x} {room} (moves c m) keeps = move_told response n count c x room m keeps
+part_told {H} {response} {n} {count} {x} {room} (puts_part items is) keeps = put_told H response n count items x room is keeps
+part_told {H} {response} {n} {count} {x} {room} (others y after is) keeps = other_told response n count None x room y after keeps is
+
+run_told : {H : Type 0} {response : Bool} {n count : ℕ} {x y : Exchange} {room after : Room} → (run : Run H response n count x room y after)
+    → Keeps count (standing response (running None x room))
+    → Told response n count (run_deeds run) (running None x room) (running None y after) (run_items run) (λ k. run_buffers k run)
+run_told {H} {response} {n} {count} (rests x room) keeps = told_none response n count (running None x room)
+run_told {H} {response} {n} {count} (goes {x} {y} {z} {room} {mid} {after} part run) keeps =
+    let first : Told response n count (part_deeds part) (running None x room) (running None y mid) (part_items part) (λ k. part_buffers k part) = part_told part keeps in
+    let keeps1 : Keeps count (standing response (running None y mid))
+    = told_keeps response n count (part_deeds part) (running None x room) (running None y mid) (part_items part) (λ k. part_buffers k part) first keeps in
+    told_more response n count (part_deeds part) (run_deeds run) (running None x room) (running None y mid) (running None z after) (part_items part) (run_items run)
+    (λ k. part_buffers k part) (λ k. run_buffers k run) first (run_told run keeps1)
+
+-- ---- THE LAWS
+
+pub workers_pass : (H : Type 0) → WorkersPassBodies H
+workers_pass H = λ response n count x y room after run new within.
+    let told : Told response n count (run_deeds run) (running None x room) (running None y after) (run_items run) (λ k. run_buffers k run)
+    = run_told run (new_keeps count (standing response (running None x room)) new within) in
+    record { are = told.are; last = told.last }
+
+pub last_stages : (H : Type 0) → LastStagesPass H
+last_stages H = λ response n k x y room after run new within order.
+    let w : Running = running None x room in
+    let told : Told response n (suc k) (run_deeds run) w (running None y after) (run_items run) (λ j. run_buffers j run)
+    = run_told run (new_keeps (suc k) (standing response w) new (omega arith)) in
+    subst (PassesThrough (left_by response n (run_deeds run) w)) (told.lefts k)
+    (exchanges_pass.last_stage response n k w (run_deeds run) new within told.are (subst IsInOrder (sym told.cames) order))
+
+pub unchanged_bodies : (H : Type 0) → UnchangedPass H
+unchanged_bodies H = λ response n x y room after run new order.
+    let w : Running = running None x room in
+    let told : Told response n 0 (run_deeds run) w (running None y after) (run_items run) (λ k. run_buffers k run)
+    = run_told run (new_keeps 0 (standing response w) new (omega arith)) in
+    subst (λ (l : List Item). PassesThrough (left_by response n (run_deeds run) w) (joined l)) told.cames
+    (exchanges_pass.unchanged response n w (run_deeds run) new told.are (subst IsInOrder (sym told.cames) order))

@@ -1,0 +1,11 @@
+use Rattle.flow_laws.proofs.Rooms.{workers_pass, last_stages, unchanged_bodies}
+use Rattle.flow_laws.proofs.laws.workers_pass_bodies.Goals as goal
+
+pub returns-clause-deeds : goal.returns-clause-deeds
+returns-clause-deeds g c = workers_pass _
+
+pub returns-clause-last_stage : goal.returns-clause-last_stage
+returns-clause-last_stage g c = last_stages _
+
+pub returns-clause-unchanged : goal.returns-clause-unchanged
+returns-clause-unchanged g c = unchanged_bodies _

@@ -1,0 +1,174 @@
+-- WHAT A WORKER DOES, as one direction of the exchange on a line sees that.
+use Rattle.std.specs.Prelude.{◌≡◌, ℕ, Bool, true, false, List, [], ◌∷◌, ◌++◌, map, Option, None, Some, slice_get, slice_set}
+use Rattle.contexts.specs.declared.parts.Contexts.{Contexts}
+use Rattle.contexts.specs.declared.parts.Effect.{Effect}
+use Rattle.course.specs.Called.{Called}
+use Rattle.course.specs.declared.host.CallEnd.TheVariants as call_ends
+use Rattle.exchange.specs.declared.types.Exchange.{Exchange}
+use Rattle.exchange.specs.declared.types.Hub.{Hub}
+use Rattle.exchange.specs.Answering.{with_held}
+use Rattle.exchange.specs.Passing.{chain_of, with_chain, put_in, acts}
+use Rattle.exchange.specs.Passing as passing
+use Rattle.filter_chain.specs.declared.stage.Stage.{Stage}
+use Rattle.filter_chain.specs.declared.item.Ask.{Ask}
+use Rattle.filter_chain.specs.declared.item.Asking.TheVariants.{Asks}
+use Rattle.filter_chain.specs.declared.item.Item.{Item}
+use Rattle.filter_chain.specs.Chains.{asked}
+use Rattle.worker.specs.declared.room.Room.{Room}
+use Rattle.worker.specs.declared.types.Line.{Line}
+use Rattle.worker.specs.declared.types.Own.{Own}
+use Rattle.worker.specs.declared.types.Own.TheVariants as owns
+use Rattle.worker.specs.Moves.{asks_response}
+use Rattle.worker.specs.Rooms.{place_in, place_of, with_lines, with_contexts, sending, on_number, on_context, does, effects_of, without_effects}
+use Rattle.worker.specs.Steps.{action_of}
+use Rattle.flow_laws.specs.Acts.{HoldSame, AreThere, IsCall, buffer_called}
+use Rattle.flow_laws.specs.Deeds.{Deed, comes, calls, answers, resumes, turns, Running, IsDeed, AreDeeds}
+
+-- the exchange on the line of a number
+pub record IsOn (n : ℕ) (room : Room) (x : Exchange) : Type 0 where
+  pub place : ℕ
+  pub line : Line
+  pub stands : place_in n room.lines ≡ Some place
+  pub at : slice_get room.lines place ≡ Some line
+  pub number : line.number ≡ n
+  pub exchange : line.exchange ≡ Some x
+
+abbrev pub running : Option Ask → Exchange → Room → Running
+running due x room = record { due = due; exchange = x; hub = room.hub }
+
+-- ---- what else a worker does
+
+-- it leaves the direction as it was: its chain, and what the stages of that hold
+pub record Leaves (response : Bool) (n : ℕ) (x : Exchange) (room : Room) (y : Exchange) (after : Room) : Type 0 where
+  pub on : IsOn n after y
+  pub chain : chain_of response y ≡ chain_of response x
+  pub holds : HoldSame room.hub.contexts after.hub.contexts (chain_of response x)
+  pub there : AreThere after.hub.contexts (chain_of response x)
+
+-- it resumes a stage of the direction
+pub record Wakes (response : Bool) (n count : ℕ) (due : Option Ask) (x : Exchange) (room : Room) (y : Exchange) (after : Room) : Type 0 where
+  pub on : IsOn n room x
+  pub vm : ℕ
+  pub context : ℕ
+  pub line : place_of vm context room.lines ≡ place_in n room.lines
+  pub deed : IsDeed response count (resumes vm context) (running due x room)
+  pub exchange : y ≡ (passing.resumes vm context response n x room.hub).0
+  pub room_is : after ≡ on_context (passing.resumes vm context response) vm context room
+
+pub data Other (response : Bool) (n count : ℕ) (due : Option Ask) (x : Exchange) (room : Room) (y : Exchange) (after : Room) : Type 0 where
+  wakes : Wakes response n count due x room y after → Other response n count due x room y after
+  leaves : Leaves response n x room y after → Other response n count due x room y after
+
+-- the effects of a callback, one behind the other
+abbrev pub Others : Bool → ℕ → ℕ → Option Ask → ℕ → Own → List Effect → Exchange → Room → Exchange → Type 0
+Others response n count due vm own [] x room z = (z ≡ x) × IsOn n room x
+Others response n count due vm own (e ∷ es) x room z =
+    (y : Exchange) × Other response n count due x room y (does vm own e.context e.what room)
+    × Others response n count due vm own es y (does vm own e.context e.what room) z
+
+-- ---- a move: a stage is asked, its callback runs and ends so, its effects are done, and its action is put in force
+
+-- a stage was asked: the chain is this then, and the contexts are these
+abbrev pub asked_room : ℕ → Line → Exchange → Contexts → Room → Room
+asked_room place line x h room = with_lines room (slice_set room.lines place (record line { exchange = Some x }), with_held h room.hub)
+
+-- its callback ended, and its effects are still to be done
+abbrev pub quiet_room : {H : Type 0} → Called H → Room → Room
+quiet_room c room = without_effects (sending c.lines (with_contexts c.contexts room))
+
+-- A move of the direction. The callback returned; it left the buffers of the stages from this count on as they were; its effects resume stages of the
+-- direction, or leave it as it was; and what comes of its action is a deed of the law, so it is Continue where the callback was not for the head.
+pub record IsMove {H : Type 0} (response : Bool) (n count : ℕ) (c : Called H) (x : Exchange) (room : Room) : Type 0 where
+  pub on : IsOn n room x
+  pub runs : (x.has_ended ≡ false) × (x.is_answered ≡ false)
+  pub direction : asks_response x ≡ response
+  -- what is asked, and of which stage
+  pub ask : Ask
+  pub stages : List Stage
+  pub contexts : Contexts
+  pub asks : asked room.hub.contexts (chain_of response x) ≡ (Asks ask, stages, contexts)
+  pub stage : Stage
+  pub at : slice_get stages ask.stage ≡ Some stage
+  -- what the callback did
+  pub value : Option ℕ
+  pub returned : c.end ≡ call_ends.Returned value
+  pub call : IsCall count c.contexts (asked room.hub.contexts (chain_of response x))
+  -- its effects, and its action
+  pub behind : Exchange
+  pub effects : Others response n count (Some ask) stage.vm (owns.Stage stage.context response) c.contexts.effects (with_chain response stages x)
+      (quiet_room c (asked_room on.place on.line (with_chain response stages x) contexts room)) behind
+  pub answer : IsDeed response count (answers (action_of value))
+      (running (Some ask) behind
+      (effects_of stage.vm (owns.Stage stage.context response) c.contexts.effects (quiet_room c (asked_room on.place on.line (with_chain response stages x) contexts room))))
+
+-- the room behind the effects, and behind the move
+abbrev pub affected : {H : Type 0} {response : Bool} {n count : ℕ} {c : Called H} {x : Exchange} {room : Room} → IsMove response n count c x room → Room
+affected {H} {response} {n} {count} {c} {x} {room} m =
+    effects_of m.stage.vm (owns.Stage m.stage.context response) c.contexts.effects (quiet_room c (asked_room m.on.place m.on.line (with_chain response m.stages x) m.contexts room))
+
+abbrev pub moved_exchange : {H : Type 0} {response : Bool} {n count : ℕ} {c : Called H} {x : Exchange} {room : Room} → IsMove response n count c x room → Exchange
+moved_exchange {H} {response} {n} {count} {c} {x} {room} m = (acts response m.ask.stage (action_of m.value) n m.behind (affected m).hub).0
+
+abbrev pub moved_room : {H : Type 0} {response : Bool} {n count : ℕ} {c : Called H} {x : Exchange} {room : Room} → IsMove response n count c x room → Room
+moved_room {H} {response} {n} {count} {c} {x} {room} m = on_number (acts response m.ask.stage (action_of m.value)) n (affected m)
+
+-- ---- items that were read are put into the chain
+
+pub record IsPut (response : Bool) (n count : ℕ) (items : List Item) (x : Exchange) (room : Room) : Type 0 where
+  pub on : IsOn n room x
+  pub unanswered : x.is_answered ≡ false
+  pub deeds : AreDeeds response n count (map comes items) (running None x room)
+
+-- ---- one behind the other
+
+pub data Part (H : Type 0) (response : Bool) (n count : ℕ) (x : Exchange) (room : Room) : Exchange → Room → Type 0 where
+  moves : (c : Called H) (m : IsMove response n count c x room) → Part H response n count x room (moved_exchange m) (moved_room m)
+  puts : (items : List Item) → IsPut response n count items x room
+      → Part H response n count x room (put_in response items n x room.hub).0 (on_number (put_in response items) n room)
+  others : (y : Exchange) (after : Room) → Other response n count None x room y after → Part H response n count x room y after
+
+pub data Run (H : Type 0) (response : Bool) (n count : ℕ) : Exchange → Room → Exchange → Room → Type 0 where
+  rests : (x : Exchange) (room : Room) → Run H response n count x room x room
+  goes : {x y z : Exchange} {room mid after : Room} → Part H response n count x room y mid → Run H response n count y mid z after → Run H response n count x room z after
+
+-- the deeds that they are
+abbrev pub other_deeds : {response : Bool} {n count : ℕ} {due : Option Ask} {x : Exchange} {room : Room} {y : Exchange} {after : Room} → Other response n count due x room y after → List Deed
+other_deeds {response} {n} {count} {due} {x} {room} {y} {after} (wakes w) = resumes w.vm w.context ∷ turns y after.hub ∷ []
+other_deeds {response} {n} {count} {due} {x} {room} {y} {after} (leaves l) = turns y after.hub ∷ []
+
+abbrev pub effect_deeds : (response : Bool) (n count : ℕ) (due : Option Ask) (vm : ℕ) (own : Own) (es : List Effect) (x : Exchange) (room : Room) (z : Exchange)
+    → Others response n count due vm own es x room z → List Deed
+effect_deeds response n count due vm own [] x room z are = []
+effect_deeds response n count due vm own (e ∷ es) x room z are = other_deeds are.1 ++ effect_deeds response n count due vm own es are.0 (does vm own e.context e.what room) z are.2
+
+abbrev pub part_deeds : {H : Type 0} {response : Bool} {n count : ℕ} {x : Exchange} {room : Room} {y : Exchange} {after : Room} → Part H response n count x room y after → List Deed
+part_deeds {H} {response} {n} {count} {x} {room} (moves c m) =
+    calls (quiet_room c (asked_room m.on.place m.on.line (with_chain response m.stages x) m.contexts room)).hub
+    ∷ effect_deeds response n count (Some m.ask) m.stage.vm (owns.Stage m.stage.context response) c.contexts.effects (with_chain response m.stages x)
+    (quiet_room c (asked_room m.on.place m.on.line (with_chain response m.stages x) m.contexts room)) m.behind m.effects
+    ++ answers (action_of m.value) ∷ turns (moved_exchange m) (moved_room m).hub ∷ []
+part_deeds {H} {response} {n} {count} {x} {room} (puts items is) = map comes items ++ turns (put_in response items n x room.hub).0 (on_number (put_in response items) n room).hub ∷ []
+part_deeds (others y after is) = other_deeds is
+
+abbrev pub run_deeds : {H : Type 0} {response : Bool} {n count : ℕ} {x y : Exchange} {room after : Room} → Run H response n count x room y after → List Deed
+run_deeds (rests x room) = []
+run_deeds (goes part run) = part_deeds part ++ run_deeds run
+
+-- what was read, and what the body callbacks of the stage at a place left
+abbrev pub part_items : {H : Type 0} {response : Bool} {n count : ℕ} {x : Exchange} {room : Room} {y : Exchange} {after : Room} → Part H response n count x room y after → List Item
+part_items (moves c m) = []
+part_items (puts items is) = items
+part_items (others y after is) = []
+
+abbrev pub run_items : {H : Type 0} {response : Bool} {n count : ℕ} {x y : Exchange} {room after : Room} → Run H response n count x room y after → List Item
+run_items (rests x room) = []
+run_items (goes part run) = part_items part ++ run_items run
+
+abbrev pub part_buffers : {H : Type 0} {response : Bool} {n count : ℕ} {x : Exchange} {room : Room} {y : Exchange} {after : Room} → ℕ → Part H response n count x room y after → List ℕ
+part_buffers {H} {response} {n} {count} {x} {room} k (moves c m) = buffer_called k c.contexts (asked room.hub.contexts (chain_of response x))
+part_buffers k (puts items is) = []
+part_buffers k (others y after is) = []
+
+abbrev pub run_buffers : {H : Type 0} {response : Bool} {n count : ℕ} {x y : Exchange} {room after : Room} → ℕ → Run H response n count x room y after → List ℕ
+run_buffers k (rests x room) = []
+run_buffers k (goes part run) = part_buffers k part ++ run_buffers k run
