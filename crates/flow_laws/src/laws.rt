@@ -1,5 +1,5 @@
 // What flows through one direction of an exchange. The functions have nothing to do: their contracts are the laws.
-ghost use Rattle.flow_laws.specs.Examples.{PassThroughExamples};
+ghost use Rattle.flow_laws.specs.Examples.{ExchangeExamples, PassThroughExamples};
 ghost use Rattle.flow_laws.specs.Exchanges.{ExchangesPassBodies};
 ghost use Rattle.flow_laws.specs.PassThrough.{BodiesPassThrough};
 ghost use Rattle.flow_laws.specs.Workers.{WorkersPassBodies, LastStagesPass, UnchangedPass};
@@ -23,7 +23,9 @@ pub fn workers_pass_bodies<H>()
     ensures unchanged { UnchangedPass H }
 {}
 
-/// Two filters, worked: three pieces of which the second filter changes one, and a head that the first filter holds.
+/// Two filters, worked: three pieces of which the second filter changes one, and a head that the first filter holds. And an exchange, whose filter
+/// changes the body of a request.
 pub fn worked_bodies()
-    ensures { PassThroughExamples }
+    ensures chains { PassThroughExamples }
+    ensures exchanges { ExchangeExamples }
 {}

@@ -1,5 +1,8 @@
-use Rattle.flow_laws.proofs.Examples.{pass_through_examples}
+use Rattle.flow_laws.proofs.Examples.{exchange_examples, pass_through_examples}
 use Rattle.flow_laws.proofs.laws.worked_bodies.Goals as goal
 
-pub returns : goal.returns
-returns c = pass_through_examples
+pub returns-clause-chains : goal.returns-clause-chains
+returns-clause-chains c = pass_through_examples
+
+pub returns-clause-exchanges : goal.returns-clause-exchanges
+returns-clause-exchanges c = exchange_examples
