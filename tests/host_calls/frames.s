@@ -1,0 +1,66 @@
+# The callback `proxy_on_configure` stands on 142 frames and one more for each byte of the plug-in's configuration, where it makes a call that
+# hands bytes over: its own, and those of `deep`. The allocator stands on 102 more: its own, and those of `down`.
+	.functype proxy_get_buffer_bytes (i32, i32, i32, i32, i32) -> (i32)
+	.import_module proxy_get_buffer_bytes, env
+	.import_name proxy_get_buffer_bytes, proxy_get_buffer_bytes
+
+	.globl proxy_abi_version_0_2_1
+	.type proxy_abi_version_0_2_1,@function
+proxy_abi_version_0_2_1:
+	.functype proxy_abi_version_0_2_1 () -> ()
+	.export_name proxy_abi_version_0_2_1, proxy_abi_version_0_2_1
+	end_function
+
+	.type down,@function
+down:
+	.functype down (i32) -> ()
+	local.get 0
+	if
+	local.get 0
+	i32.const 1
+	i32.sub
+	call down
+	end_if
+	end_function
+
+	.globl malloc
+	.type malloc,@function
+malloc:
+	.functype malloc (i32) -> (i32)
+	.export_name malloc, malloc
+	i32.const 100
+	call down
+	i32.const 4096
+	end_function
+
+	.type deep,@function
+deep:
+	.functype deep (i32) -> ()
+	local.get 0
+	if
+	local.get 0
+	i32.const 1
+	i32.sub
+	call deep
+	else
+	i32.const 7
+	i32.const 0
+	i32.const 1
+	i32.const 8
+	i32.const 12
+	call proxy_get_buffer_bytes
+	drop
+	end_if
+	end_function
+
+	.globl proxy_on_configure
+	.type proxy_on_configure,@function
+proxy_on_configure:
+	.functype proxy_on_configure (i32, i32) -> (i32)
+	.export_name proxy_on_configure, proxy_on_configure
+	local.get 1
+	i32.const 140
+	i32.add
+	call deep
+	i32.const 1
+	end_function
