@@ -1,0 +1,111 @@
+//! The points that the workers passed, and a worker that is held at one.
+
+use crate::told::tell_number;
+use gate_base::{OutOfMemory, VmNo, WorkerNo};
+use gate_io::{Gate, Point};
+use std::alloc::Global;
+use std::sync::atomic::{AtomicU64, Ordering};
+
+/// How often a worker that is held looks whether it may go on.
+const LOOKS: u32 = 10_000_000;
+
+/// What a gate holds.
+#[derive(Clone, Copy, PartialEq, Eq)]
+enum Held {
+    /// Nobody.
+    Nobody,
+    /// Worker 1 before its second turn, until worker 2 is before its third.
+    Turn,
+    /// The first shared call on the first VM, until there were two on others.
+    Call,
+}
+
+/// Counts the turns of workers 1 and 2 and the shared calls on the first VM and on others, and may hold a worker.
+#[derive(Drop)]
+pub struct Watch {
+    first: AtomicU64,
+    second: AtomicU64,
+    calls: AtomicU64,
+    others: AtomicU64,
+    given_up: AtomicU64,
+    held: Held,
+}
+
+impl Watch {
+    /// A gate that nobody has passed. It holds a turn for the word `turn`, a call for `call`, and else nobody.
+    pub fn new(word: &str) -> Self {
+        Watch {
+            first: AtomicU64::new(0),
+            second: AtomicU64::new(0),
+            calls: AtomicU64::new(0),
+            others: AtomicU64::new(0),
+            given_up: AtomicU64::new(0),
+            held: match word {
+                "turn" => Held::Turn,
+                "call" => Held::Call,
+                _ => Held::Nobody,
+            },
+        }
+    }
+
+    /// Comes back once a count has come so far, or after so many looks.
+    fn hold(&self, count: &AtomicU64, least: u64) {
+        for _ in 0..LOOKS {
+            if count.load(Ordering::SeqCst) >= least {
+                return;
+            }
+        }
+        self.given_up.store(1, Ordering::SeqCst);
+    }
+
+    /// Notes a turn of a worker.
+    fn turn(&self, worker: WorkerNo) {
+        match worker.get() {
+            1 => {
+                let before = self.first.fetch_add(1, Ordering::SeqCst);
+                if self.held == Held::Turn && before == 1 {
+                    self.hold(&self.second, 3);
+                }
+            }
+            2 => {
+                self.second.fetch_add(1, Ordering::SeqCst);
+            }
+            _ => {}
+        }
+    }
+
+    /// Notes a shared call on a VM.
+    fn call(&self, vm: VmNo) {
+        if vm.get() > 0 {
+            self.others.fetch_add(1, Ordering::SeqCst);
+            return;
+        }
+        let before = self.calls.fetch_add(1, Ordering::SeqCst);
+        if self.held == Held::Call && before == 0 {
+            self.hold(&self.others, 2);
+        }
+    }
+
+    /// Puts how many turns and shared calls there were, and whether a worker that was held was not let go, at the end of a text.
+    pub fn tell(&self, alloc: Global, told: &mut String) -> Result<(), OutOfMemory> {
+        told.push_str("turns ")?;
+        tell_number(alloc, told, self.first.load(Ordering::SeqCst))?;
+        told.push_str(" and ")?;
+        tell_number(alloc, told, self.second.load(Ordering::SeqCst))?;
+        told.push_str(", calls ")?;
+        tell_number(alloc, told, self.calls.load(Ordering::SeqCst))?;
+        told.push_str(" and ")?;
+        tell_number(alloc, told, self.others.load(Ordering::SeqCst))?;
+        told.push_str(", given up ")?;
+        tell_number(alloc, told, self.given_up.load(Ordering::SeqCst))
+    }
+}
+
+impl Gate for Watch {
+    fn at(&self, worker: WorkerNo, point: Point) {
+        match point {
+            Point::BeforeTurn => self.turn(worker),
+            Point::InsideTurn(vm) => self.call(vm),
+        }
+    }
+}
