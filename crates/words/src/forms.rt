@@ -4,7 +4,7 @@ ghost use Rattle.std.specs.List.{list_all};
 ghost use Rattle.words.specs.Forms.{is_plain, names_script, is_digit, is_number, number_of, is_between, are_plain, are_numbers, is_replay, is_replay_config, is_serve, is_serve_until, is_check, is_invoke, is_generate};
 
 /// What a list of words asks for.
-#[derive(Debug, Drop)]
+#[derive(Drop)]
 pub enum Form<'a> {
     /// `replay SCRIPT MODULE..`: runs a script over the plain configuration with a VM for each module.
     Replay {

@@ -1,6 +1,6 @@
 // The forms, read by `clap`: one simple command for each of them.
-ghost use Rattle.std.specs.Prelude.{◌≡◌, ◌≢◌, true, IfOk, IfErr, Ok, Some, None, codes, map, option_map, string_bytes};
-ghost use Rattle.clap.specs.Words.{first_value, found_of, kind_of};
+ghost use Rattle.std.specs.Prelude.{◌≡◌, ◌≢◌, true, false, IfOk, IfErr, Ok, Some, None, codes, map, option_map, string_bytes};
+ghost use Rattle.clap.specs.Words.{HasMatchesOf, first_value, found_of, kind_of, new_app, new_rule, rule_of, takes, with_rule};
 ghost use Rattle.words.specs.Forms.{is_replay, is_replay_config, is_serve, is_serve_until, is_check, is_invoke, is_generate, replay, replay_config, serve, check, invoke, generate, second, third, fourth, behind_two, behind_three, number_of, form_of, is_one, is_two, others_of, seen};
 
 use crate::forms::{
@@ -59,11 +59,16 @@ fn one_matches<'a>(
     ensures value { IfOk result (λ m. first_value (found_of m) (codes "value") ≡ Some (second (map string_bytes words.entry.now))) }
     ensures err { IfErr result (λ e. kind_of e ≡ ErrorKind.OutOfMemory) }
 {
-    let value = Arg::new(alloc, "value")
-        .required(true)
-        .action(ArgAction::Set);
-    let command = Command::new(alloc, name).arg(value)?;
+    let command = Command::new(alloc, name).arg(needed(alloc, "value"))?;
     command.try_get_matches_from(words)
+}
+
+/// A value that has to be there.
+fn needed<'a>(alloc: Global, id: &'static str) -> Arg<'a>
+    ensures rule { rule_of result ≡ record (new_rule id.entry.now) { action = Some ArgAction.Set; required = true } }
+    ensures local { result.global ≡ false }
+{
+    Arg::new(alloc, id).required(true).action(ArgAction::Set)
 }
 
 /// The word behind a command's word.
@@ -139,13 +144,25 @@ fn invoke_matches<'a>(alloc: Global, words: &'a [String]) -> Result<ArgMatches<'
     ensures export { IfOk result (λ m. first_value (found_of m) (codes "export") ≡ Some (third (map string_bytes words.entry.now))) }
     ensures err { IfErr result (λ e. kind_of e ≡ ErrorKind.OutOfMemory) }
 {
-    let module = Arg::new(alloc, "module")
-        .required(true)
-        .action(ArgAction::Set);
-    let export = Arg::new(alloc, "export")
-        .required(true)
-        .action(ArgAction::Set);
-    let command = Command::new(alloc, "invoke").arg(module)?.arg(export)?;
+    let module = needed(alloc, "module");
+    let export = needed(alloc, "export");
+    two_matches(alloc, "invoke", module, export, words)
+}
+
+/// What `clap` reads of the words of a command with two arguments.
+fn two_matches<'a>(
+    alloc: Global,
+    name: &'static str,
+    first: Arg<'a>,
+    second: Arg<'a>,
+    words: &'a [String],
+) -> Result<ArgMatches<'a>, Error>
+    requires first_local { first.global ≡ false }
+    requires second_local { second.global ≡ false }
+    ensures matches { IfOk result (HasMatchesOf (with_rule (with_rule (new_app name.entry.now) (rule_of first.entry)) (rule_of second.entry)) (map string_bytes words.entry.now)) }
+    ensures passes { IfErr result (λ e. takes (with_rule (with_rule (new_app name.entry.now) (rule_of first.entry)) (rule_of second.entry)) (map string_bytes words.entry.now) ≡ true → kind_of e ≡ ErrorKind.OutOfMemory) }
+{
+    let command = Command::new(alloc, name).arg(first)?.arg(second)?;
     command.try_get_matches_from(words)
 }
 
@@ -188,15 +205,9 @@ fn replay_matches<'a>(alloc: Global, words: &'a [String]) -> Result<ArgMatches<'
     ensures script { IfOk result (λ m. first_value (found_of m) (codes "script") ≡ Some (fourth (map string_bytes words.entry.now))) }
     ensures err { IfErr result (λ e. kind_of e ≡ ErrorKind.OutOfMemory) }
 {
-    let config = Arg::new(alloc, "config")
-        .long("config")
-        .required(true)
-        .action(ArgAction::Set);
-    let script = Arg::new(alloc, "script")
-        .required(true)
-        .action(ArgAction::Set);
-    let command = Command::new(alloc, "replay").arg(config)?.arg(script)?;
-    command.try_get_matches_from(words)
+    let config = needed(alloc, "config").long("config");
+    let script = needed(alloc, "script");
+    two_matches(alloc, "replay", config, script, words)
 }
 
 /// Reads `replay --config CONFIG SCRIPT`.
@@ -224,14 +235,11 @@ fn serve_matches<'a>(alloc: Global, words: &'a [String]) -> Result<ArgMatches<'a
     ensures stop { IfOk result (λ m. first_value (found_of m) (codes "stop") ≡ Some (fourth (map string_bytes words.entry.now))) }
     ensures err { IfErr result (λ e. kind_of e ≡ ErrorKind.OutOfMemory) }
 {
-    let config = Arg::new(alloc, "config")
-        .required(true)
-        .action(ArgAction::Set);
+    let config = needed(alloc, "config");
     let stop = Arg::new(alloc, "stop")
         .long("stop-after")
         .action(ArgAction::Set);
-    let command = Command::new(alloc, "serve").arg(config)?.arg(stop)?;
-    command.try_get_matches_from(words)
+    two_matches(alloc, "serve", config, stop, words)
 }
 
 /// Reads `serve CONFIG --stop-after N`.

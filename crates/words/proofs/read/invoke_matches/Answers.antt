@@ -1,6 +1,6 @@
-use Rattle.std.proofs.Common.{rules, ap, ap₂, refl, codes, true, map, option_map, List, Option, Some, [], ◌∷◌, ◌≡◌, ◌∙◌, string_bytes}
+use Rattle.std.proofs.Common.{rules, ap, ap₂, codes, map, ◌≡◌, ◌∙◌, string_bytes}
 use Rattle.std.proofs.lemmas.Result.{IfErr-weaker, IfOk-weaker}
-use Rattle.clap.specs.Words.{App, Row, Rule, Text, app_of, first_of, found_of, is_simple, matches_of, new_app, new_rule, rule_of, takes, with_rule}
+use Rattle.clap.specs.Words.{App, first_of, found_of, is_simple, matches_of, new_app, rule_of, takes, with_rule}
 use Rattle.clap.proofs.WalkLemmas.{first_value-rows}
 use Rattle.words.proofs.Apps.{two_app, two_simple, module_rule, export_rule}
 use Rattle.words.proofs.Taken.{two_reads}
@@ -8,14 +8,14 @@ use Rattle.words.proofs.read.invoke_matches.Goals as goal
 
 pub returns : goal.returns
 returns c =
-    let reads = two_reads (map string_bytes c.args.words.now) c.requires in
-    let first_is : rule_of c.action-module.result ≡ module_rule = search rules in
-    let second_is : rule_of c.action-export.result ≡ export_rule = search rules in
-    let app_is : app_of c.in_ok-command.command ≡ two_app = c.in_ok-command.ensures.shape (search rules)
-    ∙ ap₂ with_rule (c.in_ok-arg.ensures.shape (search rules) ∙ ap₂ with_rule c.new-3.ensures.app first_is) second_is in
-    let parse = c.try_get_matches_from in
+    let words = map string_bytes c.args.words.now in
+    let reads = two_reads words c.requires in
+    let first_is : rule_of c.needed-module.result ≡ module_rule = search rules in
+    let second_is : rule_of c.needed-export.result ≡ export_rule = search rules in
+    let app_is : with_rule (with_rule (new_app (codes "invoke")) (rule_of c.needed-module.result)) (rule_of c.needed-export.result) ≡ two_app = ap₂ (λ (a b : _). with_rule (with_rule (new_app (codes "invoke")) a) b) first_is second_is in
+    let parse = c.two_matches in
     record {
-      file = IfOk-weaker parse.result _ _ (λ m h. first_value-rows (found_of m) (codes "module") ∙ ap (first_of (codes "module")) ((h (ap is_simple app_is ∙ two_simple)).0 ∙ ap₂ matches_of app_is refl) ∙ reads.0.value) parse.ensures.matches;
-      export = IfOk-weaker parse.result _ _ (λ m h. first_value-rows (found_of m) (codes "export") ∙ ap (first_of (codes "export")) ((h (ap is_simple app_is ∙ two_simple)).0 ∙ ap₂ matches_of app_is refl) ∙ reads.1.value) parse.ensures.matches;
-      err = IfErr-weaker parse.result _ _ (λ e h. h (ap₂ takes app_is refl ∙ reads.0.takes)) parse.ensures.passes;
+      file = IfOk-weaker parse.result _ _ (λ m h. first_value-rows (found_of m) (codes "module") ∙ ap (first_of (codes "module")) ((h (ap is_simple app_is ∙ two_simple)).0 ∙ ap (λ (a : App). matches_of a words) app_is) ∙ reads.0.value) parse.ensures.matches;
+      export = IfOk-weaker parse.result _ _ (λ m h. first_value-rows (found_of m) (codes "export") ∙ ap (first_of (codes "export")) ((h (ap is_simple app_is ∙ two_simple)).0 ∙ ap (λ (a : App). matches_of a words) app_is) ∙ reads.1.value) parse.ensures.matches;
+      err = IfErr-weaker parse.result _ _ (λ e h. h (ap (λ (a : App). takes a words) app_is ∙ reads.0.takes)) parse.ensures.passes;
     }

@@ -10,8 +10,8 @@ pub returns : goal.returns
 returns c =
     let name = c.args.name.now in
     let reads = one_reads name (map string_bytes c.args.words.now) c.requires in
-    let first_is : rule_of c.action-value.result ≡ value_rule = search rules in
-    let app_is : app_of c.in_ok-command.command ≡ one_app name = c.in_ok-command.ensures.shape (search rules) ∙ ap₂ with_rule c.new-2.ensures.app first_is in
+    let first_is : rule_of c.needed.result ≡ value_rule = search rules in
+    let app_is : app_of c.in_ok-command.command ≡ one_app name = c.in_ok-command.ensures.shape (search rules) ∙ ap₂ with_rule c.new.ensures.app first_is in
     let parse = c.try_get_matches_from in
     record {
       value = IfOk-weaker parse.result _ _ (λ m h. first_value-rows (found_of m) (codes "value") ∙ ap (first_of (codes "value")) ((h (ap is_simple app_is ∙ one_simple name)).0 ∙ ap₂ matches_of app_is refl) ∙ reads.value) parse.ensures.matches;
