@@ -12,7 +12,9 @@ ghost use Rattle.read_config.specs.Names.{has_vm, has_plugin, plugin_number, vm_
 ghost use Rattle.read_config.specs.Rows.{row_of, vm_keys, plugin_keys, route_keys, path, filters};
 ghost use Rattle.read_config.specs.Whole.{entered, keys_of, length_of, most_of, plugin_of, route_of, vm_of};
 
-use crate::keys::{Key, plugin_keys, route_keys, vm_keys};
+use crate::keys::{
+    CONFIGURATION, FAIL, FILTERS, FUEL, Key, MODULE, PAGES, PATH, PLUGIN_NAME, PLUGIN_VM, VM_NAME,
+};
 use crate::names::{plugin_place, vm_place};
 use crate::section::Section;
 use crate::values::{member, number_at, text_at, text_in};
@@ -57,15 +59,12 @@ fn vm_of(alloc: Global, table: &Table) -> Result<VmEntry, OutOfMemory>
     requires { IsVm (vm_of (table_view table.now)) }
     ensures { IfOk result (λ vm. vm ≡ vm_of (table_view table.now)) }
 {
-    let [name, module, configuration, fuel, pages] = vm_keys() else {
-        unreachable!()
-    };
     Ok(VmEntry {
-        name: Text::of(alloc, text_at(name, table))?,
-        module: Text::of(alloc, text_at(module, table))?,
-        configuration: Octets::from_slice(alloc, text_at(configuration, table).as_bytes())?,
-        fuel: number_at(fuel, table),
-        pages: number_at(pages, table) as u32,
+        name: Text::of(alloc, text_at(&VM_NAME, table))?,
+        module: Text::of(alloc, text_at(&MODULE, table))?,
+        configuration: Octets::from_slice(alloc, text_at(&CONFIGURATION, table).as_bytes())?,
+        fuel: number_at(&FUEL, table),
+        pages: number_at(&PAGES, table) as u32,
         code: None,
     })
 }
@@ -88,14 +87,11 @@ fn plugin_of(alloc: Global, config: &Config, table: &Table) -> Result<PluginEntr
     requires { IsPlugin (length config.now.vms) (plugin_of (given config.now) (table_view table.now)) }
     ensures { IfOk result (λ plugin. plugin ≡ plugin_of (given config.now) (table_view table.now)) }
 {
-    let [name, vm, configuration, fail] = plugin_keys() else {
-        unreachable!()
-    };
     Ok(PluginEntry {
-        name: Text::of(alloc, text_at(name, table))?,
-        vm: vm_at(config, vm, table),
-        configuration: Octets::from_slice(alloc, text_at(configuration, table).as_bytes())?,
-        fail_open: text_at(fail, table) == "open",
+        name: Text::of(alloc, text_at(&PLUGIN_NAME, table))?,
+        vm: vm_at(config, &PLUGIN_VM, table),
+        configuration: Octets::from_slice(alloc, text_at(&CONFIGURATION, table).as_bytes())?,
+        fail_open: text_at(&FAIL, table) == "open",
     })
 }
 
@@ -129,20 +125,14 @@ fn add_route(alloc: Global, table: &Table, config: &mut Config) -> Result<(), Ou
 fn route_path(table: &Table) -> &str
     ensures { result.now ≡ text_at path (table_view table.now) }
 {
-    let [path, _] = route_keys() else {
-        unreachable!()
-    };
-    text_at(path, table)
+    text_at(&PATH, table)
 }
 
 /// The places of a route's plug-ins.
 fn route_places(alloc: Global, config: &Config, table: &Table) -> Result<PluginNos, OutOfMemory>
     ensures { IfOk result (λ places. places ≡ filters_at filters (given config.now) (table_view table.now)) }
 {
-    let [_, filters] = route_keys() else {
-        unreachable!()
-    };
-    filters_at(alloc, config, filters, table)
+    filters_at(alloc, config, &FILTERS, table)
 }
 
 /// The places of the plug-ins whose names stand at a key.

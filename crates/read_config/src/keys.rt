@@ -3,7 +3,7 @@ ghost use Rattle.std.specs.Prelude.{◌≡◌, map};
 ghost use Rattle.read_config.specs.Rows.{gateway_keys, vm_keys, plugin_keys, route_keys, top_keys, row_of};
 
 /// What a key's value may be.
-#[derive(Clone, Copy, Debug)]
+#[derive(Clone, Copy)]
 pub enum Kind {
     /// A number within bounds.
     Number { least: u64, most: u64 },
@@ -30,7 +30,7 @@ pub enum Kind {
 }
 
 /// What a key is where it is missing.
-#[derive(Clone, Copy, Debug)]
+#[derive(Clone, Copy)]
 pub enum Absent {
     /// It may not be missing.
     Refused,
@@ -43,7 +43,7 @@ pub enum Absent {
 }
 
 /// A key of a table.
-#[derive(Clone, Copy, Debug)]
+#[derive(Clone, Copy)]
 pub struct Key {
     /// The key itself.
     pub name: &'static str,
@@ -53,119 +53,137 @@ pub struct Key {
     pub absent: Absent,
 }
 
-static GATEWAY_KEYS: [Key; 5] = [
-    Key {
-        name: "listen",
-        kind: Kind::Address,
-        absent: Absent::Text {
-            text: "127.0.0.1:8080",
-        },
+/// Where clients connect.
+pub(crate) const LISTEN: Key = Key {
+    name: "listen",
+    kind: Kind::Address,
+    absent: Absent::Text {
+        text: "127.0.0.1:8080",
     },
-    Key {
-        name: "upstream",
-        kind: Kind::Address,
-        absent: Absent::Text {
-            text: "127.0.0.1:9000",
-        },
-    },
-    Key {
-        name: "workers",
-        kind: Kind::Number { least: 1, most: 8 },
-        absent: Absent::Number { number: 1 },
-    },
-    Key {
-        name: "deadline_ms",
-        kind: Kind::Number {
-            least: 0,
-            most: 3_600_000,
-        },
-        absent: Absent::Number { number: 0 },
-    },
-    Key {
-        name: "log_level",
-        kind: Kind::Level,
-        absent: Absent::Text { text: "info" },
-    },
-];
+};
 
-static VM_KEYS: [Key; 5] = [
-    Key {
-        name: "name",
-        kind: Kind::NewVm,
-        absent: Absent::Refused,
+/// Where the upstream listens.
+pub(crate) const UPSTREAM: Key = Key {
+    name: "upstream",
+    kind: Kind::Address,
+    absent: Absent::Text {
+        text: "127.0.0.1:9000",
     },
-    Key {
-        name: "module",
-        kind: Kind::Text {
-            least: 1,
-            most: 4096,
-        },
-        absent: Absent::Refused,
-    },
-    Key {
-        name: "configuration",
-        kind: Kind::Text {
-            least: 0,
-            most: 65536,
-        },
-        absent: Absent::Text { text: "" },
-    },
-    Key {
-        name: "fuel",
-        kind: Kind::Number {
-            least: 1,
-            most: 1_000_000_000_000,
-        },
-        absent: Absent::Number { number: 10_000_000 },
-    },
-    Key {
-        name: "pages",
-        kind: Kind::Number {
-            least: 1,
-            most: 256,
-        },
-        absent: Absent::Number { number: 128 },
-    },
-];
+};
 
-static PLUGIN_KEYS: [Key; 4] = [
-    Key {
-        name: "name",
-        kind: Kind::NewPlugin,
-        absent: Absent::Refused,
-    },
-    Key {
-        name: "vm",
-        kind: Kind::SomeVm,
-        absent: Absent::Refused,
-    },
-    Key {
-        name: "configuration",
-        kind: Kind::Text {
-            least: 0,
-            most: 65536,
-        },
-        absent: Absent::Text { text: "" },
-    },
-    Key {
-        name: "fail",
-        kind: Kind::OpenOrClosed,
-        absent: Absent::Text { text: "closed" },
-    },
-];
+/// How many workers there are.
+pub(crate) const WORKERS: Key = Key {
+    name: "workers",
+    kind: Kind::Number { least: 1, most: 8 },
+    absent: Absent::Number { number: 1 },
+};
 
-static ROUTE_KEYS: [Key; 2] = [
-    Key {
-        name: "path",
-        kind: Kind::Path,
-        absent: Absent::Refused,
+/// How long an exchange may take.
+pub(crate) const DEADLINE_MS: Key = Key {
+    name: "deadline_ms",
+    kind: Kind::Number {
+        least: 0,
+        most: 3_600_000,
     },
-    Key {
-        name: "filters",
-        kind: Kind::Filters,
-        absent: Absent::NoNames,
+    absent: Absent::Number { number: 0 },
+};
+
+/// The least level that is logged.
+pub(crate) const LOG_LEVEL: Key = Key {
+    name: "log_level",
+    kind: Kind::Level,
+    absent: Absent::Text { text: "info" },
+};
+
+static GATEWAY_KEYS: [Key; 5] = [LISTEN, UPSTREAM, WORKERS, DEADLINE_MS, LOG_LEVEL];
+
+/// The name of a VM.
+pub(crate) const VM_NAME: Key = Key {
+    name: "name",
+    kind: Kind::NewVm,
+    absent: Absent::Refused,
+};
+
+/// The file of its module.
+pub(crate) const MODULE: Key = Key {
+    name: "module",
+    kind: Kind::Text {
+        least: 1,
+        most: 4096,
     },
-];
+    absent: Absent::Refused,
+};
+
+/// The configuration of a VM or a plug-in.
+pub(crate) const CONFIGURATION: Key = Key {
+    name: "configuration",
+    kind: Kind::Text {
+        least: 0,
+        most: 65536,
+    },
+    absent: Absent::Text { text: "" },
+};
+
+/// The fuel of each of its calls.
+pub(crate) const FUEL: Key = Key {
+    name: "fuel",
+    kind: Kind::Number {
+        least: 1,
+        most: 1_000_000_000_000,
+    },
+    absent: Absent::Number { number: 10_000_000 },
+};
+
+/// How many pages its memory has at most.
+pub(crate) const PAGES: Key = Key {
+    name: "pages",
+    kind: Kind::Number {
+        least: 1,
+        most: 256,
+    },
+    absent: Absent::Number { number: 128 },
+};
+
+static VM_KEYS: [Key; 5] = [VM_NAME, MODULE, CONFIGURATION, FUEL, PAGES];
+
+/// The name of a plug-in.
+pub(crate) const PLUGIN_NAME: Key = Key {
+    name: "name",
+    kind: Kind::NewPlugin,
+    absent: Absent::Refused,
+};
+
+/// The VM in which it runs.
+pub(crate) const PLUGIN_VM: Key = Key {
+    name: "vm",
+    kind: Kind::SomeVm,
+    absent: Absent::Refused,
+};
+
+/// What becomes of an exchange where it fails.
+pub(crate) const FAIL: Key = Key {
+    name: "fail",
+    kind: Kind::OpenOrClosed,
+    absent: Absent::Text { text: "closed" },
+};
+
+static PLUGIN_KEYS: [Key; 4] = [PLUGIN_NAME, PLUGIN_VM, CONFIGURATION, FAIL];
+
+/// The path of a route.
+pub(crate) const PATH: Key = Key {
+    name: "path",
+    kind: Kind::Path,
+    absent: Absent::Refused,
+};
+
+/// The plug-ins of a route.
+pub(crate) const FILTERS: Key = Key {
+    name: "filters",
+    kind: Kind::Filters,
+    absent: Absent::NoNames,
+};
+
+static ROUTE_KEYS: [Key; 2] = [PATH, FILTERS];
 
 static TOP_KEYS: [Key; 4] = [
     Key {

@@ -10,7 +10,7 @@ ghost use Rattle.read_config.specs.Whole.{Answers, Ends, Judged, Refuses, and_th
 
 use crate::checks::{table_fault, unknown_key};
 use crate::entries::add_entry;
-use crate::keys::{gateway_keys, top_keys};
+use crate::keys::{DEADLINE_MS, LISTEN, LOG_LEVEL, UPSTREAM, WORKERS, gateway_keys, top_keys};
 use crate::section::Section;
 use crate::values::{member, number_at, text_at};
 use crate::words::level_of;
@@ -24,7 +24,7 @@ use toml::{Table, Value};
 const MAX_CONFIG: usize = 1048576;
 
 /// Why a text gives no configuration.
-#[derive(Debug, Drop)]
+#[derive(Drop)]
 pub enum ConfigEnd {
     /// It is refused, with this number, 1 to 8, at this key.
     Refused { number: u8, key: Text },
@@ -104,8 +104,15 @@ fn read_gateway(alloc: Global, table: &Table) -> Result<Config, ConfigEnd>
 fn gateway_fault<'a>(alloc: Global, table: &'a Table) -> Result<Option<(u8, &'a str)>, OutOfMemory>
     ensures { IfOk result (λ fault. option_map (λ f. (f.0, f.1.now)) fault ≡ table_fault gateway_keys (gateway_of no_members) (table_view table.now)) }
 {
-    let bare = gateway_of(alloc, &Table::new(alloc))?;
+    let bare = bare_config(alloc)?;
     table_fault(gateway_keys(), &bare, table)
+}
+
+/// The configuration of a table `gateway` without keys.
+fn bare_config(alloc: Global) -> Result<Config, OutOfMemory>
+    ensures { IfOk result (λ c. given c ≡ gateway_of no_members) }
+{
+    gateway_of(alloc, &Table::new(alloc))
 }
 
 /// The configuration of a table `gateway`, without VMs, plug-ins and routes.
@@ -114,19 +121,23 @@ fn gateway_of(alloc: Global, table: &Table) -> Result<Config, OutOfMemory>
     requires deadline { number_at deadline_ms (table_view table.now) ≤ 3600000 }
     ensures { IfOk result (λ c. given c ≡ gateway_of (table_view table.now)) }
 {
-    let [listen, upstream, workers, deadline_ms, log_level] = gateway_keys() else {
-        unreachable!()
-    };
-    let listen = Text::of(alloc, text_at(listen, table))?;
-    let upstream = Text::of(alloc, text_at(upstream, table))?;
+    let listen = Text::of(alloc, text_at(&LISTEN, table))?;
+    let upstream = Text::of(alloc, text_at(&UPSTREAM, table))?;
     Ok(Config::new(
         alloc,
-        number_at(workers, table) as u8,
+        number_at(&WORKERS, table) as u8,
         listen,
         upstream,
-        number_at(deadline_ms, table) as u32,
-        level_of(text_at(log_level, table)).unwrap_or(Level::Info),
+        number_at(&DEADLINE_MS, table) as u32,
+        level_at(table),
     ))
+}
+
+/// The level of a table `gateway`.
+fn level_at(table: &Table) -> Level
+    ensures { result ≡ level_at (table_view table.now) }
+{
+    level_of(text_at(&LOG_LEVEL, table)).unwrap_or(Level::Info)
 }
 
 /// Reads the arrays, where they are there, into a configuration that has no entries yet.

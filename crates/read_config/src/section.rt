@@ -2,7 +2,7 @@
 use crate::keys::{Key, plugin_keys, route_keys, vm_keys};
 
 /// An array of tables.
-#[derive(Clone, Copy, Debug)]
+#[derive(Clone, Copy)]
 pub enum Section {
     /// `vm`.
     Vm,
