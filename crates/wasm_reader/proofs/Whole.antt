@@ -1,6 +1,6 @@
 -- Reading the header and the sections, as the loops do.
 use Rattle.std.proofs.Common.{◌≡◌, ◌≢◌, ℕ, zero, suc, ◌-◌, ◌+◌, ◌≤◌, ◌<◌, true, false, cond, eqb, List, [], ◌∷◌, length, get_or, drop, Result, Ok, Err, refl, sym, ap, subst, ◌∙◌, arith}
-use Rattle.std.specs.Prelude.{IfOk, IfErr}
+use Rattle.std.specs.Prelude.{IfOk, IfErr, OnOk}
 use Rattle.std.proofs.lemmas.List.{length-drop, drop_more, drop_all}
 use Rattle.std.proofs.lemmas.Bool.{eq-eqb}
 use Rattle.std.proofs.lemmas.Bool.Decides.{nat_tests}
@@ -91,19 +91,30 @@ made_is : (r : Reading (List Section)) → made_from empty_module r ≡ module_m
 made_is (Ok x) = refl
 made_is (Err e) = refl
 
-pub sections_start : (bytes : List ℕ) (m : Module) → m ≡ empty_module → made_from m (sections_read (length bytes) before_all bytes) ≡ module_made (sections_read (length bytes) before_all bytes)
-sections_start bytes m e = ap (λ n. made_from n (sections_read (length bytes) before_all bytes)) e ∙ made_is (sections_read (length bytes) before_all bytes)
+pub sections_start : (r : Reading (List Section)) (m : Module) → m ≡ empty_module → made_from m r ≡ module_made r
+sections_start r m e = ap (λ n. made_from n r) e ∙ made_is r
 
 end_same : (fuel : ℕ) (before : Before) → sections_read fuel before [] ≡ sections_read 0 before []
 unfolding sections_read
 end_same zero before = refl
 end_same (suc fuel) before = refl
 
-pub at_the_end : (m : Module) (b : List ℕ) (r : Result Module ReadEnd) (fuel place : ℕ) (before : Before) (total : Result Module Fault) → length b ≤ place → made_from m (sections_read fuel before (drop place b)) ≡ total
-    → GivesModule b r (made_from m (sections_read 0 before [])) → GivesModule b r total
-at_the_end m b r fuel place before total e so_far h =
-    let one : made_from m (sections_read fuel before (drop place b)) ≡ made_from m (sections_read 0 before []) = ap (λ l. made_from m (sections_read fuel before l)) (drop_all place b e) ∙ ap (made_from m) (end_same fuel before) in
-    subst (λ (x : Result Module Fault). GivesModule b r x) (sym one ∙ so_far) h
+nothing_left : (m : Module) (b : List ℕ) (fuel place : ℕ) (before : Before) (total : Result Module Fault) → length b ≤ place → made_from m (sections_read fuel before (drop place b)) ≡ total
+    → made_from m (sections_read 0 before []) ≡ total
+nothing_left m b fuel place before total e so_far =
+    sym (ap (λ l. made_from m (sections_read fuel before l)) (drop_all place b e) ∙ ap (made_from m) (end_same fuel before)) ∙ so_far
+
+-- nothing is left, and what the end says stands
+pub at_the_end : (m : Module) (b : List ℕ) (r : Result (Unit {0}) ReadEnd) (fuel place : ℕ) (before : Before) (total : Result Module Fault) → length b ≤ place → made_from m (sections_read fuel before (drop place b)) ≡ total
+    → OnOk r (made_from m (sections_read 0 before []) ≡ Ok m) → OnOk r (total ≡ Ok m)
+at_the_end m b (Ok u) fuel place before total e so_far h = sym (nothing_left m b fuel place before total e so_far) ∙ h
+at_the_end m b (Err x) fuel place before total e so_far h = tt
+
+pub lacks_at_the_end : (m : Module) (b : List ℕ) (r : Result (Unit {0}) ReadEnd) (fuel place : ℕ) (before : Before) (total : Result Module Fault) → length b ≤ place → made_from m (sections_read fuel before (drop place b)) ≡ total
+    → IfErr r (λ x. GivesModule {A = Module} b (Err x) (made_from m (sections_read 0 before []))) → IfErr r (λ x. GivesModule {A = Module} b (Err x) total)
+lacks_at_the_end m b (Ok u) fuel place before total e so_far h = tt
+lacks_at_the_end m b (Err x) fuel place before total e so_far h =
+    subst (λ (t : Result Module Fault). GivesModule {A = Module} b (Err x) t) (nothing_left m b fuel place before total e so_far) h
 
 -- ---- the whole
 

@@ -1,6 +1,6 @@
 //! Instructions and expressions.
 
-ghost use Rattle.std.specs.Prelude.{◌≡◌, ◌≤◌, ◌<◌, ◌-◌, length, reverse, drop, IfOk, Some, None, if◌then◌else◌};
+ghost use Rattle.std.specs.Prelude.{◌≡◌, ◌≤◌, ◌<◌, ◌-◌, ◌++◌, ◌∷◌, [], true, length, reverse, drop, IfOk, Some, None, if◌then◌else◌};
 ghost use Rattle.wasm_syntax.specs.Opcodes.{shape_of, prefixed_instr as instr_of};
 ghost use Rattle.wasm_syntax.specs.Items.{byte_as};
 ghost use Rattle.wasm_syntax.specs.Format.{bounded};
@@ -51,23 +51,24 @@ fn room_for(blocks: &Blocks, opcode: Opcode) -> bool
     }
 }
 
+/// Opens a block, so that the expression goes on.
+fn opened(blocks: &mut Blocks, block: Open) -> Result<bool, OutOfMemory>
+    ensures { IfOk result (λ on. (on ≡ true) × (blocks.new ≡ blocks.old ++ block ∷ [])) }
+{
+    blocks.push(block)?;
+    Ok(true)
+}
+
 /// Opens and closes blocks as an opcode says, and whether the expression goes on.
 fn goes_on(blocks: &mut Blocks, opcode: Opcode) -> Result<bool, OutOfMemory>
     ensures { IfOk result (λ on. open_after (reverse blocks.old) opcode ≡ (if on then Some (reverse blocks.new) else None)) }
 {
     match opcode {
-        Opcode::Block | Opcode::Loop => {
-            blocks.push(Open::InOther)?;
-            Ok(true)
-        }
-        Opcode::If => {
-            blocks.push(Open::InThen)?;
-            Ok(true)
-        }
+        Opcode::Block | Opcode::Loop => opened(blocks, Open::InOther),
+        Opcode::If => opened(blocks, Open::InThen),
         Opcode::Else => {
             let _closed = blocks.pop();
-            blocks.push(Open::InOther)?;
-            Ok(true)
+            opened(blocks, Open::InOther)
         }
         Opcode::End => Ok(blocks.pop().is_some()),
         _ => Ok(true),

@@ -6,7 +6,7 @@ ghost use Rattle.wasm_reader.specs.declared.ends.ReadEnd.TheVariants.{OutOfMemor
 use std::alloc::{AllocError, AllocFailed};
 
 /// Why bytes could not be read as a module.
-#[derive(Clone, Copy, Debug, PartialEq, Eq)]
+#[derive(Clone, Copy)]
 pub enum ReadEnd {
     /// The first fault in reading order, by its row of the table, and its place.
     Refused { number: u8, place: usize },
@@ -15,7 +15,7 @@ pub enum ReadEnd {
 }
 
 /// Where the section or body that is being read ends, and where its size stands.
-#[derive(Clone, Copy, Debug, PartialEq, Eq)]
+#[derive(Clone, Copy)]
 pub(crate) enum Bounds {
     /// Its end is in the input.
     Ends { end: usize, size: usize },

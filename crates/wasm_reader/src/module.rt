@@ -1,6 +1,6 @@
 //! Modules.
 
-ghost use Rattle.std.specs.Prelude.{◌≡◌, ◌≤◌, ◌-◌, ◌↔◌, ℕ, length, drop, IfOk, IfErr, IsErrOf, Ok, Err, []};
+ghost use Rattle.std.specs.Prelude.{◌≡◌, ◌≤◌, ◌-◌, ◌↔◌, ℕ, length, drop, IfOk, IfErr, OnOk, IsErrOf, Ok, Err, []};
 ghost use Rattle.wasm_syntax.specs.declared.module.Module.{Module as Modules};
 ghost use Rattle.wasm_syntax.specs.Grammar.{Spells, FirstFault, header as header_bytes, header_read, before_all, sections_read, module_made, empty_module, module_read};
 ghost use Rattle.wasm_reader.specs.Steps.{GivesModule, made_from, Answers, Refuses, IsFirstFault};
@@ -59,9 +59,10 @@ fn empty(alloc: Global) -> Module
     }
 }
 
-/// The module, where no section is missing whose counterpart has members.
-fn finished(b: &[u8], made: Module, before: Before) -> Result<Module, ReadEnd>
-    ensures { GivesModule b.now result (made_from made (sections_read 0 before [])) }
+/// That no section is missing whose counterpart has members.
+fn complete(b: &[u8], before: Before) -> Result<(), ReadEnd>
+    ensures ok { (m : Modules) → OnOk result (made_from m (sections_read 0 before []) ≡ Ok m) }
+    ensures err { (m : Modules) → IfErr result (λ e. GivesModule b.now (Err e) (made_from m (sections_read 0 before []))) }
 {
     if !is_complete(before) {
         return Err(ReadEnd::Refused {
@@ -69,16 +70,17 @@ fn finished(b: &[u8], made: Module, before: Before) -> Result<Module, ReadEnd>
             place: b.len(),
         });
     }
-    Ok(made)
+    Ok(())
 }
 
-/// Reads the sections behind the header.
-fn sections(alloc: Global, b: &[u8], at: usize) -> Result<Module, ReadEnd>
-    requires { at ≤ length b.now }
-    ensures { GivesModule b.now result (module_made (sections_read (length b.now - at) before_all (drop at b.now))) }
+/// Reads the sections behind the header into a module that is empty.
+fn all_sections(alloc: Global, b: &[u8], at: usize, made: &mut Module) -> Result<(), ReadEnd>
+    requires place { at ≤ length b.now }
+    requires empty { made.old ≡ empty_module }
+    ensures ok { OnOk result (module_made (sections_read (length b.now - at) before_all (drop at b.now)) ≡ Ok made.new) }
+    ensures err { IfErr result (λ e. GivesModule b.now (Err e) (module_made (sections_read (length b.now - at) before_all (drop at b.now)))) }
 {
     let k = Bounds::Passes { size: b.len() };
-    let mut made = empty(alloc);
     let mut before = Before {
         last: 0,
         functions: None,
@@ -88,17 +90,29 @@ fn sections(alloc: Global, b: &[u8], at: usize) -> Result<Module, ReadEnd>
     // Each section takes a byte at least, so there are no more of them than bytes.
     for _ in at..b.len() {
         if place == b.len() {
-            return finished(b, made, before);
+            return complete(b, before);
         }
         let (section, behind) = section(alloc, b, place, k, before)?;
         before = after(before, &section);
-        put(&mut made, section);
+        put(made, section);
         place = behind;
     }
     if place < b.len() {
         return Err(cut_off(b));
     }
-    finished(b, made, before)
+    complete(b, before)
+}
+
+/// Reads the sections behind the header.
+fn sections(alloc: Global, b: &[u8], at: usize) -> Result<Module, ReadEnd>
+    requires { at ≤ length b.now }
+    ensures { GivesModule b.now result (module_made (sections_read (length b.now - at) before_all (drop at b.now))) }
+{
+    let mut made = empty(alloc);
+    match all_sections(alloc, b, at, &mut made) {
+        Ok(()) => Ok(made),
+        Err(end) => Err(end),
+    }
 }
 
 /// Reads the header and the sections.

@@ -1,7 +1,7 @@
 use Rattle.std.proofs.Common.{◌≡◌, ◌≤◌, ◌-◌, length, drop}
 use Rattle.wasm_syntax.specs.Grammar.{sections_read, module_made, before_all}
 use Rattle.wasm_reader.specs.Steps.{made_from}
-use Rattle.wasm_reader.proofs.module.sections.Given as goal
+use Rattle.wasm_reader.proofs.module.all_sections.Given as goal
 
 abbrev pub invariant-loop : goal.invariant-loop
 invariant-loop l =
