@@ -124,21 +124,23 @@ invoked_by bytes export words (Err (ends.Refused f)) w g h = absurd h
 invoked_by bytes export words (Err ends.OutOfMemory) w g h = absurd h
 
 -- the start function ended it
-pub ended_by : (bytes export : List ℕ) (words : List (List ℕ)) (start : Option ℕ) (x : ℕ) (values : List Value) (v : View) (c : Config) (e : End) → IsReadied bytes export start (Some x) v
-    → AreGiven (program_at v) x words values → StartsAs (Err e) c (started (program_at v) start (config_at v)) → Invokes bytes export words (Err e)
-ended_by bytes export words start x values v c (ends.Trapped cause) r g h =
-    goes_by bytes export words start x values v (trapped cause) r g (ap (λ (s : Started). called (program_at v) x values s) h)
-ended_by bytes export words start x values v c ends.FuelSpent r g h =
-    goes_by bytes export words start x values v spent r g (ap (λ (s : Started). called (program_at v) x values s) h)
-ended_by bytes export words start x values v c (ends.Refused f) r g h = absurd h
-ended_by bytes export words start x values v c ends.OutOfMemory r g h = absurd h
+pub ended_by : (p : Program) (x : ℕ) (values : List Value) (s : Started) (c : Config) (e : End) → StartsAs (Err e) c s → WentAs (Err e) (called p x values s)
+ended_by p x values s c (ends.Trapped cause) h = ap (λ (s : Started). called p x values s) h
+ended_by p x values s c ends.FuelSpent h = ap (λ (s : Started). called p x values s) h
+ended_by p x values s c (ends.Refused f) h = absurd h
+ended_by p x values s c ends.OutOfMemory h = absurd h
 
 -- the call went so, from where the start function left the machine
-pub answered_by : (bytes export : List ℕ) (words : List (List ℕ)) (start : Option ℕ) (x : ℕ) (values : List Value) (v u : View) (r : Result Invoked End) → IsReadied bytes export start (Some x) v
-    → AreGiven (program_at v) x words values → started (program_at v) start (config_at v) ≡ begins (config_at u) → program_at u ≡ program_at v
-    → WentAs r (called (program_at u) x values (begins (config_at u))) → Invokes bytes export words r
-answered_by bytes export words start x values v u r ready g begun same h =
-    invoked_by bytes export words r (called (program_at u) x values (begins (config_at u)))
-    (goes_by bytes export words start x values v (called (program_at u) x values (begins (config_at u))) ready g
-    (ap (λ (s : Started). called (program_at v) x values s) begun ∙ ap (λ (p : Program). called p x values (begins (config_at u))) (sym same)))
+pub went_on : (p q : Program) (x : ℕ) (values : List Value) (s : Started) (c : Config) (r : Result Invoked End) → s ≡ begins c → q ≡ p
+    → WentAs r (called q x values (begins c)) → WentAs r (called p x values s)
+went_on p q x values s c r begun same h =
+    subst (λ (s : Started). WentAs r (called p x values s)) (sym begun)
+    (subst (λ (q : Program). WentAs r (called q x values (begins c))) same h)
+
+-- the two calls make the answer
+pub answered_by : (bytes export : List ℕ) (words : List (List ℕ)) (start : Option ℕ) (x : ℕ) (values : List Value) (v : View) (r : Result Invoked End) → IsReadied bytes export start (Some x) v
+    → AreGiven (program_at v) x words values → WentAs r (called (program_at v) x values (started (program_at v) start (config_at v))) → Invokes bytes export words r
+answered_by bytes export words start x values v r ready g h =
+    invoked_by bytes export words r (called (program_at v) x values (started (program_at v) start (config_at v)))
+    (goes_by bytes export words start x values v (called (program_at v) x values (started (program_at v) start (config_at v))) ready g refl)
     h

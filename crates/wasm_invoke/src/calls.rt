@@ -1,11 +1,11 @@
 //! The call.
 
-ghost use Rattle.std.specs.Prelude.{◌≡◌, [], Some, slice_get, map, string_bytes, IfOk, IfErr, OnOk};
+ghost use Rattle.std.specs.Prelude.{◌≡◌, ℕ, List, [], Some, slice_get, map, string_bytes, IfOk, IfErr, OnOk};
 ghost use Rattle.wasm_syntax.specs.ReductionSteps.{invoked_config};
 ghost use Rattle.wasm_syntax.specs.ReductionRuns.{run};
 ghost use Rattle.wasm_machine.specs.Machines.{program_at, config_at, Takes};
 ghost use Rattle.wasm_machine.specs.declared.machine.Mode.TheVariants.{Resting};
-ghost use Rattle.wasm_invoke.specs.Invoking.{Invokes, budget, started, went_as};
+ghost use Rattle.wasm_invoke.specs.Invoking.{Invokes, budget, called, started, went_as};
 ghost use Rattle.wasm_invoke.specs.Readied.{IsLinkedModule, EndsAnyhow, IsReadied, AsksNobody, AreGiven, AreRefused, TakesNothing, StartsAs, WentAs};
 
 use crate::arguments::arguments;
@@ -118,17 +118,47 @@ fn call(machine: &mut Machine, func: u32, args: &[Value]) -> Result<Invoked, End
     }
 }
 
+/// Runs the start function, if there is one, and then calls another.
+fn called(
+    machine: &mut Machine,
+    start: Option<u32>,
+    func: u32,
+    args: &[Value],
+) -> Result<Invoked, End>
+    requires resting { machine.old.mode ≡ Resting }
+    requires idle { machine.old.pending ≡ [] }
+    requires start { TakesNothing (program_at machine.old) start }
+    requires takes { Takes (program_at machine.old) func args.now }
+    requires alone { AsksNobody (program_at machine.old) }
+    ensures { WentAs result (called (program_at machine.old) func args.now (started (program_at machine.old) start (config_at machine.old))) }
+{
+    run_start(machine, start)?;
+    call(machine, func, args)
+}
+
+/// Calls the function that was asked for, with the arguments that the words write.
+fn answered(alloc: Global, ready: &mut Ready, words: &[String]) -> Result<Invoked, End>
+    requires resting { ready.old.machine.mode ≡ Resting }
+    requires idle { ready.old.machine.pending ≡ [] }
+    requires start { TakesNothing (program_at ready.old.machine) ready.old.start }
+    requires alone { AsksNobody (program_at ready.old.machine) }
+    ensures { (bytes export : List ℕ) → IsReadied bytes export ready.old.start ready.old.function ready.old.machine → Invokes bytes export (map string_bytes words.now) result }
+{
+    let Some(func) = ready.function else {
+        return Err(End::Refused(Refusal::NoExport));
+    };
+    let values = given(alloc, &ready.machine, func, words)?;
+    called(&mut ready.machine, ready.start, func, values.as_slice())
+}
+
 /// Calls the function that the module of these bytes exports under a name, with the arguments that the words write in decimal
 /// digits, on a host that offers nothing: the start function runs first, and each of the two has 10,000,000 units of fuel; the
 /// memory may have 128 pages. The answer is the result with the units that the exported function used, or why there is none.
 pub fn invoke(alloc: Global, bytes: &[u8], export: &str, words: &[String]) -> Result<Invoked, End>
     ensures { Invokes bytes.now export.now (map string_bytes words.now) result }
 {
-    let mut ready = readied(alloc, bytes, export)?;
-    let Some(func) = ready.function else {
-        return Err(End::Refused(Refusal::NoExport));
-    };
-    let values = given(alloc, &ready.machine, func, words)?;
-    run_start(&mut ready.machine, ready.start)?;
-    call(&mut ready.machine, func, values.as_slice())
+    match readied(alloc, bytes, export) {
+        Ok(mut ready) => answered(alloc, &mut ready, words),
+        Err(end) => Err(end),
+    }
 }

@@ -9,7 +9,7 @@ use wasm_syntax::Value;
 use wasm_validator::ValidEnd;
 
 /// Why a module, or its call, was refused: the first of these that stands, in this order.
-#[derive(Clone, Copy, Debug, PartialEq, Eq)]
+#[derive(Clone, Copy)]
 pub enum Refusal {
     /// The bytes spell no module: the row of the first fault, from 1 on, and its place.
     Unread { number: u8, place: usize },
@@ -24,7 +24,7 @@ pub enum Refusal {
 }
 
 /// Why there is no result.
-#[derive(Clone, Copy, Debug, PartialEq, Eq)]
+#[derive(Clone, Copy)]
 pub enum End {
     /// Nothing was run.
     Refused(Refusal),
@@ -37,7 +37,7 @@ pub enum End {
 }
 
 /// The result of the function, where it gives one, and the units of fuel that it used.
-#[derive(Clone, Copy, Debug, PartialEq, Eq)]
+#[derive(Clone, Copy)]
 pub struct Invoked {
     pub result: Option<Value>,
     pub used: u64,
