@@ -27,7 +27,7 @@ use std::mem;
 use wasm_syntax::{BlockType, FunctionType, Instr, Row, ValueType};
 
 /// Where an instruction leads.
-#[derive(Clone, Copy, Debug, PartialEq, Eq)]
+#[derive(Clone, Copy)]
 pub(crate) enum Step {
     /// On to the next.
     Goes,
@@ -38,7 +38,7 @@ pub(crate) enum Step {
 }
 
 /// The blocks that are open at a place of a body.
-#[derive(Debug, Drop)]
+#[derive(Drop)]
 pub(crate) struct Checker {
     alloc: Global,
     /// The innermost.

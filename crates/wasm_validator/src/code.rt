@@ -14,7 +14,7 @@ use std::alloc::Global;
 use wasm_syntax::Module;
 
 /// A place in a code.
-#[derive(Clone, Copy, Debug, PartialEq, Eq)]
+#[derive(Clone, Copy)]
 pub(crate) struct Fault {
     /// Which code.
     pub(crate) index: usize,

@@ -10,7 +10,7 @@ use std::marker::Model;
 use wasm_syntax::BlockType;
 
 /// A block that is open, with what stands in it.
-#[derive(Debug, Drop)]
+#[derive(Drop)]
 pub(crate) struct Frame {
     /// What a branch to it takes.
     label: BlockType,

@@ -8,7 +8,7 @@ ghost use Rattle.wasm_validator.specs.Marks.{told};
 use wasm_syntax::{BlockType, Instr, Row};
 
 /// What an instruction does to the nesting of blocks.
-#[derive(Clone, Copy, Debug, PartialEq, Eq)]
+#[derive(Clone, Copy)]
 pub(crate) enum Mark {
     Block(BlockType),
     Loop(BlockType),

@@ -17,7 +17,7 @@ use std::alloc::Global;
 use wasm_syntax::{Module, Part, ValidModule, typing_laws};
 
 /// Why a module was not accepted.
-#[derive(Clone, Copy, Debug, PartialEq, Eq)]
+#[derive(Clone, Copy)]
 pub enum ValidEnd {
     /// The first part that is not valid, the index of its entry from 0, and in a code the place of the
     /// first instruction up to which it cannot be typed. In another part the place is 0.
@@ -37,7 +37,7 @@ impl From<OutOfMemory> for ValidEnd {
 }
 
 /// Where a module is not valid.
-#[derive(Clone, Copy, Debug, PartialEq, Eq)]
+#[derive(Clone, Copy)]
 pub(crate) struct Found {
     pub(crate) part: Part,
     pub(crate) index: usize,

@@ -11,7 +11,7 @@ use wasm_syntax::{BlockType, ValueType};
 
 /// The types on the stack of one block, of which some may be any. Behind an instruction that nothing
 /// gets past, any types may stand below them.
-#[derive(Debug, Drop)]
+#[derive(Drop)]
 pub(crate) struct Operands {
     /// The topmost is the last.
     known: Vec<Option<ValueType>>,
