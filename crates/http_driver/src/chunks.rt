@@ -42,13 +42,23 @@ fn push_step(alloc: Global, out: &mut Octets, step: &ChunkStep) -> Result<usize,
     }
 }
 
+/// Puts a reader's next answer at the end, and gives how many bytes it used.
+fn push_next(
+    alloc: Global,
+    out: &mut Octets,
+    reader: &mut ChunkReader,
+    text: &[u8],
+) -> Result<usize, OutOfMemory> {
+    let step = reader.next(alloc, text)?;
+    push_step(alloc, out, &step)
+}
+
 /// Puts all answers to a text at the end, up to one that uses nothing, and gives how many bytes they used.
 fn push_answers(alloc: Global, out: &mut Octets, text: &[u8]) -> Result<usize, OutOfMemory> {
     let mut reader = ChunkReader::new();
     let mut rest = text;
     for _ in 0..=text.len() {
-        let step = reader.next(alloc, rest)?;
-        match rest.get(push_step(alloc, out, &step)?..) {
+        match rest.get(push_next(alloc, out, &mut reader, rest)?..) {
             Some(more) if more.len() < rest.len() => rest = more,
             Some(_) | None => break,
         }
@@ -83,20 +93,62 @@ fn size_of(step: &ChunkStep) -> (usize, usize) {
     }
 }
 
-/// `chunks-sizes TEXT`: how many bytes of data each answer has, and how many it used.
-pub fn sizes(alloc: Global, words: &str) -> Result<Octets, OutOfMemory> {
-    let text = from_text(alloc, words)?;
-    let mut out = Octets::new(alloc);
+/// How many bytes of data a reader's next answer has, and how many it used.
+fn next_size(
+    alloc: Global,
+    reader: &mut ChunkReader,
+    text: &[u8],
+) -> Result<(usize, usize), OutOfMemory> {
+    let step = reader.next(alloc, text)?;
+    Ok(size_of(&step))
+}
+
+/// Puts the sizes of the first answers to a text at the end.
+fn push_sizes(alloc: Global, out: &mut Octets, text: &[u8]) -> Result<(), OutOfMemory> {
     let mut reader = ChunkReader::new();
-    let mut rest = text.as_slice();
+    let mut rest = text;
     for _ in 0..8 {
-        let step = reader.next(alloc, rest)?;
-        let (size, used) = size_of(&step);
+        let (size, used) = next_size(alloc, &mut reader, rest)?;
         let told = format!(in alloc; "{size}/{used} ")?;
         out.extend_from_slice(told.as_str().as_bytes())?;
         rest = rest.get(used..).unwrap_or(&[]);
     }
+    Ok(())
+}
+
+/// `chunks-sizes TEXT`: how many bytes of data each answer has, and how many it used.
+pub fn sizes(alloc: Global, words: &str) -> Result<Octets, OutOfMemory> {
+    let text = from_text(alloc, words)?;
+    let mut out = Octets::new(alloc);
+    push_sizes(alloc, &mut out, text.as_slice())?;
     Ok(out)
+}
+
+/// Puts an answer to what is held at the end, and `?` where it does not use all of that; and tells whether it is one.
+fn push_whole(
+    alloc: Global,
+    out: &mut Octets,
+    step: &ChunkStep,
+    held: usize,
+) -> Result<bool, OutOfMemory> {
+    if matches!(step, ChunkStep::NotYet) {
+        return Ok(false);
+    }
+    if push_step(alloc, out, step)? != held {
+        out.push(b'?')?;
+    }
+    Ok(true)
+}
+
+/// Puts a reader's answer to what is held at the end, and tells whether it is one.
+fn push_held(
+    alloc: Global,
+    out: &mut Octets,
+    reader: &mut ChunkReader,
+    held: &[u8],
+) -> Result<bool, OutOfMemory> {
+    let step = reader.next(alloc, held)?;
+    push_whole(alloc, out, &step, held.len())
 }
 
 /// `chunks-by-byte TEXT`: all answers where the text comes byte by byte, and `?` behind one that does not use all that is held.
@@ -107,14 +159,9 @@ pub fn by_byte(alloc: Global, words: &str) -> Result<Octets, OutOfMemory> {
     let mut held = Octets::new(alloc);
     for byte in text.as_slice() {
         held.push(*byte)?;
-        let step = reader.next(alloc, held.as_slice())?;
-        if matches!(&step, ChunkStep::NotYet) {
-            continue;
+        if push_held(alloc, &mut out, &mut reader, held.as_slice())? {
+            held.clear();
         }
-        if push_step(alloc, &mut out, &step)? != held.len() {
-            out.push(b'?')?;
-        }
-        held.clear();
     }
     Ok(out)
 }

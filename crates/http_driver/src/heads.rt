@@ -19,19 +19,24 @@ pub fn kind_of(word: &str) -> Kind {
     }
 }
 
+/// Puts a pseudo-header's value at the end with a blank behind it, or a field behind a `;`.
+fn push_field(out: &mut Octets, name: &[u8], value: &[u8]) -> Result<(), OutOfMemory> {
+    if name.starts_with(b":") {
+        out.extend_from_slice(value)?;
+        out.push(b' ')
+    } else {
+        out.push(b';')?;
+        out.extend_from_slice(name)?;
+        out.push(b'=')?;
+        out.extend_from_slice(value)
+    }
+}
+
 /// The pseudo-headers of a head, and then each field behind a `;`.
 fn fields_of(alloc: Global, head: &Head) -> Result<Octets, OutOfMemory> {
     let mut out = Octets::new(alloc);
     for (name, value) in head.fields.as_slice() {
-        if name.as_slice().starts_with(b":") {
-            out.extend_from_slice(value.as_slice())?;
-            out.push(b' ')?;
-        } else {
-            out.push(b';')?;
-            out.extend_from_slice(name.as_slice())?;
-            out.push(b'=')?;
-            out.extend_from_slice(value.as_slice())?;
-        }
+        push_field(&mut out, name.as_slice(), value.as_slice())?;
     }
     Ok(out)
 }
@@ -72,18 +77,27 @@ fn other(alloc: Global, step: &HeadStep) -> Result<Octets, OutOfMemory> {
     }
 }
 
+/// What is told of a head that uses so many of a text's bytes, and how many where those are not all, or where it is asked.
+fn told_used(
+    alloc: Global,
+    head: &Head,
+    used: usize,
+    len: usize,
+    is_asked: bool,
+) -> Result<Octets, OutOfMemory> {
+    let mut out = told_of(alloc, head)?;
+    if is_asked || used != len {
+        let text = format!(in alloc; " used {used}")?;
+        out.extend_from_slice(text.as_str().as_bytes())?;
+    }
+    Ok(out)
+}
+
 /// What is told of a text's head, and how many bytes it uses where those are not all, or where it is asked.
 fn told(alloc: Global, kind: Kind, text: &[u8], is_asked: bool) -> Result<Octets, OutOfMemory> {
     let step = read_head(alloc, text, kind)?;
     match &step {
-        HeadStep::Head { head, used } => {
-            let mut out = told_of(alloc, head)?;
-            if is_asked || *used != text.len() {
-                let text = format!(in alloc; " used {used}")?;
-                out.extend_from_slice(text.as_str().as_bytes())?;
-            }
-            Ok(out)
-        }
+        HeadStep::Head { head, used } => told_used(alloc, head, *used, text.len(), is_asked),
         _ => other(alloc, &step),
     }
 }
@@ -101,19 +115,28 @@ fn with_ends(alloc: Global, text: &[u8], end: &[u8]) -> Result<Octets, OutOfMemo
     Ok(out)
 }
 
+/// What is told of a text with this in place of each `~`.
+fn told_with(alloc: Global, kind: Kind, text: &[u8], end: &[u8]) -> Result<Octets, OutOfMemory> {
+    let text = with_ends(alloc, text, end)?;
+    told(alloc, kind, text.as_slice(), false)
+}
+
+/// Puts what is told with CR LF at the end, where it is something else.
+fn push_other(first: &mut Octets, second: &[u8]) -> Result<(), OutOfMemory> {
+    if first.as_slice() == second {
+        return Ok(());
+    }
+    first.extend_from_slice(b" and with CR LF ")?;
+    first.extend_from_slice(second)
+}
+
 /// `head KIND TEXT`: what is told of the text with LF, and then with CR LF in place of each `~`: once, where those are the same.
 pub fn both(alloc: Global, words: &str) -> Result<Octets, OutOfMemory> {
     let (kind, text) = word(words);
     let text = from_text(alloc, text)?;
-    let kind = kind_of(kind);
-    let short = with_ends(alloc, text.as_slice(), b"\n")?;
-    let mut first = told(alloc, kind, short.as_slice(), false)?;
-    let long = with_ends(alloc, text.as_slice(), b"\r\n")?;
-    let second = told(alloc, kind, long.as_slice(), false)?;
-    if first.as_slice() != second.as_slice() {
-        first.extend_from_slice(b" and with CR LF ")?;
-        first.extend_from_slice(second.as_slice())?;
-    }
+    let mut first = told_with(alloc, kind_of(kind), text.as_slice(), b"\n")?;
+    let second = told_with(alloc, kind_of(kind), text.as_slice(), b"\r\n")?;
+    push_other(&mut first, second.as_slice())?;
     Ok(first)
 }
 

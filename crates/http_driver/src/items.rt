@@ -87,6 +87,19 @@ fn write_up(alloc: Global, out: &mut Octets, words: &str) -> Result<(), OutOfMem
     }
 }
 
+/// Writes the item of an operation behind what was written.
+fn write_behind(
+    alloc: Global,
+    written: &mut Written,
+    list: &HeaderList,
+    operation: &str,
+    words: &str,
+) -> Result<(), OutOfMemory> {
+    let (framing, rest) = word(words);
+    let item = item_of(alloc, written, list, operation, rest)?;
+    write_item(alloc, &mut written.out, &item, framing_at(framing))
+}
+
 /// `clear` takes back what was written, `tail` makes the list the tail of heads; `write-head FRAMING`, `write-trailers FRAMING`,
 /// `write-piece FRAMING more|last TEXT` and `write-request TEXT` write behind what was written, and all of that is the answer.
 pub fn write_out(
@@ -100,11 +113,7 @@ pub fn write_out(
         "clear" => written.out.clear(),
         "tail" => written.tail = list.copy(alloc)?,
         "write-request" => write_up(alloc, &mut written.out, words)?,
-        _ => {
-            let (framing, rest) = word(words);
-            let item = item_of(alloc, written, list, operation, rest)?;
-            write_item(alloc, &mut written.out, &item, framing_at(framing))?;
-        }
+        _ => write_behind(alloc, written, list, operation, words)?,
     }
     written.out.copy(alloc)
 }

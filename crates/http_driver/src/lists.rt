@@ -9,6 +9,16 @@ use header_maps::{HeaderEnd, HeaderList, ListKind};
 use rows::{from_text, word};
 use std::alloc::Global;
 
+/// Puts the pair of two words at the end, and gives the words behind them.
+fn push_pair<'a>(alloc: Global, pairs: &mut Pairs, words: &'a str) -> Result<&'a str, OutOfMemory> {
+    let (name, rest) = word(words);
+    let (value, rest) = word(rest);
+    let name = from_text(alloc, name)?;
+    let value = from_text(alloc, value)?;
+    pairs.push((name, value))?;
+    Ok(rest)
+}
+
 /// The pairs that a row has, a word for each name and each value: eight at most.
 pub fn pairs_of(alloc: Global, words: &str) -> Result<Pairs, OutOfMemory> {
     let mut pairs = Pairs::new(alloc);
@@ -17,12 +27,7 @@ pub fn pairs_of(alloc: Global, words: &str) -> Result<Pairs, OutOfMemory> {
         if rest.is_empty() {
             break;
         }
-        let (name, behind) = word(rest);
-        let (value, behind) = word(behind);
-        let name = from_text(alloc, name)?;
-        let value = from_text(alloc, value)?;
-        pairs.push((name, value))?;
-        rest = behind;
+        rest = push_pair(alloc, &mut pairs, rest)?;
     }
     Ok(pairs)
 }
@@ -186,11 +191,23 @@ fn about(alloc: Global, list: &HeaderList) -> Result<Octets, OutOfMemory> {
     Octets::from_slice(alloc, text.as_str().as_bytes())
 }
 
+/// What a copy of the list has.
+fn shown_copy(alloc: Global, list: &HeaderList) -> Result<Octets, OutOfMemory> {
+    let copy = list.copy(alloc)?;
+    shown(alloc, copy.as_slice())
+}
+
+/// What its pairs alone are.
+fn shown_pairs(alloc: Global, list: &HeaderList) -> Result<Octets, OutOfMemory> {
+    let pairs = list.pairs(alloc)?;
+    shown(alloc, pairs.as_slice())
+}
+
 /// A copy of the list, and its pairs alone, which are as many.
 fn copied(alloc: Global, list: &HeaderList) -> Result<Octets, OutOfMemory> {
-    let mut text = shown(alloc, list.copy(alloc)?.as_slice())?;
-    let pairs = list.pairs(alloc)?;
-    text.extend_from_slice(shown(alloc, pairs.as_slice())?.as_slice())?;
+    let mut text = shown_copy(alloc, list)?;
+    let pairs = shown_pairs(alloc, list)?;
+    text.extend_from_slice(pairs.as_slice())?;
     Ok(text)
 }
 

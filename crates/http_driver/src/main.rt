@@ -60,6 +60,17 @@ fn played(alloc: Global, kept: &mut Kept, row: &str) -> Result<Octets, OutOfMemo
     }
 }
 
+/// Writes what a row gives.
+fn show(rt: &HostRuntime, kept: &mut Kept, row: &str) -> io::Result<()> {
+    if row.starts_with("#") {
+        return println!(rt; "{row}");
+    }
+    let alloc = rt.alloc();
+    let bytes = played(alloc, kept, row)?;
+    let text = rows::shown(alloc, bytes.as_slice())?;
+    println!(rt; "{text}")
+}
+
 fn main(rt: HostRuntime) -> io::Result<()> {
     let alloc = rt.alloc();
     let mut kept = Kept {
@@ -67,15 +78,7 @@ fn main(rt: HostRuntime) -> io::Result<()> {
         written: Written::new(alloc),
     };
     for line in rt.lines(alloc) {
-        let line = line?;
-        let row = line.as_str();
-        if row.starts_with("#") {
-            println!(rt; "{row}")?;
-            continue;
-        }
-        let bytes = played(alloc, &mut kept, row)?;
-        let text = rows::shown(alloc, bytes.as_slice())?;
-        println!(rt; "{text}")?;
+        show(&rt, &mut kept, line?.as_str())?;
     }
     Ok(())
 }

@@ -63,6 +63,16 @@ fn push_step(alloc: Global, out: &mut Octets, step: &Step) -> Result<bool, OutOf
     }
 }
 
+/// Puts what a reader answers next at the end, and tells whether it was an item.
+fn push_next(
+    alloc: Global,
+    out: &mut Octets,
+    reader: &mut MessageReader,
+) -> Result<bool, OutOfMemory> {
+    let step = reader.next_item()?;
+    push_step(alloc, out, &step)
+}
+
 /// Puts all items that a reader has at the end, at most a thousand, and why there is no more.
 fn push_all(
     alloc: Global,
@@ -70,8 +80,7 @@ fn push_all(
     reader: &mut MessageReader,
 ) -> Result<(), OutOfMemory> {
     for _ in 0..1000 {
-        let step = reader.next_item()?;
-        if !push_step(alloc, out, &step)? {
+        if !push_next(alloc, out, reader)? {
             return Ok(());
         }
     }
@@ -96,6 +105,23 @@ fn push_pieces(
     Ok(())
 }
 
+/// Puts what is handed on of a text in pieces of so many bytes at the end, which then ends or not.
+fn push_stream(
+    alloc: Global,
+    out: &mut Octets,
+    reader: &mut MessageReader,
+    text: &[u8],
+    size: usize,
+    ends: bool,
+) -> Result<(), OutOfMemory> {
+    push_pieces(alloc, out, reader, text, size)?;
+    if !ends {
+        return Ok(());
+    }
+    reader.end();
+    push_all(alloc, out, reader)
+}
+
 /// `stream KIND SIZE ends|stays TEXT`: what is handed on of the text in pieces of so many bytes, which then ends or not.
 pub fn handed(alloc: Global, words: &str) -> Result<Octets, OutOfMemory> {
     let (kind, rest) = word(words);
@@ -104,17 +130,15 @@ pub fn handed(alloc: Global, words: &str) -> Result<Octets, OutOfMemory> {
     let text = from_text(alloc, text)?;
     let mut out = Octets::new(alloc);
     let mut reader = MessageReader::new(alloc, kind_of(kind))?;
-    push_pieces(
+    let size = number(size) as usize;
+    push_stream(
         alloc,
         &mut out,
         &mut reader,
         text.as_slice(),
-        number(size) as usize,
+        size,
+        ends == "ends",
     )?;
-    if ends == "ends" {
-        reader.end();
-        push_all(alloc, &mut out, &mut reader)?;
-    }
     Ok(out)
 }
 
@@ -128,6 +152,32 @@ fn piece_of(step: &Step) -> (usize, bool) {
     }
 }
 
+/// How many bytes a reader's next item has, and whether it has the end flag.
+fn next_size(reader: &mut MessageReader) -> Result<(usize, bool), OutOfMemory> {
+    let step = reader.next_item()?;
+    Ok(piece_of(&step))
+}
+
+/// Puts the sizes of the first items of a text at the end, and then what is left unread.
+fn push_sizes(
+    alloc: Global,
+    out: &mut Octets,
+    reader: &mut MessageReader,
+    text: &[u8],
+    count: u64,
+) -> Result<(), OutOfMemory> {
+    if !reader.has_ended() {
+        reader.feed(text)?;
+    }
+    for _ in 0..count {
+        let (size, end) = next_size(reader)?;
+        let told = format!(in alloc; "{size}{} ", if end { "." } else { "" })?;
+        out.extend_from_slice(told.as_str().as_bytes())?;
+    }
+    let left = format!(in alloc; "unread {}", reader.unread_len())?;
+    out.extend_from_slice(left.as_str().as_bytes())
+}
+
 /// `stream-sizes COUNT TEXT`: how many bytes each of the first items of a request has, and whether it is the last; then what is
 /// left unread.
 pub fn sizes(alloc: Global, words: &str) -> Result<Octets, OutOfMemory> {
@@ -135,16 +185,6 @@ pub fn sizes(alloc: Global, words: &str) -> Result<Octets, OutOfMemory> {
     let text = from_text(alloc, text)?;
     let mut out = Octets::new(alloc);
     let mut reader = MessageReader::new(alloc, Kind::Request)?;
-    if !reader.has_ended() {
-        reader.feed(text.as_slice())?;
-    }
-    for _ in 0..number(count) {
-        let step = reader.next_item()?;
-        let (size, end) = piece_of(&step);
-        let told = format!(in alloc; "{size}{} ", if end { "." } else { "" })?;
-        out.extend_from_slice(told.as_str().as_bytes())?;
-    }
-    let left = format!(in alloc; "unread {}", reader.unread_len())?;
-    out.extend_from_slice(left.as_str().as_bytes())?;
+    push_sizes(alloc, &mut out, &mut reader, text.as_slice(), number(count))?;
     Ok(out)
 }
