@@ -7,6 +7,7 @@ ghost use Rattle.wasm_syntax.specs.Validity.{IsValid, FirstInvalid, turn_of};
 ghost use Rattle.wasm_syntax.specs.declared.valid.Part.{Part as Parts};
 ghost use Rattle.wasm_validator.specs.Ends.{IsFound, AllValid, IsFirstInvalid, Accepts, Refuses};
 ghost use Rattle.wasm_validator.specs.Parts.{IsLookedAt};
+ghost use Rattle.wasm_validator.specs.Scopes.{IsScope};
 
 use crate::code::first_bad_code;
 use crate::entries::first_bad;
@@ -71,10 +72,20 @@ fn first_invalid(alloc: Global, m: &Module) -> Result<Option<Found>, OutOfMemory
     ensures some { IfOk result (λ f. IfSome f (IsFound m.now)) }
 {
     let scope = Scope::of(alloc, m)?;
+    first_invalid_in(alloc, m, &scope)
+}
+
+/// The first entry that is not valid, in the scope of its module.
+fn first_invalid_in(alloc: Global, m: &Module, scope: &Scope) -> Result<Option<Found>, OutOfMemory>
+    requires spelled { IsSpelled m.now }
+    requires scope { IsScope scope.now m.now }
+    ensures none { IfOk result (λ f. IfNone f (AllValid m.now)) }
+    ensures some { IfOk result (λ f. IfSome f (IsFound m.now)) }
+{
     let mut turn = 0;
     while turn < 9 {
         let part = part_in(turn);
-        if let Some(index) = first_bad(m, &scope, part) {
+        if let Some(index) = first_bad(m, scope, part) {
             return Ok(Some(Found {
                 part,
                 index,
@@ -83,14 +94,14 @@ fn first_invalid(alloc: Global, m: &Module) -> Result<Option<Found>, OutOfMemory
         }
         turn += 1;
     }
-    if let Some(index) = first_bad_export(alloc, m, &scope)? {
+    if let Some(index) = first_bad_export(alloc, m, scope)? {
         return Ok(Some(Found {
             part: Part::Export,
             index,
             place: 0,
         }));
     }
-    if let Some(f) = first_bad_code(alloc, m, &scope)? {
+    if let Some(f) = first_bad_code(alloc, m, scope)? {
         return Ok(Some(Found {
             part: Part::Code,
             index: f.index,
@@ -116,12 +127,13 @@ pub fn validate(alloc: Global, m: Module) -> Result<ValidModule, ValidEnd>
     ensures faulty { (p : Parts) (n place : ℕ) → FirstInvalid m p n place → Refuses result p n place }
 {
     typing_laws::one_first_invalid();
-    match first_invalid(alloc, &m)? {
-        None => Ok(ValidModule::hold(m)),
-        Some(f) => Err(ValidEnd::Invalid {
+    match first_invalid(alloc, &m) {
+        Ok(None) => Ok(ValidModule::hold(m)),
+        Ok(Some(f)) => Err(ValidEnd::Invalid {
             part: f.part,
             index: f.index as u32,
             place: f.place as u32,
         }),
+        Err(_) => Err(ValidEnd::OutOfMemory),
     }
 }

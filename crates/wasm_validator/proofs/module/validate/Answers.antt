@@ -9,4 +9,4 @@ pub first_invalid-requires : goal.first_invalid-requires
 first_invalid-requires c = spelled-keeps c.requires.0 c.args.m c.requires.1
 
 pub hold-requires : goal.hold-requires
-hold-requires c = valid_module c.args.m (spelled-keeps c.requires.0 c.args.m c.requires.1) (subst (λ (o : Option Found). IfNone o (AllValid c.args.m)) c.in-None.is c.in_ok-first_invalid.ensures.none)
+hold-requires c = valid_module c.args.m (spelled-keeps c.requires.0 c.args.m c.requires.1) (rw c.in-Ok-None.field-0-is at c.in-Ok-None.ensures.none)

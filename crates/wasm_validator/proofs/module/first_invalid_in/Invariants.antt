@@ -1,7 +1,7 @@
 use Rattle.std.proofs.Common.{ℕ, ◌-◌, ◌<◌, ◌≤◌}
 use Rattle.wasm_syntax.specs.declared.valid.Part.{Part}
 use Rattle.wasm_syntax.specs.Validity.{IsGood, entries_of, turn_of}
-use Rattle.wasm_validator.proofs.module.first_invalid.Given as goal
+use Rattle.wasm_validator.proofs.module.first_invalid_in.Given as goal
 
 -- the parts of the turns before are valid
 abbrev pub invariant-loop-turn : goal.invariant-loop-turn
