@@ -26,6 +26,7 @@ pub mod Worked
 pub mod Crossed
 pub mod Reversed
 pub mod Taken
+pub mod Marked
 pub mod Operands
 pub mod Sees
 pub mod Listing

@@ -11,6 +11,7 @@ pub mod RunsFollow
 pub mod Targets
 pub mod Edges
 pub mod Held
+pub mod Marked
 pub mod Acted
 pub mod Outside
 pub mod Modules

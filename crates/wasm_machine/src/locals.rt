@@ -1,6 +1,8 @@
 //! The locals of all frames.
 
-ghost use Rattle.std.specs.Prelude.{◌≡◌, ◌<◌, ◌≤◌, ◌+◌, [], ◌∷◌, ◌++◌, length, take, drop, reverse, slice_get, slice_set, IfOk};
+ghost use Rattle.std.specs.Prelude.{◌≡◌, ◌<◌, ◌≤◌, ◌+◌, ◌-◌, [], ◌∷◌, ◌++◌, length, take, drop, reverse, slice_get, slice_set, replicate, false, Some, IfOk};
+ghost use Rattle.wasm_syntax.specs.declared.types.Value.TheVariants as value;
+ghost use Rattle.std.specs.Vec.{vec_len, vec_capacity};
 ghost use Rattle.wasm_syntax.specs.Numeric.{zero_of};
 ghost use Rattle.wasm_syntax.specs.Reduction.{zeros};
 ghost use Rattle.wasm_machine.specs.Held.{held};
@@ -12,20 +14,30 @@ use std::marker::Model;
 use wasm_syntax::{Value, ValueType};
 
 /// The locals of all frames, those of the innermost last, with room for so many. Clauses see them in their
-/// order, and the room.
+/// order, and the room. Most locals that a frame begins with are zeros, and a frame may have thousands of which it uses few: so
+/// a zero is not written where its frame begins, but the local is marked as not given yet.
 #[derive(Debug, Drop)]
 pub(crate) struct Locals {
-    items: Vec<Value>,
+    /// The type of each that was not given yet.
+    types: Vec<ValueType>,
+    /// Whether each was given.
+    given: Vec<bool>,
+    /// The value of each that was given. Values of frames that are gone may be between them and behind them.
+    values: Vec<Value>,
+    room: usize,
 }
 
 impl Model for Locals {
     ghost use Rattle.std.specs.Vec.{vec_capacity};
     ghost use Rattle.wasm_syntax.specs.declared.types.Value.{Value as Values};
     ghost use Rattle.wasm_machine.specs.Held.{Held, held};
+    ghost use Rattle.wasm_machine.specs.Marked.{marked, IsMarked};
 
     ghost Value = { Held Values };
 
-    ghost view = { λ a. held a.items.items (vec_capacity a.items) };
+    ghost view = { λ a. held (marked a.types.items a.given.items a.values.items) a.room };
+
+    ghost invariant = { λ a. IsMarked a.types.items a.given.items a.values.items a.room (vec_capacity a.types) (vec_capacity a.given) (vec_capacity a.values) };
 }
 
 impl Locals {
@@ -34,7 +46,10 @@ impl Locals {
         ensures { IfOk result (λ s. s ≡ held [] room) }
     {
         Ok(Locals {
-            items: Vec::with_capacity(alloc, room)?,
+            types: Vec::with_capacity(alloc, room)?,
+            given: Vec::with_capacity(alloc, room)?,
+            values: Vec::with_capacity(alloc, room)?,
+            room,
         })
     }
 
@@ -42,7 +57,19 @@ impl Locals {
     pub(crate) fn len(&self) -> usize
         ensures { result ≡ length self.now.members }
     {
-        self.items.len()
+        self.types.len()
+    }
+
+    /// The one at an index of all.
+    fn at(&self, k: usize) -> Value
+        requires { k < length self.now.members }
+        ensures { slice_get self.now.members k ≡ Some result }
+    {
+        if self.given[k] {
+            self.values[k]
+        } else {
+            zero(self.types[k])
+        }
     }
 
     /// The one at an index, of the frame whose locals begin at the base.
@@ -51,8 +78,8 @@ impl Locals {
         ensures { result ≡ slice_get (drop base self.now.members) x }
     {
         let x = x as usize;
-        if x < self.items.len() - base {
-            Some(self.items[base + x])
+        if x < self.types.len() - base {
+            Some(self.at(base + x))
         } else {
             None
         }
@@ -65,14 +92,16 @@ impl Locals {
         ensures below { take base self.new.members ≡ take base self.old.members }
         ensures room { self.new.room ≡ self.old.room }
     {
-        self.items[base + x as usize] = v;
+        self.values[base + x as usize] = v;
+        self.given[base + x as usize] = true;
     }
 
     /// Keeps only so many.
     pub(crate) fn truncate(&mut self, count: usize)
         ensures { self.new ≡ held (take count self.old.members) self.old.room }
     {
-        self.items.truncate(count);
+        self.types.truncate(count);
+        self.given.truncate(count);
     }
 
     /// One more.
@@ -80,7 +109,9 @@ impl Locals {
         requires { length self.old.members < self.old.room }
         ensures { self.new ≡ held (self.old.members ++ v ∷ []) self.old.room }
     {
-        self.items.push_reserved(v);
+        put(&mut self.values, self.types.len(), v);
+        self.types.push_reserved(ValueType::I32);
+        self.given.push_reserved(true);
     }
 
     /// The topmost values, the topmost last.
@@ -110,13 +141,64 @@ impl Locals {
 
     /// A zero for each of these types.
     pub(crate) fn clear(&mut self, types: &[ValueType])
-        requires { length self.old.members + length types.now ≤ self.old.room }
+        requires few { length types.now ≤ 4096 }
+        requires room { length self.old.members + length types.now ≤ self.old.room }
         ensures { self.new ≡ held (self.old.members ++ zeros types.now) self.old.room }
     {
-        for t in types {
-            self.push(zero(*t));
-        }
+        reach(&mut self.values, self.types.len() + types.len());
+        append(&mut self.types, types);
+        mark(&mut self.given, types.len());
     }
+}
+
+/// A value at a place among others, or behind them.
+fn put(values: &mut Vec<Value>, k: usize, v: Value)
+    requires there { k ≤ vec_len values.old }
+    requires room { k < vec_capacity values.old }
+    ensures items { values.new.items ≡ take k values.old.items ++ v ∷ drop (k + 1) values.old.items }
+    ensures len { k < vec_len values.new }
+    ensures capacity { vec_capacity values.new ≡ vec_capacity values.old }
+{
+    if k < values.len() {
+        values[k] = v;
+    } else {
+        values.push_reserved(v);
+    }
+}
+
+/// Some more, for which there is room.
+fn append<T: Copy>(to: &mut Vec<T>, more: &[T])
+    requires { vec_len to.old + length more.now ≤ vec_capacity to.old }
+    ensures items { to.new.items ≡ to.old.items ++ more.now }
+    ensures capacity { vec_capacity to.old ≤ vec_capacity to.new }
+{
+    if to.extend_from_slice(more).is_err() {
+        unreachable!();
+    }
+}
+
+/// At least so many, for which there is room.
+fn reach(values: &mut Vec<Value>, count: usize)
+    requires { count ≤ vec_capacity values.old }
+    ensures items { values.new.items ≡ values.old.items ++ replicate (count - vec_len values.old) (value.I32 0) }
+    ensures capacity { vec_capacity values.old ≤ vec_capacity values.new }
+{
+    if values.len() < count && values.resize(count, Value::I32(0)).is_err() {
+        unreachable!();
+    }
+}
+
+/// As many marks as a function may have locals of its own.
+static NOT_GIVEN: [bool; 4096] = [false; 4096];
+
+/// So many more that are not given.
+fn mark(given: &mut Vec<bool>, count: usize)
+    requires few { count ≤ 4096 }
+    requires room { vec_len given.old + count ≤ vec_capacity given.old }
+    ensures items { given.new.items ≡ given.old.items ++ replicate count false }
+    ensures capacity { vec_capacity given.old ≤ vec_capacity given.new }
+{
+    append(given, &NOT_GIVEN[..count]);
 }
 
 /// The zero of a type.
