@@ -44,13 +44,22 @@ pass_through_examples = record {
 }
 
 upload_are : AreDeeds false 1 1 uploaded upload_start
-upload_are =
-    (record { runs = (refl, refl); acts = (tt, tt); chain = tt },
-    (record { runs = (refl, refl); acts = ((refl, (tt, (((omega arith), _, refl), tt))), tt); chain = tt },
-    (record { runs = (refl, refl); acts = ((tt, λ _. tt), tt); chain = tt },
-    (record { runs = (refl, refl); acts = (tt, tt); chain = tt },
-    (record { runs = (refl, refl); acts = ((refl, (tt, (((omega arith), _, refl), tt))), tt); chain = tt },
-    (record { runs = (refl, refl); acts = ((refl, λ _. tt), tt); chain = tt }, tt))))))
+upload_are = (
+  record { runs = (refl, refl); acts = (tt, tt); chain = tt },
+  (
+    record { runs = (refl, refl); acts = ((refl, (tt, (((omega arith), _, refl), tt))), tt); chain = tt },
+    (
+      record { runs = (refl, refl); acts = ((tt, λ _. tt), tt); chain = tt },
+      (
+        record { runs = (refl, refl); acts = (tt, tt); chain = tt },
+        (
+          record { runs = (refl, refl); acts = ((refl, (tt, (((omega arith), _, refl), tt))), tt); chain = tt },
+          (record { runs = (refl, refl); acts = ((refl, λ _. tt), tt); chain = tt }, tt),
+        ),
+      ),
+    ),
+  ),
+)
 
 pub exchange_examples : ExchangeExamples
 unfolding httparse_on_literals digits
