@@ -8,7 +8,7 @@
 
 mod files;
 mod gates;
-mod serving;
+mod running;
 mod told;
 mod worlds;
 
@@ -33,7 +33,7 @@ fn played<R: Threads + Wait + Sync>(
         "text" => files::lay_text(alloc, files, words)?,
         "module" => files::lay_module(alloc, files, words)?,
         "world" => worlds.lay(alloc, words)?,
-        "serve" => return Ok(Some(serving::served(rt, alloc, files, worlds, words)?)),
+        "serve" => return Ok(Some(running::served(rt, alloc, files, worlds, words)?)),
         _ => return Ok(Some(String::from_str(alloc, "no such row")?)),
     }
     Ok(None)
