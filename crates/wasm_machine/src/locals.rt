@@ -145,6 +145,9 @@ impl Locals {
         requires room { length self.old.members + length types.now ≤ self.old.room }
         ensures { self.new ≡ held (self.old.members ++ zeros types.now) self.old.room }
     {
+        if types.is_empty() {
+            return;
+        }
         reach(&mut self.values, self.types.len() + types.len());
         append(&mut self.types, types);
         mark(&mut self.given, types.len());
