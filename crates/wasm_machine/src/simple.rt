@@ -45,6 +45,7 @@ pub(crate) fn index_of(v: Value) -> Option<u32>
 }
 
 /// Takes the topmost operand off, whose number is asked for.
+#[inline(always)]
 pub(crate) fn pop_index(values: &mut Stack<Value>) -> Option<u32>
     ensures is { result ≡ topmost values.old.members }
     ensures rest { values.new ≡ held (drop 1 values.old.members) values.old.room }
@@ -66,6 +67,7 @@ pub(crate) fn pick(labels: &[u32], default: u32, values: &mut Stack<Value>) -> O
 }
 
 /// A constant.
+#[inline(always)]
 pub(crate) fn constant(i: &Instr, values: &mut Stack<Value>) -> Acts
     requires { length values.old.members < values.old.room }
     ensures acts { (s : Stores) (own : List Values) → constant_by (constant_of i.now) s own values.old.members ≡ acted_as result values.new.members s own }
@@ -85,6 +87,7 @@ pub(crate) fn constant(i: &Instr, values: &mut Stack<Value>) -> Acts
 }
 
 /// `drop`
+#[inline(always)]
 pub(crate) fn drop_one(values: &mut Stack<Value>) -> Acts
     ensures acts { (s : Stores) (own : List Values) → doing dropping s own values.old.members ≡ acted_as result values.new.members s own }
     ensures room { values.new.room ≡ values.old.room }
@@ -96,6 +99,7 @@ pub(crate) fn drop_one(values: &mut Stack<Value>) -> Acts
 }
 
 /// `select`
+#[inline(always)]
 pub(crate) fn select(values: &mut Stack<Value>) -> Acts
     requires { length values.old.members ≤ values.old.room }
     ensures acts { (s : Stores) (own : List Values) → doing selecting s own values.old.members ≡ acted_as result values.new.members s own }
@@ -116,6 +120,7 @@ pub(crate) fn select(values: &mut Stack<Value>) -> Acts
 }
 
 /// `local.get`
+#[inline(always)]
 pub(crate) fn get_local(locals: &Locals, base: usize, x: u32, values: &mut Stack<Value>) -> Acts
     requires base { base ≤ length locals.now.members }
     requires room { length values.old.members < values.old.room }
@@ -130,6 +135,7 @@ pub(crate) fn get_local(locals: &Locals, base: usize, x: u32, values: &mut Stack
 }
 
 /// `local.set`
+#[inline(always)]
 pub(crate) fn set_local(locals: &mut Locals, base: usize, x: u32, values: &mut Stack<Value>) -> Acts
     requires base { base ≤ length locals.old.members }
     ensures acts { (s : Stores) → doing (setting_local x) s (drop base locals.old.members) values.old.members ≡ acted_as result values.new.members s (drop base locals.new.members) }
@@ -148,6 +154,7 @@ pub(crate) fn set_local(locals: &mut Locals, base: usize, x: u32, values: &mut S
 }
 
 /// `local.tee`
+#[inline(always)]
 pub(crate) fn tee_local(locals: &mut Locals, base: usize, x: u32, values: &Stack<Value>) -> Acts
     requires base { base ≤ length locals.old.members }
     ensures acts { (s : Stores) → doing (teeing_local x) s (drop base locals.old.members) values.now.members ≡ acted_as result values.now.members s (drop base locals.new.members) }
@@ -165,6 +172,7 @@ pub(crate) fn tee_local(locals: &mut Locals, base: usize, x: u32, values: &Stack
 }
 
 /// `global.get`
+#[inline(always)]
 pub(crate) fn get_global(globals: &Globals, x: u32, values: &mut Stack<Value>) -> Acts
     requires { length values.old.members < values.old.room }
     ensures acts { (m : List ℕ) (t : List (Option ℕ)) (own : List Values) → doing (getting_global x) (stores m t globals.now) own values.old.members ≡ acted_as result values.new.members (stores m t globals.now) own }
@@ -178,6 +186,7 @@ pub(crate) fn get_global(globals: &Globals, x: u32, values: &mut Stack<Value>) -
 }
 
 /// `global.set`
+#[inline(always)]
 pub(crate) fn set_global(globals: &mut Globals, x: u32, values: &mut Stack<Value>) -> Acts
     ensures acts { (m : List ℕ) (t : List (Option ℕ)) (own : List Values) → doing (setting_global x) (stores m t globals.old) own values.old.members ≡ acted_as result values.new.members (stores m t globals.new) own }
     ensures room { values.new.room ≡ values.old.room }
