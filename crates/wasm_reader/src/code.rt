@@ -158,6 +158,16 @@ fn prefixed_instr(which: Prefixed) -> Instr
     }
 }
 
+/// The instruction that holds what was read.
+macro_rules! holding {
+    ($read:expr, $instr:ident) => {
+        match $read {
+            Ok((held, at)) => Ok((Instr::$instr(held), at)),
+            Err(end) => Err(end),
+        }
+    };
+}
+
 /// Reads what stands behind an opcode.
 #[tactic(auto, unfolding(wasm_syntax::specs::Grammar::operands))]
 fn operands(
@@ -175,38 +185,20 @@ fn operands(
     match opcode {
         Opcode::Unreachable => Ok((Instr::Unreachable, at)),
         Opcode::Nop => Ok((Instr::Nop, at)),
-        Opcode::Block => {
-            let (of, at) = block_type(b, at, k)?;
-            Ok((Instr::Block(of), at))
-        }
-        Opcode::Loop => {
-            let (of, at) = block_type(b, at, k)?;
-            Ok((Instr::Loop(of), at))
-        }
-        Opcode::If => {
-            let (of, at) = block_type(b, at, k)?;
-            Ok((Instr::If(of), at))
-        }
+        Opcode::Block => holding!(block_type(b, at, k), Block),
+        Opcode::Loop => holding!(block_type(b, at, k), Loop),
+        Opcode::If => holding!(block_type(b, at, k), If),
         Opcode::Else => Ok((Instr::Else, at)),
         Opcode::End => Ok((Instr::End, at)),
-        Opcode::Br => {
-            let (n, at) = index(b, at, k)?;
-            Ok((Instr::Br(n), at))
-        }
-        Opcode::BrIf => {
-            let (n, at) = index(b, at, k)?;
-            Ok((Instr::BrIf(n), at))
-        }
+        Opcode::Br => holding!(index(b, at, k), Br),
+        Opcode::BrIf => holding!(index(b, at, k), BrIf),
         Opcode::BrTable => {
             let (labels, at) = vector::<u32, Numbers>(alloc, b, at, k)?;
             let (default, at) = index(b, at, k)?;
             Ok((Instr::BrTable { labels, default }, at))
         }
         Opcode::Return => Ok((Instr::Return, at)),
-        Opcode::Call => {
-            let (n, at) = index(b, at, k)?;
-            Ok((Instr::Call(n), at))
-        }
+        Opcode::Call => holding!(index(b, at, k), Call),
         Opcode::CallIndirect => {
             let (n, at) = index(b, at, k)?;
             let (_zero, at) = exactly(b, at, k, 0)?;
@@ -214,102 +206,30 @@ fn operands(
         }
         Opcode::Drop => Ok((Instr::Drop, at)),
         Opcode::Select => Ok((Instr::Select, at)),
-        Opcode::LocalGet => {
-            let (n, at) = index(b, at, k)?;
-            Ok((Instr::LocalGet(n), at))
-        }
-        Opcode::LocalSet => {
-            let (n, at) = index(b, at, k)?;
-            Ok((Instr::LocalSet(n), at))
-        }
-        Opcode::LocalTee => {
-            let (n, at) = index(b, at, k)?;
-            Ok((Instr::LocalTee(n), at))
-        }
-        Opcode::GlobalGet => {
-            let (n, at) = index(b, at, k)?;
-            Ok((Instr::GlobalGet(n), at))
-        }
-        Opcode::GlobalSet => {
-            let (n, at) = index(b, at, k)?;
-            Ok((Instr::GlobalSet(n), at))
-        }
-        Opcode::I32Load => {
-            let (a, at) = memory_argument(b, at, k)?;
-            Ok((Instr::I32Load(a), at))
-        }
-        Opcode::I64Load => {
-            let (a, at) = memory_argument(b, at, k)?;
-            Ok((Instr::I64Load(a), at))
-        }
-        Opcode::I32Load8S => {
-            let (a, at) = memory_argument(b, at, k)?;
-            Ok((Instr::I32Load8S(a), at))
-        }
-        Opcode::I32Load8U => {
-            let (a, at) = memory_argument(b, at, k)?;
-            Ok((Instr::I32Load8U(a), at))
-        }
-        Opcode::I32Load16S => {
-            let (a, at) = memory_argument(b, at, k)?;
-            Ok((Instr::I32Load16S(a), at))
-        }
-        Opcode::I32Load16U => {
-            let (a, at) = memory_argument(b, at, k)?;
-            Ok((Instr::I32Load16U(a), at))
-        }
-        Opcode::I64Load8S => {
-            let (a, at) = memory_argument(b, at, k)?;
-            Ok((Instr::I64Load8S(a), at))
-        }
-        Opcode::I64Load8U => {
-            let (a, at) = memory_argument(b, at, k)?;
-            Ok((Instr::I64Load8U(a), at))
-        }
-        Opcode::I64Load16S => {
-            let (a, at) = memory_argument(b, at, k)?;
-            Ok((Instr::I64Load16S(a), at))
-        }
-        Opcode::I64Load16U => {
-            let (a, at) = memory_argument(b, at, k)?;
-            Ok((Instr::I64Load16U(a), at))
-        }
-        Opcode::I64Load32S => {
-            let (a, at) = memory_argument(b, at, k)?;
-            Ok((Instr::I64Load32S(a), at))
-        }
-        Opcode::I64Load32U => {
-            let (a, at) = memory_argument(b, at, k)?;
-            Ok((Instr::I64Load32U(a), at))
-        }
-        Opcode::I32Store => {
-            let (a, at) = memory_argument(b, at, k)?;
-            Ok((Instr::I32Store(a), at))
-        }
-        Opcode::I64Store => {
-            let (a, at) = memory_argument(b, at, k)?;
-            Ok((Instr::I64Store(a), at))
-        }
-        Opcode::I32Store8 => {
-            let (a, at) = memory_argument(b, at, k)?;
-            Ok((Instr::I32Store8(a), at))
-        }
-        Opcode::I32Store16 => {
-            let (a, at) = memory_argument(b, at, k)?;
-            Ok((Instr::I32Store16(a), at))
-        }
-        Opcode::I64Store8 => {
-            let (a, at) = memory_argument(b, at, k)?;
-            Ok((Instr::I64Store8(a), at))
-        }
-        Opcode::I64Store16 => {
-            let (a, at) = memory_argument(b, at, k)?;
-            Ok((Instr::I64Store16(a), at))
-        }
-        Opcode::I64Store32 => {
-            let (a, at) = memory_argument(b, at, k)?;
-            Ok((Instr::I64Store32(a), at))
-        }
+        Opcode::LocalGet => holding!(index(b, at, k), LocalGet),
+        Opcode::LocalSet => holding!(index(b, at, k), LocalSet),
+        Opcode::LocalTee => holding!(index(b, at, k), LocalTee),
+        Opcode::GlobalGet => holding!(index(b, at, k), GlobalGet),
+        Opcode::GlobalSet => holding!(index(b, at, k), GlobalSet),
+        Opcode::I32Load => holding!(memory_argument(b, at, k), I32Load),
+        Opcode::I64Load => holding!(memory_argument(b, at, k), I64Load),
+        Opcode::I32Load8S => holding!(memory_argument(b, at, k), I32Load8S),
+        Opcode::I32Load8U => holding!(memory_argument(b, at, k), I32Load8U),
+        Opcode::I32Load16S => holding!(memory_argument(b, at, k), I32Load16S),
+        Opcode::I32Load16U => holding!(memory_argument(b, at, k), I32Load16U),
+        Opcode::I64Load8S => holding!(memory_argument(b, at, k), I64Load8S),
+        Opcode::I64Load8U => holding!(memory_argument(b, at, k), I64Load8U),
+        Opcode::I64Load16S => holding!(memory_argument(b, at, k), I64Load16S),
+        Opcode::I64Load16U => holding!(memory_argument(b, at, k), I64Load16U),
+        Opcode::I64Load32S => holding!(memory_argument(b, at, k), I64Load32S),
+        Opcode::I64Load32U => holding!(memory_argument(b, at, k), I64Load32U),
+        Opcode::I32Store => holding!(memory_argument(b, at, k), I32Store),
+        Opcode::I64Store => holding!(memory_argument(b, at, k), I64Store),
+        Opcode::I32Store8 => holding!(memory_argument(b, at, k), I32Store8),
+        Opcode::I32Store16 => holding!(memory_argument(b, at, k), I32Store16),
+        Opcode::I64Store8 => holding!(memory_argument(b, at, k), I64Store8),
+        Opcode::I64Store16 => holding!(memory_argument(b, at, k), I64Store16),
+        Opcode::I64Store32 => holding!(memory_argument(b, at, k), I64Store32),
         Opcode::MemorySize => {
             let (_zero, at) = exactly(b, at, k, 0)?;
             Ok((Instr::MemorySize, at))
@@ -318,14 +238,8 @@ fn operands(
             let (_zero, at) = exactly(b, at, k, 0)?;
             Ok((Instr::MemoryGrow, at))
         }
-        Opcode::I32Const => {
-            let (v, at) = word(b, at, k)?;
-            Ok((Instr::I32Const(v), at))
-        }
-        Opcode::I64Const => {
-            let (v, at) = long(b, at, k)?;
-            Ok((Instr::I64Const(v), at))
-        }
+        Opcode::I32Const => holding!(word(b, at, k), I32Const),
+        Opcode::I64Const => holding!(long(b, at, k), I64Const),
         Opcode::I32Eqz => Ok((Instr::I32Eqz, at)),
         Opcode::I32Eq => Ok((Instr::I32Eq, at)),
         Opcode::I32Ne => Ok((Instr::I32Ne, at)),

@@ -9,6 +9,7 @@ use crate::ends::{Bounds, ReadEnd};
 use crate::items::count;
 use gate_base::Members;
 use std::alloc::Global;
+use std::marker::PhantomData;
 
 /// A rule of the grammar.
 pub(crate) trait Rule<T> {
@@ -56,4 +57,17 @@ pub(crate) fn vector<T: Drop, R: Rule<T>>(
 {
     let (n, start) = count(b, at, k, 65536)?;
     repeated::<T, R>(alloc, n, b, start, k)
+}
+
+/// A count and so many of a rule.
+pub(crate) struct Vectors<R> {
+    of: PhantomData<R>,
+}
+
+impl<T: Drop, R: Rule<T>> Rule<Members<T>> for Vectors<R> {
+    ghost format = { vector_format R.format };
+
+    fn read(alloc: Global, b: &[u8], at: usize, k: Bounds) -> Result<(Members<T>, usize), ReadEnd> {
+        vector::<T, R>(alloc, b, at, k)
+    }
 }

@@ -10,7 +10,7 @@ use crate::ends::{Bounds, ReadEnd};
 use crate::entries::{Elements, Exports, Globals, Imports, Segments};
 use crate::items::{BAD_SECTION, SIZE_MISMATCH, code_count, cut_off, index, judged};
 use crate::locals::Codes;
-use crate::rules::{Rule, repeated, vector};
+use crate::rules::{Rule, Vectors, repeated};
 use crate::sizes::{bounds_from, custom, leave, passes, size_of, sized};
 use crate::types::{FunctionTypes, MemoryTypes, Numbers, TableTypes};
 use gate_base::Members;
@@ -31,17 +31,7 @@ fn members<T: Drop, R: Rule<T>>(
     requires bounds { AreWithin b.now k }
     ensures { Reads (sized_format (vector_format R.format)) b.now at k result }
 {
-    let (n, start) = index(b, at, k)?;
-    if passes(b, start, n, k) {
-        return Err(ReadEnd::Refused {
-            number: SIZE_MISMATCH,
-            place: size_of(k),
-        });
-    }
-    let inner = bounds_from(b, start, n, at);
-    let (content, place) = vector::<T, R>(alloc, b, start, inner)?;
-    leave(b, place, inner)?;
-    Ok((content, place))
+    sized::<Members<T>, Vectors<R>>(alloc, b, at, k)
 }
 
 /// Reads the codes, which are as many as the functions.
