@@ -4,7 +4,8 @@ ghost use Rattle.std.specs.Prelude.{◌≡◌, ◌≤◌, ◌<◌, ◌++◌, [],
 ghost use Rattle.store_model.specs.Program.{Ends};
 ghost use Rattle.vm_host.specs.Fits.{fit_fault};
 ghost use Rattle.vm_host.specs.HostStates.{host_state};
-ghost use Rattle.vm_host.specs.Targets.{is_register as is_register_of, registers_in};
+ghost use Rattle.vm_host.specs.RoleTypes.{functions_for};
+ghost use Rattle.vm_host.specs.Targets.{is_register as is_register_of, registers_in, targets_of};
 ghost use Rattle.vm_host.specs.Vms.{ran};
 ghost use Rattle.vm_host.specs.Slots.{role_of, first_slot, no_slot, exports_role as exports_role_in, end_of, came, by_role, calling_live, is_at_home as is_at_home_in, calling_slot};
 
@@ -18,8 +19,9 @@ use gate_base::{Members, OutOfMemory, VmNo};
 use gate_io::SentList;
 use proxy_links::Target;
 use std::alloc::Global;
+use std::mem;
 use store_model::Shared;
-use wasm_syntax::{Import, ValidModule};
+use wasm_syntax::{Module, ValidModule};
 
 /// A VM of a worker, and what is known of its module, also when it is no more.
 #[derive(Drop)]
@@ -224,6 +226,16 @@ fn call_slot<S: Shared>(
     }
 }
 
+/// What is known of a module: the functions that it exports, by their roles, and whether it registers queues.
+fn known_of(alloc: Global, m: &Module) -> Result<(Members<Option<u32>>, bool), OutOfMemory>
+    ensures functions { IfOk result (λ k. k.0 ≡ functions_for m.now.exports) }
+    ensures registers { IfOk result (λ k. k.1 ≡ registers_in (targets_of m.now.imports)) }
+{
+    let targets = import_targets(alloc, m.imports.as_slice())?;
+    let functions = functions(alloc, m.exports.as_slice())?;
+    Ok((functions, registers(targets.as_slice())))
+}
+
 impl Slot {
     /// The VM of a number, whose module fits with so many pages, with so much fuel for each run. Nothing is run.
     pub fn new(
@@ -237,12 +249,16 @@ impl Slot {
         requires pages { pages ≤ 256 }
         ensures { IfOk result (λ s. s ≡ first_slot place code pages fuel) }
     {
-        let found = functions(alloc, code.module().exports.as_slice())?;
-        let targets = import_targets(alloc, code.module().imports.as_slice())?;
-        let registers = registers(targets.as_slice());
+        let (functions, registers) = match known_of(alloc, code.module()) {
+            Ok(known) => known,
+            Err(end) => {
+                drop(code);
+                return Err(end);
+            }
+        };
         let vm = Vm::new(alloc, place, code, pages, fuel)?;
         Ok(Slot {
-            functions: found,
+            functions,
             registers,
             live: Some(vm),
         })
@@ -293,7 +309,7 @@ fn put_back(slots: &mut Members<Slot>, at: usize, live: Option<Vm>)
     requires { at < length slots.old }
     ensures { slots.new ≡ slice_set slots.old at (record (slice_index_or slots.old at no_slot) { live = live }) }
 {
-    slots.get_mut(at).live = live;
+    drop(mem::replace(&mut slots.get_mut(at).live, live));
 }
 
 impl Host for Vms {

@@ -1,6 +1,8 @@
 //! The machine of a VM.
 
-ghost use Rattle.std.specs.Prelude.{◌≡◌, ◌≤◌, ◌<◌, [], ◌∷◌, length, take, None, Some, IfOk, IfSome, unwrap_or};
+ghost use Rattle.std.specs.Prelude.{◌≡◌, ◌≢◌, ◌≤◌, ◌<◌, Option, [], ◌∷◌, length, take, None, Some, IfOk, IfSome, IsErr, IsOkAnd, unwrap_or};
+ghost use Rattle.gate_base.specs.declared.cause.Cause.{Cause as Causes};
+ghost use Rattle.wasm_syntax.specs.declared.types.Value.{Value as Values};
 ghost use Rattle.std.specs.Option.{option_or};
 ghost use Rattle.wasm_store.specs.Linking.{link_fault};
 ghost use Rattle.proxy_links.specs.Judging.{judged_of, target_of};
@@ -11,7 +13,8 @@ ghost use Rattle.vm_host.specs.HostStates.{host_state};
 ghost use Rattle.vm_host.specs.Roles.{role_row as row_of};
 ghost use Rattle.vm_host.specs.RoleTypes.{functions_for, function_for, allocator_in, beginner_in, numbers_for, HasRole, TakesNothing};
 ghost use Rattle.vm_host.specs.Targets.{targets_of, closings_of, closing_of as closing_for, import_target as target_for};
-ghost use Rattle.vm_host.specs.Vms.{ran, number_of, first_vm, running, running_if, beginning, calling_role, made_effective, IsFirst, IsOutline};
+ghost use Rattle.vm_host.specs.Vms.{ran, number_of, first_vm, running, running_if, beginning, calling_role, made_effective, IsFirst, IsOutline, IsVm};
+ghost use Rattle.vm_host.specs.Seeing.{guest_at};
 
 use crate::calls::{RunEnd, run};
 use crate::dispatch::Dispatcher;
@@ -250,6 +253,55 @@ fn outline_of(alloc: Global, m: &Module) -> Result<Outline, OutOfMemory>
     })
 }
 
+/// What is told of a run that did not return: its VM is no more.
+fn gone(end: RunEnd) -> Result<Ran, OutOfMemory>
+    requires { (value : Option Values) → end ≢ RunEnd.Returned value }
+    ensures trapped { (cause : Causes) → end ≡ RunEnd.Trapped cause → IsOkAnd result (λ r. (r.end ≡ Ended.Trapped cause) × (r.vm ≡ None)) }
+    ensures spent { end ≡ RunEnd.FuelSpent → IsOkAnd result (λ r. (r.end ≡ Ended.FuelSpent) × (r.vm ≡ None)) }
+    ensures memory { end ≡ RunEnd.OutOfMemory → IsErr result }
+    ensures none { IfOk result (λ r. r.vm ≡ None) }
+{
+    match end {
+        RunEnd::Returned { .. } => unreachable!(),
+        RunEnd::Trapped { cause } => Ok(Ran {
+            end: Ended::Trapped { cause },
+            vm: None,
+        }),
+        RunEnd::FuelSpent => Ok(Ran {
+            end: Ended::FuelSpent,
+            vm: None,
+        }),
+        RunEnd::OutOfMemory => Err(AllocError),
+    }
+}
+
+/// What is told of a run that returned: its VM lives.
+fn alive(
+    value: Option<Value>,
+    guest: MachineGuest,
+    calls: Dispatcher,
+    functions: Members<Option<u32>>,
+    start: Option<u32>,
+    budget: u64,
+) -> Ran
+    requires { IsVm guest calls functions start }
+    ensures end { result.end ≡ Ended.Returned (number_of value) }
+    ensures vm { result.vm ≡ Some (record { guest = guest_at guest; calls = calls; functions = functions; start = start; budget = budget }) }
+{
+    Ran {
+        end: Ended::Returned {
+            value: number(value),
+        },
+        vm: Some(Vm {
+            guest,
+            calls,
+            functions,
+            start,
+            budget,
+        }),
+    }
+}
+
 /// Makes a context of a VM the effective one, where the VM has it.
 fn make_effective(contexts: &mut Contexts, place: VmNo, context: u32)
     requires { place < length contexts.old.vms }
@@ -272,7 +324,13 @@ impl Vm {
         requires pages { pages ≤ 256 }
         ensures { IfOk result (λ v. v ≡ first_vm place code pages fuel) }
     {
-        let outline = outline_of(alloc, code.module())?;
+        let outline = match outline_of(alloc, code.module()) {
+            Ok(outline) => outline,
+            Err(end) => {
+                drop(code);
+                return Err(end);
+            }
+        };
         let machine = machine_of(alloc, code, pages)?;
         let allocator = allocator(outline.functions.as_slice());
         Ok(Vm {
@@ -334,31 +392,14 @@ impl Vm {
             budget,
         } = self;
         guest.fuel = budget;
-        match run(
+        let end = run(
             alloc, &mut guest, &calls, contexts, lines, shared, now, func, args,
-        ) {
-            RunEnd::Returned { value } => Ok(Ran {
-                end: Ended::Returned {
-                    value: number(value),
-                },
-                vm: Some(Vm {
-                    guest,
-                    calls,
-                    functions,
-                    start,
-                    budget,
-                }),
-            }),
-            RunEnd::Trapped { cause } => Ok(Ran {
-                end: Ended::Trapped { cause },
-                vm: None,
-            }),
-            RunEnd::FuelSpent => Ok(Ran {
-                end: Ended::FuelSpent,
-                vm: None,
-            }),
-            RunEnd::OutOfMemory => Err(AllocError),
-        }
+        );
+        let RunEnd::Returned { value } = end else {
+            drop(guest);
+            return gone(end);
+        };
+        Ok(alive(value, guest, calls, functions, start, budget))
     }
 
     /// Runs a function that takes nothing, where there is one.

@@ -1,44 +1,34 @@
-use Rattle.std.proofs.Common.{ℕ, Option, None, Some, sym, ap, subst}
-use Rattle.store_model.specs.Program.{Program, done, Runs}
-use Rattle.store_model.specs.Runs.{runs_as}
+use Rattle.std.proofs.Common.{ℕ, Option, None, Some, subst}
+use Rattle.std.proofs.lemmas.Result.{IfOk-weaker}
+use Rattle.store_model.specs.Program.{Program, done, Ends, Runs}
 use Rattle.vm_host.specs.declared.ended.Ended.TheVariants as ended
 use Rattle.vm_host.specs.Seeing.{guest_at}
 use Rattle.vm_host.specs.HostStates.{host_state}
-use Rattle.vm_host.specs.Calling.{returned, run_trapped, run_spent}
+use Rattle.vm_host.specs.Calling.{returned}
 use Rattle.vm_host.specs.Vms.{VmAt, Ran, ran, running}
 use Rattle.vm_host.specs.contracts.vm.Vm as vm
-use Rattle.vm_host.proofs.Running.{ran_part, ran_cut}
+use Rattle.vm_host.proofs.Running.{ran_part, gone_ends}
 use Rattle.vm_host.proofs.vm.Vm.run.Goals as goal
 
-pub returns-in-Returned-clause-run : goal.returns-in-Returned-clause-run
-returns-in-Returned-clause-run g c =
+pub returns-clause-run : goal.returns-clause-run
+returns-clause-run g c =
     let s = host_state c.args.contexts.now c.args.lines.now in
-    let h = host_state c.run.new.contexts c.run.new.lines in
+    let h = host_state c.run-end.new.contexts c.run-end.new.lines in
     let v = vm.the_view c.self.inside in
-    let w = record v { guest = guest_at c.run.new.guest } in
-    subst (λ (x : VmAt). Runs g.S.Shared.performs c.args.shared.now (running x c.args.now c.args.func c.args.args.now s) (done (ran (ended.Returned c.number.result) (Some w) h)) c.run.new.shared) c.self.view_is
-    (runs_as (ran_part g.S.Shared.performs v c.args.now c.args.func c.args.args.now s c.args.shared.now c.run.new.shared (returned c.in-Returned.value (guest_at c.run.new.guest) h) c.in-Returned.ensures.run)
-    (ap (λ (n : Option ℕ). done (ran (ended.Returned n) (Some w) h)) (sym c.number.ensures)))
+    subst (λ (x : VmAt). Runs g.S.Shared.performs c.args.shared.now (running x c.args.now c.args.func c.args.args.now s) (done (ran c.alive.result.end c.alive.result.vm h)) c.run-end.new.shared) c.self.view_is
+    (rw (c.alive.ensures.end, c.alive.ensures.vm) (ran_part g.S.Shared.performs v c.args.now c.args.func c.args.args.now s c.args.shared.now c.run-end.new.shared (returned c.in-Returned.value (guest_at c.run-end.new.guest) h) c.in-Returned.ensures.run))
 
-pub returns-in-Trapped-clause-run : goal.returns-in-Trapped-clause-run
-returns-in-Trapped-clause-run g c =
+pub returns-in_default-clause-run : goal.returns-in_default-clause-run
+returns-in_default-clause-run g c =
     let s = host_state c.args.contexts.now c.args.lines.now in
-    let h = host_state c.run.new.contexts c.run.new.lines in
+    let h = host_state c.run-end.new.contexts c.run-end.new.lines in
     let v = vm.the_view c.self.inside in
-    subst (λ (x : VmAt). Runs g.S.Shared.performs c.args.shared.now (running x c.args.now c.args.func c.args.args.now s) (done (ran (ended.Trapped c.in-Trapped.cause) None h)) c.run.new.shared) c.self.view_is
-    (ran_part g.S.Shared.performs v c.args.now c.args.func c.args.args.now s c.args.shared.now c.run.new.shared (run_trapped c.in-Trapped.cause c.run.new.guest.fuel h) c.in-Trapped.ensures.run)
+    subst (λ (x : VmAt). Ends g.S.Shared.performs c.args.shared.now (running x c.args.now c.args.func c.args.args.now s) (λ r. ran r.end r.vm h) c.gone.result c.run-end.new.shared) c.self.view_is
+    (gone_ends g.S.Shared.performs v c.args.now c.args.func c.args.args.now s c.args.shared.now c.run-end.new.shared (λ r. r.end) (λ r. r.vm) c.gone.result c.run-end.result (guest_at c.run-end.new.guest) h c.in_default.not-Returned
+    c.gone.ensures.trapped c.gone.ensures.spent c.gone.ensures.memory c.run-end.ensures.run)
 
-pub returns-in-FuelSpent-clause-run : goal.returns-in-FuelSpent-clause-run
-returns-in-FuelSpent-clause-run g c =
-    let s = host_state c.args.contexts.now c.args.lines.now in
-    let h = host_state c.run.new.contexts c.run.new.lines in
-    let v = vm.the_view c.self.inside in
-    subst (λ (x : VmAt). Runs g.S.Shared.performs c.args.shared.now (running x c.args.now c.args.func c.args.args.now s) (done (ran ended.FuelSpent None h)) c.run.new.shared) c.self.view_is
-    (ran_part g.S.Shared.performs v c.args.now c.args.func c.args.args.now s c.args.shared.now c.run.new.shared (run_spent c.run.new.guest.fuel h) c.in-FuelSpent.ensures.run)
+pub returns-in_default-clause-kept : goal.returns-in_default-clause-kept
+returns-in_default-clause-kept g c = IfOk-weaker c.gone.result _ _ (λ r h. rw h tt) c.gone.ensures.none
 
-pub returns-in-OutOfMemory-clause-run : goal.returns-in-OutOfMemory-clause-run
-returns-in-OutOfMemory-clause-run g c =
-    let s = host_state c.args.contexts.now c.args.lines.now in
-    let v = vm.the_view c.self.inside in
-    subst (λ (x : VmAt). (q : Program Ran) × Runs g.S.Shared.performs c.args.shared.now (running x c.args.now c.args.func c.args.args.now s) q c.run.new.shared) c.self.view_is
-    (ran_cut g.S.Shared.performs v c.args.now c.args.func c.args.args.now s c.args.shared.now c.run.new.shared c.in-OutOfMemory.ensures.run)
+pub returns-in_default-clause-vms : goal.returns-in_default-clause-vms
+returns-in_default-clause-vms g c = IfOk-weaker c.gone.result _ _ (λ r h. rw h tt) c.gone.ensures.none
