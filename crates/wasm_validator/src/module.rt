@@ -1,10 +1,11 @@
 //! Modules.
 
-ghost use Rattle.std.specs.Prelude.{◌≡◌, ◌<◌, ◌^◌, ℕ, List, IfOk, IfErr, IfSome, IfNone, OnOk};
+ghost use Rattle.std.specs.Prelude.{◌≡◌, ◌⊎◌, ◌<◌, ◌^◌, ℕ, List, IfOk, IfErr, IfSome, IfNone, IsSomeAnd, OnOk};
 ghost use Rattle.wasm_syntax.specs.Grammar.{Spells};
 ghost use Rattle.wasm_syntax.specs.Spelled.{IsSpelled};
 ghost use Rattle.wasm_syntax.specs.Validity.{IsValid, FirstInvalid, turn_of};
 ghost use Rattle.wasm_syntax.specs.declared.valid.Part.{Part as Parts};
+ghost use Rattle.wasm_validator.specs.declared.module.ValidEnd.TheVariants as end;
 ghost use Rattle.wasm_validator.specs.Ends.{IsFound, AllValid, IsFirstInvalid, Accepts, Refuses};
 ghost use Rattle.wasm_validator.specs.Parts.{IsLookedAt};
 ghost use Rattle.wasm_validator.specs.Scopes.{IsScope};
@@ -111,6 +112,26 @@ fn first_invalid_in(alloc: Global, m: &Module, scope: &Scope) -> Result<Option<F
     Ok(None)
 }
 
+/// Why a module is not accepted, where it is not.
+fn refusal(alloc: Global, m: &Module) -> Option<ValidEnd>
+    requires { IsSpelled m.now }
+    ensures valid { IfNone result (AllValid m.now) }
+    ensures accepted { IsValid m.now → IfSome result (λ e. e ≡ end.OutOfMemory) }
+    ensures refused { IfSome result (IsFirstInvalid m.now) }
+    ensures faulty { (p : Parts) (n place : ℕ) → FirstInvalid m.now p n place → IsSomeAnd result (λ e. (e ≡ end.Invalid p n place) ⊎ (e ≡ end.OutOfMemory)) }
+{
+    typing_laws::one_first_invalid();
+    match first_invalid(alloc, m) {
+        Ok(None) => None,
+        Ok(Some(f)) => Some(ValidEnd::Invalid {
+            part: f.part,
+            index: f.index as u32,
+            place: f.place as u32,
+        }),
+        Err(_) => Some(ValidEnd::OutOfMemory),
+    }
+}
+
 /// The module, where it is valid (WebAssembly Core 1.0 chapter 3, and the same of Core 2.0 for sign extension, `memory.copy`
 /// and `memory.fill`), or else its first fault. The module is dropped then. It goes over each code once,
 /// and no deeper for blocks that are nested.
@@ -126,14 +147,11 @@ pub fn validate(alloc: Global, m: Module) -> Result<ValidModule, ValidEnd>
     ensures refused { IfErr result (IsFirstInvalid m) }
     ensures faulty { (p : Parts) (n place : ℕ) → FirstInvalid m p n place → Refuses result p n place }
 {
-    typing_laws::one_first_invalid();
-    match first_invalid(alloc, &m) {
-        Ok(None) => Ok(ValidModule::hold(m)),
-        Ok(Some(f)) => Err(ValidEnd::Invalid {
-            part: f.part,
-            index: f.index as u32,
-            place: f.place as u32,
-        }),
-        Err(_) => Err(ValidEnd::OutOfMemory),
+    match refusal(alloc, &m) {
+        None => Ok(ValidModule::hold(m)),
+        Some(end) => {
+            drop(m);
+            Err(end)
+        }
     }
 }
