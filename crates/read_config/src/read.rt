@@ -67,7 +67,10 @@ fn read_tables(alloc: Global, table: &Table) -> Result<Config, ConfigEnd>
     };
     match read_arrays(alloc, table, &mut config) {
         Ok(()) => Ok(config),
-        Err(end) => Err(end),
+        Err(end) => {
+            drop(config);
+            Err(end)
+        }
     }
 }
 
@@ -105,7 +108,9 @@ fn gateway_fault<'a>(alloc: Global, table: &'a Table) -> Result<Option<(u8, &'a 
     ensures { IfOk result (λ fault. option_map (λ f. (f.0, f.1.now)) fault ≡ table_fault gateway_keys (gateway_of no_members) (table_view table.now)) }
 {
     let bare = bare_config(alloc)?;
-    table_fault(gateway_keys(), &bare, table)
+    let fault = table_fault(gateway_keys(), &bare, table);
+    drop(bare);
+    fault
 }
 
 /// The configuration of a table `gateway` without keys.

@@ -158,7 +158,11 @@ pub fn invoke(alloc: Global, bytes: &[u8], export: &str, words: &[String]) -> Re
     ensures { Invokes bytes.now export.now (map string_bytes words.now) result }
 {
     match readied(alloc, bytes, export) {
-        Ok(mut ready) => answered(alloc, &mut ready, words),
+        Ok(mut ready) => {
+            let answer = answered(alloc, &mut ready, words);
+            drop(ready);
+            answer
+        }
         Err(end) => Err(end),
     }
 }
