@@ -1,18 +1,19 @@
 -- Worked examples: the files that commands read.
 use Rattle.std.specs.Prelude.{◌≡◌, ℕ, List, [], ◌∷◌, Option, Some, Ok, Err, codes}
 use Rattle.config_files.specs.Loading.{Told, IsCode, IsNotLoaded}
-use Rattle.config_files.specs.Plain.{plain_over}
+use Rattle.config_files.specs.Plain.{IsNoPlain, plain_over}
 use Rattle.config_files.specs.declared.reading.LoadEnd.TheVariants as ends
 use Rattle.gate_config.specs.declared.config.Config.{Config as Configured}
 use Rattle.gate_io.specs.Told.{Gains}
 use Rattle.read_config.specs.Whole.{Judged}
+use Rattle.statuses.specs.declared.status.Status.{Status}
 use Rattle.statuses.specs.declared.status.Status.TheVariants.{Config, Done, OutFault, OutOfMemory}
 use Rattle.wasm_syntax.specs.declared.module.Module.{Module}
 use Rattle.words.specs.Forms.{replay, replay_config, check, invoke, generate}
 use Rattle.commands.specs.Call.{WasRead}
-use Rattle.commands.specs.Doing.{Checks, LoadsFile}
+use Rattle.commands.specs.Doing.{Checks, LoadsFile, LoadsPlain}
 use Rattle.commands.specs.Reading.{IsJudgedFor, NoneRefused, Reaches, paths_of}
-use Rattle.commands.specs.Scripts.{Plays}
+use Rattle.commands.specs.Scripts.{Plays, Replays}
 
 abbrev a : List ℕ
 a = codes "a.wasm"
@@ -60,3 +61,5 @@ pub record RefusalExamples : Type 0 where
   pub none_behind : (judged : Judged) (reads : List (List ℕ)) → IsJudgedFor no_module (Some c) judged → NoneRefused no_module (Some (check c)) judged (c ∷ a ∷ reads) → ⊥
   -- a module that is not there is held by no VM
   pub not_held : (pages : ℕ) (m : Module) → IsCode no_module b pages m → ⊥
+  -- over one that is missing no script is played, so nothing is printed, whatever the status
+  pub nothing_played : (status : Status) (old new : Option (List ℕ)) → Replays no_module (LoadsPlain no_module (b ∷ [])) (IsNoPlain no_module (b ∷ [])) s status old new → Gains old [] new

@@ -1,3 +1,4 @@
+mod Alone
 mod Calls
 mod Causes
 mod Closings

@@ -5,3 +5,4 @@ pub mod Laws
 pub mod Moves
 pub mod Fleet
 pub mod Run
+pub mod Alone

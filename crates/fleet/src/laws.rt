@@ -1,4 +1,5 @@
 // What holds of all lives and of all fleets, as functions without a body.
+ghost use Rattle.fleet.specs.Alone.{AloneExamples, OneWorkerIsAlone, RunsAloneAreOfOneThread};
 ghost use Rattle.fleet.specs.Closing.{ClosingExamples};
 ghost use Rattle.fleet.specs.Laws.{EachVmHasOne, LivesAreMeant, SeatsGoOnByLives, two_vms_leave_two};
 ghost use Rattle.fleet.specs.Run.{EndExamples};
@@ -31,4 +32,20 @@ pub fn worked_closes()
 /// Why a fleet did not end well, by how its workers ended: a world that failed counts before want of memory.
 pub fn worked_ends<W: World>()
     ensures { EndExamples W }
+{}
+
+/// A run over seats whose calls are legal by themselves on each store, and which asks no metrics, is one over the stores of one thread, as that of a
+/// script is.
+pub fn runs_alone_are_of_one_thread<H: Host>()
+    ensures { RunsAloneAreOfOneThread H.calling }
+{}
+
+/// In a fleet of one worker its calls on each VM's store are legal by themselves.
+pub fn one_worker_is_alone<H: Host, W: World>()
+    ensures { OneWorkerIsAlone W.trace W.nature W.faults H.calling }
+{}
+
+/// Which calls are alone.
+pub fn worked_alone()
+    ensures { AloneExamples }
 {}

@@ -72,6 +72,9 @@ went_turns calling s t from to before after none setting same took w =
         setting_is = setting;
         given = given_once before after from.waiting w.event w.sent w.steps to.waiting w.told w.hands_over;
         nature_is = same;
+        steps = w.steps;
+        passed_is = told_steps before.trace after.trace w.steps w.told;
+        hands_over = subst (λ (x : List Sent). HandsOver [] (one_turn w.event w.sent) w.steps x) all.1 h;
         taken_is = taken_in before.trace after.trace [] w.event w.sent w.steps to.waiting (told_steps before.trace after.trace w.steps w.told) h ∙ all.0;
       },
       all.1,
@@ -91,6 +94,9 @@ stopped_turns calling s t from to before after none setting same w =
         setting_is = setting;
         given = given_once before after from.waiting w.event w.sent w.steps to.waiting w.told h;
         nature_is = same;
+        steps = w.steps;
+        passed_is = told_steps before.trace after.trace w.steps w.told;
+        hands_over = subst (λ (x : List Sent × List Sent). HandsOver x.0 (one_turn w.event w.sent) w.steps x.1) (λ i. (none i, (still.2 ∙ none) i)) h;
         taken_is = taken_in before.trace after.trace from.waiting w.event w.sent w.steps to.waiting (told_steps before.trace after.trace w.steps w.told) h ∙ steps ∙ ap solid (sym still.0);
       },
       still.2 ∙ none,

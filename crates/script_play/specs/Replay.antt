@@ -9,7 +9,9 @@ use Rattle.gate_io.specs.Passing.{happened}
 use Rattle.gate_io.specs.Told.{Gains}
 use Rattle.gate_io.specs.declared.event.Event.{Event}
 use Rattle.gate_io.specs.declared.event.Sent.{Sent}
+use Rattle.gate_io.specs.declared.passed.Passed.{Passed}
 use Rattle.outbox.specs.Delivery.{solid}
+use Rattle.outbox.specs.Turns.{HandsOver}
 use Rattle.replay_script.specs.declared.command.Command.{Command}
 use Rattle.replay_script.specs.Prints.{Told, last_in, printed_by, tell}
 use Rattle.replay_script.specs.ScriptWorld.{Playing, fresh, nature, taken_since}
@@ -22,6 +24,7 @@ use Rattle.worker.specs.Plan.{Plan}
 use Rattle.worker.specs.State.{Standing, rules_of}
 use Rattle.worker.specs.Steps.{Both}
 use Rattle.worker.specs.Turn.{Outcome, outcome, turn}
+use Rattle.worker.specs.Turned.{one_turn}
 
 -- what a callback of the machines does, by its VM, its context, two numbers, the moment and all contexts
 abbrev pub Calling : (H : Type 0) → Type 0
@@ -139,7 +142,7 @@ pub record Flushed (waits : List ℕ) (old : Option (List ℕ)) (waiting : List 
   pub gained : Gains old written new
   pub is : waits ≡ written ++ waiting
 
--- One turn of a worker in the script's world, which took what the turn sends.
+-- One turn of a worker in the script's world: it was given an event, what the turn sends was handed over, and nothing of it waits.
 pub record Turns {H : Type 0} (calling : Calling H) (from : Standing H) (before : Playing) (s : Stores) (to : Standing H) (after : Playing) (t : Stores) : Type 0 where
   pub event : Event
   pub sent : List Sent
@@ -147,6 +150,9 @@ pub record Turns {H : Type 0} (calling : Calling H) (from : Standing H) (before 
   pub setting_is : to.setting ≡ from.setting
   pub given : happened after.trace ≡ happened before.trace ++ event ∷ []
   pub nature_is : nature after ≡ nature before
+  pub steps : List Passed
+  pub passed_is : after.trace ≡ before.trace ++ steps
+  pub hands_over : HandsOver [] (one_turn event sent) steps []
   pub taken_is : taken_since after.trace ≡ solid sent
 
 -- one turn of the worker at a place
