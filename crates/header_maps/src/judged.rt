@@ -1,6 +1,6 @@
 // Which bytes are names and values.
 ghost use Rattle.std.specs.List.{list_all};
-ghost use Rattle.std.specs.Prelude.{◌≡◌, ◌<◌, ◌==◌, bytes_eq, slice_index};
+ghost use Rattle.std.specs.Prelude.{◌≡◌, ◌<◌, ◌==◌, IsTrue, bytes_eq, slice_index};
 ghost use Rattle.http_header.specs.Token.{lowercase, is_token_byte};
 ghost use Rattle.header_maps.specs.Judged.{is_token_text, is_field_name, is_field_value, is_visible, is_method, is_scheme, is_authority, is_path_byte, is_path, status_of, is_status};
 ghost use Rattle.header_maps.specs.Pairs.{is_pseudo};
@@ -10,11 +10,22 @@ use http_header::is_token_char;
 /// The longest name of a field.
 const NAME_LIMIT: usize = 65_535;
 
+/// Whether two texts may be equal but for the case of letters, by their last bytes: names that are as long as one another often
+/// begin alike.
+fn ends_alike(a: &[u8], b: &[u8]) -> bool
+    ensures { IsTrue (bytes_eq (lowercase a.now) (lowercase b.now)) → IsTrue result }
+{
+    match (a, b) {
+        ([.., x], [.., y]) => x.eq_ignore_ascii_case(y),
+        _ => true,
+    }
+}
+
 /// Whether two texts are equal but for the case of letters.
 pub fn is_same_word(a: &[u8], b: &[u8]) -> bool
     ensures { result ≡ bytes_eq (lowercase a.now) (lowercase b.now) }
 {
-    a.eq_ignore_ascii_case(b)
+    a.len() == b.len() && ends_alike(a, b) && a.eq_ignore_ascii_case(b)
 }
 
 /// Whether all bytes are such as a token has.
