@@ -4,7 +4,7 @@ ghost use Rattle.body_buffers.specs.Bodies.{spliced, part_of, IsOver, body_limit
 ghost use Rattle.body_buffers.specs.declared.end.BodyEnd.TheVariants as end;
 
 use crate::end::BodyEnd;
-use crate::pieces::{close, copied, owned, put_part, put_parts, splice};
+use crate::pieces::{close, copied, put_part, put_parts, splice};
 use bytes::Bytes;
 use gate_base::{Octets, OutOfMemory};
 use std::alloc::Global;
@@ -210,20 +210,14 @@ impl Body {
         std::mem::replace(self, Body::new(alloc))
     }
 
-    /// The bytes as one piece. They are copied only where they are of several pieces, or of one that is shared.
-    pub fn into_octets(mut self) -> Result<Octets, OutOfMemory>
+    /// The bytes as one piece, copied once where some of them are of shared pieces, and else moved.
+    pub fn into_octets(self) -> Result<Octets, OutOfMemory>
         ensures { IfOk result (λ o. o ≡ self) }
     {
         if self.pieces.is_empty() {
             return Ok(Octets::from_vec(self.last));
         }
         let alloc = *self.last.allocator();
-        if self.pieces.len() > 1 || !self.last.is_empty() {
-            return self.read(alloc, 0, self.len());
-        }
-        match self.pieces.pop() {
-            Some(piece) => owned(alloc, piece),
-            None => Ok(Octets::new(alloc)),
-        }
+        self.read(alloc, 0, self.len())
     }
 }

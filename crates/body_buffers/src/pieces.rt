@@ -5,7 +5,7 @@ ghost use Rattle.body_buffers.specs.Bodies.{part_of, body_limit};
 ghost use Rattle.body_buffers.specs.Pieces.{AreFull, IsPlace, piece_at};
 
 use bytes::Bytes;
-use gate_base::{Octets, OutOfMemory};
+use gate_base::OutOfMemory;
 use std::alloc::{AllocError, Global};
 
 /// How many pieces there are at most before more are put among them: the last bytes as one, and three of a splice.
@@ -283,14 +283,4 @@ pub fn splice(
     let end = (last.whole + 1).min(list.len());
     replace(list, first.whole, end, pieces)?;
     Ok(())
-}
-
-/// The bytes of a piece, taken out of it where nothing else shares them, and else copied.
-pub fn owned(alloc: Global, piece: Bytes) -> Result<Octets, OutOfMemory>
-    ensures { IfOk result (λ o. o ≡ piece) }
-{
-    match piece.try_into_mut() {
-        Ok(bytes) => Ok(Octets::from_vec(bytes.into_vec()?)),
-        Err(piece) => Octets::from_slice(alloc, piece.as_slice()),
-    }
 }
