@@ -10,3 +10,4 @@ pub mod Examples
 pub mod Deeds
 pub mod Lines
 pub mod Rooms
+pub mod Moving

@@ -25,7 +25,7 @@ use Rattle.flow_laws.specs.Acts.{HoldSame, AreThere, AreActs, IsCall, is_body, w
 use Rattle.flow_laws.specs.Acts as at_chain
 use Rattle.flow_laws.specs.Deeds.{Deed, comes, calls, answers, resumes, turns, Running, standing, done, called, resumed, done_by, done_all, acts_of, left_by, came, buffers_by, IsDeed, AreDeeds}
 use Rattle.flow_laws.specs.PassThrough.{IsInOrder, IsNew, PassesThrough}
-use Rattle.flow_laws.specs.Rooms.{IsOn, running, Leaves, Wakes, Other, wakes, leaves, Others, asked_room, quiet_room, IsMove, affected, moved_exchange, moved_room, IsPut, Part, moves, puts as puts_part, others, Run, rests, goes, other_deeds, effect_deeds, part_deeds, run_deeds, part_items, run_items, part_buffers, run_buffers}
+use Rattle.flow_laws.specs.Rooms.{IsOn, running, Leaves, Wakes, Other, wakes, leaves, Others, asked_room, quiet_room, IsAsked, asked_exchange, question, stage_own, IsMove, affected, moved_exchange, moved_room, IsPut, Part, moves, puts as puts_part, others, Run, rests, goes, other_deeds, effect_deeds, part_deeds, run_deeds, part_items, run_items, part_buffers, run_buffers}
 use Rattle.flow_laws.specs.Workers.{AreTheDeeds, WorkersPassBodies, LastStagesPass, UnchangedPass}
 use Rattle.flow_laws.proofs.Deeds.{deed_does, exchanges_pass}
 use Rattle.flow_laws.proofs.Holding.{hold_then, hold_drop, hold_by_vms, there_by_vms}
@@ -195,14 +195,14 @@ called_by_vms k b c (Nothing, stages, h) same = refl
 called_by_vms k b c (Over j, stages, h) same = refl
 called_by_vms k b c (Asks ask, stages, h) same = ap (λ (l : List ℕ). if is_body ask.kind then where_one k ask.stage l else []) (buffer_by_vms b c stages k same)
 
-module _ {H : Type 0} (response : Bool) (n count : ℕ) (c : Called H) (x : Exchange) (room : Room) (m : IsMove response n count c x room) where
+module _ {H : Type 0} (response : Bool) (n count : ℕ) (c : Called H) (x : Exchange) (room : Room) (q : IsAsked response n x room) (m : IsMove count c q) where
   abbrev first_exchange : Exchange
-  first_exchange = with_chain response m.stages x
+  first_exchange = asked_exchange q
 
   abbrev first_room : Room
-  first_room = quiet_room c (asked_room m.on.place m.on.line first_exchange m.contexts room)
+  first_room = quiet_room c (question q)
 
-  call_told : Told response n count (calls first_room.hub ∷ []) (running None x room) (running (Some m.ask) first_exchange first_room) []
+  call_told : Told response n count (calls first_room.hub ∷ []) (running None x room) (running (Some q.ask) first_exchange first_room) []
       (λ k. buffer_called k c.contexts (asked room.hub.contexts (chain_of response x)))
   call_told = record {
     are = (
@@ -213,7 +213,7 @@ module _ {H : Type 0} (response : Bool) (n count : ℕ) (c : Called H) (x : Exch
       },
       tt,
     );
-    last = ap (called response first_room.hub (running None x room)) m.asks;
+    last = ap (called response first_room.hub (running None x room)) q.asks;
     cames = refl;
     lefts = λ k.
         append-nil (buffer_called k first_room.hub.contexts (asked room.hub.contexts (chain_of response x)) ++ [])
@@ -221,38 +221,38 @@ module _ {H : Type 0} (response : Bool) (n count : ℕ) (c : Called H) (x : Exch
         ∙ called_by_vms k c.contexts first_room.hub.contexts (asked room.hub.contexts (chain_of response x)) refl);
   }
 
-  answer_told : Told response n count (answers (action_of m.value) ∷ []) (running (Some m.ask) m.behind (affected m))
-      (done None (acts response m.ask.stage (action_of m.value) n m.behind (affected m).hub)) [] (λ k. [])
+  answer_told : Told response n count (answers (action_of m.value) ∷ []) (running (Some q.ask) m.behind (affected c q))
+      (done None (acts response q.ask.stage (action_of m.value) n m.behind (affected c q).hub)) [] (λ k. [])
   answer_told = record { are = (m.answer, tt); last = refl; cames = refl; lefts = λ k. refl }
 
   moved_on : IsOn n (moved_room m) (moved_exchange m)
   moved_on =
-      let on : IsOn n (affected m) m.behind
-      = others_on response n count (Some m.ask) m.stage.vm (owns.Stage m.stage.context response) c.contexts.effects first_exchange first_room m.behind m.effects in
-      let change : Changes = acts response m.ask.stage (action_of m.value) in
-      subst (λ (q : Room). IsOn n q (moved_exchange m)) (sym (on_number_is change n (affected m) m.behind on))
-      (on_set n (affected m) m.behind on (marking (change n m.behind (affected m).hub)))
+      let on : IsOn n (affected c q) m.behind
+      = others_on response n count (Some q.ask) q.stage.vm (stage_own q) c.contexts.effects first_exchange first_room m.behind m.effects in
+      let change : Changes = acts response q.ask.stage (action_of m.value) in
+      subst (λ (t : Room). IsOn n t (moved_exchange m)) (sym (on_number_is change n (affected c q) m.behind on))
+      (on_set n (affected c q) m.behind on (marking (change n m.behind (affected c q).hub)))
 
   move_told : Keeps count (standing response (running None x room))
-      → Told response n count (part_deeds (moves c m)) (running None x room) (running None (moved_exchange m) (moved_room m)) []
+      → Told response n count (part_deeds (moves c q m)) (running None x room) (running None (moved_exchange m) (moved_room m)) []
       (λ k. buffer_called k c.contexts (asked room.hub.contexts (chain_of response x)))
   move_told keeps =
       let es : List Effect = c.contexts.effects in
-      let own : Own = owns.Stage m.stage.context response in
+      let own : Own = stage_own q in
       let f : ℕ → List ℕ = λ k. buffer_called k c.contexts (asked room.hub.contexts (chain_of response x)) in
       let none : ℕ → List ℕ = λ k. [] in
-      let w1 : Running = running (Some m.ask) first_exchange first_room in
-      let w2 : Running = running (Some m.ask) m.behind (affected m) in
-      let change : Changes = acts response m.ask.stage (action_of m.value) in
-      let r : Exchange × Hub = change n m.behind (affected m).hub in
+      let w1 : Running = running (Some q.ask) first_exchange first_room in
+      let w2 : Running = running (Some q.ask) m.behind (affected c q) in
+      let change : Changes = acts response q.ask.stage (action_of m.value) in
+      let r : Exchange × Hub = change n m.behind (affected c q).hub in
       let keeps1 : Keeps count (standing response w1) = told_keeps response n count (calls first_room.hub ∷ []) (running None x room) w1 [] f call_told keeps in
-      let effects : List Deed = effect_deeds response n count (Some m.ask) m.stage.vm own es first_exchange first_room m.behind m.effects in
-      let second : Told response n count effects w1 w2 [] none = others_told response n count (Some m.ask) m.stage.vm own es first_exchange first_room m.behind keeps1 m.effects in
+      let effects : List Deed = effect_deeds response n count (Some q.ask) q.stage.vm own es first_exchange first_room m.behind m.effects in
+      let second : Told response n count effects w1 w2 [] none = others_told response n count (Some q.ask) q.stage.vm own es first_exchange first_room m.behind keeps1 m.effects in
       let keeps2 : Keeps count (standing response w2) = told_keeps response n count effects w1 w2 [] none second keeps1 in
       let keeps3 : Keeps count (standing response (done None r)) = told_keeps response n count (answers (action_of m.value) ∷ []) w2 (done None r) [] none answer_told keeps2 in
-      let on : IsOn n (affected m) m.behind = others_on response n count (Some m.ask) m.stage.vm own es first_exchange first_room m.behind m.effects in
+      let on : IsOn n (affected c q) m.behind = others_on response n count (Some q.ask) q.stage.vm own es first_exchange first_room m.behind m.effects in
       let vms : (moved_room m).hub.contexts.vms ≡ r.1.contexts.vms
-      = ap (λ (q : Room). q.hub.contexts.vms) (on_number_is change n (affected m) m.behind on) ∙ marking_vms r in
+      = ap (λ (t : Room). t.hub.contexts.vms) (on_number_is change n (affected c q) m.behind on) ∙ marking_vms r in
       let last : Told response n count (turns r.0 (moved_room m).hub ∷ []) (done None r) (running None r.0 (moved_room m)) [] none
       = marked_told response n count None r.0 r.1 (moved_room m).hub vms keeps3.there in
       let two : Told response n count (answers (action_of m.value) ∷ turns r.0 (moved_room m).hub ∷ []) w2 (running None r.0 (moved_room m)) [] none
@@ -311,7 +311,7 @@ put_told H response n count items x room is keeps =
 part_told : {H : Type 0} {response : Bool} {n count : ℕ} {x : Exchange} {room : Room} {y : Exchange} {after : Room} → (part : Part H response n count x room y after)
     → Keeps count (standing response (running None x room))
     → Told response n count (part_deeds part) (running None x room) (running None y after) (part_items part) (λ k. part_buffers k part)
-part_told {H} {response} {n} {count} {x} {room} (moves c m) keeps = move_told response n count c x room m keeps
+part_told {H} {response} {n} {count} {x} {room} (moves c q m) keeps = move_told response n count c x room q m keeps
 part_told {H} {response} {n} {count} {x} {room} (puts_part items is) keeps = put_told H response n count items x room is keeps
 part_told {H} {response} {n} {count} {x} {room} (others y after is) keeps = other_told response n count None x room y after keeps is
 

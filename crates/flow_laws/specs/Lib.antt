@@ -5,3 +5,4 @@ pub mod Deeds
 pub mod Exchanges
 pub mod Rooms
 pub mod Workers
+pub mod Steps

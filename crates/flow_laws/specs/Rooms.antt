@@ -76,41 +76,49 @@ asked_room place line x h room = with_lines room (slice_set room.lines place (re
 abbrev pub quiet_room : {H : Type 0} → Called H → Room → Room
 quiet_room c room = without_effects (sending c.lines (with_contexts c.contexts room))
 
--- A move of the direction. The callback returned; it left the buffers of the stages from this count on as they were; its effects resume stages of the
--- direction, or leave it as it was; and what comes of its action is a deed of the law, so it is Continue where the callback was not for the head.
-pub record IsMove {H : Type 0} (response : Bool) (n count : ℕ) (c : Called H) (x : Exchange) (room : Room) : Type 0 where
+-- what is asked next of the direction, and of which stage
+pub record IsAsked (response : Bool) (n : ℕ) (x : Exchange) (room : Room) : Type 0 where
   pub on : IsOn n room x
-  pub runs : (x.has_ended ≡ false) × (x.is_answered ≡ false)
   pub direction : asks_response x ≡ response
-  -- what is asked, and of which stage
   pub ask : Ask
   pub stages : List Stage
   pub contexts : Contexts
   pub asks : asked room.hub.contexts (chain_of response x) ≡ (Asks ask, stages, contexts)
   pub stage : Stage
   pub at : slice_get stages ask.stage ≡ Some stage
+
+-- the room and the exchange then, and the room behind the callback
+abbrev pub asked_exchange : {response : Bool} {n : ℕ} {x : Exchange} {room : Room} → IsAsked response n x room → Exchange
+asked_exchange {response} {n} {x} {room} q = with_chain response q.stages x
+
+abbrev pub question : {response : Bool} {n : ℕ} {x : Exchange} {room : Room} → IsAsked response n x room → Room
+question {response} {n} {x} {room} q = asked_room q.on.place q.on.line (with_chain response q.stages x) q.contexts room
+
+abbrev pub stage_own : {response : Bool} {n : ℕ} {x : Exchange} {room : Room} → IsAsked response n x room → Own
+stage_own {response} {n} {x} {room} q = owns.Stage q.stage.context response
+
+-- A move of the direction. The callback returned; it left the buffers of the stages from this count on as they were; its effects resume stages of the
+-- direction, or leave it as it was; and what comes of its action is a deed of the law, so it is Continue where the callback was not for the head.
+pub record IsMove {H : Type 0} {response : Bool} {n : ℕ} {x : Exchange} {room : Room} (count : ℕ) (c : Called H) (q : IsAsked response n x room) : Type 0 where
+  pub runs : (x.has_ended ≡ false) × (x.is_answered ≡ false)
   -- what the callback did
   pub value : Option ℕ
   pub returned : c.end ≡ call_ends.Returned value
   pub call : IsCall count c.contexts (asked room.hub.contexts (chain_of response x))
   -- its effects, and its action
   pub behind : Exchange
-  pub effects : Others response n count (Some ask) stage.vm (owns.Stage stage.context response) c.contexts.effects (with_chain response stages x)
-      (quiet_room c (asked_room on.place on.line (with_chain response stages x) contexts room)) behind
-  pub answer : IsDeed response count (answers (action_of value))
-      (running (Some ask) behind
-      (effects_of stage.vm (owns.Stage stage.context response) c.contexts.effects (quiet_room c (asked_room on.place on.line (with_chain response stages x) contexts room))))
+  pub effects : Others response n count (Some q.ask) q.stage.vm (stage_own q) c.contexts.effects (asked_exchange q) (quiet_room c (question q)) behind
+  pub answer : IsDeed response count (answers (action_of value)) (running (Some q.ask) behind (effects_of q.stage.vm (stage_own q) c.contexts.effects (quiet_room c (question q))))
 
 -- the room behind the effects, and behind the move
-abbrev pub affected : {H : Type 0} {response : Bool} {n count : ℕ} {c : Called H} {x : Exchange} {room : Room} → IsMove response n count c x room → Room
-affected {H} {response} {n} {count} {c} {x} {room} m =
-    effects_of m.stage.vm (owns.Stage m.stage.context response) c.contexts.effects (quiet_room c (asked_room m.on.place m.on.line (with_chain response m.stages x) m.contexts room))
+abbrev pub affected : {H : Type 0} {response : Bool} {n : ℕ} {x : Exchange} {room : Room} → Called H → IsAsked response n x room → Room
+affected c q = effects_of q.stage.vm (stage_own q) c.contexts.effects (quiet_room c (question q))
 
-abbrev pub moved_exchange : {H : Type 0} {response : Bool} {n count : ℕ} {c : Called H} {x : Exchange} {room : Room} → IsMove response n count c x room → Exchange
-moved_exchange {H} {response} {n} {count} {c} {x} {room} m = (acts response m.ask.stage (action_of m.value) n m.behind (affected m).hub).0
+abbrev pub moved_exchange : {H : Type 0} {response : Bool} {n : ℕ} {x : Exchange} {room : Room} {count : ℕ} {c : Called H} {q : IsAsked response n x room} → IsMove count c q → Exchange
+moved_exchange {H} {response} {n} {x} {room} {count} {c} {q} m = (acts response q.ask.stage (action_of m.value) n m.behind (affected c q).hub).0
 
-abbrev pub moved_room : {H : Type 0} {response : Bool} {n count : ℕ} {c : Called H} {x : Exchange} {room : Room} → IsMove response n count c x room → Room
-moved_room {H} {response} {n} {count} {c} {x} {room} m = on_number (acts response m.ask.stage (action_of m.value)) n (affected m)
+abbrev pub moved_room : {H : Type 0} {response : Bool} {n : ℕ} {x : Exchange} {room : Room} {count : ℕ} {c : Called H} {q : IsAsked response n x room} → IsMove count c q → Room
+moved_room {H} {response} {n} {x} {room} {count} {c} {q} m = on_number (acts response q.ask.stage (action_of m.value)) n (affected c q)
 
 -- ---- items that were read are put into the chain
 
@@ -122,7 +130,7 @@ pub record IsPut (response : Bool) (n count : ℕ) (items : List Item) (x : Exch
 -- ---- one behind the other
 
 pub data Part (H : Type 0) (response : Bool) (n count : ℕ) (x : Exchange) (room : Room) : Exchange → Room → Type 0 where
-  moves : (c : Called H) (m : IsMove response n count c x room) → Part H response n count x room (moved_exchange m) (moved_room m)
+  moves : (c : Called H) (q : IsAsked response n x room) (m : IsMove count c q) → Part H response n count x room (moved_exchange m) (moved_room m)
   puts : (items : List Item) → IsPut response n count items x room
       → Part H response n count x room (put_in response items n x room.hub).0 (on_number (put_in response items) n room)
   others : (y : Exchange) (after : Room) → Other response n count None x room y after → Part H response n count x room y after
@@ -142,10 +150,9 @@ effect_deeds response n count due vm own [] x room z are = []
 effect_deeds response n count due vm own (e ∷ es) x room z are = other_deeds are.1 ++ effect_deeds response n count due vm own es are.0 (does vm own e.context e.what room) z are.2
 
 abbrev pub part_deeds : {H : Type 0} {response : Bool} {n count : ℕ} {x : Exchange} {room : Room} {y : Exchange} {after : Room} → Part H response n count x room y after → List Deed
-part_deeds {H} {response} {n} {count} {x} {room} (moves c m) =
-    calls (quiet_room c (asked_room m.on.place m.on.line (with_chain response m.stages x) m.contexts room)).hub
-    ∷ effect_deeds response n count (Some m.ask) m.stage.vm (owns.Stage m.stage.context response) c.contexts.effects (with_chain response m.stages x)
-    (quiet_room c (asked_room m.on.place m.on.line (with_chain response m.stages x) m.contexts room)) m.behind m.effects
+part_deeds {H} {response} {n} {count} {x} {room} (moves c q m) =
+    calls (quiet_room c (question q)).hub
+    ∷ effect_deeds response n count (Some q.ask) q.stage.vm (stage_own q) c.contexts.effects (asked_exchange q) (quiet_room c (question q)) m.behind m.effects
     ++ answers (action_of m.value) ∷ turns (moved_exchange m) (moved_room m).hub ∷ []
 part_deeds {H} {response} {n} {count} {x} {room} (puts items is) = map comes items ++ turns (put_in response items n x room.hub).0 (on_number (put_in response items) n room).hub ∷ []
 part_deeds (others y after is) = other_deeds is
@@ -156,7 +163,7 @@ run_deeds (goes part run) = part_deeds part ++ run_deeds run
 
 -- what was read, and what the body callbacks of the stage at a place left
 abbrev pub part_items : {H : Type 0} {response : Bool} {n count : ℕ} {x : Exchange} {room : Room} {y : Exchange} {after : Room} → Part H response n count x room y after → List Item
-part_items (moves c m) = []
+part_items (moves c q m) = []
 part_items (puts items is) = items
 part_items (others y after is) = []
 
@@ -165,7 +172,7 @@ run_items (rests x room) = []
 run_items (goes part run) = part_items part ++ run_items run
 
 abbrev pub part_buffers : {H : Type 0} {response : Bool} {n count : ℕ} {x : Exchange} {room : Room} {y : Exchange} {after : Room} → ℕ → Part H response n count x room y after → List ℕ
-part_buffers {H} {response} {n} {count} {x} {room} k (moves c m) = buffer_called k c.contexts (asked room.hub.contexts (chain_of response x))
+part_buffers {H} {response} {n} {count} {x} {room} k (moves c q m) = buffer_called k c.contexts (asked room.hub.contexts (chain_of response x))
 part_buffers k (puts items is) = []
 part_buffers k (others y after is) = []
 

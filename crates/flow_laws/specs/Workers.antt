@@ -18,7 +18,7 @@ use Rattle.worker.specs.Rooms.{with_lines, answered_with, valued}
 use Rattle.worker.specs.Steps.{Both, both, callback_of, number_of, acts_on, move_at}
 use Rattle.flow_laws.specs.Deeds.{Running, standing, left_by, AreDeeds, done_all}
 use Rattle.flow_laws.specs.PassThrough.{IsInOrder, IsNew, PassesThrough}
-use Rattle.flow_laws.specs.Rooms.{IsOn, running, IsMove, moved_room, Run, run_deeds, run_items, run_buffers}
+use Rattle.flow_laws.specs.Rooms.{IsOn, running, IsAsked, IsMove, moved_room, Run, run_deeds, run_items, run_buffers}
 
 -- what a worker does are deeds of the law on exchanges: from the exchange and what all lines have in common to those behind it
 pub record AreTheDeeds {H : Type 0} {response : Bool} {n count : ℕ} {x y : Exchange} {room after : Room} (run : Run H response n count x room y after) : Type 0 where

@@ -2,6 +2,7 @@
 ghost use Rattle.flow_laws.specs.Examples.{ExchangeExamples, PassThroughExamples};
 ghost use Rattle.flow_laws.specs.Exchanges.{ExchangesPassBodies};
 ghost use Rattle.flow_laws.specs.PassThrough.{BodiesPassThrough};
+ghost use Rattle.flow_laws.specs.Steps.{MovesAreSteps, PutsAreSteps};
 ghost use Rattle.flow_laws.specs.Workers.{WorkersPassBodies, LastStagesPass, UnchangedPass};
 
 /// Where the callbacks for bodies and trailers of one direction all answer Continue, the bytes that left its chain are a front of what the body
@@ -21,6 +22,13 @@ pub fn workers_pass_bodies<H>()
     ensures deeds { WorkersPassBodies H }
     ensures last_stage { LastStagesPass H }
     ensures unchanged { UnchangedPass H }
+{}
+
+/// A worker's step that moves a direction comes to the end of a callback of the stage that is asked, and then to the room behind that move; one
+/// that puts what was read puts it.
+pub fn moves_are_steps<H>()
+    ensures moves { MovesAreSteps H }
+    ensures puts { PutsAreSteps H }
 {}
 
 /// Two filters, worked: three pieces of which the second filter changes one, and a head that the first filter holds. And an exchange, whose filter

@@ -3,4 +3,6 @@
 
 mod laws;
 
-pub use laws::{bodies_pass_through, exchanges_pass_bodies, worked_bodies, workers_pass_bodies};
+pub use laws::{
+    bodies_pass_through, exchanges_pass_bodies, moves_are_steps, worked_bodies, workers_pass_bodies,
+};

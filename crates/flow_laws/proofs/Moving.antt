@@ -1,0 +1,109 @@
+-- A step that moves a direction comes to the end of its move.
+use Rattle.std.proofs.Common.{◌≡◌, ℕ, Bool, true, false, List, [], ◌∷◌, ◌++◌, ap, ◌∙◌, sym, refl, subst}
+use Rattle.std.specs.Prelude.{Option, None, Some, slice_get, slice_set, option_map}
+use Rattle.contexts.specs.declared.parts.Contexts.{Contexts}
+use Rattle.course.specs.Called.{Called}
+use Rattle.course.specs.Course.{Course, ends, asks, measures, hears, then_do, runs_then, Met, called, measured, heard, Reaches}
+use Rattle.course.specs.declared.host.CallEnd.{CallEnd}
+use Rattle.exchange.specs.declared.types.Exchange.{Exchange}
+use Rattle.exchange.specs.declared.types.Hub.{Hub}
+use Rattle.exchange.specs.Answering.{with_held}
+use Rattle.exchange.specs.Passing.{chain_of, with_chain}
+use Rattle.filter_chain.specs.declared.stage.Stage.{Stage}
+use Rattle.filter_chain.specs.declared.item.Ask.{Ask}
+use Rattle.filter_chain.specs.declared.item.Asking.{Asking}
+use Rattle.filter_chain.specs.declared.item.Asking.TheVariants.{Asks}
+use Rattle.filter_chain.specs.Chains.{asked}
+use Rattle.store_model.specs.Program.{Program, done, ask, measure}
+use Rattle.worker.specs.declared.room.Room.{Room}
+use Rattle.worker.specs.declared.types.Asked.{Asked}
+use Rattle.worker.specs.declared.types.Job.{Job}
+use Rattle.worker.specs.declared.types.Line.{Line}
+use Rattle.worker.specs.declared.types.Own.TheVariants as owns
+use Rattle.worker.specs.Moves.{count_of, asks_stage, asks_as, asks_chain, asks_with, asks_in, asks_back, asks_at}
+use Rattle.worker.specs.Rooms.{with_lines, answered_with, valued}
+use Rattle.worker.specs.Steps.{Both, both, Answered, answered, callback_of, number_of, acts_on, goes_on_with, moved_with, works_first}
+use Rattle.flow_laws.specs.Rooms.{IsOn, IsAsked, asked_exchange, question, stage_own, IsMove, moved_room}
+use Rattle.flow_laws.specs.Steps.{Calling, told_count, callback_program, MoveEnds, MovesAreSteps, PutsAreSteps}
+
+-- ---- courses of programs
+
+then_runs : {A B C : Type 0} (p : Program A) (f : A → Course B) (g : B → Course C) → then_do (runs_then p f) g ≡ runs_then p (λ a. then_do (f a) g)
+then_runs (done a) f g = refl
+then_runs (ask vm call k) f g = λ i. asks vm call (λ r. then_runs (k r) f g i)
+then_runs (measure vm call k) f g = λ i. measures vm call (λ r. then_runs (k r) f g i)
+
+record Ran {A B : Type 0} (p : Program A) (h : A → B) (ms : List Met) (b : B) : Type 0 where
+  end : A
+  reached : Reaches (runs_then p ends) ms (ends end)
+  is : b ≡ h end
+
+ran : {A B : Type 0} (p : Program A) (h : A → B) (ms : List Met) (b : B) → Reaches (runs_then p (λ a. ends (h a))) ms (ends b) → Ran p h ms b
+ran (done a) h [] b r = record { end = a; reached = refl; is = sym (cc) }
+ran (done a) h (m ∷ ms) b r = absurd r
+ran (ask vm call k) h [] b r = absurd (cc)
+ran (ask vm call k) h (called c ∷ ms) b r =
+    let later : Ran (k c.reply) h ms b = ran (k c.reply) h ms b r.2 in
+    record { end = later.end; reached = (r.0, r.1, later.reached); is = later.is }
+ran (ask vm call k) h (measured c ∷ ms) b r = absurd r
+ran (ask vm call k) h (heard c ∷ ms) b r = absurd r
+ran (measure vm call k) h [] b r = absurd (cc)
+ran (measure vm call k) h (called c ∷ ms) b r = absurd r
+ran (measure vm call k) h (measured c ∷ ms) b r =
+    let later : Ran (k c.reply) h ms b = ran (k c.reply) h ms b r.2 in
+    record { end = later.end; reached = (r.0, r.1, later.reached); is = later.is }
+ran (measure vm call k) h (heard c ∷ ms) b r = absurd r
+
+-- ---- what is asked
+
+chain_with : (response : Bool) (stages : List Stage) (x : Exchange) → chain_of response (with_chain response stages x) ≡ stages
+chain_with false stages x = refl
+chain_with true stages x = refl
+
+module _ {response : Bool} {n : ℕ} {x : Exchange} {room : Room} (q : IsAsked response n x room) where
+  abbrev the_asked : Asked
+  the_asked = record { vm = q.stage.vm; context = q.stage.context; response = response; line = n; ask = q.ask; count = told_count q }
+
+  abbrev the_lines : List Line
+  the_lines = slice_set room.lines q.on.place (record q.on.line { exchange = Some (asked_exchange q) })
+
+  asks_is : asks_at q.on.place (slice_get room.lines q.on.place) room.lines room.hub ≡ (Some the_asked, the_lines, with_held q.contexts room.hub)
+  asks_is =
+      let hub : Hub = room.hub in
+      let place : ℕ = q.on.place in
+      let line : Line = q.on.line in
+      let to : Option Asked × Exchange × Hub → Option Asked × List Line × Hub = λ r. asks_back place room.lines (asks_with line r) in
+      let stage : slice_get (chain_of response (asked_exchange q)) q.ask.stage ≡ Some q.stage = ap (λ (l : List Stage). slice_get l q.ask.stage) (chain_with response q.stages x) ∙ q.at in
+      ap (λ (l : Option Line). asks_at place l room.lines hub) q.on.at
+      ∙ (ap (λ (e : Option Exchange). asks_back place room.lines (asks_in line e hub)) q.on.exchange
+      ∙ (ap (λ (r : Bool). to (asks_chain r line.number x hub (asked hub.contexts (chain_of r x)))) q.direction
+      ∙ (ap (λ (m : ℕ). to (asks_chain response m x hub (asked hub.contexts (chain_of response x)))) q.on.number
+      ∙ (ap (λ (a : Asking × List Stage × Contexts). to (asks_chain response n x hub a)) q.asks
+      ∙ ap
+      (λ (s : Option Stage).
+      to (asks_stage response n q.ask (told_count q) (option_map (λ (t : Stage). (t.vm, t.context)) s), asked_exchange q, with_held q.contexts hub))
+      stage))))
+
+-- ---- the step
+
+pub moves_are : (H : Type 0) → MovesAreSteps H
+moves_are H = λ calling plan response n x room q host ms b reaches.
+    let a : Asked = the_asked q in
+    let room1 : Room = question q in
+    let p : Program (Called H) = callback_program calling host q in
+    let f : Called H → Answered H = λ c. answered (valued c.end) (both c.host (answered_with a.vm (owns.Stage a.context a.response) c.end c.lines c.contexts room1)) in
+    let h : Called H → Both H = λ c. goes_on_with (acts_on a) (f c) in
+    let is : moved_with calling host room (asks_at q.on.place (slice_get room.lines q.on.place) room.lines room.hub) ≡ runs_then p (λ c. ends (h c))
+    = ap (moved_with calling host room) (asks_is q) ∙ then_runs p (λ c. ends (f c)) (λ c. ends (goes_on_with (acts_on a) c)) in
+    let here : Reaches (runs_then p (λ c. ends (h c))) ms (ends b) = subst (λ (k : Course (Both H)). Reaches k ms (ends b)) is reaches in
+    let end : Ran p h ms b = ran p h ms b here in
+    record {
+      end = end.end;
+      reached = end.reached;
+      moves = λ count m.
+          end.is
+          ∙ ap (λ (e : CallEnd). both end.end.host (acts_on a (valued e) (answered_with a.vm (owns.Stage a.context a.response) e end.end.lines end.end.contexts room1))) m.returned;
+    }
+
+pub puts_are : (H : Type 0) → PutsAreSteps H
+puts_are H = λ calling plan response n items later host room is. ap (λ (l : List Job). works_first calling plan l host room) is
