@@ -1,9 +1,9 @@
 -- What asking, letting go and returning make of what stages hold among the contexts.
-use Rattle.std.proofs.Common.{◌≡◌, ◌<◌, ℕ, zero, suc, Bool, true, false, List, [], ◌∷◌, ◌++◌, length, ap, ◌∙◌, sym, refl, subst, ⊎_elim}
+use Rattle.std.proofs.Common.{◌≡◌, ◌<◌, ◌≤◌, ℕ, zero, suc, Bool, true, false, List, [], ◌∷◌, ◌++◌, length, ap, ◌∙◌, sym, refl, subst, ⊎_elim, arith}
 use Rattle.std.specs.Prelude.{Option, None, Some, slice_get, slice_set, slice_index_or, drop}
 use Rattle.std.specs.Option.{option_map}
 use Rattle.std.proofs.Math.ListN.{length-set}
-use Rattle.std.proofs.lemmas.Bool.{cases_eq}
+use Rattle.std.proofs.lemmas.Bool.{cases_eq, cases_lt}
 use Rattle.std.proofs.lemmas.List.{append-nil}
 use Rattle.contexts.specs.declared.parts.Stage as parts
 use Rattle.contexts.specs.declared.parts.Context.{Context}
@@ -212,3 +212,42 @@ there_by_vms b c (s ∷ ss) same there = (
   (subst (λ (vms : List VmContexts). s.vm < length vms) (sym same) there.0.0, there.0.1, own_by_vms b c s.vm s.context same ∙ there.0.2),
   there_by_vms b c ss same there.1,
 )
+
+-- ---- other stages, whether the context of the changed one is there or not
+
+index_past : (vms : List VmContexts) (vm : ℕ) → length vms ≤ vm → slice_index_or vms vm no_vm ≡ no_vm
+index_past [] vm past = refl
+index_past (v ∷ vms) zero past = absurd (omega arith)
+index_past (v ∷ vms) (suc vm) past = index_past vms vm (omega arith)
+
+there_within : (h : Contexts) (vm e : ℕ) (o : Own) → own_at h vm e ≡ Some o → vm < length h.vms
+there_within h vm e o is =
+    ⊎_elim (λ (less : vm < length h.vms). less)
+    (λ (past : length h.vms ≤ vm).
+    let none : own_at h vm e ≡ None
+    = own_mapped h (vm_in h vm) (context_in h vm e) ∙ ap (λ (v : VmContexts). option_map (λ (k : Context). k.own) (found context_no e v.contexts)) (index_past h.vms vm past) in
+    let both : None ≡ Some o = sym none ∙ is in
+    absurd (cc both))
+    (cases_lt vm (length h.vms))
+
+none_held : (f : parts.Stage → parts.Stage) (h : Contexts) (t : Stage) (o : Own) (ss : List Stage) → own_at h t.vm t.context ≡ Some o → NoneIs t ss
+    → HoldSame h (stage_changed f h t.vm t.context t.response) ss
+none_held f h t o [] is none = tt
+none_held f h t o (s ∷ ss) is none = (
+  holds_its_own.others f h t.vm t.context t.response s.vm s.context s.response (there_within h t.vm t.context o is) none.0,
+  none_held f h t o ss is none.1,
+)
+
+pub hold_other : (f : parts.Stage → parts.Stage) (h : Contexts) (t : Stage) (ss : List Stage) → NoneIs t ss → HoldSame h (stage_changed f h t.vm t.context t.response) ss
+hold_other f h t ss none = by_own (own_at h t.vm t.context) refl
+  where
+    by_own : (o : Option Own) → own_at h t.vm t.context ≡ o → HoldSame h (stage_changed f h t.vm t.context t.response) ss
+    by_own None is = subst (λ (p : Option Own). HoldSame h (stage_after f h t.vm t.context t.response p) ss) (sym is) (hold_all h ss)
+    by_own (Some o) is = none_held f h t o ss is none
+
+pub there_other : (f : parts.Stage → parts.Stage) (h : Contexts) (t : Stage) (ss : List Stage) → AreThere h ss → AreThere (stage_changed f h t.vm t.context t.response) ss
+there_other f h t ss there = by_own (own_at h t.vm t.context) refl
+  where
+    by_own : (o : Option Own) → own_at h t.vm t.context ≡ o → AreThere (stage_changed f h t.vm t.context t.response) ss
+    by_own None is = subst (λ (p : Option Own). AreThere (stage_after f h t.vm t.context t.response p) ss) (sym is) there
+    by_own (Some o) is = all_there f h t.vm t.context t.response ss (there_within h t.vm t.context o is, o, is) there

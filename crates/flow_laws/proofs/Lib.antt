@@ -11,3 +11,4 @@ pub mod Deeds
 pub mod Lines
 pub mod Rooms
 pub mod Moving
+pub mod Apart

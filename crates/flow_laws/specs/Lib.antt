@@ -5,4 +5,5 @@ pub mod Deeds
 pub mod Exchanges
 pub mod Rooms
 pub mod Workers
+pub mod Apart
 pub mod Steps

@@ -1,4 +1,5 @@
 // What flows through one direction of an exchange. The functions have nothing to do: their contracts are the laws.
+ghost use Rattle.flow_laws.specs.Apart.{ExchangesPassBy};
 ghost use Rattle.flow_laws.specs.Examples.{ExchangeExamples, PassThroughExamples};
 ghost use Rattle.flow_laws.specs.Exchanges.{ExchangesPassBodies};
 ghost use Rattle.flow_laws.specs.PassThrough.{BodiesPassThrough};
@@ -29,6 +30,11 @@ pub fn workers_pass_bodies<H>()
 pub fn moves_are_steps<H>()
     ensures moves { MovesAreSteps H }
     ensures puts { PutsAreSteps H }
+{}
+
+/// Whatever is done to an exchange passes by stages that are none of its own: they hold what they held.
+pub fn exchanges_pass_by()
+    ensures { ExchangesPassBy }
 {}
 
 /// Two filters, worked: three pieces of which the second filter changes one, and a head that the first filter holds. And an exchange, whose filter

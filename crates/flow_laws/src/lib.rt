@@ -4,5 +4,6 @@
 mod laws;
 
 pub use laws::{
-    bodies_pass_through, exchanges_pass_bodies, moves_are_steps, worked_bodies, workers_pass_bodies,
+    bodies_pass_through, exchanges_pass_bodies, exchanges_pass_by, moves_are_steps, worked_bodies,
+    workers_pass_bodies,
 };
