@@ -31,17 +31,17 @@ by_bool P false a c here there = there refl
 
 -- ---- among the contexts
 
-record Holds (ss : List Stage) (b c : Contexts) : Type 0 where
-  holds : HoldSame b c ss
-  there : AreThere b ss → AreThere c ss
+pub record Holds (ss : List Stage) (b c : Contexts) : Type 0 where
+  pub holds : HoldSame b c ss
+  pub there : AreThere b ss → AreThere c ss
 
-same : (ss : List Stage) (b : Contexts) → Holds ss b b
+pub same : (ss : List Stage) (b : Contexts) → Holds ss b b
 same ss b = record { holds = hold_all b ss; there = λ t. t }
 
-next : (ss : List Stage) (b c d : Contexts) → Holds ss b c → Holds ss c d → Holds ss b d
+pub next : (ss : List Stage) (b c d : Contexts) → Holds ss b c → Holds ss c d → Holds ss b d
 next ss b c d one two = record { holds = hold_then b c d ss one.holds two.holds; there = λ t. two.there (one.there t) }
 
-by_vms : (ss : List Stage) (b c : Contexts) → c.vms ≡ b.vms → Holds ss b c
+pub by_vms : (ss : List Stage) (b c : Contexts) → c.vms ≡ b.vms → Holds ss b c
 by_vms ss b c is = record { holds = hold_by_vms b c ss is; there = there_by_vms b c ss is }
 
 clears : (ss : List Stage) (b : Contexts) (ts : List Stage) → AreAliens ss ts → Holds ss b (cleared b ts)
@@ -53,7 +53,7 @@ clears ss b (t ∷ ts) alien =
 lets_go : (ss : List Stage) (b : Contexts) (s : Stage) → NoneIs s ss → Holds ss b (without_held b s)
 lets_go ss b s none = by_bool (Holds ss b) (holds_bytes s.held) _ b (λ e. record { holds = hold_other nothing b s ss none; there = there_other nothing b s ss }) (λ e. same ss b)
 
-alien_at : (ss ts : List Stage) (k : ℕ) (s : Stage) → slice_get ts k ≡ Some s → AreAliens ss ts → NoneIs s ss
+pub alien_at : (ss ts : List Stage) (k : ℕ) (s : Stage) → slice_get ts k ≡ Some s → AreAliens ss ts → NoneIs s ss
 alien_at ss [] k s at alien = absurd (cc)
 alien_at ss (x ∷ xs) zero s at alien =
     let here : x ≡ s = (cc) in
@@ -86,15 +86,15 @@ alien_handed ss h n items to stages changed old new =
 pub alien_put : (ss : List Stage) (h : Contexts) (item : Item) (ts : List Stage) → AreAliens ss ts → AreAliens ss (put h item ts).1
 alien_put ss h item ts alien = alien_handed ss h (size (item ∷ [])) (item ∷ []) (target 0 ts) ts ts alien alien
 
-record Chained (ss : List Stage) (b : Contexts) (r : Passed × List Stage × Contexts) : Type 0 where
-  alien : AreAliens ss r.1
-  holds : Holds ss b r.2
+pub record Chained (ss : List Stage) (b : Contexts) (r : Passed × List Stage × Contexts) : Type 0 where
+  pub alien : AreAliens ss r.1
+  pub holds : Holds ss b r.2
 
 unless : (ss : List Stage) (b c : Contexts) (r : Passed × List Stage) → AreAliens ss r.1 → Holds ss b c → Chained ss b (unless_over b c r)
 unless ss b c (passed.Over, stages) alien holds = record { alien = alien; holds = same ss b }
 unless ss b c (passed.Left items, stages) alien holds = record { alien = alien; holds = holds }
 
-continues : (ss : List Stage) (b : Contexts) (k : ℕ) (ts : List Stage) → AreAliens ss ts → Chained ss b (continued b k ts)
+pub continues : (ss : List Stage) (b : Contexts) (k : ℕ) (ts : List Stage) → AreAliens ss ts → Chained ss b (continued b k ts)
 continues ss b k ts alien = by_stage (slice_get ts k) refl
   where
     by_stage : (o : Option Stage) → slice_get ts k ≡ o → Chained ss b (continued_at b k ts o)
@@ -117,7 +117,7 @@ lets ss b k ts alien = by_stage (slice_get ts k) refl
         (alien_set ss ts k (opened s) none alien))
         (lets_go ss b s none)
 
-pauses_by : (ss : List Stage) (b : Contexts) (k : ℕ) (ts : List Stage) → AreAliens ss ts → Holds ss b (paused b k ts)
+pub pauses_by : (ss : List Stage) (b : Contexts) (k : ℕ) (ts : List Stage) → AreAliens ss ts → Holds ss b (paused b k ts)
 pauses_by ss b k ts alien = by_stage (slice_get ts k) refl
   where
     by_stage : (o : Option Stage) → slice_get ts k ≡ o → Holds ss b (paused_at b o)

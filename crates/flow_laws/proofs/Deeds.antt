@@ -82,12 +82,12 @@ takes : (response : Bool) (x : Exchange) → x.has_ended ≡ false → x.is_answ
 takes false x runs unanswered = λ i. runs i || (true && unanswered i)
 takes true x runs unanswered = ap (λ b. b || (false && x.is_answered)) runs
 
-puts_is : (response : Bool) (n : ℕ) (item : Item) (x : Exchange) (hub : Hub) → x.has_ended ≡ false → x.is_answered ≡ false
+pub puts_is : (response : Bool) (n : ℕ) (item : Item) (x : Exchange) (hub : Hub) → x.has_ended ≡ false → x.is_answered ≡ false
     → puts response n item (x, hub) ≡ put_went response n x hub (put hub.contexts item (chain_of response x))
 puts_is response n item x hub runs unanswered =
     ap (λ b. if b then (x, hub) else put_went response n x hub (put hub.contexts item (chain_of response x))) (takes response x runs unanswered)
 
-goes_is : (response : Bool) (n k : ℕ) (x : Exchange) (hub : Hub) → x.has_ended ≡ false → goes_on response n k x hub ≡ went response n x hub (continued hub.contexts k (chain_of response x))
+pub goes_is : (response : Bool) (n k : ℕ) (x : Exchange) (hub : Hub) → x.has_ended ≡ false → goes_on response n k x hub ≡ went response n x hub (continued hub.contexts k (chain_of response x))
 goes_is response n k x hub runs = ap (λ b. if b then (x, hub) else went response n x hub (continued hub.contexts k (chain_of response x))) runs
 
 goes_stands : (response : Bool) (n k : ℕ) (due : Option Ask) (x : Exchange) (hub : Hub) → x.has_ended ≡ false → IsLeft (continued hub.contexts k (chain_of response x)).0

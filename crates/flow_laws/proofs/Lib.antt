@@ -12,3 +12,4 @@ pub mod Lines
 pub mod Rooms
 pub mod Moving
 pub mod Apart
+pub mod Besides

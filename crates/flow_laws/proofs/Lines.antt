@@ -16,7 +16,7 @@ use Rattle.flow_laws.specs.Rooms.{IsOn}
 
 -- ---- lists
 
-get_set : {A : Type 0} (xs : List A) (i : ℕ) (x y : A) → slice_get xs i ≡ Some x → slice_get (slice_set xs i y) i ≡ Some y
+pub get_set : {A : Type 0} (xs : List A) (i : ℕ) (x y : A) → slice_get xs i ≡ Some x → slice_get (slice_set xs i y) i ≡ Some y
 get_set [] i x y at = absurd (cc)
 get_set (z ∷ xs) zero x y at = refl
 get_set (z ∷ xs) (suc i) x y at = get_set xs i x y at
@@ -29,7 +29,7 @@ position_set p (z ∷ xs) zero x y at same =
     ap (λ (b : Bool). cond (not b) (1 + position_or_len p xs) 0) first
 position_set p (z ∷ xs) (suc i) x y at same = ap (λ (m : ℕ). cond (not (p z)) (1 + m) 0) (position_set p xs i x y at same)
 
-place_set : (n : ℕ) (lines : List Line) (place : ℕ) (line new : Line) → slice_get lines place ≡ Some line → new.number ≡ line.number → place_in n (slice_set lines place new) ≡ place_in n lines
+pub place_set : (n : ℕ) (lines : List Line) (place : ℕ) (line new : Line) → slice_get lines place ≡ Some line → new.number ≡ line.number → place_in n (slice_set lines place new) ≡ place_in n lines
 place_set n lines place line new at same =
     let p : Line → Bool = λ (l : Line). l.number == n in
     let one : position_or_len p (slice_set lines place new) ≡ position_or_len p lines = position_set p lines place line new at (ap (λ m. m == n) same) in

@@ -6,4 +6,5 @@ pub mod Exchanges
 pub mod Rooms
 pub mod Workers
 pub mod Apart
+pub mod Besides
 pub mod Steps

@@ -1,5 +1,6 @@
 // What flows through one direction of an exchange. The functions have nothing to do: their contracts are the laws.
 ghost use Rattle.flow_laws.specs.Apart.{ExchangesPassBy};
+ghost use Rattle.flow_laws.specs.Besides.{OtherLinesLeave, OtherDirectionLeaves, QuietStepsLeave};
 ghost use Rattle.flow_laws.specs.Examples.{ExchangeExamples, PassThroughExamples};
 ghost use Rattle.flow_laws.specs.Exchanges.{ExchangesPassBodies};
 ghost use Rattle.flow_laws.specs.PassThrough.{BodiesPassThrough};
@@ -35,6 +36,14 @@ pub fn moves_are_steps<H>()
 /// Whatever is done to an exchange passes by stages that are none of its own: they hold what they held.
 pub fn exchanges_pass_by()
     ensures { ExchangesPassBy }
+{}
+
+/// What a worker does on other lines, in the other direction of the exchange, and in steps that touch no line, leaves a direction as it was, where no
+/// stage is in two chains.
+pub fn directions_are_left()
+    ensures lines { OtherLinesLeave }
+    ensures direction { OtherDirectionLeaves }
+    ensures steps { QuietStepsLeave }
 {}
 
 /// Two filters, worked: three pieces of which the second filter changes one, and a head that the first filter holds. And an exchange, whose filter
