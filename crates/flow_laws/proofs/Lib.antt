@@ -7,6 +7,7 @@ pub mod Asks
 pub mod Steps
 pub mod Through
 pub mod Examples
+pub mod RoomExamples
 pub mod Deeds
 pub mod Lines
 pub mod Rooms

@@ -7,4 +7,5 @@ pub mod Rooms
 pub mod Workers
 pub mod Apart
 pub mod Besides
+pub mod RoomExamples
 pub mod Steps

@@ -4,6 +4,7 @@ ghost use Rattle.flow_laws.specs.Besides.{OtherLinesLeave, OtherDirectionLeaves,
 ghost use Rattle.flow_laws.specs.Examples.{ExchangeExamples, PassThroughExamples};
 ghost use Rattle.flow_laws.specs.Exchanges.{ExchangesPassBodies};
 ghost use Rattle.flow_laws.specs.PassThrough.{BodiesPassThrough};
+ghost use Rattle.flow_laws.specs.RoomExamples.{RoomExample};
 ghost use Rattle.flow_laws.specs.Steps.{MovesAreSteps, PutsAreSteps};
 ghost use Rattle.flow_laws.specs.Workers.{WorkersPassBodies, LastStagesPass, UnchangedPass};
 
@@ -51,4 +52,5 @@ pub fn directions_are_left()
 pub fn worked_bodies()
     ensures chains { PassThroughExamples }
     ensures exchanges { ExchangeExamples }
+    ensures room { RoomExample }
 {}

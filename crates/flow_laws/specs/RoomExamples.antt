@@ -1,0 +1,36 @@
+-- A worked example: a worker whose filter changes the body of a request.
+use Rattle.std.specs.Prelude.{◌≡◌, ℕ, Bool, true, false, List, [], ◌∷◌, Option, None, Some, codes}
+use Rattle.exchange.specs.declared.types.Exchange.{Exchange}
+use Rattle.filter_chain.specs.declared.item.Item.TheVariants.{Head, Piece}
+use Rattle.filter_chain.specs.Items.{joined}
+use Rattle.http1_model.specs.Unread.{new_reading}
+use Rattle.worker.specs.declared.room.Room.{Room}
+use Rattle.worker.specs.declared.types.Line.{Line}
+use Rattle.flow_laws.specs.Deeds.{standing, left_by}
+use Rattle.flow_laws.specs.Examples.{upload_start}
+use Rattle.flow_laws.specs.PassThrough.{IsInOrder, IsNew, has_end}
+use Rattle.flow_laws.specs.Rooms.{IsOn, running, Run, run_deeds, run_items, run_buffers}
+
+-- line 1 alone, with an exchange that begins, whose request has one filter
+abbrev pub upload_room : Room
+upload_room = record {
+  lines = record { number = 1; requests = new_reading None; is_gone = false; exchange = Some upload_start.exchange } ∷ [];
+  hub = upload_start.hub;
+  reading = None;
+  jobs = [];
+  agenda = [];
+  waits = [];
+  dead = [];
+  is_begun = true;
+}
+
+-- The head is put, and the filter lets it go on; a piece of two bytes is put, and the filter writes three in its place and lets it go on.
+pub record RoomExample : Type 0 where
+  pub last : Exchange
+  pub after : Room
+  pub run : Run ℕ false 1 1 upload_start.exchange upload_room last after
+  pub starts_new : IsNew (standing false (running None upload_start.exchange upload_room))
+  pub items : run_items run ≡ Head false ∷ Piece (codes "ab") true ∷ []
+  pub buffers : run_buffers 0 run ≡ codes "XYZ"
+  pub passed : joined (left_by false 1 (run_deeds run) (running None upload_start.exchange upload_room)) ≡ codes "XYZ"
+  pub ended : has_end (left_by false 1 (run_deeds run) (running None upload_start.exchange upload_room)) ≡ true
