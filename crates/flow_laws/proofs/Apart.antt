@@ -60,7 +60,7 @@ alien_at ss (x ∷ xs) zero s at alien =
     subst (λ (y : Stage). NoneIs y ss) here alien.0
 alien_at ss (x ∷ xs) (suc k) s at alien = alien_at ss xs k s at alien.1
 
-alien_set : (ss ts : List Stage) (k : ℕ) (t : Stage) → NoneIs t ss → AreAliens ss ts → AreAliens ss (slice_set ts k t)
+pub alien_set : (ss ts : List Stage) (k : ℕ) (t : Stage) → NoneIs t ss → AreAliens ss ts → AreAliens ss (slice_set ts k t)
 alien_set ss [] k t none alien = tt
 alien_set ss (x ∷ xs) zero t none alien = (none, alien.1)
 alien_set ss (x ∷ xs) (suc k) t none alien = (alien.0, alien_set ss xs k t none alien.1)
@@ -134,10 +134,10 @@ By ss hub xh = PassesBy ss hub xh.0 xh.1
 stays : (ss : List Stage) (x : Exchange) (hub : Hub) → IsAlien ss x → By ss hub (x, hub)
 stays ss x hub alien = record { holds = hold_all hub.contexts ss; there = λ t. t; alien = alien }
 
-and_then : (ss : List Stage) (y : Exchange) (hub mid after : Hub) (z : Exchange) → PassesBy ss hub y mid → PassesBy ss mid z after → PassesBy ss hub z after
+pub and_then : (ss : List Stage) (y : Exchange) (hub mid after : Hub) (z : Exchange) → PassesBy ss hub y mid → PassesBy ss mid z after → PassesBy ss hub z after
 and_then ss y hub mid after z a b = record { holds = hold_then hub.contexts mid.contexts after.contexts ss a.holds b.holds; there = λ t. b.there (a.there t); alien = b.alien }
 
-held_by : (ss : List Stage) (y : Exchange) (hub after : Hub) → Holds ss hub.contexts after.contexts → IsAlien ss y → PassesBy ss hub y after
+pub held_by : (ss : List Stage) (y : Exchange) (hub after : Hub) → Holds ss hub.contexts after.contexts → IsAlien ss y → PassesBy ss hub y after
 held_by ss y hub after holds alien = record { holds = holds.holds; there = holds.there; alien = alien }
 
 leaves_by : (ss : List Stage) (response : Bool) (n : ℕ) (item : Item) (x : Exchange) (hub : Hub) → IsAlien ss x → By ss hub (leaves response n item (x, hub))
@@ -229,15 +229,15 @@ answer_by ss n shuts status fields body x hub alien =
 
 -- ---- what is read, goes on, or is let through
 
-alien_with : (ss : List Stage) (response : Bool) (stages : List Stage) (x : Exchange) → AreAliens ss stages → IsAlien ss x → IsAlien ss (with_chain response stages x)
+pub alien_with : (ss : List Stage) (response : Bool) (stages : List Stage) (x : Exchange) → AreAliens ss stages → IsAlien ss x → IsAlien ss (with_chain response stages x)
 alien_with ss false stages x new alien = record { request = new; response = alien.response }
 alien_with ss true stages x new alien = record { request = alien.request; response = new }
 
-alien_chain : (ss : List Stage) (response : Bool) (x : Exchange) → IsAlien ss x → AreAliens ss (chain_of response x)
+pub alien_chain : (ss : List Stage) (response : Bool) (x : Exchange) → IsAlien ss x → AreAliens ss (chain_of response x)
 alien_chain ss false x alien = alien.request
 alien_chain ss true x alien = alien.response
 
-passed_on_by : (ss : List Stage) (response : Bool) (n : ℕ) (p : Passed) (x : Exchange) (hub : Hub) → IsAlien ss x → By ss hub (passed_on response n p x hub)
+pub passed_on_by : (ss : List Stage) (response : Bool) (n : ℕ) (p : Passed) (x : Exchange) (hub : Hub) → IsAlien ss x → By ss hub (passed_on response n p x hub)
 passed_on_by ss false n passed.Over x hub alien = answer_by ss n true 413 [] [] x hub alien
 passed_on_by ss false n (passed.Left items) x hub alien = left_by ss false n items x hub alien
 passed_on_by ss true n p x hub alien = passed_down_by ss n p x hub alien

@@ -37,7 +37,7 @@ use Rattle.flow_laws.proofs.Lines.{with_exchange, on_set, on_number_is, on_conte
 
 -- ---- a room with the same lines
 
-stays : (response : Bool) (n : ℕ) (x : Exchange) (room : Room) → IsOn n room x → IsWhole response x room → Leaves response n x room x room
+pub stays : (response : Bool) (n : ℕ) (x : Exchange) (room : Room) → IsOn n room x → IsWhole response x room → Leaves response n x room x room
 stays response n x room on whole = record { on = on; chain = refl; holds = hold_all room.hub.contexts (chain_of response x); there = whole }
 
 leaves_as : (response : Bool) (n : ℕ) (x y : Exchange) (room after other : Room) → after ≡ other → Leaves response n x room y other → Leaves response n x room y after
@@ -53,7 +53,7 @@ get_other (z ∷ xs) (suc i) zero x y at apart = at
 get_other (z ∷ xs) (suc i) (suc j) x y at apart = get_other xs i j x y at (λ e. apart (ap suc e))
 
 -- another line is set
-on_other : (n : ℕ) (room : Room) (x : Exchange) (on : IsOn n room x) (place : ℕ) (line new : Line) (hub : Hub) → slice_get room.lines place ≡ Some line → new.number ≡ line.number
+pub on_other : (n : ℕ) (room : Room) (x : Exchange) (on : IsOn n room x) (place : ℕ) (line new : Line) (hub : Hub) → slice_get room.lines place ≡ Some line → new.number ≡ line.number
     → (place ≡ on.place → ⊥) → IsOn n (record room { lines = slice_set room.lines place new; hub = hub }) x
 on_other n room x on place line new hub at number apart = record {
   place = on.place;

@@ -14,3 +14,4 @@ pub mod Rooms
 pub mod Moving
 pub mod Apart
 pub mod Besides
+pub mod Effects

@@ -152,7 +152,7 @@ other_told : (response : Bool) (n count : ℕ) (due : Option Ask) (x : Exchange)
 other_told response n count due x room y after keeps (wakes w) = wakes_told response n count due x room y after keeps w
 other_told response n count due x room y after keeps (leaves l) = leaves_told response n count due x room y after l
 
-other_on : (response : Bool) (n count : ℕ) (due : Option Ask) (x : Exchange) (room : Room) (y : Exchange) (after : Room) → Other response n count due x room y after → IsOn n after y
+pub other_on : (response : Bool) (n count : ℕ) (due : Option Ask) (x : Exchange) (room : Room) (y : Exchange) (after : Room) → Other response n count due x room y after → IsOn n after y
 other_on response n count due x room y after (wakes w) = wakes_on response n count due x room y after w
 other_on response n count due x room y after (leaves l) = l.on
 

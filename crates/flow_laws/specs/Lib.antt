@@ -8,4 +8,5 @@ pub mod Workers
 pub mod Apart
 pub mod Besides
 pub mod RoomExamples
+pub mod Effects
 pub mod Steps

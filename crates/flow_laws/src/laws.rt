@@ -1,6 +1,7 @@
 // What flows through one direction of an exchange. The functions have nothing to do: their contracts are the laws.
 ghost use Rattle.flow_laws.specs.Apart.{ExchangesPassBy};
 ghost use Rattle.flow_laws.specs.Besides.{OtherLinesLeave, OtherDirectionLeaves, QuietStepsLeave};
+ghost use Rattle.flow_laws.specs.Effects.{AskingElsewhereLeaves, CallbacksAreRuns, MildEffectsAreOthers};
 ghost use Rattle.flow_laws.specs.Examples.{ExchangeExamples, PassThroughExamples};
 ghost use Rattle.flow_laws.specs.Exchanges.{ExchangesPassBodies};
 ghost use Rattle.flow_laws.specs.PassThrough.{BodiesPassThrough};
@@ -45,6 +46,14 @@ pub fn directions_are_left()
     ensures lines { OtherLinesLeave }
     ensures direction { OtherDirectionLeaves }
     ensures steps { QuietStepsLeave }
+{}
+
+/// Callbacks of others are what the law takes a worker to do besides, where they leave what the direction's stages hold as it was, and their effects
+/// neither close nor answer the exchange. So is asking on another line.
+pub fn callbacks_of_others<H>()
+    ensures effects { MildEffectsAreOthers }
+    ensures callbacks { CallbacksAreRuns H }
+    ensures asking { AskingElsewhereLeaves }
 {}
 
 /// Two filters, worked: three pieces of which the second filter changes one, and a head that the first filter holds. And an exchange, whose filter
