@@ -45,7 +45,7 @@ leaves_as response n x y room after other is l = subst (λ (q : Room). Leaves re
 
 -- ---- other lines
 
-get_other : {A : Type 0} (xs : List A) (i j : ℕ) (x y : A) → slice_get xs j ≡ Some x → (i ≡ j → ⊥) → slice_get (slice_set xs i y) j ≡ Some x
+pub get_other : {A : Type 0} (xs : List A) (i j : ℕ) (x y : A) → slice_get xs j ≡ Some x → (i ≡ j → ⊥) → slice_get (slice_set xs i y) j ≡ Some x
 get_other [] i j x y at apart = absurd (cc)
 get_other (z ∷ xs) zero zero x y at apart = absurd (apart refl)
 get_other (z ∷ xs) zero (suc j) x y at apart = at
@@ -53,7 +53,7 @@ get_other (z ∷ xs) (suc i) zero x y at apart = at
 get_other (z ∷ xs) (suc i) (suc j) x y at apart = get_other xs i j x y at (λ e. apart (ap suc e))
 
 -- another line is set
-pub on_other : (n : ℕ) (room : Room) (x : Exchange) (on : IsOn n room x) (place : ℕ) (line new : Line) (hub : Hub) → slice_get room.lines place ≡ Some line → new.number ≡ line.number
+abbrev pub on_other : (n : ℕ) (room : Room) (x : Exchange) (on : IsOn n room x) (place : ℕ) (line new : Line) (hub : Hub) → slice_get room.lines place ≡ Some line → new.number ≡ line.number
     → (place ≡ on.place → ⊥) → IsOn n (record room { lines = slice_set room.lines place new; hub = hub }) x
 on_other n room x on place line new hub at number apart = record {
   place = on.place;

@@ -15,3 +15,4 @@ pub mod Moving
 pub mod Apart
 pub mod Besides
 pub mod Effects
+pub mod Readings

@@ -9,4 +9,5 @@ pub mod Apart
 pub mod Besides
 pub mod RoomExamples
 pub mod Effects
+pub mod Readings
 pub mod Steps

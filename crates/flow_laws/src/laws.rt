@@ -5,6 +5,7 @@ ghost use Rattle.flow_laws.specs.Effects.{AskingElsewhereLeaves, CallbacksAreRun
 ghost use Rattle.flow_laws.specs.Examples.{ExchangeExamples, PassThroughExamples};
 ghost use Rattle.flow_laws.specs.Exchanges.{ExchangesPassBodies};
 ghost use Rattle.flow_laws.specs.PassThrough.{BodiesPassThrough};
+ghost use Rattle.flow_laws.specs.Readings.{ReadingLeaves};
 ghost use Rattle.flow_laws.specs.RoomExamples.{RoomExample};
 ghost use Rattle.flow_laws.specs.Steps.{MovesAreSteps, PutsAreSteps};
 ghost use Rattle.flow_laws.specs.Workers.{WorkersPassBodies, LastStagesPass, UnchangedPass};
@@ -54,6 +55,11 @@ pub fn callbacks_of_others<H>()
     ensures effects { MildEffectsAreOthers }
     ensures callbacks { CallbacksAreRuns H }
     ensures asking { AskingElsewhereLeaves }
+{}
+
+/// A reading step leaves a direction as it was, where no exchange begins by it on the line.
+pub fn reading_leaves_directions<H>()
+    ensures { ReadingLeaves H }
 {}
 
 /// Two filters, worked: three pieces of which the second filter changes one, and a head that the first filter holds. And an exchange, whose filter
