@@ -115,24 +115,28 @@ effects_seen response n count due vm own (e ∷ es) x room mild =
 
 -- ---- callbacks
 
-others_run : (H : Type 0) (response : Bool) (n count vm : ℕ) (own : Own) (es : List Effect) (x : Exchange) (room : Room) (z : Exchange) → Others response n count None vm own es x room z
+pub others_run : (H : Type 0) (response : Bool) (n count vm : ℕ) (own : Own) (es : List Effect) (x : Exchange) (room : Room) (z : Exchange) → Others response n count None vm own es x room z
     → Run H response n count x room z (effects_of vm own es room)
 others_run H response n count vm own [] x room z are = subst (λ (y : Exchange). Run H response n count x room y room) (sym are.0) (rests x room)
 others_run H response n count vm own (e ∷ es) x room z are =
     goes (others are.0 (does vm own e.context e.what room) are.1) (others_run H response n count vm own es are.0 (does vm own e.context e.what room) z are.2)
 
+-- the callback has returned, and its effects are still to be done
+pub quietly : {H : Type 0} (response : Bool) (n : ℕ) (c : Called H) (x : Exchange) (room : Room) → IsOn n room x → HoldSame room.hub.contexts c.contexts (chain_of response x)
+    → AreThere c.contexts (chain_of response x) → Leaves response n x room x (quiet_room c room)
+quietly response n c x room on holds there = record {
+  on = record { place = on.place; line = on.line; stands = on.stands; at = on.at; number = on.number; exchange = on.exchange };
+  chain = refl;
+  holds = hold_then room.hub.contexts c.contexts (quiet_room c room).hub.contexts (chain_of response x) holds
+      (hold_by_vms c.contexts (quiet_room c room).hub.contexts (chain_of response x) refl);
+  there = there_by_vms c.contexts (quiet_room c room).hub.contexts (chain_of response x) refl there;
+}
+
 pub callbacks_are : (H : Type 0) → CallbacksAreRuns H
 callbacks_are H = λ response n count vm own c value x room on holds there mild.
     let mid : Room = quiet_room c room in
-    let l : Leaves response n x room x mid
-    = record {
-      on = record { place = on.place; line = on.line; stands = on.stands; at = on.at; number = on.number; exchange = on.exchange };
-      chain = refl;
-      holds = hold_then room.hub.contexts c.contexts mid.hub.contexts (chain_of response x) holds (hold_by_vms c.contexts mid.hub.contexts (chain_of response x) refl);
-      there = there_by_vms c.contexts mid.hub.contexts (chain_of response x) refl there;
-    } in
     let seen : (z : Exchange) × Others response n count None vm own c.contexts.effects x mid z = effects_seen response n count None vm own c.contexts.effects x mid mild in
-    (seen.0, goes (others x mid (leaves l)) (others_run H response n count vm own c.contexts.effects x mid seen.0 seen.1))
+    (seen.0, goes (others x mid (leaves (quietly response n c x room on holds there))) (others_run H response n count vm own c.contexts.effects x mid seen.0 seen.1))
 
 -- ---- asking on another line
 

@@ -16,3 +16,4 @@ pub mod Apart
 pub mod Besides
 pub mod Effects
 pub mod Readings
+pub mod Elsewhere

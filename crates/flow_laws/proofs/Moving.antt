@@ -22,7 +22,8 @@ use Rattle.worker.specs.declared.types.Line.{Line}
 use Rattle.worker.specs.declared.types.Own.TheVariants as owns
 use Rattle.worker.specs.Moves.{count_of, asks_stage, asks_as, asks_chain, asks_with, asks_in, asks_back, asks_at}
 use Rattle.worker.specs.Rooms.{with_lines, answered_with, valued}
-use Rattle.worker.specs.Steps.{Both, both, Answered, answered, callback_of, number_of, acts_on, goes_on_with, moved_with, works_first}
+use Rattle.worker.specs.Steps.{Both, both, Answered, answered, callback_of, number_of, acts_on, goes_on_with, moved_with, move_at, works_first}
+use Rattle.flow_laws.specs.Elsewhere.{asked_program}
 use Rattle.flow_laws.specs.Rooms.{IsOn, IsAsked, asked_exchange, question, stage_own, IsMove, moved_room}
 use Rattle.flow_laws.specs.Steps.{Calling, told_count, callback_program, MoveEnds, MovesAreSteps, PutsAreSteps}
 
@@ -33,10 +34,10 @@ then_runs (done a) f g = refl
 then_runs (ask vm call k) f g = λ i. asks vm call (λ r. then_runs (k r) f g i)
 then_runs (measure vm call k) f g = λ i. measures vm call (λ r. then_runs (k r) f g i)
 
-record Ran {A B : Type 0} (p : Program A) (h : A → B) (ms : List Met) (b : B) : Type 0 where
-  end : A
-  reached : Reaches (runs_then p ends) ms (ends end)
-  is : b ≡ h end
+pub record Ran {A B : Type 0} (p : Program A) (h : A → B) (ms : List Met) (b : B) : Type 0 where
+  pub end : A
+  pub reached : Reaches (runs_then p ends) ms (ends end)
+  pub is : b ≡ h end
 
 ran : {A B : Type 0} (p : Program A) (h : A → B) (ms : List Met) (b : B) → Reaches (runs_then p (λ a. ends (h a))) ms (ends b) → Ran p h ms b
 ran (done a) h [] b r = record { end = a; reached = refl; is = sym (cc) }
@@ -61,13 +62,13 @@ chain_with false stages x = refl
 chain_with true stages x = refl
 
 module _ {response : Bool} {n : ℕ} {x : Exchange} {room : Room} (q : IsAsked response n x room) where
-  abbrev the_asked : Asked
+  abbrev pub the_asked : Asked
   the_asked = record { vm = q.stage.vm; context = q.stage.context; response = response; line = n; ask = q.ask; count = told_count q }
 
-  abbrev the_lines : List Line
+  abbrev pub the_lines : List Line
   the_lines = slice_set room.lines q.on.place (record q.on.line { exchange = Some (asked_exchange q) })
 
-  asks_is : asks_at q.on.place (slice_get room.lines q.on.place) room.lines room.hub ≡ (Some the_asked, the_lines, with_held q.contexts room.hub)
+  pub asks_is : asks_at q.on.place (slice_get room.lines q.on.place) room.lines room.hub ≡ (Some the_asked, the_lines, with_held q.contexts room.hub)
   asks_is =
       let hub : Hub = room.hub in
       let place : ℕ = q.on.place in
@@ -86,23 +87,32 @@ module _ {response : Bool} {n : ℕ} {x : Exchange} {room : Room} (q : IsAsked r
 
 -- ---- the step
 
+-- of any stage that is asked
+abbrev pub behind_it : {H : Type 0} → Asked → Room → Called H → Both H
+behind_it a room c = both c.host (acts_on a (valued c.end) (answered_with a.vm (owns.Stage a.context a.response) c.end c.lines c.contexts room))
+
+pub move_ran : {H : Type 0} (calling : Calling H) (place : ℕ) (host : H) (room : Room) (a : Asked) (lines : List Line) (hub : Hub) (ms : List Met) (b : Both H)
+    → asks_at place (slice_get room.lines place) room.lines room.hub ≡ (Some a, lines, hub) → Reaches (move_at calling place host room) ms (ends b)
+    → Ran (asked_program calling host a (with_lines room (lines, hub))) (behind_it a (with_lines room (lines, hub))) ms b
+move_ran calling place host room a lines hub ms b asks_ reaches =
+    let room1 : Room = with_lines room (lines, hub) in
+    let p : Program (Called _) = asked_program calling host a room1 in
+    let f : Called _ → Answered _ = λ c. answered (valued c.end) (both c.host (answered_with a.vm (owns.Stage a.context a.response) c.end c.lines c.contexts room1)) in
+    let is : moved_with calling host room (asks_at place (slice_get room.lines place) room.lines room.hub) ≡ runs_then p (λ c. ends (behind_it a room1 c))
+    = ap (moved_with calling host room) asks_ ∙ then_runs p (λ c. ends (f c)) (λ c. ends (goes_on_with (acts_on a) c)) in
+    ran p (behind_it a room1) ms b (subst (λ (k : Course (Both _)). Reaches k ms (ends b)) is reaches)
+
 pub moves_are : (H : Type 0) → MovesAreSteps H
 moves_are H = λ calling plan response n x room q host ms b reaches.
     let a : Asked = the_asked q in
-    let room1 : Room = question q in
-    let p : Program (Called H) = callback_program calling host q in
-    let f : Called H → Answered H = λ c. answered (valued c.end) (both c.host (answered_with a.vm (owns.Stage a.context a.response) c.end c.lines c.contexts room1)) in
-    let h : Called H → Both H = λ c. goes_on_with (acts_on a) (f c) in
-    let is : moved_with calling host room (asks_at q.on.place (slice_get room.lines q.on.place) room.lines room.hub) ≡ runs_then p (λ c. ends (h c))
-    = ap (moved_with calling host room) (asks_is q) ∙ then_runs p (λ c. ends (f c)) (λ c. ends (goes_on_with (acts_on a) c)) in
-    let here : Reaches (runs_then p (λ c. ends (h c))) ms (ends b) = subst (λ (k : Course (Both H)). Reaches k ms (ends b)) is reaches in
-    let end : Ran p h ms b = ran p h ms b here in
+    let end : Ran (callback_program calling host q) (behind_it a (question q)) ms b
+    = move_ran calling q.on.place host room a (the_lines q) (with_held q.contexts room.hub) ms b (asks_is q) reaches in
     record {
       end = end.end;
       reached = end.reached;
       moves = λ count m.
           end.is
-          ∙ ap (λ (e : CallEnd). both end.end.host (acts_on a (valued e) (answered_with a.vm (owns.Stage a.context a.response) e end.end.lines end.end.contexts room1))) m.returned;
+          ∙ ap (λ (e : CallEnd). both end.end.host (acts_on a (valued e) (answered_with a.vm (owns.Stage a.context a.response) e end.end.lines end.end.contexts (question q)))) m.returned;
     }
 
 pub puts_are : (H : Type 0) → PutsAreSteps H

@@ -170,7 +170,7 @@ others_told response n count due vm own (e ∷ es) x room z keeps are =
     told_more response n count (other_deeds are.1) (effect_deeds response n count due vm own es are.0 mid z are.2) (running due x room) (running due are.0 mid)
     (running due z (effects_of vm own es mid)) [] [] (λ k. []) (λ k. []) first (others_told response n count due vm own es are.0 mid z later_keeps are.2)
 
-others_on : (response : Bool) (n count : ℕ) (due : Option Ask) (vm : ℕ) (own : Own) (es : List Effect) (x : Exchange) (room : Room) (z : Exchange)
+pub others_on : (response : Bool) (n count : ℕ) (due : Option Ask) (vm : ℕ) (own : Own) (es : List Effect) (x : Exchange) (room : Room) (z : Exchange)
     → Others response n count due vm own es x room z → IsOn n (effects_of vm own es room) z
 others_on response n count due vm own [] x room z are = subst (IsOn n room) (sym are.0) are.1
 others_on response n count due vm own (e ∷ es) x room z are = others_on response n count due vm own es are.0 (does vm own e.context e.what room) z are.2

@@ -10,4 +10,5 @@ pub mod Besides
 pub mod RoomExamples
 pub mod Effects
 pub mod Readings
+pub mod Elsewhere
 pub mod Steps

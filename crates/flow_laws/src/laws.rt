@@ -2,6 +2,7 @@
 ghost use Rattle.flow_laws.specs.Apart.{ExchangesPassBy};
 ghost use Rattle.flow_laws.specs.Besides.{OtherLinesLeave, OtherDirectionLeaves, QuietStepsLeave};
 ghost use Rattle.flow_laws.specs.Effects.{AskingElsewhereLeaves, CallbacksAreRuns, MildEffectsAreOthers};
+ghost use Rattle.flow_laws.specs.Elsewhere.{OtherDirectionMoves, OtherLinesMove};
 ghost use Rattle.flow_laws.specs.Examples.{ExchangeExamples, PassThroughExamples};
 ghost use Rattle.flow_laws.specs.Exchanges.{ExchangesPassBodies};
 ghost use Rattle.flow_laws.specs.PassThrough.{BodiesPassThrough};
@@ -55,6 +56,12 @@ pub fn callbacks_of_others<H>()
     ensures effects { MildEffectsAreOthers }
     ensures callbacks { CallbacksAreRuns H }
     ensures asking { AskingElsewhereLeaves }
+{}
+
+/// A step that moves another line, or the other direction of the exchange, is what the law takes a worker to do besides.
+pub fn others_move<H>()
+    ensures lines { OtherLinesMove H }
+    ensures direction { OtherDirectionMoves H }
 {}
 
 /// A reading step leaves a direction as it was, where no exchange begins by it on the line.
