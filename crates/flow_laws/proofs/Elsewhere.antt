@@ -35,12 +35,12 @@ run_then (rests x room) later = later
 run_then (goes part run) later = goes part (run_then run later)
 
 -- a callback beside
-record Beside (H : Type 0) (response : Bool) (n count : ℕ) (x : Exchange) (room after : Room) : Type 0 where
-  then_is : Exchange
-  on : IsOn n after then_is
-  run : Run H response n count x room then_is after
+pub record Beside (H : Type 0) (response : Bool) (n count : ℕ) (x : Exchange) (room after : Room) : Type 0 where
+  pub then_is : Exchange
+  pub on : IsOn n after then_is
+  pub run : Run H response n count x room then_is after
 
-beside : {H : Type 0} (response : Bool) (n count vm : ℕ) (own : Own) (c : Called H) (x : Exchange) (room : Room) → IsOn n room x → IsBeside response n count vm own c x room
+pub beside : {H : Type 0} (response : Bool) (n count vm : ℕ) (own : Own) (c : Called H) (x : Exchange) (room : Room) → IsOn n room x → IsBeside response n count vm own c x room
     → Beside H response n count x room (behind_effects vm own c room)
 beside {H} response n count vm own c x room on is =
     let mid : Room = quiet_room c room in

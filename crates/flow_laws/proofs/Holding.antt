@@ -11,7 +11,7 @@ use Rattle.contexts.specs.declared.parts.Contexts.{Contexts}
 use Rattle.contexts.specs.declared.parts.Own.{Own}
 use Rattle.contexts.specs.declared.parts.VmContexts.{VmContexts}
 use Rattle.contexts.specs.Keyed.{found}
-use Rattle.contexts.specs.Reached.{no_changes, no_vm, vm_in, vm_after, context_no, context_in, reach_by, fitted}
+use Rattle.contexts.specs.Reached.{Changes, no_changes, no_vm, vm_in, vm_after, context_no, context_in, reach_by, fitted, put_of}
 use Rattle.contexts.specs.Lending.{stage_in, with_stage, own_put_of}
 use Rattle.contexts.specs.Stages.{own_at, held_in, held_at, stage_after, stage_changed, with_bytes, let_go, returned, filled, emptied, answered}
 use Rattle.contexts.specs.Holding.{IsThere}
@@ -251,3 +251,44 @@ there_other f h t ss there = by_own (own_at h t.vm t.context) refl
     by_own : (o : Option Own) → own_at h t.vm t.context ≡ o → AreThere (stage_changed f h t.vm t.context t.response) ss
     by_own None is = subst (λ (p : Option Own). AreThere (stage_after f h t.vm t.context t.response p) ss) (sym is) there
     by_own (Some o) is = all_there f h t.vm t.context t.response ss (there_within h t.vm t.context o is, o, is) there
+
+-- ---- a change of what is no stage's
+
+fitted_none : (p : Option Own) → fitted p None ≡ p
+fitted_none None = refl
+fitted_none (Some o) = refl
+
+own_kept : (s : Changes) (h : Contexts) (vm e wm d : ℕ) → s.own ≡ None → vm < length h.vms → own_at (put_of s vm e h) wm d ≡ own_at h wm d
+own_kept s h vm e wm d none within =
+    let k : Contexts = put_of s vm e h in
+    let stays = all_else_stays s vm e h within in
+    ⊎_elim
+    (λ (same : wm ≡ vm). ⊎_elim
+    (λ (one : d ≡ e).
+    (λ i. own_at k (same i) (one i))
+    ∙ (ap (λ t. t.reach.own) (put_is_seen s vm e h within)
+    ∙ (ap (fitted (own_at h vm e)) none ∙ (fitted_none (own_at h vm e) ∙ (λ i. own_at h (sym same i) (sym one i))))))
+    (λ (two : d ≡ e → ⊥).
+    own_mapped k (vm_in k wm) (context_in k wm d)
+    ∙ (subst (λ m. option_map (λ (b : Context). b.own) (context_in k m d) ≡ option_map (λ (b : Context). b.own) (context_in h m d)) (sym same) (stays.owns d two)
+    ∙ sym (own_mapped h (vm_in h wm) (context_in h wm d))))
+    (cases_eq d e))
+    (λ (other : wm ≡ vm → ⊥).
+    own_mapped k (vm_in k wm) (context_in k wm d)
+    ∙ (ap (λ (v : VmContexts). option_map (λ (b : Context). b.own) (found context_no d v.contexts)) (stays.vms wm other)
+    ∙ sym (own_mapped h (vm_in h wm) (context_in h wm d))))
+    (cases_eq wm vm)
+
+pub hold_kept : (s : Changes) (h : Contexts) (vm e : ℕ) (ss : List Stage) → s.own ≡ None → vm < length h.vms → HoldSame h (put_of s vm e h) ss
+hold_kept s h vm e [] none within = tt
+hold_kept s h vm e (t ∷ ss) none within = (ap (held_in t.response) (own_kept s h vm e t.vm t.context none within), hold_kept s h vm e ss none within)
+
+pub kept_many : (s : Changes) (h : Contexts) (vm e : ℕ) → length (put_of s vm e h).vms ≡ length h.vms
+kept_many s h vm e = length-set h.vms vm (vm_after s e (context_in h vm e) (vm_in h vm))
+
+pub there_kept : (s : Changes) (h : Contexts) (vm e : ℕ) (ss : List Stage) → s.own ≡ None → vm < length h.vms → AreThere h ss → AreThere (put_of s vm e h) ss
+there_kept s h vm e [] none within there = tt
+there_kept s h vm e (t ∷ ss) none within there = (
+  (subst (λ (n : ℕ). t.vm < n) (sym (kept_many s h vm e)) there.0.0, there.0.1, own_kept s h vm e t.vm t.context none within ∙ there.0.2),
+  there_kept s h vm e ss none within there.1,
+)

@@ -17,3 +17,4 @@ pub mod Besides
 pub mod Effects
 pub mod Readings
 pub mod Elsewhere
+pub mod Jobs

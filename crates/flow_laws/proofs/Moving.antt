@@ -29,7 +29,7 @@ use Rattle.flow_laws.specs.Steps.{Calling, told_count, callback_program, MoveEnd
 
 -- ---- courses of programs
 
-then_runs : {A B C : Type 0} (p : Program A) (f : A → Course B) (g : B → Course C) → then_do (runs_then p f) g ≡ runs_then p (λ a. then_do (f a) g)
+pub then_runs : {A B C : Type 0} (p : Program A) (f : A → Course B) (g : B → Course C) → then_do (runs_then p f) g ≡ runs_then p (λ a. then_do (f a) g)
 then_runs (done a) f g = refl
 then_runs (ask vm call k) f g = λ i. asks vm call (λ r. then_runs (k r) f g i)
 then_runs (measure vm call k) f g = λ i. measures vm call (λ r. then_runs (k r) f g i)
@@ -39,7 +39,7 @@ pub record Ran {A B : Type 0} (p : Program A) (h : A → B) (ms : List Met) (b :
   pub reached : Reaches (runs_then p ends) ms (ends end)
   pub is : b ≡ h end
 
-ran : {A B : Type 0} (p : Program A) (h : A → B) (ms : List Met) (b : B) → Reaches (runs_then p (λ a. ends (h a))) ms (ends b) → Ran p h ms b
+pub ran : {A B : Type 0} (p : Program A) (h : A → B) (ms : List Met) (b : B) → Reaches (runs_then p (λ a. ends (h a))) ms (ends b) → Ran p h ms b
 ran (done a) h [] b r = record { end = a; reached = refl; is = sym (cc) }
 ran (done a) h (m ∷ ms) b r = absurd r
 ran (ask vm call k) h [] b r = absurd (cc)

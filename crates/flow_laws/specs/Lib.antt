@@ -11,4 +11,5 @@ pub mod RoomExamples
 pub mod Effects
 pub mod Readings
 pub mod Elsewhere
+pub mod Jobs
 pub mod Steps

@@ -5,6 +5,7 @@ ghost use Rattle.flow_laws.specs.Effects.{AskingElsewhereLeaves, CallbacksAreRun
 ghost use Rattle.flow_laws.specs.Elsewhere.{OtherDirectionMoves, OtherLinesMove};
 ghost use Rattle.flow_laws.specs.Examples.{ExchangeExamples, PassThroughExamples};
 ghost use Rattle.flow_laws.specs.Exchanges.{ExchangesPassBodies};
+ghost use Rattle.flow_laws.specs.Jobs.{JobsLeave, TellsAreRuns};
 ghost use Rattle.flow_laws.specs.PassThrough.{BodiesPassThrough};
 ghost use Rattle.flow_laws.specs.Readings.{ReadingLeaves};
 ghost use Rattle.flow_laws.specs.RoomExamples.{RoomExample};
@@ -62,6 +63,13 @@ pub fn callbacks_of_others<H>()
 pub fn others_move<H>()
     ensures lines { OtherLinesMove H }
     ensures direction { OtherDirectionMoves H }
+{}
+
+/// The next turn begins, a job is taken in hand, a notice was taken, a tick is due, or another exchange is at its end: that leaves a direction as it
+/// was. A callback whose answer says nothing is what the law takes a worker to do besides.
+pub fn jobs_leave_directions<H>()
+    ensures quiet { JobsLeave }
+    ensures telling { TellsAreRuns H }
 {}
 
 /// A reading step leaves a direction as it was, where no exchange begins by it on the line.

@@ -1,0 +1,8 @@
+use Rattle.flow_laws.proofs.Jobs.{jobs_leave, tells_are}
+use Rattle.flow_laws.proofs.laws.jobs_leave_directions.Goals as goal
+
+pub returns-clause-quiet : goal.returns-clause-quiet
+returns-clause-quiet g c = jobs_leave
+
+pub returns-clause-telling : goal.returns-clause-telling
+returns-clause-telling g c = tells_are _

@@ -1,0 +1,39 @@
+-- WHAT A WORKER DOES BETWEEN MOVES that leaves a direction as it was.
+use Rattle.std.specs.Prelude.{◌≡◌, ℕ, Bool, List, Option, None, Some, slice_get}
+use Rattle.contexts.specs.declared.parts.Contexts.{Contexts}
+use Rattle.contexts.specs.declared.parts.Tick.{Tick}
+use Rattle.course.specs.Called.{Called}
+use Rattle.course.specs.Course.{Course, ends, runs_then, Met, Reaches}
+use Rattle.course.specs.declared.host.Callback.{Callback}
+use Rattle.exchange.specs.declared.types.Exchange.{Exchange}
+use Rattle.gate_io.specs.declared.event.Event.{Event}
+use Rattle.store_model.specs.Program.{Program}
+use Rattle.store_model.specs.declared.call.Reply.{Reply}
+use Rattle.worker.specs.declared.room.Room.{Room}
+use Rattle.worker.specs.declared.types.Job.{Job}
+use Rattle.worker.specs.declared.types.Own.TheVariants as owns
+use Rattle.worker.specs.Plan.{Plan}
+use Rattle.worker.specs.Steps.{Both, noticed, ends_at, ticked, tells}
+use Rattle.worker.specs.Turn.{emptied, facing}
+use Rattle.flow_laws.specs.Besides.{IsWhole}
+use Rattle.flow_laws.specs.Elsewhere.{IsBeside}
+use Rattle.flow_laws.specs.Rooms.{IsOn, Leaves, Run}
+use Rattle.flow_laws.specs.Steps.{Calling}
+
+-- THE NEXT TURN BEGINS, a job is taken in hand, a notice was taken, a tick is due, or the exchange of another line is taken off it: that leaves the
+-- direction as it was.
+pub record JobsLeave : Type 0 where
+  pub facing_next : (plan : Plan) (event : Event) (response : Bool) (n : ℕ) (x : Exchange) (room : Room) → IsOn n room x → IsWhole response x room
+      → Leaves response n x room x (facing plan event (emptied room))
+  pub in_hand : (later : List Job) (response : Bool) (n : ℕ) (x : Exchange) (room : Room) → IsOn n room x → IsWhole response x room → Leaves response n x room x (record room { jobs = later })
+  pub noticing : (vm left : ℕ) (reply : Reply) (response : Bool) (n : ℕ) (x : Exchange) (room : Room) → IsOn n room x → IsWhole response x room
+      → Leaves response n x room x (noticed vm left reply room)
+  pub ticking : (vm root : ℕ) (response : Bool) (n : ℕ) (x : Exchange) (room : Room) → IsOn n room x → IsWhole response x room → Leaves response n x room x (ticked vm root room).1
+  pub ending : (place : ℕ) (response : Bool) (n : ℕ) (x : Exchange) (room : Room) (on : IsOn n room x) → IsWhole response x room → (place ≡ on.place → ⊥)
+      → Leaves response n x room x (ends_at place room)
+
+-- A CALLBACK WHOSE ANSWER SAYS NOTHING, such as that of a tick: it is what the law takes a worker to do besides.
+abbrev pub TellsAreRuns : Type 0 → Type 0
+TellsAreRuns H = (calling : Calling H) (response : Bool) (n count vm : ℕ) (name : Callback) (context first : ℕ) (x : Exchange) (room : Room) → IsOn n room x → (host : H) (ms : List Met) (b : Both H)
+    → ((c : Called H) → Reaches (runs_then (calling host vm name context first 0 room.hub.moment room.hub.contexts) ends) ms (ends c) → IsBeside response n count vm owns.Nobody c x room)
+    → Reaches (tells calling vm name context first host room) ms (ends b) → (y : Exchange) × Run H response n count x room y b.room
