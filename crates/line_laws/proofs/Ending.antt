@@ -1,0 +1,310 @@
+-- What an exchange sent up, and a step in which it ends.
+use Rattle.std.proofs.Common.{◌≡◌, ◌⊎◌, inl, inr, ℕ, ◌==◌, Bool, true, false, List, [], ◌∷◌, ◌++◌, map, refl, ap, ◌∙◌, sym, subst}
+use Rattle.std.proofs.lemmas.List.{append-nil, append_assoc}
+use Rattle.std.specs.Prelude.{Option, None, Some, is_some, slice_get, slice_set, position, if◌then◌else◌}
+use Rattle.exchange.specs.declared.types.Exchange.{Exchange}
+use Rattle.exchange.specs.declared.types.Filter.{Filter}
+use Rattle.exchange.specs.declared.types.Hub.{Hub}
+use Rattle.exchange.specs.Heads.{sent_head, up_tail, up_framing, request_of}
+use Rattle.exchange.specs.Leaving.{goes_up}
+use Rattle.exchange_laws.specs.Laws.{GoesUpOnce}
+use Rattle.exchange_laws.specs.Lives.{is_over}
+use Rattle.exchange_laws.specs.Responses.{IsBody, IsMessage}
+use Rattle.exchange_laws.specs.Traffic.{Traffic, opens, byte, closes, ups, IsFront}
+use Rattle.exchange_laws.proofs.Lives.{one_request}
+use Rattle.exchange_laws.proofs.Traffic.{ups_join}
+use Rattle.filter_chain.specs.declared.item.Item.{Item}
+use Rattle.filter_chain.specs.declared.item.Item.TheVariants as items
+use Rattle.gate_io.specs.declared.event.Sent.{Sent}
+use Rattle.h1_write.specs.Lines.{OutRequest, out_items, out_wire}
+use Rattle.h1_write.specs.Round.{Ending, last_bytes, last_trailers, body_items}
+use Rattle.http1_model.specs.Framing.{Framing, OutItem}
+use Rattle.http1_model.specs.Framing as out
+use Rattle.http1_model.specs.Head.{Head}
+use Rattle.http1_model.specs.Messages.{head}
+use Rattle.http1_model.specs.Unread.{Reading}
+use Rattle.worker.specs.declared.room.Room.{Room}
+use Rattle.worker.specs.declared.types.Job.{Job}
+use Rattle.worker.specs.declared.types.Job.TheVariants as jobs
+use Rattle.worker.specs.declared.types.Line.{Line}
+use Rattle.worker.specs.declared.types.Reads.{Reads}
+use Rattle.worker.specs.Moves.{ended_at, ended_back, ended_in}
+use Rattle.worker.specs.Plan.{Plan}
+use Rattle.worker.specs.Rooms as rooms
+use Rattle.worker.specs.Steps.{done_jobs, close_up, ends_with, ends_at, exchange_for}
+use Rattle.line_laws.specs.Living.{requests_in}
+use Rattle.line_laws.specs.Requests.{is_whole, AreOf, IsSentOf, of_one, of_filtered, OneByOne, another}
+use Rattle.line_laws.proofs.Earlier.{behind}
+use Rattle.line_laws.proofs.Finding.{Seeks, missing, first, seeks, IsOnce, set_other, only_found, set_once, set_there}
+use Rattle.line_laws.proofs.Items.{message_front}
+use Rattle.line_laws.proofs.Lives.{came_of, lives_with}
+use Rattle.line_laws.proofs.Looks.{is_n, look, equal_by, equal_is, other_is, other_by}
+use Rattle.line_laws.proofs.Rooms.{AllFree}
+use Rattle.line_laws.proofs.Story.{puts_of, HasClose, Tail, Matches, pending, Stream, fresh, going, doomed, Story, Tale, plainly, filtered, Busy, ExOk, LineOk, Known}
+use Rattle.line_laws.proofs.Calmed.{free_puts, free_has, free_no, free_tail}
+use Rattle.line_laws.proofs.Sides.{ended_known}
+use Rattle.line_laws.proofs.Turned.{line_turn}
+use Rattle.line_laws.proofs.Closing.{line_as_is}
+
+-- ---- the request that is sent
+
+-- the pieces and the end of a body, of which these are a front
+record OfBody (items : List Item) (outs : List OutItem) : Type 0 where
+  pieces : List (List ℕ)
+  ending : Ending
+  front : IsFront outs (body_items pieces ending)
+  full : is_whole items ≡ true → outs ≡ body_items pieces ending
+
+none_out : (h : Head) (items : List Item) (outs : List OutItem) → items ≡ [] → AreOf h items outs → outs ≡ []
+none_out h [] [] is are = refl
+none_out h [] (o ∷ outs) is are = absurd are
+none_out h (i ∷ items) outs is are = absurd (cc)
+
+body_of : (h : Head) (items : List Item) (outs : List OutItem) → IsBody items → AreOf h items outs → OfBody items outs
+body_of h [] [] body are = record { pieces = []; ending = last_bytes []; front = (body_items [] (last_bytes []), refl); full = λ e. absurd (cc) }
+body_of h [] (o ∷ outs) body are = absurd are
+body_of h (i ∷ items) [] body are = absurd are
+body_of h (items.Head end ∷ rest) (o ∷ outs) body are = absurd body
+body_of h (items.Piece bytes false ∷ rest) (out.piece went last ∷ outs) body are =
+    let later : OfBody rest outs = body_of h rest outs body are.1 in
+    record {
+      pieces = bytes ∷ later.pieces;
+      ending = later.ending;
+      front = (later.front.0, (λ i. out.piece (are.0.0 i) (are.0.1 i) ∷ later.front.1 i));
+      full = λ e. (λ i. out.piece (are.0.0 i) (are.0.1 i) ∷ later.full e i);
+    }
+body_of h (items.Piece bytes true ∷ rest) (out.piece went last ∷ outs) body are = record {
+  pieces = [];
+  ending = last_bytes bytes;
+  front = ([], (λ i. out.piece (are.0.0 i) (are.0.1 i) ∷ (none_out h rest outs body are.1 i ++ [])));
+  full = λ e. (λ i. out.piece (are.0.0 i) (are.0.1 i) ∷ none_out h rest outs body are.1 i);
+}
+body_of h (items.Piece bytes last ∷ rest) (out.head g ∷ outs) body are = absurd are.0
+body_of h (items.Piece bytes last ∷ rest) (out.interim g ∷ outs) body are = absurd are.0
+body_of h (items.Piece bytes last ∷ rest) (out.trailers fields ∷ outs) body are = absurd are.0
+body_of h (items.Trailers ∷ rest) (out.trailers fields ∷ outs) body are = record {
+  pieces = [];
+  ending = last_trailers fields;
+  front = ([], (λ i. out.trailers fields ∷ (none_out h rest outs body are.1 i ++ [])));
+  full = λ e. (λ i. out.trailers fields ∷ none_out h rest outs body are.1 i);
+}
+body_of h (items.Trailers ∷ rest) (out.head g ∷ outs) body are = absurd are.0
+body_of h (items.Trailers ∷ rest) (out.interim g ∷ outs) body are = absurd are.0
+body_of h (items.Trailers ∷ rest) (out.piece went last ∷ outs) body are = absurd are.0
+
+pub record OfRequest (h : Head) (framing : Framing) (items : List Item) (outs : List OutItem) : Type 0 where
+  pub request : OutRequest
+  pub framed : request.framing ≡ framing
+  pub head : request.head ≡ sent_head h.fields (up_tail h.minor)
+  pub front : IsFront outs (out_items request)
+  pub full : is_whole items ≡ true → (outs ≡ out_items request) ⊎ (outs ≡ out.head request.head ∷ [])
+
+abbrev sent_as : Head → Head
+sent_as h = sent_head h.fields (up_tail h.minor)
+
+headed : (h : Head) (framing : Framing) (items : List Item) (g : Head) (outs : List OutItem) → g ≡ sent_as h → OfRequest h framing items (out.head (sent_as h) ∷ outs) → OfRequest h framing items (out.head g ∷ outs)
+headed h framing items g outs is q = subst (λ (k : Head). OfRequest h framing items (out.head k ∷ outs)) (sym is) q
+
+with_body : (h : Head) (framing : Framing) (rest : List Item) (outs : List OutItem) → OfBody rest outs → OfRequest h framing (items.Head false ∷ rest) (out.head (sent_as h) ∷ outs)
+with_body h framing rest outs b = record {
+  request = record { framing = framing; head = sent_as h; pieces = b.pieces; ending = b.ending };
+  framed = refl;
+  head = refl;
+  front = (b.front.0, ap (λ l. out.head (sent_as h) ∷ l) b.front.1);
+  full = λ e. inl (ap (λ l. out.head (sent_as h) ∷ l) (b.full e));
+}
+
+without_body : (h : Head) (framing : Framing) (rest : List Item) → OfRequest h framing rest (out.head (sent_as h) ∷ [])
+without_body h framing rest = record {
+  request = record { framing = framing; head = sent_as h; pieces = []; ending = last_bytes [] };
+  framed = refl;
+  head = refl;
+  front = (body_items [] (last_bytes []), refl);
+  full = λ e. inr refl;
+}
+
+pub request_of_items : (h : Head) (framing : Framing) (items : List Item) (outs : List OutItem) → IsMessage items → AreOf h items outs → OfRequest h framing items outs
+request_of_items h framing [] [] message are = record {
+  request = record { framing = framing; head = sent_as h; pieces = []; ending = last_bytes [] };
+  framed = refl;
+  head = refl;
+  front = (out.head (sent_as h) ∷ body_items [] (last_bytes []), refl);
+  full = λ e. absurd (cc);
+}
+request_of_items h framing [] (o ∷ outs) message are = absurd are
+request_of_items h framing (i ∷ rest) [] message are = absurd are
+request_of_items h framing (items.Head false ∷ rest) (out.head g ∷ outs) message are = headed h framing (items.Head false ∷ rest) g outs are.0 (with_body h framing rest outs (body_of h rest outs message are.1))
+request_of_items h framing (items.Head true ∷ rest) (out.head g ∷ outs) message are =
+    headed h framing (items.Head true ∷ rest) g outs are.0
+    (subst (λ l. OfRequest h framing (items.Head true ∷ rest) (out.head (sent_as h) ∷ l)) (sym (none_out h rest outs message are.1)) (without_body h framing (items.Head true ∷ rest)))
+request_of_items h framing (items.Head end ∷ rest) (out.interim g ∷ outs) message are = absurd are.0
+request_of_items h framing (items.Head end ∷ rest) (out.piece went last ∷ outs) message are = absurd are.0
+request_of_items h framing (items.Head end ∷ rest) (out.trailers fields ∷ outs) message are = absurd are.0
+request_of_items h framing (items.Piece bytes end ∷ rest) (o ∷ outs) message are = absurd message
+request_of_items h framing (items.Trailers ∷ rest) (o ∷ outs) message are = absurd message
+
+-- ---- what went up of an exchange
+
+pub record Went (plan : Plan) (n : ℕ) (past : List Sent) (reading : Option Reads) (js : List Job) (lines : List Line) (x : Exchange) (hub : Hub) (s : Story plan n past reading js lines x hub) : Type 0 where
+  pub request : OutRequest
+  pub sent_of : IsSentOf s.head request
+  pub goes : GoesUpOnce request (came_of n s.start s.start_hub s.deeds) (is_over x) (ups n s.start_hub.sent) (ups n (past ++ hub.sent))
+  pub full : is_whole (requests_in s.deeds) ≡ true → (came_of n s.start s.start_hub s.deeds ≡ out_items request) ⊎ (came_of n s.start s.start_hub s.deeds ≡ out.head request.head ∷ [])
+
+module _ (plan : Plan) (n : ℕ) (past : List Sent) (reading : Option Reads) (js : List Job) (lines : List Line) (x : Exchange) (hub : Hub) (s : Story plan n past reading js lines x hub) where
+  pub is_message : IsMessage (requests_in s.deeds)
+  is_message = by_stream s.stream
+    where
+      by_stream : Stream n reading js lines x hub.contexts s.head.fields (requests_in s.deeds) → IsMessage (requests_in s.deeds)
+      by_stream (fresh none is rests map proper) = subst IsMessage (sym none) tt
+      by_stream (going begins proper) = message_front (requests_in s.deeds) (pending n reading js) proper.1
+      by_stream (doomed message none is) = message
+
+  pub went : Went plan n past reading js lines x hub s
+  went =
+      let outs : List OutItem = came_of n s.start s.start_hub s.deeds in
+      let q : OfRequest s.head (goes_up s.start) (requests_in s.deeds) outs = request_of_items s.head (goes_up s.start) (requests_in s.deeds) outs is_message s.came in
+      let of : Exchange = exchange_for plan s.began.place s.began.now s.began.dead s.head s.began.route in
+      let framed : goes_up s.start ≡ up_framing of.filters_requests (request_of s.head) = ap goes_up s.began.is in
+      record {
+        request = q.request;
+        sent_of = record { filtered = of.filters_requests; head = q.head; framing = q.framed ∙ framed };
+        goes = one_request n s.start x s.start_hub (behind past hub) s.deeds outs q.request (ap (λ (y : Exchange). y.request) s.began.is) (lives_with n s.deeds s.start x s.start_hub (behind past hub) s.lives) q.framed q.front;
+        full = q.full;
+      }
+
+-- ---- the end
+
+same_line : (n m : ℕ) → (m == n) ≡ true → (n == m) ≡ true
+same_line n m is = equal_is n m (sym (equal_by m n is))
+
+close_other : (n m : ℕ) (o : Option Reading) → (m == n) ≡ false → ups n (close_up m o) ≡ []
+close_other n m None other = refl
+close_other n m (Some r) other = ap (λ b. (if b then closes ∷ [] else []) ++ []) (other_is n m (λ e. other_by m n other (sym e)))
+
+done_free : (fs : List Filter) → AllFree (done_jobs fs)
+done_free [] = tt
+done_free (f ∷ fs) = by_made f.created (done_free fs)
+  where
+    by_made : (b : Bool) → AllFree (done_jobs fs) → AllFree (if b then jobs.Done (record { vm = f.vm; context = f.context }) ∷ done_jobs fs else done_jobs fs)
+    by_made true all = (tt, all)
+    by_made false all = all
+
+close_same : (n m : ℕ) (r : Reading) → (m == n) ≡ true → ups n (close_up m (Some r)) ≡ closes ∷ []
+close_same n m r here = ap (λ b. (if b then closes ∷ [] else []) ++ []) (same_line n m here)
+
+module _ (plan : Plan) (n : ℕ) (past : List Sent) where
+  -- what it sent up is one part more
+  part_ends : (lines : List Line) (x : Exchange) (hub : Hub) (sent : List Sent) (m : ℕ) → (m == n) ≡ true → sent ≡ hub.sent ++ close_up m x.reader → Tale plan n past None [] lines x hub → OneByOne plan (ups n (past ++ sent))
+  part_ends lines x hub sent m here is tale = by_tale tale
+    where
+      all : ups n (past ++ sent) ≡ ups n (past ++ hub.sent) ++ ups n (close_up m x.reader)
+      all = ap (λ l. ups n (past ++ l)) is ∙ (ap (ups n) (sym (append_assoc past hub.sent (close_up m x.reader))) ∙ ups_join n (past ++ hub.sent) (close_up m x.reader))
+
+      by_tale : Tale plan n past None [] lines x hub → OneByOne plan (ups n (past ++ sent))
+      by_tale (filtered o) =
+          subst (OneByOne plan) (sym (all ∙ (ap (λ t. t ++ ups n (close_up m x.reader)) o.adds ∙ append_assoc o.start o.part (ups n (close_up m x.reader))))) (another o.start (o.part ++ ups n (close_up m x.reader)) o.before (of_filtered o.is_filtered))
+      by_tale (plainly s) = by_reader x.reader refl s.opened
+        where
+          w : Went plan n past None [] lines x hub s
+          w = went plan n past None [] lines x hub s
+
+          before : List Traffic
+          before = ups n s.start_hub.sent
+
+          by_reader : (o : Option Reading) → x.reader ≡ o → (is_some x.reader ≡ true) ⊎ ((ups n (past ++ hub.sent) ≡ ups n s.start_hub.sent) × ((requests_in s.deeds ≡ []) ⊎ (is_over x ≡ true))) → OneByOne plan (ups n (past ++ sent))
+          by_reader (Some r) reader opened =
+              let closing : ups n (close_up m x.reader) ≡ closes ∷ [] = ap (λ (o : Option Reading). ups n (close_up m o)) reader ∙ close_same n m r here in
+              let total : ups n (past ++ sent) ≡ ups n s.start_hub.sent ++ (w.goes.went ++ closes ∷ [])
+              = all ∙ ((λ i. w.goes.adds i ++ closing i) ∙ append_assoc (ups n s.start_hub.sent) w.goes.went (closes ∷ [])) in
+              subst (OneByOne plan) (sym total)
+              (another (ups n s.start_hub.sent) (w.goes.went ++ closes ∷ []) s.before
+              (of_one (record { head = s.head; judged = s.began.judged; request = w.request; sent_of = w.sent_of; went = w.goes.went; front = w.goes.front; is = inr refl })))
+          by_reader None reader (inl opened) = let never : ◌≡◌ {A = Bool} false true = ap is_some (sym reader) ∙ opened in absurd (cc)
+          by_reader None reader (inr (same, over)) =
+              let closing : ups n (close_up m x.reader) ≡ [] = ap (λ (o : Option Reading). ups n (close_up m o)) reader in
+              let total : ups n (past ++ sent) ≡ ups n s.start_hub.sent ++ [] = all ∙ (λ i. same i ++ closing i) in
+              subst (OneByOne plan) (sym total)
+              (another (ups n s.start_hub.sent) [] s.before
+              (of_one (record { head = s.head; judged = s.began.judged; request = w.request; sent_of = w.sent_of; went = []; front = (opens ∷ map byte (out_wire w.request), refl); is = inl refl })))
+
+  pub end_known : (place : ℕ) (room : Room) → Known plan n past room → room.jobs ≡ [] → room.reading ≡ None → position rooms.is_over room.lines ≡ Some place → Known plan n past (ends_at place room)
+  end_known place room k jobless quiet at = by_seek (seeks rooms.is_over room.lines)
+    where
+      ok : LineOk plan n past None [] room.lines (look n room.lines) room.hub
+      ok = subst (λ (r : Option Reads). LineOk plan n past r [] room.lines (look n room.lines) room.hub) quiet (subst (λ l. LineOk plan n past room.reading l room.lines (look n room.lines) room.hub) jobless k.line)
+
+      by_line : (l : Line) → slice_get room.lines place ≡ Some l → rooms.is_over l ≡ true → Known plan n past (ends_at place room)
+      by_line l there over =
+          subst (λ (o : Option Line). Known plan n past (ends_with room (ended_at place o room.lines))) (sym there) (by_exchange l.exchange refl)
+        where
+          by_exchange : (o : Option Exchange) → l.exchange ≡ o → Known plan n past (ends_with room (ended_back place room.lines (ended_in l o)))
+          by_exchange None none = let never : ◌≡◌ {A = Bool} false true = ap rooms.exchange_ends (sym none) ∙ over in absurd (cc)
+          by_exchange (Some x) some =
+              ended_known plan n past later once k.parts (subst Tail (sym js) tail) quiet
+              (subst (λ q. LineOk plan n past None q later.lines (look n later.lines) later.hub) (sym js) (by_test (l.number == n) refl))
+            where
+              m : Line
+              m = record l { exchange = None }
+
+              ks : List Job
+              ks = done_jobs x.filters ++ jobs.Close l.number x.stays ∷ []
+
+              later : Room
+              later = ends_with room (Some (l.number, x), slice_set room.lines place (record l { exchange = None }))
+
+              js : (ends_with room (Some (l.number, x), slice_set room.lines place (record l { exchange = None }))).jobs ≡ done_jobs x.filters ++ jobs.Close l.number x.stays ∷ []
+              js = ap (λ q. (done_jobs x.filters ++ jobs.Close l.number x.stays ∷ []) ++ q) jobless ∙ append-nil (done_jobs x.filters ++ jobs.Close l.number x.stays ∷ [])
+
+              tail : Tail (done_jobs x.filters ++ jobs.Close l.number x.stays ∷ [])
+              tail = free_tail (done_jobs x.filters) (jobs.Close l.number x.stays ∷ []) (done_free x.filters) refl
+
+              once : IsOnce (is_n n) (slice_set room.lines place (record l { exchange = None }))
+              once = set_once (is_n n) room.lines place l (record l { exchange = None }) k.once there refl
+
+              no_puts : pending n None (done_jobs x.filters ++ jobs.Close l.number x.stays ∷ []) ≡ []
+              no_puts = append-nil (puts_of n (done_jobs x.filters ++ jobs.Close l.number x.stays ∷ [])) ∙ free_puts n (done_jobs x.filters) (jobs.Close l.number x.stays ∷ []) (done_free x.filters)
+
+              Goal : Type 0
+              Goal = LineOk plan n past None (done_jobs x.filters ++ jobs.Close l.number x.stays ∷ []) (slice_set room.lines place (record l { exchange = None })) (look n (slice_set room.lines place (record l { exchange = None })))
+                  (ends_with room (Some (l.number, x), slice_set room.lines place (record l { exchange = None }))).hub
+
+              by_test : (b : Bool) → (l.number == n) ≡ b → LineOk plan n past None (done_jobs x.filters ++ jobs.Close l.number x.stays ∷ []) (slice_set room.lines place (record l { exchange = None }))
+                  (look n (slice_set room.lines place (record l { exchange = None }))) (ends_with room (Some (l.number, x), slice_set room.lines place (record l { exchange = None }))).hub
+              by_test false other =
+                  subst (λ (o : Option Line). LineOk plan n past None (done_jobs x.filters ++ jobs.Close l.number x.stays ∷ []) (slice_set room.lines place (record l { exchange = None })) o
+                  (ends_with room (Some (l.number, x), slice_set room.lines place (record l { exchange = None }))).hub)
+                  (sym (set_other (is_n n) room.lines place l (record l { exchange = None }) there other other))
+                  (line_turn plan n past [] None (done_jobs x.filters ++ jobs.Close l.number x.stays ∷ [])
+                  (record {
+                    pend = no_puts;
+                    has = λ h. absurd h;
+                    no = λ h. free_no n (done_jobs x.filters) (jobs.Close l.number x.stays ∷ []) (done_free x.filters) (other, tt);
+                    refusing = λ h. absurd h;
+                    unfresh = λ h. h;
+                  }) room.lines (slice_set room.lines place (record l { exchange = None })) (look n room.lines) (look n room.lines) room.hub
+                  (ends_with room (Some (l.number, x), slice_set room.lines place (record l { exchange = None }))).hub
+                  (line_as_is n (look n room.lines) room.hub _ (ups_join n room.hub.sent (close_up l.number x.reader) ∙ (ap (λ t. ups n room.hub.sent ++ t) (close_other n l.number x.reader other) ∙ append-nil (ups n room.hub.sent)))) (λ y e. tt) ok)
+              by_test true here =
+                  subst (λ (o : Option Line). LineOk plan n past None (done_jobs x.filters ++ jobs.Close l.number x.stays ∷ []) (slice_set room.lines place (record l { exchange = None })) o
+                  (ends_with room (Some (l.number, x), slice_set room.lines place (record l { exchange = None }))).hub)
+                  (sym (only_found (is_n n) (slice_set room.lines place (record l { exchange = None })) place (record l { exchange = None }) once (set_there room.lines place l (record l { exchange = None }) there) here))
+                  (mine.0, record { none = no_puts; due_or = by_stays x.stays refl; idle = part_ends room.lines x room.hub _ l.number here refl busy.tale })
+                where
+                  mine : LineOk plan n past None [] room.lines (Some l) room.hub
+                  mine = subst (λ (o : Option Line). LineOk plan n past None [] room.lines o room.hub) (only_found (is_n n) room.lines place l k.once there here) ok
+
+                  busy : Busy plan n past None [] room.lines l.requests.due x room.hub
+                  busy = subst (λ (o : Option Exchange). ExOk plan n past None [] room.lines l.requests.due o room.hub) some mine.1
+
+                  by_stays : (b : Bool) → x.stays ≡ b → (l.requests.due ≡ head) ⊎ HasClose n (done_jobs x.filters ++ jobs.Close l.number x.stays ∷ [])
+                  by_stays true stays = inl (subst (λ w. Matches w l.requests.due) (busy.staid stays) busy.matches)
+                  by_stays false stays =
+                      inr (free_has n (done_jobs x.filters) (jobs.Close l.number x.stays ∷ []) (done_free x.filters) (subst (λ b. HasClose n (jobs.Close l.number b ∷ [])) (sym stays) (inl here)))
+
+      by_seek : Seeks rooms.is_over room.lines → Known plan n past (ends_at place room)
+      by_seek (missing absent none) = let e : ◌≡◌ {A = Option ℕ} None (Some place) = sym absent ∙ at in absurd (cc)
+      by_seek (first j l found there passes seen) =
+          let same : Some j ≡ Some place = sym found ∙ at in
+          let is : j ≡ place = cc in
+          by_line l (subst (λ (i : ℕ). slice_get room.lines i ≡ Some l) is there) passes

@@ -1,0 +1,200 @@
+-- What is put into the chain of the request of the line, or of its response, and what is refused.
+use Rattle.std.proofs.Common.{◌≡◌, ◌⊎◌, inl, inr, ℕ, Bool, true, false, not, ◌||◌, List, [], ◌∷◌, ◌++◌, map, refl, ap, ◌∙◌, sym, subst}
+use Rattle.std.proofs.lemmas.Grind.{flat_map-append}
+use Rattle.std.proofs.lemmas.List.{append-nil, append_assoc}
+use Rattle.std.specs.Prelude.{Option, None, is_some, if◌then◌else◌}
+use Rattle.exchange.specs.declared.types.Exchange.{Exchange}
+use Rattle.exchange.specs.declared.types.Hub.{Hub}
+use Rattle.exchange.specs.Answering.{answer, answers_open, directly, through, shutting, is_direct, cut_off, answered_by}
+use Rattle.exchange.specs.Heads.{is_final, passes_filters, shuts, sent_head, up_tail}
+use Rattle.exchange.specs.Leaving.{up}
+use Rattle.exchange.specs.Maps.{request_map}
+use Rattle.exchange.specs.Passing.{put_in, puts_all, refused}
+use Rattle.exchange_laws.specs.Lives.{Deed, comes, turns, is_over, out_item}
+use Rattle.exchange_laws.specs.Responses.{IsMessage}
+use Rattle.exchange_laws.specs.Traffic.{ups}
+use Rattle.exchange_laws.proofs.Ups.{comes_over, comes_open, puts_is, no_stage}
+use Rattle.filter_chain.specs.declared.item.Item.{Item}
+use Rattle.filter_chain.specs.declared.item.Item.TheVariants as items
+use Rattle.gate_io.specs.declared.event.Sent.{Sent}
+use Rattle.http1_model.specs.Head.{Head}
+use Rattle.worker.specs.declared.types.Job.{Job}
+use Rattle.worker.specs.declared.types.Line.{Line}
+use Rattle.worker.specs.declared.types.Reads.{Reads}
+use Rattle.worker.specs.Plan.{Plan}
+use Rattle.worker.specs.Steps.{begins_with_head}
+use Rattle.line_laws.specs.Living.{request_in, requests_in, LivesBy}
+use Rattle.line_laws.specs.Requests.{AreOf}
+use Rattle.line_laws.proofs.Earlier.{behind}
+use Rattle.line_laws.proofs.Items.{message_rest, begins_join}
+use Rattle.line_laws.proofs.Kept.{Kept, by_bool, puts_all_kept, put_in_kept, through_rest}
+use Rattle.line_laws.proofs.Lives.{behind_deed, lives_behind, came_of, came_join, of_join, NoHead, body_of}
+use Rattle.line_laws.proofs.Looks.{IsPlain, lives_join, plain_kept}
+use Rattle.line_laws.proofs.Story.{IsFreshJobs, IsRefusing, pending, Proper, Stream, fresh, going, doomed, Story, over_told}
+
+-- ---- items as they go out
+
+front_none : (a b : List Item) → NoHead (a ++ b) → NoHead a
+front_none [] b none = tt
+front_none (items.Head end ∷ a) b none = absurd none
+front_none (items.Piece bytes end ∷ a) b none = front_none a b none
+front_none (items.Trailers ∷ a) b none = front_none a b none
+
+head_of : (h : Head) (x : Exchange) (hub : Hub) (a b : List Item) → begins_with_head a ≡ true → IsMessage (a ++ b) → request_map x.place hub.contexts ≡ h.fields → x.asked.minor ≡ h.minor
+    → AreOf h a (map (out_item x hub) a)
+head_of h x hub [] b begins message map minor = tt
+head_of h x hub (items.Head end ∷ a) b begins message map minor =
+    ((λ i. sent_head (map i) (up_tail (minor i))), body_of h x hub a (front_none a b (message_rest (items.Head end ∷ []) (a ++ b) refl message)))
+head_of h x hub (items.Piece bytes end ∷ a) b begins message map minor = absurd (cc)
+head_of h x hub (items.Trailers ∷ a) b begins message map minor = absurd (cc)
+
+-- ---- a connection is opened with the head
+
+parts : (a b : Bool) → (a || b) ≡ false → (a ≡ false) × (b ≡ false)
+parts true b is = absurd (cc)
+parts false b is = (refl, is)
+
+opens_with : (n : ℕ) (a : List Item) (x : Exchange) (hub : Hub) → begins_with_head a ≡ true → x.request ≡ [] → is_over x ≡ false → is_some (put_in false a n x hub).0.reader ≡ true
+opens_with n [] x hub begins none live = absurd (cc)
+opens_with n (items.Head end ∷ a) x hub begins none live =
+    let o = parts x.has_ended x.is_answered live in
+    let p : Exchange × Hub = up n (items.Head end) (no_stage x) hub in
+    subst (λ (q : Exchange × Hub). is_some q.0.reader ≡ true) (sym (comes_open n (items.Head end ∷ a) x hub o.1))
+    (subst (λ (q : Exchange × Hub). is_some (puts_all false n a q).0.reader ≡ true) (sym (puts_is n (items.Head end) x hub none o.0 o.1)) ((puts_all_kept false n a p).opened refl))
+opens_with n (items.Piece bytes end ∷ a) x hub begins none live = absurd (cc)
+opens_with n (items.Trailers ∷ a) x hub begins none live = absurd (cc)
+
+none_comes : (n : ℕ) (x : Exchange) (hub : Hub) → put_in false [] n x hub ≡ (x, hub)
+none_comes n x hub = by_bool (λ (p : Exchange × Hub). p ≡ (x, hub)) x.is_answered (x, hub) (x, hub) (λ e. refl) (λ e. refl)
+
+-- ---- the story with items that come to the chain
+
+module _ (plan : Plan) (n : ℕ) (past : List Sent) (now : Option Reads) (js ks : List Job) (lines later : List Line) (x : Exchange) (hub : Hub) (a : List Item) (after : Hub) where
+  abbrev goes : Exchange × Hub
+  goes = put_in false a n x hub
+
+  story_put : (sent : after.sent ≡ goes.1.sent) → (s : Story plan n past None js lines x hub) → AreOf s.head a (map (out_item x hub) a)
+      → (is_some goes.0.reader ≡ true) ⊎ ((ups n (past ++ after.sent) ≡ ups n s.start_hub.sent) × ((requests_in s.deeds ++ a ≡ []) ⊎ (is_over goes.0 ≡ true)))
+      → Stream n now ks later goes.0 after.contexts s.head.fields (requests_in s.deeds ++ a) → Story plan n past now ks later goes.0 after
+  story_put sent s are opened stream =
+      let kept : Kept x goes.0 = put_in_kept false a n x hub in
+      let plain : IsPlain goes.0 = plain_kept x goes.0 kept s.plain in
+      let two : List Deed = comes a ∷ turns goes.0 after ∷ [] in
+      let lives_two : LivesBy false n x hub two goes.0 after
+      = ((tt, (λ e. absurd (cc))), (((record { unfiltered = plain.1; framed = refl; stays_over = λ o. o }, ap (ups n) sent), (λ e. absurd (cc))), (refl, refl))) in
+      let more : List Deed = map (behind_deed past) two in
+      let lives_more : LivesBy false n x (behind past hub) more goes.0 (behind past after) = lives_behind past n two x goes.0 hub after lives_two in
+      let all_got : requests_in (s.deeds ++ more) ≡ requests_in s.deeds ++ a = flat_map-append request_in s.deeds more ∙ ap (λ l. requests_in s.deeds ++ l) (append-nil a) in
+      let all_came : came_of n s.start s.start_hub (s.deeds ++ more) ≡ came_of n s.start s.start_hub s.deeds ++ map (out_item x hub) a
+      = came_join n s.deeds more s.start x s.start_hub (behind past hub) s.lives ∙ ap (λ l. came_of n s.start s.start_hub s.deeds ++ l) (append-nil (map (out_item x hub) a)) in
+      record {
+        plain = plain;
+        head = s.head;
+        start = s.start;
+        start_hub = s.start_hub;
+        began = s.began;
+        before = s.before;
+        deeds = s.deeds ++ more;
+        lives = lives_join false n s.deeds more s.start x goes.0 s.start_hub (behind past hub) (behind past after) s.lives lives_more;
+        came =
+            subst (λ l. AreOf s.head l (came_of n s.start s.start_hub (s.deeds ++ more))) (sym all_got)
+            (subst (λ l. AreOf s.head (requests_in s.deeds ++ a) l) (sym all_came) (of_join s.head (requests_in s.deeds) a (came_of n s.start s.start_hub s.deeds) (map (out_item x hub) a) s.came are));
+        minor = ap (λ q. q.minor) kept.asked ∙ s.minor;
+        opened = subst (λ l. (is_some goes.0.reader ≡ true) ⊎ ((ups n (past ++ after.sent) ≡ ups n s.start_hub.sent) × ((l ≡ []) ⊎ (is_over goes.0 ≡ true)))) (sym all_got) opened;
+        stream = subst (Stream n now ks later goes.0 after.contexts s.head.fields) (sym all_got) stream;
+      }
+
+  -- what is put in is what was pending first
+  pub puts_story : after.sent ≡ goes.1.sent → pending n None js ≡ a ++ pending n now ks → (IsFreshJobs n js → begins_with_head a ≡ true) → (IsRefusing n js → IsRefusing n ks) → Story plan n past None js lines x hub
+      → Story plan n past now ks later goes.0 after
+  puts_story sent first begins_so refusing s = by_stream s.stream
+    where
+      kept : Kept x goes.0
+      kept = put_in_kept false a n x hub
+
+      same_whole : goes.0.asked.whole ≡ x.asked.whole
+      same_whole = ap (λ q. q.whole) kept.asked
+
+      ended : is_over x ≡ true → ups n (past ++ after.sent) ≡ ups n (past ++ hub.sent)
+      ended over = ap (λ l. ups n (past ++ l)) sent ∙ ap (λ (p : Exchange × Hub). ups n (past ++ p.1.sent)) (comes_over n a x hub over)
+
+      by_over : (c : Bool) → is_over x ≡ c → begins_with_head a ≡ true → (is_some x.reader ≡ true) ⊎ ((ups n (past ++ hub.sent) ≡ ups n s.start_hub.sent) × ((requests_in s.deeds ≡ []) ⊎ (is_over x ≡ true)))
+          → (is_some goes.0.reader ≡ true) ⊎ ((ups n (past ++ after.sent) ≡ ups n s.start_hub.sent) × ((requests_in s.deeds ++ a ≡ []) ⊎ (is_over goes.0 ≡ true)))
+      by_over false live begins o = inl (opens_with n a x hub begins s.plain.1 live)
+      by_over true over begins (inl o) = inl (kept.opened o)
+      by_over true over begins (inr o) = inr (ended over ∙ o.0, inr (over_told x goes.0 kept.told over))
+
+      by_opened : begins_with_head (requests_in s.deeds) ≡ true → (is_some x.reader ≡ true) ⊎ ((ups n (past ++ hub.sent) ≡ ups n s.start_hub.sent) × ((requests_in s.deeds ≡ []) ⊎ (is_over x ≡ true)))
+          → (is_some goes.0.reader ≡ true) ⊎ ((ups n (past ++ after.sent) ≡ ups n s.start_hub.sent) × ((requests_in s.deeds ++ a ≡ []) ⊎ (is_over goes.0 ≡ true)))
+      by_opened begins (inl o) = inl (kept.opened o)
+      by_opened begins (inr (same, inl none)) = let never : ◌≡◌ {A = Bool} false true = ap begins_with_head (sym none) ∙ begins in absurd (cc)
+      by_opened begins (inr (same, inr over)) = inr (ended over ∙ same, inr (over_told x goes.0 kept.told over))
+
+      none_both : {A : Type 0} (b c : List A) → b ++ c ≡ [] → (b ≡ []) × (c ≡ [])
+      none_both [] c is = (refl, is)
+      none_both (i ∷ b) c is = absurd (cc)
+
+      by_stream : Stream n None js lines x hub.contexts s.head.fields (requests_in s.deeds) → Story plan n past now ks later goes.0 after
+      by_stream (fresh none is rests map proper) =
+          let all : Proper (a ++ pending n now ks) x.asked.whole = subst (λ l. Proper l x.asked.whole) first proper in
+          let begins : begins_with_head a ≡ true = begins_so is in
+          let got : requests_in s.deeds ++ a ≡ a = ap (λ l. l ++ a) none in
+          story_put sent s (head_of s.head x hub a (pending n now ks) begins all.1 map s.minor) (by_over (is_over x) refl begins s.opened)
+          (going (ap begins_with_head got ∙ begins)
+          (subst (λ l. Proper (l ++ pending n now ks) goes.0.asked.whole) (sym got) (subst (λ w. Proper (a ++ pending n now ks) w) (sym same_whole) all)))
+      by_stream (going begins proper) =
+          let g : List Item = requests_in s.deeds in
+          let all : Proper (g ++ (a ++ pending n now ks)) x.asked.whole = subst (λ l. Proper (g ++ l) x.asked.whole) first proper in
+          story_put sent s (body_of s.head x hub a (front_none a (pending n now ks) (message_rest g (a ++ pending n now ks) begins all.1))) (by_opened begins s.opened)
+          (going (begins_join g a begins)
+          (subst (λ l. Proper l goes.0.asked.whole) (sym (append_assoc g a (pending n now ks))) (subst (λ w. Proper (g ++ (a ++ pending n now ks)) w) (sym same_whole) all)))
+      by_stream (doomed message none is) =
+          let both = none_both a (pending n now ks) (sym first ∙ none) in
+          let g : List Item = requests_in s.deeds in
+          let got : g ++ a ≡ g = ap (λ l. g ++ l) both.0 ∙ append-nil g in
+          let same : goes ≡ (x, hub) = ap (λ l. put_in false l n x hub) both.0 ∙ none_comes n x hub in
+          let ups_same : ups n (past ++ after.sent) ≡ ups n (past ++ hub.sent) = ap (λ l. ups n (past ++ l)) sent ∙ ap (λ (p : Exchange × Hub). ups n (past ++ p.1.sent)) same in
+          story_put sent s (subst (λ l. AreOf s.head l (map (out_item x hub) l)) (sym both.0) tt) (by_doomed ups_same got s.opened)
+          (doomed (subst IsMessage (sym got) message) both.1 (by_end is))
+        where
+          by_end : (is_over x ≡ true) ⊎ IsRefusing n js → (is_over goes.0 ≡ true) ⊎ IsRefusing n ks
+          by_end (inl over) = inl (over_told x goes.0 kept.told over)
+          by_end (inr r) = inr (refusing r)
+
+          by_doomed : ups n (past ++ after.sent) ≡ ups n (past ++ hub.sent) → requests_in s.deeds ++ a ≡ requests_in s.deeds
+              → (is_some x.reader ≡ true) ⊎ ((ups n (past ++ hub.sent) ≡ ups n s.start_hub.sent) × ((requests_in s.deeds ≡ []) ⊎ (is_over x ≡ true)))
+              → (is_some goes.0.reader ≡ true) ⊎ ((ups n (past ++ after.sent) ≡ ups n s.start_hub.sent) × ((requests_in s.deeds ++ a ≡ []) ⊎ (is_over goes.0 ≡ true)))
+          by_doomed same got (inl o) = inl (kept.opened o)
+          by_doomed same got (inr (o, inl e)) = inr (same ∙ o, inl (got ∙ e))
+          by_doomed same got (inr (o, inr over)) = inr (same ∙ o, inr (over_told x goes.0 kept.told over))
+
+-- ---- what is refused is over
+
+ended_over : (x : Exchange) → x.has_ended ≡ true → is_over x ≡ true
+ended_over x is = ap (λ b. b || x.is_answered) is
+
+or_true : (b : Bool) → (b || true) ≡ true
+or_true true = refl
+or_true false = refl
+
+answered_over : (x : Exchange) → x.is_answered ≡ true → is_over x ≡ true
+answered_over x is = ap (λ b. x.has_ended || b) is ∙ or_true x.has_ended
+
+directly_over : (n status : ℕ) (x : Exchange) (hub : Hub) → is_over (directly n status [] [] x hub).0 ≡ true
+directly_over n status x hub = by_bool (λ (p : Exchange × Hub). is_over p.0 ≡ true) (x.is_head_out || not (is_final status)) (cut_off x hub) _ (λ e. refl) (λ e. refl)
+
+answer_over : (n : ℕ) (shut : Bool) (status : ℕ) (x : Exchange) (hub : Hub) → is_over (answer n shut status [] [] x hub).0 ≡ true
+answer_over n shut status x hub =
+    by_bool (λ (p : Exchange × Hub). is_over p.0 ≡ true) (x.has_ended || x.is_answered) (x, hub) (answers_open n status [] [] (shutting shut x) hub) (λ e. e)
+    (λ e. by_bool (λ (p : Exchange × Hub). is_over p.0 ≡ true) (is_direct status (shutting shut x)) (directly n status [] [] (shutting shut x) hub) (through n status [] [] (shutting shut x) hub)
+    (λ d. directly_over n status (shutting shut x) hub) (λ d. through_over (shutting shut x)))
+  where
+    through_over : (z : Exchange) → is_over (through n status [] [] z hub).0 ≡ true
+    through_over z = over_told (answered_by status [] z) (through n status [] [] z hub).0 (through_rest n status [] [] z hub).told (answered_over (answered_by status [] z) refl)
+
+pub refused_over : (status n : ℕ) (x : Exchange) (hub : Hub) → is_over (refused status n x hub).0 ≡ true
+refused_over status n x hub =
+    by_bool (λ (p : Exchange × Hub). is_over p.0 ≡ true) (x.has_ended || x.is_answered) (x, hub)
+    (if passes_filters status then answer n (shuts status) status [] [] x hub else directly n status [] [] (shutting (shuts status) x) hub) (λ e. e)
+    (λ e. by_bool (λ (p : Exchange × Hub). is_over p.0 ≡ true) (passes_filters status) (answer n (shuts status) status [] [] x hub) (directly n status [] [] (shutting (shuts status) x) hub)
+    (λ d. answer_over n (shuts status) status x hub) (λ d. directly_over n status (shutting (shuts status) x) hub))

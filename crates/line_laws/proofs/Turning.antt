@@ -1,0 +1,299 @@
+-- Turns, and what is known behind them.
+use Rattle.std.proofs.Common.{◌≡◌, ◌⊎◌, inl, inr, ℕ, zero, suc, ◌+◌, ◌==◌, Bool, true, false, List, [], ◌∷◌, ◌++◌, map, refl, ap, ◌∙◌, sym, subst}
+use Rattle.std.proofs.lemmas.Grind.{flat_map-append}
+use Rattle.std.proofs.lemmas.List.{append-nil, append_assoc}
+use Rattle.std.specs.Prelude.{Option, None, Some, is_some, slice_get}
+use Rattle.std.specs.List.{list_any}
+use Rattle.contexts.specs.declared.parts.Context.{Context}
+use Rattle.contexts.specs.declared.parts.Contexts.{Contexts}
+use Rattle.contexts.specs.declared.parts.Plugin.{Plugin}
+use Rattle.contexts.specs.Reached.{vm_in}
+use Rattle.course.specs.Course.{Course, ends, asks, measures, hears}
+use Rattle.course.proofs.Holds.{AllEnds, all_then, all_reached}
+use Rattle.exchange.specs.declared.types.Exchange.{Exchange}
+use Rattle.exchange.specs.declared.types.Hub.{Hub}
+use Rattle.exchange_laws.specs.Lives.{turns, is_over}
+use Rattle.exchange_laws.specs.Traffic.{opens, byte, traffic, ups}
+use Rattle.exchange_laws.proofs.Traffic.{ups_join}
+use Rattle.gate_io.specs.declared.event.Event.{Event}
+use Rattle.gate_io.specs.declared.event.Sent.{Sent}
+use Rattle.gate_io.specs.declared.event.What.{What}
+use Rattle.gate_io.specs.Events.{is_stop}
+use Rattle.h1_write.specs.Lines.{out_items, out_wire}
+use Rattle.http1_model.specs.Framing.{OutItem, head_wire}
+use Rattle.http1_model.specs.Framing as out
+use Rattle.http1_model.specs.Messages.{Due}
+use Rattle.outbox.specs.Joined.{joined}
+use Rattle.worker.specs.declared.room.Room.{Room}
+use Rattle.worker.specs.declared.types.Job.{Job}
+use Rattle.worker.specs.declared.types.Job.TheVariants as jobs
+use Rattle.worker.specs.declared.types.Line.{Line}
+use Rattle.worker.specs.declared.types.Reads.{Reads}
+use Rattle.worker.specs.Plan.{Plan}
+use Rattle.worker.specs.Settling.{settling}
+use Rattle.worker.specs.Steps.{Both, both, exchange_of_line, exchange_on}
+use Rattle.worker.specs.Turn.{Outcome, turn, turn_by, facing, agenda_of, starts, starts_of, start_of, roots_from, vms_in, is_of, ticks_in, ticks_of, ticks_due, deadlines, notice_of, notices_of, is_due_now, registers_at, most_steps, comes_to, emptied}
+use Rattle.line_laws.specs.Laws.{ExchangesLive, NoServerSeesTwoMessages}
+use Rattle.line_laws.specs.Logs.{Calling, WriteLogs}
+use Rattle.line_laws.specs.Living.{requests_in, request_in, LivesBy}
+use Rattle.line_laws.specs.Requests.{AreOf, OneByOne, nothing, is_whole, IsSoFar, IsOpen, without, with_some, GoesUpBy, HasLived}
+use Rattle.line_laws.specs.Turns.{Done, Turns, new_room, sent_in}
+use Rattle.line_laws.proofs.Earlier.{behind}
+use Rattle.line_laws.proofs.Ending.{Went, went, is_message}
+use Rattle.line_laws.proofs.Joining.{ups_joined}
+use Rattle.line_laws.proofs.Kept.{by_bool}
+use Rattle.line_laws.proofs.Lives.{came_of, came_join, lives_with}
+use Rattle.line_laws.proofs.Looks.{look, line_in_is, lives_join}
+use Rattle.line_laws.proofs.Rooms.{AllParts}
+use Rattle.line_laws.proofs.Stepping.{settling_keeps}
+use Rattle.line_laws.proofs.Story.{IsFresh, IsRefusing, pending, Stream, fresh, going, doomed, Story, Tale, plainly, filtered, Idle, ExOk, LineOk, Known}
+
+-- ---- the parts of a turn
+
+parts_join : (a b : List Job) → AllParts a → AllParts b → AllParts (a ++ b)
+parts_join [] b e f = f
+parts_join (job ∷ a) b e f = (e.0, parts_join a b e.1 f)
+
+roots_parts : (vm place : ℕ) (is_first : Bool) (plugins : List Plugin) → AllParts (roots_from vm place is_first plugins)
+roots_parts vm place is_first [] = tt
+roots_parts vm place is_first (p ∷ plugins) =
+    by_bool AllParts (is_of vm p) (jobs.Root vm place is_first ∷ roots_from vm (place + 1) false plugins) (roots_from vm (place + 1) is_first plugins) (λ e. (tt, roots_parts vm (place + 1) false plugins)) (λ e. roots_parts vm (place + 1) is_first plugins)
+
+start_parts : (vm : ℕ) (plugins : List Plugin) → AllParts (start_of vm plugins)
+start_parts vm plugins = by_bool AllParts (list_any (is_of vm) plugins) (jobs.Begin vm ∷ roots_from vm 0 true plugins) [] (λ e. (tt, roots_parts vm 0 true plugins)) (λ e. tt)
+
+all_start_parts : (k : ℕ) (plugins : List Plugin) → AllParts (starts_of k plugins)
+all_start_parts zero plugins = tt
+all_start_parts (suc k) plugins = parts_join (starts_of k plugins) (start_of k plugins) (all_start_parts k plugins) (start_parts k plugins)
+
+ticks_parts : (now vm : ℕ) (contexts : List Context) → AllParts (ticks_in now vm contexts)
+ticks_parts now vm [] = tt
+ticks_parts now vm (c ∷ contexts) = by_bool AllParts (is_due_now now c.tick) (jobs.Tick vm c.id ∷ ticks_in now vm contexts) (ticks_in now vm contexts) (λ e. (tt, ticks_parts now vm contexts)) (λ e. ticks_parts now vm contexts)
+
+all_ticks_parts : (now k : ℕ) (h : Contexts) → AllParts (ticks_of now k h)
+all_ticks_parts now zero h = tt
+all_ticks_parts now (suc k) h = parts_join (ticks_of now k h) (ticks_in now k (vm_in h k).contexts) (all_ticks_parts now k h) (ticks_parts now k (vm_in h k).contexts)
+
+notices_parts : (plan : Plan) (k : ℕ) → AllParts (notices_of plan k)
+notices_parts plan zero = tt
+notices_parts plan (suc k) =
+    parts_join (notices_of plan k) (notice_of plan k) (notices_parts plan k) (by_bool AllParts (registers_at (slice_get plan.registers k)) (jobs.Notice k 16 ∷ []) [] (λ e. (tt, tt)) (λ e. tt))
+
+agenda_parts : (plan : Plan) (what : What) (room : Room) → AllParts (agenda_of plan what room)
+agenda_parts plan what room =
+    parts_join (starts room) _ (by_bool AllParts room.is_begun [] (starts_of (vms_in room) room.hub.contexts.plugins) (λ e. tt) (λ e. all_start_parts (vms_in room) room.hub.contexts.plugins))
+    (parts_join (ticks_due room) _ (all_ticks_parts room.hub.moment (vms_in room) room.hub.contexts)
+    (parts_join (deadlines plan) (jobs.Happen what ∷ notices_of plan (vms_in room)) (by_bool AllParts (plan.deadline == 0) [] (jobs.Expire ∷ []) (λ e. tt) (λ e. (tt, tt))) (tt, notices_parts plan (vms_in room))))
+
+-- ---- what was sent is counted otherwise
+
+module _ (plan : Plan) (n : ℕ) (past now : List Sent) (hub after : Hub) (same : ups n (now ++ after.sent) ≡ ups n (past ++ hub.sent)) (alike : after.contexts ≡ hub.contexts) where
+  story_past : (reading : Option Reads) (js : List Job) (lines : List Line) (x : Exchange) → Story plan n past reading js lines x hub → Story plan n now reading js lines x after
+  story_past reading js lines x s =
+      let one : LivesBy false n x (behind past hub) (turns x (behind now after) ∷ []) x (behind now after)
+      = (((record { unfiltered = s.plain.1; framed = refl; stays_over = λ o. o }, same), (λ e. absurd (cc))), (refl, refl)) in
+      let got : requests_in (s.deeds ++ turns x (behind now after) ∷ []) ≡ requests_in s.deeds = flat_map-append request_in s.deeds (turns x (behind now after) ∷ []) ∙ append-nil (requests_in s.deeds) in
+      let outs : came_of n s.start s.start_hub (s.deeds ++ turns x (behind now after) ∷ []) ≡ came_of n s.start s.start_hub s.deeds
+      = came_join n s.deeds (turns x (behind now after) ∷ []) s.start x s.start_hub (behind past hub) s.lives ∙ append-nil (came_of n s.start s.start_hub s.deeds) in
+      record {
+        plain = s.plain;
+        head = s.head;
+        start = s.start;
+        start_hub = s.start_hub;
+        began = s.began;
+        before = s.before;
+        deeds = s.deeds ++ turns x (behind now after) ∷ [];
+        lives = lives_join false n s.deeds (turns x (behind now after) ∷ []) s.start x x s.start_hub (behind past hub) (behind now after) s.lives one;
+        came = subst (λ l. AreOf s.head l (came_of n s.start s.start_hub (s.deeds ++ turns x (behind now after) ∷ []))) (sym got) (subst (λ l. AreOf s.head (requests_in s.deeds) l) (sym outs) s.came);
+        minor = s.minor;
+        opened = by_opened got s.opened;
+        stream = subst (Stream n reading js lines x after.contexts s.head.fields) (sym got) (subst (λ (c : Contexts). Stream n reading js lines x c s.head.fields (requests_in s.deeds)) (sym alike) s.stream);
+      }
+    where
+      by_opened : {g : List _} → g ≡ requests_in s.deeds → (is_some x.reader ≡ true) ⊎ ((ups n (past ++ hub.sent) ≡ ups n s.start_hub.sent) × ((requests_in s.deeds ≡ []) ⊎ (is_over x ≡ true)))
+          → (is_some x.reader ≡ true) ⊎ ((ups n (now ++ after.sent) ≡ ups n s.start_hub.sent) × ((g ≡ []) ⊎ (is_over x ≡ true)))
+      by_opened g (inl o) = inl o
+      by_opened g (inr (o, inl e)) = inr (same ∙ o, inl (g ∙ e))
+      by_opened g (inr (o, inr e)) = inr (same ∙ o, inr e)
+
+  idle_past : Idle plan n past hub → Idle plan n now after
+  idle_past idle = subst (OneByOne plan) (sym same) idle
+
+  tale_past : (reading : Option Reads) (js : List Job) (lines : List Line) (x : Exchange) → Tale plan n past reading js lines x hub → Tale plan n now reading js lines x after
+  tale_past reading js lines x (plainly s) = plainly (story_past reading js lines x s)
+  tale_past reading js lines x (filtered o) = filtered (record { filters = o.filters; is_filtered = o.is_filtered; start = o.start; before = o.before; part = o.part; adds = same ∙ o.adds })
+
+  exchange_past : (reading : Option Reads) (js : List Job) (lines : List Line) (due : Due) (o : Option Exchange) → ExOk plan n past reading js lines due o hub → ExOk plan n now reading js lines due o after
+  exchange_past reading js lines due None ok = record { none = ok.none; due_or = ok.due_or; idle = idle_past ok.idle }
+  exchange_past reading js lines due (Some x) ok = record { staid = ok.staid; matches = ok.matches; unclosed = ok.unclosed; reads = ok.reads; tale = tale_past reading js lines x ok.tale }
+
+  line_past : (reading : Option Reads) (js : List Job) (lines : List Line) (o : Option Line) → LineOk plan n past reading js lines o hub → LineOk plan n now reading js lines o after
+  line_past reading js lines None ok = (ok.0, idle_past ok.1)
+  line_past reading js lines (Some l) ok = (ok.0, exchange_past reading js lines l.requests.due l.exchange ok.1)
+
+-- ---- a turn
+
+facing_known : (plan : Plan) (n : ℕ) (past : List Sent) (event : Event) (room : Room) → Known plan n past room → Known plan n past (facing plan event room)
+facing_known plan n past event room k = record {
+  once = k.once;
+  parts = agenda_parts plan event.what (record room { hub = record room.hub { moment = event.now } });
+  stands = k.stands;
+  alone = k.alone;
+  phase = k.phase;
+  line = line_past plan n past past room.hub (record room.hub { moment = event.now }) refl refl room.reading room.jobs room.lines (look n room.lines) k.line;
+}
+
+emptied_known : (plan : Plan) (n : ℕ) (past : List Sent) (room : Room) → Known plan n past room → Known plan n (past ++ joined room.hub.sent) (emptied room)
+emptied_known plan n past room k =
+    let same : ups n ((past ++ joined room.hub.sent) ++ []) ≡ ups n (past ++ room.hub.sent)
+    = ap (ups n) (append-nil (past ++ joined room.hub.sent)) ∙ (ups_join n past (joined room.hub.sent) ∙ (ap (λ t. ups n past ++ t) (ups_joined n room.hub.sent) ∙ sym (ups_join n past room.hub.sent))) in
+    record {
+      once = k.once;
+      parts = k.parts;
+      stands = k.stands;
+      alone = k.alone;
+      phase = k.phase;
+      line = line_past plan n past (past ++ joined room.hub.sent) room.hub (record room.hub { sent = [] }) same refl room.reading room.jobs room.lines (look n room.lines) k.line;
+    }
+
+module _ {H : Type 0} (calling : Calling H) (logs : WriteLogs calling) (plan : Plan) where
+  abbrev Comes : List Sent → Outcome H → Type 0
+  Comes past o = (n : ℕ) → Known plan n (past ++ o.sent) o.state.room
+
+  turn_keeps : (past : List Sent) (state : Both H) (event : Event) → ((n : ℕ) → Known plan n past state.room) → AllEnds (Comes past) (turn calling plan state event)
+  turn_keeps past state event all = by_stop (is_stop event.what)
+    where
+      by_stop : (b : Bool) → AllEnds (Comes past) (turn_by calling plan b state event)
+      by_stop true = λ n. subst (λ l. Known plan n l state.room) (sym (append-nil past)) (all n)
+      by_stop false =
+          all_then (λ (b : Both H). (n : ℕ) → Known plan n past b.room) (Comes past) (settling calling plan most_steps state.host (facing plan event state.room)) (λ b. ends (comes_to b))
+          (settling_keeps calling logs plan past most_steps state.host (facing plan event state.room) (λ n. facing_known plan n past event state.room (all n))) (λ b k n. emptied_known plan n past b.room (k n))
+
+  pub turns_keep : (past : List Sent) (from : Both H) (ts : List (Done H)) (to : Both H) → ((n : ℕ) → Known plan n past from.room) → Turns calling plan from ts to → (n : ℕ) → Known plan n (past ++ sent_in ts) to.room
+  turns_keep past from [] to all turned n = subst (λ (b : Both H). Known plan n (past ++ []) b.room) (sym turned) (subst (λ l. Known plan n l from.room) (sym (append-nil past)) (all n))
+  turns_keep past from (t ∷ ts) to all turned n =
+      let one : Comes past t.end = all_reached (Comes past) t.met (turn calling plan from t.event) t.end (turn_keeps past from t.event all) turned.0 in
+      subst (λ l. Known plan n l to.room) (append_assoc past t.end.sent (sent_in ts)) (turns_keep (past ++ t.end.sent) t.end.state ts to one turned.1 n)
+
+  -- nothing is left to be sent behind a turn
+  any_end : {A : Type 0} (p : Course A) → AllEnds (λ (a : A). Unit {0}) p
+  any_end (ends a) = tt
+  any_end (asks vm call k) = λ r. any_end (k r)
+  any_end (measures vm call k) = λ r. any_end (k r)
+  any_end (hears t k) = λ h says. any_end (k h)
+
+  turn_empties : (state : Both H) (event : Event) → AllEnds (λ (o : Outcome H). state.room.hub.sent ≡ [] → o.state.room.hub.sent ≡ []) (turn calling plan state event)
+  turn_empties state event = by_stop (is_stop event.what)
+    where
+      by_stop : (b : Bool) → AllEnds (λ (o : Outcome H). state.room.hub.sent ≡ [] → o.state.room.hub.sent ≡ []) (turn_by calling plan b state event)
+      by_stop true = λ e. e
+      by_stop false =
+          all_then (λ (b : Both H). Unit {0}) (λ (o : Outcome H). state.room.hub.sent ≡ [] → o.state.room.hub.sent ≡ []) (settling calling plan most_steps state.host (facing plan event state.room)) (λ b. ends (comes_to b))
+          (any_end (settling calling plan most_steps state.host (facing plan event state.room))) (λ b k e. refl)
+
+  pub turns_empty : (from : Both H) (ts : List (Done H)) (to : Both H) → from.room.hub.sent ≡ [] → Turns calling plan from ts to → to.room.hub.sent ≡ []
+  turns_empty from [] to none turned = ap (λ (b : Both H). b.room.hub.sent) turned ∙ none
+  turns_empty from (t ∷ ts) to none turned =
+      turns_empty t.end.state ts to
+      (all_reached (λ (o : Outcome H). from.room.hub.sent ≡ [] → o.state.room.hub.sent ≡ []) t.met (turn calling plan from t.event) t.end (turn_empties from t.event) turned.0 none) turned.1
+
+-- a new worker
+new_known : (plan : Plan) (contexts : Contexts) (n : ℕ) → Known plan n [] (new_room contexts)
+new_known plan contexts n = record {
+  once = tt;
+  parts = tt;
+  stands = tt;
+  alone = λ r is. absurd (cc);
+  phase = tt;
+  line = (refl, nothing);
+}
+
+-- ---- what went up
+
+so_far : (plan : Plan) (n : ℕ) (past : List Sent) (room : Room) (x : Exchange) → (s : Story plan n past room.reading room.jobs room.lines x room.hub) → IsSoFar plan room x (ups n (past ++ room.hub.sent))
+so_far plan n past room x s =
+    let w : Went plan n past room.reading room.jobs room.lines x room.hub s = went plan n past room.reading room.jobs room.lines x room.hub s in
+    record {
+      before = ups n s.start_hub.sent;
+      one_by_one = s.before;
+      head = s.head;
+      judged = s.began.judged;
+      request = w.request;
+      sent_of = w.sent_of;
+      items = requests_in s.deeds;
+      message = is_message plan n past room.reading room.jobs room.lines x room.hub s;
+      came = came_of n s.start s.start_hub s.deeds;
+      of = s.came;
+      went = w.goes.went;
+      adds = w.goes.adds;
+      front = w.goes.front;
+      all = w.goes.all;
+      read_whole = λ live quiet jobless. by_stream live quiet jobless s.stream;
+      whole = λ live whole. by_full w live (w.full whole);
+    }
+  where
+    none_left : room.reading ≡ None → room.jobs ≡ [] → pending n room.reading room.jobs ≡ []
+    none_left quiet jobless = λ i. pending n (quiet i) (jobless i)
+
+    by_stream : is_over x ≡ false → room.reading ≡ None → room.jobs ≡ [] → Stream n room.reading room.jobs room.lines x room.hub.contexts s.head.fields (requests_in s.deeds) → is_whole (requests_in s.deeds) ≡ x.asked.whole
+    by_stream live quiet jobless (fresh none is rests map proper) = absurd (subst (λ l. IsFresh n None l) jobless (subst (λ r. IsFresh n r room.jobs) quiet is))
+    by_stream live quiet jobless (going begins proper) = ap is_whole (sym (append-nil (requests_in s.deeds)) ∙ ap (λ l. requests_in s.deeds ++ l) (sym (none_left quiet jobless))) ∙ proper.2
+    by_stream live quiet jobless (doomed message none (inl over)) = let never : ◌≡◌ {A = Bool} true false = sym over ∙ live in absurd (cc)
+    by_stream live quiet jobless (doomed message none (inr is)) = absurd (subst (IsRefusing n) jobless is)
+
+    by_full : (w : Went plan n past room.reading room.jobs room.lines x room.hub s) → is_over x ≡ false
+        → (came_of n s.start s.start_hub s.deeds ≡ out_items w.request) ⊎ (came_of n s.start s.start_hub s.deeds ≡ out.head w.request.head ∷ [])
+        → (w.goes.went ≡ opens ∷ map byte (out_wire w.request)) ⊎ (w.goes.went ≡ opens ∷ map byte (head_wire w.request.framing w.request.head))
+    by_full w live (inl e) = inl (w.goes.whole live e)
+    by_full w live (inr e) = inr (w.goes.all live ∙ (ap (traffic w.request.framing) e ∙ append-nil (opens ∷ map byte (head_wire w.request.framing w.request.head))))
+
+goes_up_by : (plan : Plan) (n : ℕ) (past : List Sent) (room : Room) → Known plan n past room → GoesUpBy plan room (exchange_on n room) (ups n (past ++ room.hub.sent))
+goes_up_by plan n past room k =
+    subst (λ (o : Option Line). GoesUpBy plan room (exchange_of_line o) (ups n (past ++ room.hub.sent))) (sym (line_in_is n room.lines)) (by_line (look n room.lines) k.line)
+  where
+    by_exchange : (due : Due) (o : Option Exchange) → ExOk plan n past room.reading room.jobs room.lines due o room.hub → GoesUpBy plan room o (ups n (past ++ room.hub.sent))
+    by_exchange due None ok = ok.idle
+    by_exchange due (Some x) ok = by_tale ok.tale
+      where
+        by_tale : Tale plan n past room.reading room.jobs room.lines x room.hub → IsOpen plan room x (ups n (past ++ room.hub.sent))
+        by_tale (plainly s) = without s.plain.0 (so_far plan n past room x s)
+        by_tale (filtered o) = with_some o.filters (record { is_filtered = o.is_filtered; before = o.start; one_by_one = o.before; part = o.part; adds = o.adds })
+
+    by_line : (o : Option Line) → LineOk plan n past room.reading room.jobs room.lines o room.hub → GoesUpBy plan room (exchange_of_line o) (ups n (past ++ room.hub.sent))
+    by_line None ok = ok.1
+    by_line (Some l) ok = by_exchange l.requests.due l.exchange ok.1
+
+lived : (plan : Plan) (n : ℕ) (past : List Sent) (room : Room) (x : Exchange) → Known plan n past room → exchange_on n room ≡ Some x → x.filters ≡ [] → HasLived plan n x (behind past room.hub)
+lived plan n past room x k on none = by_line (look n room.lines) k.line (sym (ap exchange_of_line (line_in_is n room.lines)) ∙ on)
+  where
+    by_tale : Tale plan n past room.reading room.jobs room.lines x room.hub → HasLived plan n x (behind past room.hub)
+    by_tale (plainly s) = record {
+      head = s.head;
+      start = s.start;
+      start_hub = s.start_hub;
+      began = s.began;
+      deeds = s.deeds;
+      came = came_of n s.start s.start_hub s.deeds;
+      lives = lives_with n s.deeds s.start x s.start_hub (behind past room.hub) s.lives;
+      message = is_message plan n past room.reading room.jobs room.lines x room.hub s;
+      of = s.came;
+    }
+    by_tale (filtered o) = absurd (o.filters none)
+
+    by_exchange : (due : Due) (o : Option Exchange) → ExOk plan n past room.reading room.jobs room.lines due o room.hub → o ≡ Some x → HasLived plan n x (behind past room.hub)
+    by_exchange due None ok is = absurd (cc)
+    by_exchange due (Some y) ok is = let same : y ≡ x = cc in by_tale (subst (λ (z : Exchange). Tale plan n past room.reading room.jobs room.lines z room.hub) same ok.tale)
+
+    by_line : (o : Option Line) → LineOk plan n past room.reading room.jobs room.lines o room.hub → exchange_of_line o ≡ Some x → HasLived plan n x (behind past room.hub)
+    by_line None ok is = absurd (cc)
+    by_line (Some l) ok is = by_exchange l.requests.due l.exchange ok.1 is
+
+pub exchanges_live : (H : Type 0) → ExchangesLive H
+exchanges_live H calling plan contexts host ts to n x logs turned on none =
+    lived plan n (sent_in ts) to.room x (turns_keep calling logs plan [] (both host (new_room contexts)) ts to (new_known plan contexts) turned n) on none
+
+pub no_server_sees_two : (H : Type 0) → NoServerSeesTwoMessages H
+no_server_sees_two H calling plan contexts host ts to n logs turned =
+    let k : Known plan n (sent_in ts) to.room = turns_keep calling logs plan [] (both host (new_room contexts)) ts to (new_known plan contexts) turned n in
+    let none : to.room.hub.sent ≡ [] = turns_empty calling logs plan (both host (new_room contexts)) ts to refl turned in
+    subst (GoesUpBy plan to.room (exchange_on n to.room)) (ap (ups n) (append-nil (sent_in ts))) (subst (λ l. GoesUpBy plan to.room (exchange_on n to.room) (ups n (sent_in ts ++ l))) none (goes_up_by plan n (sent_in ts) to.room k))

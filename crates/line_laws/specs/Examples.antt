@@ -1,0 +1,54 @@
+-- Worked turns of a new worker without machines: a GET, and two GETs that come at once.
+use Rattle.std.specs.Prelude.{◌≡◌, ℕ, true, List, [], ◌∷◌, ◌++◌, map, codes}
+use Rattle.contexts.specs.Making.{no_contexts}
+use Rattle.exchange_laws.specs.Traffic.{opens, byte, closes, ups}
+use Rattle.gate_base.specs.declared.level.Level.TheVariants.{Info}
+use Rattle.gate_io.specs.declared.event.Event.{Event}
+use Rattle.gate_io.specs.declared.event.Side.TheVariants.{Down, Up}
+use Rattle.gate_io.specs.declared.event.What.{What}
+use Rattle.gate_io.specs.declared.event.What.TheVariants as whats
+use Rattle.http1_model.specs.Examples.{worked_text, worked_wire, worked_response_text}
+use Rattle.worker.specs.NoCalls.{no_calling}
+use Rattle.worker.specs.Plan.{Plan}
+use Rattle.worker.specs.Steps.{Both, both}
+use Rattle.worker.specs.declared.no_machines.NoMachines.{NoMachines}
+use Rattle.worker.specs.declared.types.Line.{Line}
+use Rattle.line_laws.specs.Logs.{WriteLogs}
+use Rattle.line_laws.specs.Turns.{Done, Turns, new_room, sent_in}
+
+-- one route, which takes every path and has no filters
+abbrev pub open_plan : Plan
+open_plan = record { routes = record { path = codes "/"; filters = [] } ∷ []; plugins = []; vms = 0; deadline = 0; bodies = []; registers = [] }
+
+abbrev pub new_worker : Both NoMachines
+new_worker = both (record { none = true }) (new_room (no_contexts Info []))
+
+abbrev pub event : What → Event
+event what = record { now = 0; what = what }
+
+abbrev pub whole_response : List ℕ
+whole_response = worked_response_text ++ codes "abc"
+
+-- a GET goes up, and its response comes down; the line stays
+abbrev pub get_events : List Event
+get_events = event (whats.Opened 1) ∷ event (whats.Bytes 1 Down worked_text) ∷ event (whats.Bytes 1 Up whole_response) ∷ []
+
+-- two at once: the second goes up behind the response to the first, over a connection of its own
+abbrev pub pipeline_events : List Event
+pipeline_events = event (whats.Opened 1) ∷ event (whats.Bytes 1 Down (worked_text ++ worked_text)) ∷ event (whats.Bytes 1 Up whole_response) ∷ []
+
+-- there are such turns
+pub record Runs (events : List Event) : Type 0 where
+  pub turns : List (Done NoMachines)
+  pub to : Both NoMachines
+  pub run : Turns no_calling open_plan new_worker turns to
+  pub happened : map (λ (t : Done NoMachines). t.event) turns ≡ events
+
+pub record LineExamples : Type 0 where
+  -- machines that are none write logs alone
+  pub logs : WriteLogs no_calling
+  pub get : Runs get_events
+  pub get_up : ups 1 (sent_in get.turns) ≡ opens ∷ map byte worked_wire ++ closes ∷ []
+  pub get_stays : map (λ (l : Line). l.number) get.to.room.lines ≡ 1 ∷ []
+  pub pipeline : Runs pipeline_events
+  pub pipeline_up : ups 1 (sent_in pipeline.turns) ≡ opens ∷ map byte worked_wire ++ closes ∷ opens ∷ map byte worked_wire

@@ -1,0 +1,25 @@
+-- What holds of every line, over all turns of a worker.
+use Rattle.std.specs.Prelude.{◌≡◌, ℕ, ◌++◌, List, [], Some}
+use Rattle.contexts.specs.declared.parts.Contexts.{Contexts}
+use Rattle.exchange.specs.declared.types.Exchange.{Exchange}
+use Rattle.exchange_laws.specs.Traffic.{ups}
+use Rattle.worker.specs.Plan.{Plan}
+use Rattle.worker.specs.Steps.{Both, both, exchange_on}
+use Rattle.line_laws.specs.Logs.{Calling, WriteLogs}
+use Rattle.line_laws.specs.Requests.{HasLived, GoesUpBy}
+use Rattle.line_laws.specs.Turns.{Done, Turns, new_room, sent_in}
+
+-- STEPS ARE DEEDS: whatever turns a new worker has had, whatever its machines do but that they send nothing but logs, whatever its stores reply and its
+-- readers hand on, the exchange without filters that is on a line has lived by fair deeds since it began.
+abbrev pub ExchangesLive : (H : Type 0) → Type 0
+ExchangesLive H =
+    (calling : Calling H) (plan : Plan) (contexts : Contexts) (host : H) (turns : List (Done H)) (to : Both H) (n : ℕ) (x : Exchange) → WriteLogs calling
+    → Turns calling plan (both host (new_room contexts)) turns to → exchange_on n to.room ≡ Some x → x.filters ≡ []
+    → HasLived plan n x (record to.room.hub { sent = sent_in turns ++ to.room.hub.sent })
+
+-- NO SERVER SEES TWO MESSAGES, of the turns that run: all that goes up on a line over the turns of a new worker is what one exchange after another sent;
+-- and what one without filters sent is a front of one connection and the bytes of one request.
+abbrev pub NoServerSeesTwoMessages : (H : Type 0) → Type 0
+NoServerSeesTwoMessages H =
+    (calling : Calling H) (plan : Plan) (contexts : Contexts) (host : H) (turns : List (Done H)) (to : Both H) (n : ℕ) → WriteLogs calling
+    → Turns calling plan (both host (new_room contexts)) turns to → GoesUpBy plan to.room (exchange_on n to.room) (ups n (sent_in turns))

@@ -1,0 +1,6 @@
+pub mod Living
+pub mod Logs
+pub mod Requests
+pub mod Turns
+pub mod Examples
+pub mod Laws

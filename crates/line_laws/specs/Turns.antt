@@ -1,0 +1,46 @@
+-- Turns of a worker, one behind the other.
+use Rattle.std.specs.Prelude.{◌≡◌, ℕ, false, List, [], ◌∷◌, None}
+use Rattle.std.specs.List.{flat_map}
+use Rattle.contexts.specs.declared.parts.Contexts.{Contexts}
+use Rattle.course.specs.Course.{ends, Met, Reaches}
+use Rattle.gate_io.specs.declared.event.Event.{Event}
+use Rattle.gate_io.specs.declared.event.Sent.{Sent}
+use Rattle.gate_config.specs.declared.config.Config.{Config}
+use Rattle.worker.specs.Making.{contexts_of, first_room}
+use Rattle.worker.specs.Plan.{Plan}
+use Rattle.worker.specs.Steps.{Both}
+use Rattle.worker.specs.Turn.{Outcome, turn}
+use Rattle.worker.specs.declared.room.Room.{Room}
+use Rattle.line_laws.specs.Logs.{Calling}
+
+-- what a worker begins with, whatever its contexts: no line is open, and nothing is in hand
+abbrev pub new_room : Contexts → Room
+new_room contexts = record {
+  lines = [];
+  hub = record { moment = 0; contexts = contexts; sent = [] };
+  reading = None;
+  jobs = [];
+  agenda = [];
+  waits = [];
+  dead = [];
+  is_begun = false;
+}
+
+-- so a worker begins of every configuration
+abbrev pub WorkersBeginSo : Type 0
+WorkersBeginSo = (config : Config) (seed : List ℕ) → first_room config seed ≡ new_room (contexts_of config seed)
+
+-- one of them: the event, what its course met, and what it came to
+pub record Done (H : Type 0) : Type 0 where
+  pub event : Event
+  pub met : List Met
+  pub end : Outcome H
+
+-- each course meets that and comes to its end, and the next turn goes on from there
+abbrev pub Turns : {H : Type 0} → Calling H → Plan → Both H → List (Done H) → Both H → Type 0
+Turns calling plan from [] to = to ≡ from
+Turns calling plan from (t ∷ turns) to = Reaches (turn calling plan from t.event) t.met (ends t.end) × Turns calling plan t.end.state turns to
+
+-- all that they send
+abbrev pub sent_in : {H : Type 0} → List (Done H) → List Sent
+sent_in turns = flat_map (λ (t : Done _). t.end.sent) turns

@@ -1,0 +1,6 @@
+//! What holds of the lines of a worker over its turns, whatever its machines do.
+#![tactic(auto)]
+
+mod laws;
+
+pub use laws::{exchanges_live, no_server_sees_two_messages, worked_lines, workers_begin_so};
