@@ -12,3 +12,8 @@ pub all_done : {A B : Type 0} (Q : B → Type 0) (p : Program A) (g : A → B) �
 all_done Q (done a) g next = next a
 all_done Q (ask vm call k) g next = λ r. all_done Q (k r) g next
 all_done Q (measure vm asked k) g next = λ r. all_done Q (k r) g next
+
+pub all_weaker : {A : Type 0} (P Q : A → Type 0) (p : Program A) → AllEnds P p → ((a : A) → P a → Q a) → AllEnds Q p
+all_weaker P Q (done a) is so = so a is
+all_weaker P Q (ask vm call k) is so = λ r. all_weaker P Q (k r) (is r) so
+all_weaker P Q (measure vm asked k) is so = λ r. all_weaker P Q (k r) (is r) so

@@ -1,3 +1,5 @@
 mod Ends
 mod Apart
 mod Silent
+mod Whole
+mod OwnChanges

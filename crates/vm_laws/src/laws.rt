@@ -1,5 +1,6 @@
 // What holds of the VMs of a worker whatever their modules do. The functions have nothing to do: their contracts are the laws.
 ghost use Rattle.vm_laws.specs.Apart.{CallbacksAreApart};
+ghost use Rattle.vm_laws.specs.OwnChanges.{CallbacksChangeTheirOwn, PlacesBegin, PlacesStay};
 ghost use Rattle.vm_laws.specs.Silent.{DeadVmsAreSilent, MissingCallbacksAreSilent, TiesBegin, TiesStay};
 
 /// A callback of one VM, whatever its module does and whatever the shared stores reply, leaves every other VM just as it was, and of its own what
@@ -16,4 +17,13 @@ pub fn nothing_runs()
     ensures missing { MissingCallbacksAreSilent }
     ensures begins { TiesBegin }
     ensures stays { TiesStay }
+{}
+
+/// A whole callback of one VM, whatever its module does and whatever the shared stores reply, leaves what every other VM has among the contexts
+/// just as it was, and each exchange of which its own VM has no context. It makes no contexts and takes none away, and neither the plug-ins nor
+/// what is configured change. Each machine stands at the number of its contexts: it is so of every VM that begins, and stays so.
+pub fn callbacks_change_their_own()
+    ensures contexts { CallbacksChangeTheirOwn }
+    ensures begins { PlacesBegin }
+    ensures stays { PlacesStay }
 {}

@@ -3,4 +3,4 @@
 
 mod laws;
 
-pub use laws::{callbacks_are_apart, nothing_runs};
+pub use laws::{callbacks_are_apart, callbacks_change_their_own, nothing_runs};
