@@ -3,3 +3,5 @@ mod Apart
 mod Silent
 mod Whole
 mod OwnChanges
+mod Fitting
+mod OwnEffects

@@ -52,7 +52,7 @@ pub same_outline : (h k : Contexts) (vm e : ℕ) → outlines k vm ≡ outlines 
 same_outline h k vm e same =
     found_outlined e (vm_in k vm).contexts ∙ ap (find (λ (y : Outline). y.0 == e)) same ∙ sym (found_outlined e (vm_in h vm).contexts)
 
-exchange_kept : (o : Option Context) (c : Context) → option_map outline (Some c) ≡ option_map outline o → (b : Context) × (o ≡ Some b) × (c.exchange ≡ b.exchange)
+pub exchange_kept : (o : Option Context) (c : Context) → option_map outline (Some c) ≡ option_map outline o → (b : Context) × (o ≡ Some b) × (c.exchange ≡ b.exchange)
 exchange_kept None c is = absurd (none-some (outline c) (sym is))
 exchange_kept (Some b) c is = (b, refl, ap (λ (y : Outline). y.3) (from_some is))
 
@@ -149,7 +149,7 @@ own_step c vm h k there own =
     let step : ChangesItsOwn vm k (put c vm k) = put_own c vm k there in
     (subst (λ n. vm < n) (sym step.count) there, own_then vm h k (put c vm k) own step)
 
-both_left : (a b : Bool) → (a && b) ≡ true → a ≡ true
+pub both_left : (a b : Bool) → (a && b) ≡ true → a ≡ true
 both_left true b is = refl
 both_left false b is = absurd (false≢true is)
 

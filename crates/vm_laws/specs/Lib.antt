@@ -1,3 +1,4 @@
 pub mod Apart
 pub mod Silent
 pub mod OwnChanges
+pub mod OwnEffects

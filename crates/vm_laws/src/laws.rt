@@ -1,6 +1,7 @@
 // What holds of the VMs of a worker whatever their modules do. The functions have nothing to do: their contracts are the laws.
 ghost use Rattle.vm_laws.specs.Apart.{CallbacksAreApart};
 ghost use Rattle.vm_laws.specs.OwnChanges.{CallbacksChangeTheirOwn, PlacesBegin, PlacesStay};
+ghost use Rattle.vm_laws.specs.OwnEffects.{EffectsAreOwn};
 ghost use Rattle.vm_laws.specs.Silent.{DeadVmsAreSilent, MissingCallbacksAreSilent, TiesBegin, TiesStay};
 
 /// A callback of one VM, whatever its module does and whatever the shared stores reply, leaves every other VM just as it was, and of its own what
@@ -26,4 +27,11 @@ pub fn callbacks_change_their_own()
     ensures contexts { CallbacksChangeTheirOwn }
     ensures begins { PlacesBegin }
     ensures stays { PlacesStay }
+{}
+
+/// A whole callback sends nothing but lines for the log, each not below the log's level and no longer than a line may be. What it asks its worker to
+/// do stands behind what was asked before, each of it for a context of its own VM that is of an exchange; and it answers no exchange and ends
+/// none by itself.
+pub fn effects_are_own()
+    ensures { EffectsAreOwn }
 {}
