@@ -5,3 +5,6 @@ mod Whole
 mod OwnChanges
 mod Fitting
 mod OwnEffects
+mod Looking
+mod Stepping
+mod SeesItsOwn

@@ -2,3 +2,4 @@ pub mod Apart
 pub mod Silent
 pub mod OwnChanges
 pub mod OwnEffects
+pub mod SeesItsOwn

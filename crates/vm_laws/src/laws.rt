@@ -2,6 +2,7 @@
 ghost use Rattle.vm_laws.specs.Apart.{CallbacksAreApart};
 ghost use Rattle.vm_laws.specs.OwnChanges.{CallbacksChangeTheirOwn, PlacesBegin, PlacesStay};
 ghost use Rattle.vm_laws.specs.OwnEffects.{EffectsAreOwn};
+ghost use Rattle.vm_laws.specs.SeesItsOwn.{CallbacksSeeTheirOwn, CallbacksAreUnseen};
 ghost use Rattle.vm_laws.specs.Silent.{DeadVmsAreSilent, MissingCallbacksAreSilent, TiesBegin, TiesStay};
 
 /// A callback of one VM, whatever its module does and whatever the shared stores reply, leaves every other VM just as it was, and of its own what
@@ -34,4 +35,13 @@ pub fn callbacks_change_their_own()
 /// none by itself.
 pub fn effects_are_own()
     ensures { EffectsAreOwn }
+{}
+
+/// What a callback does depends on nothing that other VMs have, but for their names: on two workers that have the same machine of the VM, and that
+/// look the same to it, its callback asks the same of the shared stores, and for equal replies ends the same, with the same lines and the same
+/// machine, and leaves contexts that look the same to it. And to a VM that shares no exchange with it the contexts look afterwards as they did
+/// before, but for the effects, which the worker takes out behind each callback, and the place in the random stream.
+pub fn callbacks_see_their_own()
+    ensures sees { CallbacksSeeTheirOwn }
+    ensures unseen { CallbacksAreUnseen }
 {}

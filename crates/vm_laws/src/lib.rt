@@ -3,4 +3,7 @@
 
 mod laws;
 
-pub use laws::{callbacks_are_apart, callbacks_change_their_own, effects_are_own, nothing_runs};
+pub use laws::{
+    callbacks_are_apart, callbacks_change_their_own, callbacks_see_their_own, effects_are_own,
+    nothing_runs,
+};
