@@ -235,7 +235,7 @@ pub(crate) fn leave_all(
 ) -> Result<(), OutOfMemory>
     ensures { OnOk result (left response n items (x.old, hub.old) ≡ (x.new, hub.new)) }
 {
-    let mut rest = items;
+    let mut rest = items.drain();
     while let Some(item) = rest.pop_first() {
         leave(alloc, response, n, item, x, hub)?;
     }

@@ -81,7 +81,7 @@ fn put_all(
 ) -> Result<(), OutOfMemory>
     ensures { OnOk result (puts_all response n items (x.old, hub.old) ≡ (x.new, hub.new)) }
 {
-    let mut rest = items;
+    let mut rest = items.drain();
     while let Some(item) = rest.pop_first() {
         put_one(alloc, response, n, item, x, hub)?;
     }

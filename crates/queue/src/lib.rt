@@ -3,4 +3,4 @@
 
 mod queue;
 
-pub use queue::{Queue, queued};
+pub use queue::{Drain, Queue, queued};

@@ -43,6 +43,15 @@ impl<M> Queue<M> {
         self.items
     }
 
+    /// The members, to be taken one after the other.
+    pub fn drain(self) -> Drain<M>
+        ensures { result ≡ self }
+    {
+        let mut items = self.items;
+        items.reverse();
+        Drain { items }
+    }
+
     /// Puts a member behind the others. One that is refused is dropped.
     pub fn push(&mut self, member: M) -> Result<(), OutOfMemory>
     where
@@ -144,6 +153,30 @@ impl<M> Queue<M> {
         ensures { result.now ≡ self.now }
     {
         self.items.as_slice()
+    }
+}
+
+/// The members of a queue that are taken one after the other, each at the same cost however many are left. Clauses see the list of what is left.
+#[derive(Drop)]
+pub struct Drain<M> {
+    /// What is left, the last first.
+    items: Vec<M>,
+}
+
+impl<M> Model for Drain<M> {
+    ghost use Rattle.std.specs.Prelude.{List, reverse};
+
+    ghost Value = { List M };
+
+    ghost view = { λ d. reverse d.items.items };
+}
+
+impl<M> Drain<M> {
+    /// Takes the first member. There is none exactly where none is left.
+    pub fn pop_first(&mut self) -> Option<M>
+        ensures { MatchOption result ((self.old ≡ []) × (self.new ≡ [])) (λ m. self.old ≡ m ∷ self.new) }
+    {
+        self.items.pop()
     }
 }
 

@@ -194,7 +194,7 @@ fn die_all(
     ensures { IfOk result (λ new. all_lines (dies vm) lines.items hub.old ≡ (new.items, hub.new)) }
 {
     let mut done = Vec::new(alloc);
-    let mut rest = Queue::from_vec(lines);
+    let mut rest = Queue::from_vec(lines).drain();
     while let Some(line) = rest.pop_first() {
         done.push(die_line(alloc, vm, line, hub)?)?;
     }
@@ -224,7 +224,7 @@ fn expire_each(alloc: Global, lines: Vec<Line>, hub: &mut Hub) -> Result<Vec<Lin
     ensures { IfOk result (λ new. all_lines expires lines.items hub.old ≡ (new.items, hub.new)) }
 {
     let mut done = Vec::new(alloc);
-    let mut rest = Queue::from_vec(lines);
+    let mut rest = Queue::from_vec(lines).drain();
     while let Some(line) = rest.pop_first() {
         done.push(expire_line(alloc, line, hub)?)?;
     }

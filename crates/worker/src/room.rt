@@ -330,7 +330,7 @@ impl Room {
     ) -> Result<(), OutOfMemory>
         ensures { OnOk result (self.new ≡ effects_of vm own.now effects self.old) }
     {
-        let mut rest = effects;
+        let mut rest = effects.drain();
         while let Some(effect) = rest.pop_first() {
             self.one_effect(alloc, vm, own, effect)?;
         }
