@@ -27,7 +27,7 @@ fn bodies_by<H: Host>(host: &H, p: &PluginEntry) -> Bodies
 }
 
 /// Which bodies the plug-ins filter.
-pub(crate) fn bodies_of<H: Host>(
+fn bodies_of<H: Host>(
     alloc: Global,
     host: &H,
     plugins: &[PluginEntry],
@@ -63,7 +63,7 @@ fn is_told<H: Host>(host: &H, plugins: &[PluginEntry], vm: VmNo) -> bool
 }
 
 /// Which VMs are told of the items of their queues, of so many.
-pub(crate) fn registers_of<H: Host>(
+fn registers_of<H: Host>(
     alloc: Global,
     host: &H,
     plugins: &[PluginEntry],
@@ -124,11 +124,7 @@ fn add_plugins(alloc: Global, h: &mut Contexts, plugins: &[PluginEntry]) -> Resu
 }
 
 /// No line is open, and no VM has started.
-pub(crate) fn first_room(
-    alloc: Global,
-    config: &Config,
-    seed: [u8; 32],
-) -> Result<Room, OutOfMemory>
+fn first_room(alloc: Global, config: &Config, seed: [u8; 32]) -> Result<Room, OutOfMemory>
     ensures { IfOk result (λ room. room ≡ first_room config.now seed) }
 {
     let mut contexts = Contexts::new(alloc, config.log_level, seed);
@@ -149,4 +145,23 @@ pub(crate) fn first_room(
         dead: Queue::new(alloc),
         is_begun: false,
     })
+}
+
+/// What a worker over these machines is made of: which bodies its plug-ins filter, which VMs are told of the items of their queues, and
+/// its room.
+pub(crate) fn parts_of<H: Host>(
+    alloc: Global,
+    host: &H,
+    config: &Config,
+    seed: [u8; 32],
+) -> Result<(Queue<Bodies>, Queue<bool>, Room), OutOfMemory>
+    ensures bodies { IfOk result (λ p. p.0 ≡ bodies_of H.exported H.registering host.now config.now.plugins) }
+    ensures registers { IfOk result (λ p. p.1 ≡ registers_of H.exported H.registering config.now.plugins host.now (first_vms (length config.now.vms))) }
+    ensures room { IfOk result (λ p. p.2 ≡ first_room config.now seed) }
+{
+    let plugins = config.plugins.as_slice();
+    let bodies = bodies_of(alloc, host, plugins)?;
+    let registers = registers_of(alloc, host, plugins, config.vms.len())?;
+    let room = first_room(alloc, config, seed)?;
+    Ok((bodies, registers, room))
 }

@@ -12,7 +12,7 @@ ghost use Rattle.worker.specs.Turn.{facing, most_steps};
 ghost use Rattle.worker.specs.Turned.{Turned, TookWhole};
 
 use crate::agenda::agenda_of;
-use crate::making_worker::{bodies_of, first_room, registers_of};
+use crate::making_worker::parts_of;
 use crate::room::Room;
 use crate::turning::settle;
 use crate::types::Rules;
@@ -28,7 +28,7 @@ use std::marker::Model;
 use store_model::Shared;
 
 /// How a turn ended.
-#[derive(Clone, Copy, Debug, PartialEq, Eq)]
+#[derive(Clone, Copy)]
 pub enum Turn {
     /// An event was taken.
     Went,
@@ -77,9 +77,14 @@ impl<H: Host + Drop> Worker<H> {
     ) -> Result<Self, OutOfMemory>
         ensures { IfOk result (λ worker. worker ≡ new_worker H.exported H.registering config who seed host) }
     {
-        let bodies = bodies_of(alloc, &host, config.plugins.as_slice())?;
-        let registers = registers_of(alloc, &host, config.plugins.as_slice(), config.vms.len())?;
-        let room = first_room(alloc, &config, seed)?;
+        let (bodies, registers, room) = match parts_of(alloc, &host, &config, seed) {
+            Ok(parts) => parts,
+            Err(end) => {
+                drop(config);
+                drop(host);
+                return Err(end);
+            }
+        };
         let rules = Rules {
             config,
             bodies,
