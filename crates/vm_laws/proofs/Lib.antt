@@ -8,3 +8,6 @@ mod OwnEffects
 mod Looking
 mod Stepping
 mod SeesItsOwn
+mod Frames
+mod LastIds
+mod Examples

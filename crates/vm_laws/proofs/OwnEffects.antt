@@ -28,7 +28,7 @@ use Rattle.vm_laws.proofs.Fitting.{IsEffectSeen, view_marks, KeepsMarks, Fits, I
 use Rattle.vm_laws.proofs.OwnChanges.{both_left, same_outline, exchange_kept, own_same, own_then, put_own}
 use Rattle.vm_laws.proofs.Whole.{CameKeeps, live_keeps}
 use Rattle.vm_laws.specs.Apart.{AllEnds}
-use Rattle.vm_laws.specs.OwnChanges.{IsPlaced, ArePlaced, ChangesItsOwn}
+use Rattle.vm_laws.specs.OwnChanges.{IsPlaced, ArePlaced, outline, ChangesItsOwn}
 use Rattle.vm_laws.specs.OwnEffects.{IsLine, IsEffectOf, GrowsBy, marks_of, marks_at, AsksForItsOwn, EffectsAreOwn}
 
 -- ---- the marks of exchanges
@@ -77,7 +77,7 @@ in_reach h w (Some c) v is = in_view h.exchanges c c.exchange refl v is
 effect_of_own : (vm : ℕ) (h k : Contexts) → ChangesItsOwn vm h k → (e : Effect) → IsEffectSeen (seen k vm) e → IsEffectOf h vm e
 effect_of_own vm h k own e is =
     let there = in_reach k (vm_in k vm) (context_in k vm (effective_of k vm)) is.1 is.2 in
-    let kept = exchange_kept (context_in h vm (effective_of k vm)) there.0 (ap (option_map Rattle.vm_laws.specs.OwnChanges.outline) (sym there.1) ∙ same_outline h k vm (effective_of k vm) own.outlined) in
+    let kept = exchange_kept (context_in h vm (effective_of k vm)) there.0 (ap (option_map outline) (sym there.1) ∙ same_outline h k vm (effective_of k vm) own.outlined) in
     (kept.0, ap (context_in h vm) is.0 ∙ kept.1, there.2, sym kept.2 ∙ there.3)
 
 -- ---- one host call

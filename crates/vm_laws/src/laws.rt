@@ -1,5 +1,8 @@
 // What holds of the VMs of a worker whatever their modules do. The functions have nothing to do: their contracts are the laws.
 ghost use Rattle.vm_laws.specs.Apart.{CallbacksAreApart};
+ghost use Rattle.vm_laws.specs.Examples.{IsolationExamples};
+ghost use Rattle.vm_laws.specs.Frames.{FramesCountTogether, AllocationsNeedAFrame, FrameExamples};
+ghost use Rattle.vm_laws.specs.LastIds.{IdsRunOut, LastIdExamples};
 ghost use Rattle.vm_laws.specs.OwnChanges.{CallbacksChangeTheirOwn, PlacesBegin, PlacesStay};
 ghost use Rattle.vm_laws.specs.OwnEffects.{EffectsAreOwn};
 ghost use Rattle.vm_laws.specs.SeesItsOwn.{CallbacksSeeTheirOwn, CallbacksAreUnseen};
@@ -44,4 +47,24 @@ pub fn effects_are_own()
 pub fn callbacks_see_their_own()
     ensures sees { CallbacksSeeTheirOwn }
     ensures unseen { CallbacksAreUnseen }
+{}
+
+/// Two VMs with their contexts on two lines, of which they share one, worked.
+pub fn worked_isolation()
+    ensures { IsolationExamples }
+{}
+
+/// The frames of all calls of a guest count together: those of an allocator on top of those of the callback that waits for the host's answer. With
+/// more than 256 of them the run is the trap `stack`, and an allocation finds no frame left where the waiting calls have them all.
+pub fn frames_count_together()
+    ensures runs { FramesCountTogether }
+    ensures allocations { AllocationsNeedAFrame }
+    ensures worked { FrameExamples }
+{}
+
+/// A root and a stream are made under the id that comes next, up to 4294967295. Once that was drawn, a VM that is to have another context dies for
+/// want of ids.
+pub fn ids_run_out()
+    ensures ids { IdsRunOut }
+    ensures worked { LastIdExamples }
 {}

@@ -5,5 +5,5 @@ mod laws;
 
 pub use laws::{
     callbacks_are_apart, callbacks_change_their_own, callbacks_see_their_own, effects_are_own,
-    nothing_runs,
+    frames_count_together, ids_run_out, nothing_runs, worked_isolation,
 };

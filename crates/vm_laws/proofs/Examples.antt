@@ -1,0 +1,111 @@
+-- The worked contexts of two VMs.
+use Rattle.std.proofs.Common.{◌≡◌, ℕ, ◌==◌, Bool, true, false, cond, List, Option, None, Some, refl, ap, sym, subst, ◌∙◌, arith, codes}
+use Rattle.std.proofs.lemmas.Option.{none-some}
+use Rattle.std.proofs.lemmas.List.{get_or-set_other}
+use Rattle.std.specs.Option.{option_map}
+use Rattle.contexts.proofs.Places.{from_some}
+use Rattle.contexts.specs.Examples.{host, set}
+use Rattle.contexts.specs.Keyed.{found}
+use Rattle.contexts.specs.Properties.{property_of}
+use Rattle.contexts.specs.Reached.{no_vm, context_no, vm_in}
+use Rattle.contexts.specs.Creating.{root_context, stream_context}
+use Rattle.contexts.specs.declared.parts.Context.{Context}
+use Rattle.contexts.specs.declared.parts.VmContexts.{VmContexts}
+use Rattle.vm_laws.specs.Examples.{closes, IsolationExamples}
+use Rattle.vm_laws.specs.OwnChanges.{HasNoneAt, ChangesItsOwn}
+use Rattle.vm_laws.specs.OwnEffects.{IsEffectOf}
+use Rattle.vm_laws.specs.SeesItsOwn.{LookTheSame, ShareNone}
+
+-- one of two
+of_two : (P : Context → Type 0) (b d : Bool) (x y c : Context) → cond b (Some x) (cond d (Some y) None) ≡ Some c → P x → P y → P c
+of_two P true d x y c is px py = subst P (from_some is) px
+of_two P false true x y c is px py = subst P (from_some is) py
+of_two P false false x y c is px py = absurd (none-some c is)
+
+abbrev NotAt : ℕ → Context → Type 0
+NotAt n c = c.exchange ≡ Some n → ⊥
+
+-- the contexts of VM 1, and the first stream of VM 0
+abbrev stream : Context
+stream = stream_context 2 1 1 (Some 0)
+
+none_there : HasNoneAt host 1 1
+none_there e c is =
+    of_two (NotAt 1) (1 == e) (2 == e) (root_context 1 1) stream c is (λ of. none-some 1 of) (λ of. (let same : 0 ≡ 1 = from_some of in omega (arith, same)))
+
+one_there : HasNoneAt host 1 0 → ⊥
+one_there none = none 2 stream refl refl
+
+shared : ShareNone host 0 1 → ⊥
+shared none = none 2 0 stream refl refl 2 (stream_context 2 0 1 (Some 0)) refl refl
+
+-- the property of the first stream of a VM 0
+abbrev property_in : VmContexts → Option (Option (List ℕ))
+property_in v = option_map (λ (c : Context). property_of (codes "k") c.own.properties) (found context_no 2 v.contexts)
+
+was_set : vm_in set 0 ≡ vm_in host 0 → ⊥
+was_set same =
+    let values : Some (Some (codes "v")) ≡ Some None = ap property_in same in
+    none-some (codes "v") (sym (from_some values))
+
+changed : ChangesItsOwn 0 host set
+changed = record {
+  others = λ other is. get_or-set_other host.vms 0 other (vm_in set 0) no_vm is;
+  exchanges = λ n none. refl;
+  name = refl;
+  configuration = refl;
+  last = refl;
+  outlined = refl;
+  count = refl;
+  places = refl;
+  lines = λ n. refl;
+  plugins = refl;
+  level = refl;
+  random_key = refl;
+}
+
+not_another : ChangesItsOwn 1 host set → ⊥
+not_another own = was_set (own.others 0 (λ is. omega (arith, is)))
+
+unseen : LookTheSame 1 host set
+unseen = record {
+  own = refl;
+  plugins = λ e c is. refl;
+  views = λ e n c is of. refl;
+  names = refl;
+  level = refl;
+  effects = refl;
+  random_key = refl;
+  random_place = refl;
+}
+
+of_root : IsEffectOf host 0 (closes 1) → ⊥
+of_root is = none-some is.2 (ap (λ (c : Context). c.exchange) (from_some is.1) ∙ is.3)
+
+of_another : IsEffectOf host 1 (closes 3) → ⊥
+of_another is = none-some is.0 is.1
+
+pub isolation_examples : IsolationExamples
+isolation_examples = record {
+  outlined = refl;
+  first_line = refl;
+  second_line = refl;
+  no_line = refl;
+  none_there = none_there;
+  one_there = one_there;
+  shared = shared;
+  changed = changed;
+  not_another = not_another;
+  unseen = unseen;
+  seen = λ same. was_set (sym same.own);
+  of_stream = (stream_context 3 0 1 (Some 1), refl, 1, refl);
+  of_root = of_root;
+  of_another = of_another;
+  marks = refl;
+  line = (omega arith, omega arith);
+  above = (omega arith, omega arith);
+  below = λ is. (let no = is.0 in omega (arith, no));
+  bytes = λ is. is;
+  in_step = (refl, refl, λ r. refl);
+  out_of_step = λ is. (let no = is.0 in omega (arith, no));
+}
