@@ -25,3 +25,4 @@ pub mod Joining
 pub mod Stepping
 pub mod Turning
 pub mod Worked
+pub mod Machines

@@ -1,7 +1,9 @@
 // What holds of lines over turns. The functions have nothing to do: their contracts are the laws.
 ghost use Rattle.line_laws.specs.Examples.{LineExamples};
 ghost use Rattle.line_laws.specs.Laws.{ExchangesLive, NoServerSeesTwoMessages};
+ghost use Rattle.line_laws.specs.Logs.{WriteLogs};
 ghost use Rattle.line_laws.specs.Turns.{WorkersBeginSo};
+ghost use Rattle.vm_host.specs.Slots.{calling};
 
 /// A worker of any configuration begins as the laws of lines say.
 pub fn workers_begin_so()
@@ -17,6 +19,11 @@ pub fn exchanges_live<H>()
 /// of them without filters sent a front of one connection and the bytes of one request, which is framed as the head that was judged tells.
 pub fn no_server_sees_two_messages<H>()
     ensures { NoServerSeesTwoMessages H }
+{}
+
+/// The machines of VMs send nothing but logs by themselves, whatever their modules do.
+pub fn machines_write_logs()
+    ensures { WriteLogs calling }
 {}
 
 /// A GET goes up and its response comes down; two that come at once go up one behind the other, each over a connection of its own.
