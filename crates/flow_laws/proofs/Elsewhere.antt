@@ -29,7 +29,7 @@ use Rattle.flow_laws.proofs.Effects.{effects_seen, quietly, others_run, asking_e
 use Rattle.flow_laws.proofs.Moving.{Ran, behind_it, the_asked, the_lines, asks_is, move_ran}
 use Rattle.flow_laws.proofs.Rooms.{others_on}
 
-run_then : {H : Type 0} {response : Bool} {n count : ℕ} {x y z : Exchange} {room mid after : Room} → Run H response n count x room y mid → Run H response n count y mid z after
+pub run_then : {H : Type 0} {response : Bool} {n count : ℕ} {x y z : Exchange} {room mid after : Room} → Run H response n count x room y mid → Run H response n count y mid z after
     → Run H response n count x room z after
 run_then (rests x room) later = later
 run_then (goes part run) later = goes part (run_then run later)

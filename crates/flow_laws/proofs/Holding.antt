@@ -1,16 +1,17 @@
 -- What asking, letting go and returning make of what stages hold among the contexts.
-use Rattle.std.proofs.Common.{◌≡◌, ◌<◌, ◌≤◌, ℕ, zero, suc, Bool, true, false, List, [], ◌∷◌, ◌++◌, length, ap, ◌∙◌, sym, refl, subst, ⊎_elim, arith}
-use Rattle.std.specs.Prelude.{Option, None, Some, slice_get, slice_set, slice_index_or, drop}
+use Rattle.std.proofs.Common.{◌≡◌, ◌<◌, ◌≤◌, ℕ, zero, suc, Bool, true, false, List, [], ◌∷◌, ◌++◌, length, ◌==◌, ap, ◌∙◌, sym, refl, subst, inl, inr, ⊎_elim, arith}
+use Rattle.std.specs.Prelude.{Option, None, Some, slice_get, slice_set, slice_index_or, drop, ◌⊎◌}
 use Rattle.std.specs.Option.{option_map}
 use Rattle.std.proofs.Math.ListN.{length-set}
 use Rattle.std.proofs.lemmas.Bool.{cases_eq, cases_lt}
 use Rattle.std.proofs.lemmas.List.{append-nil}
+use Rattle.std.proofs.Common.{eq-eqb, ne_eqb}
 use Rattle.contexts.specs.declared.parts.Stage as parts
 use Rattle.contexts.specs.declared.parts.Context.{Context}
 use Rattle.contexts.specs.declared.parts.Contexts.{Contexts}
 use Rattle.contexts.specs.declared.parts.Own.{Own}
 use Rattle.contexts.specs.declared.parts.VmContexts.{VmContexts}
-use Rattle.contexts.specs.Keyed.{found}
+use Rattle.contexts.specs.Keyed.{found, removed}
 use Rattle.contexts.specs.Reached.{Changes, no_changes, no_vm, vm_in, vm_after, context_no, context_in, reach_by, fitted, put_of}
 use Rattle.contexts.specs.Lending.{stage_in, with_stage, own_put_of}
 use Rattle.contexts.specs.Stages.{own_at, held_in, held_at, stage_after, stage_changed, with_bytes, let_go, returned, filled, emptied, answered}
@@ -22,6 +23,7 @@ use Rattle.filter_chain.specs.Items.{holds_bytes}
 use Rattle.filter_chain.specs.Chains.{bytes_at, bytes_held, without_held, paused, paused_at}
 use Rattle.filter_chain.specs.Flow.{IsOtherThan, NoneIs, IsAlone}
 use Rattle.flow_laws.specs.Acts.{AreThere, HoldSame}
+use Rattle.flow_laws.specs.Contexts.{NotOf}
 use Rattle.flow_laws.specs.PassThrough.{AreApart}
 use Rattle.flow_laws.proofs.Alike.{alone_at, there_at}
 
@@ -291,4 +293,116 @@ there_kept s h vm e [] none within there = tt
 there_kept s h vm e (t ∷ ss) none within there = (
   (subst (λ (n : ℕ). t.vm < n) (sym (kept_many s h vm e)) there.0.0, there.0.1, own_kept s h vm e t.vm t.context none within ∙ there.0.2),
   there_kept s h vm e ss none within there.1,
+)
+
+-- ---- the contexts of one VM are others
+
+index_other : (vms : List VmContexts) (i j : ℕ) (v : VmContexts) → (j ≡ i → ⊥) → slice_index_or (slice_set vms i v) j no_vm ≡ slice_index_or vms j no_vm
+index_other [] i j v apart = refl
+index_other (w ∷ vms) zero zero v apart = absurd (apart refl)
+index_other (w ∷ vms) zero (suc j) v apart = refl
+index_other (w ∷ vms) (suc i) zero v apart = refl
+index_other (w ∷ vms) (suc i) (suc j) v apart = index_other vms i j v (λ e. apart (ap suc e))
+
+index_same : (vms : List VmContexts) (i : ℕ) (v : VmContexts) → i < length vms → slice_index_or (slice_set vms i v) i no_vm ≡ v
+index_same [] i v less = absurd (omega arith)
+index_same (w ∷ vms) zero v less = refl
+index_same (w ∷ vms) (suc i) v less = index_same vms i v (omega arith)
+
+abbrev pub own_found : ℕ → List Context → Option Own
+own_found d cs = option_map (λ (k : Context). k.own) (found context_no d cs)
+
+pub own_in : (h : Contexts) (vm d : ℕ) → own_at h vm d ≡ own_found d (vm_in h vm).contexts
+own_in h vm d = own_mapped h (vm_in h vm) (context_in h vm d)
+
+own_set : (h k : Contexts) (vm : ℕ) (v : VmContexts) → k.vms ≡ slice_set h.vms vm v → (wm d : ℕ) (o : Own) → own_at h wm d ≡ Some o → (wm ≡ vm → own_found d v.contexts ≡ Some o)
+    → own_at k wm d ≡ Some o
+own_set h k vm v is wm d o there keeps =
+    own_in k wm d
+    ∙ (ap (λ (vms : List VmContexts). own_found d (slice_index_or vms wm no_vm).contexts) is
+    ∙ ⊎_elim
+    (λ (same : wm ≡ vm).
+    let less : vm < length h.vms = subst (λ (m : ℕ). m < length h.vms) same (there_within h wm d o there) in
+    ap (λ (m : ℕ). own_found d (slice_index_or (slice_set h.vms vm v) m no_vm).contexts) same
+    ∙ (ap (λ (w : VmContexts). own_found d w.contexts) (index_same h.vms vm v less) ∙ keeps same))
+    (λ (other : wm ≡ vm → ⊥).
+    ap (λ (w : VmContexts). own_found d w.contexts) (index_other h.vms vm wm v other) ∙ (sym (own_in h wm d) ∙ there))
+    (cases_eq wm vm))
+
+-- the stages' contexts are among them as they were
+abbrev pub KeepsFound : Contexts → ℕ → VmContexts → List Stage → Type 0
+KeepsFound h vm v [] = Unit {0}
+KeepsFound h vm v (s ∷ ss) = ((o : Own) → own_at h s.vm s.context ≡ Some o → s.vm ≡ vm → own_found s.context v.contexts ≡ Some o) × KeepsFound h vm v ss
+
+pub hold_set : (h k : Contexts) (vm : ℕ) (v : VmContexts) (ss : List Stage) → k.vms ≡ slice_set h.vms vm v → AreThere h ss → KeepsFound h vm v ss → HoldSame h k ss
+hold_set h k vm v [] is there keeps = tt
+hold_set h k vm v (s ∷ ss) is there keeps = (
+  ap (held_in s.response) (own_set h k vm v is s.vm s.context there.0.1 there.0.2 (keeps.0 there.0.1 there.0.2) ∙ sym there.0.2),
+  hold_set h k vm v ss is there.1 keeps.1,
+)
+
+pub there_set : (h k : Contexts) (vm : ℕ) (v : VmContexts) (ss : List Stage) → k.vms ≡ slice_set h.vms vm v → AreThere h ss → KeepsFound h vm v ss → AreThere k ss
+there_set h k vm v [] is there keeps = tt
+there_set h k vm v (s ∷ ss) is there keeps = (
+  (
+    subst (λ (m : ℕ). s.vm < m) (sym (ap (λ (vms : List VmContexts). length vms) is ∙ length-set h.vms vm v)) there.0.0,
+    there.0.1,
+    own_set h k vm v is s.vm s.context there.0.1 there.0.2 (keeps.0 there.0.1 there.0.2),
+  ),
+  there_set h k vm v ss is there.1 keeps.1,
+)
+
+-- the same ones
+pub keeps_same : (h : Contexts) (vm : ℕ) (v : VmContexts) (ss : List Stage) → v.contexts ≡ (vm_in h vm).contexts → KeepsFound h vm v ss
+keeps_same h vm v [] is = tt
+keeps_same h vm v (s ∷ ss) is = (
+  (λ o there same. ap (own_found s.context) is ∙ (ap (λ (m : ℕ). own_found s.context (vm_in h m).contexts) (sym same) ∙ (sym (own_in h s.vm s.context) ∙ there))),
+  keeps_same h vm v ss is,
+)
+
+-- one more
+found_more : (d : ℕ) (cs : List Context) (c : Context) (o : Own) → own_found d cs ≡ Some o → own_found d (cs ++ c ∷ []) ≡ Some o
+found_more d [] c o is = absurd (cc)
+found_more d (k ∷ cs) c o is = by_id (found_more d cs c o) (k.id == d) refl
+  where
+    by_id : (own_found d cs ≡ Some o → own_found d (cs ++ c ∷ []) ≡ Some o) → (b : Bool) → (k.id == d) ≡ b → own_found d (k ∷ (cs ++ c ∷ [])) ≡ Some o
+    by_id later true e = rw e (rw e at is)
+    by_id later false e = rw e (later (rw e at is))
+
+pub keeps_more : (h : Contexts) (vm : ℕ) (v : VmContexts) (c : Context) (ss : List Stage) → v.contexts ≡ (vm_in h vm).contexts ++ c ∷ [] → KeepsFound h vm v ss
+keeps_more h vm v c [] is = tt
+keeps_more h vm v c (s ∷ ss) is = (
+  (λ o there same.
+      ap (own_found s.context) is
+      ∙ found_more s.context (vm_in h vm).contexts c o
+      (ap (λ (m : ℕ). own_found s.context (vm_in h m).contexts) (sym same) ∙ (sym (own_in h s.vm s.context) ∙ there))),
+  keeps_more h vm v c ss is,
+)
+
+-- one less
+found_less : (d id : ℕ) (cs : List Context) → (d ≡ id → ⊥) → own_found d (removed context_no id cs) ≡ own_found d cs
+found_less d id [] apart = refl
+found_less d id (k ∷ cs) apart = by_id (found_less d id cs apart) (cases_eq k.id id)
+  where
+    by_id : own_found d (removed context_no id cs) ≡ own_found d cs → (k.id ≡ id) ⊎ (k.id ≡ id → ⊥) → own_found d (removed context_no id (k ∷ cs)) ≡ own_found d (k ∷ cs)
+    by_id later (inl same) =
+        let one : (k.id == id) ≡ true = eq-eqb k.id id same in
+        let two : (k.id == d) ≡ false = ne_eqb k.id d (λ e. apart (sym e ∙ same)) in
+        rw (one, two)
+    by_id later (inr other) =
+        let one : (k.id == id) ≡ false = ne_eqb k.id id other in
+        rw one (by_found later (k.id == d) refl)
+      where
+        by_found : own_found d (removed context_no id cs) ≡ own_found d cs → (b : Bool) → (k.id == d) ≡ b → own_found d (k ∷ removed context_no id cs) ≡ own_found d (k ∷ cs)
+        by_found here true e = rw e
+        by_found here false e = rw e here
+
+pub keeps_less : (h : Contexts) (vm id : ℕ) (v : VmContexts) (ss : List Stage) → v.contexts ≡ removed context_no id (vm_in h vm).contexts → NotOf vm id ss → KeepsFound h vm v ss
+keeps_less h vm id v [] is not_of = tt
+keeps_less h vm id v (s ∷ ss) is not_of = (
+  (λ o there same.
+      ap (own_found s.context) is
+      ∙ (found_less s.context id (vm_in h vm).contexts (not_of.0 same)
+      ∙ (ap (λ (m : ℕ). own_found s.context (vm_in h m).contexts) (sym same) ∙ (sym (own_in h s.vm s.context) ∙ there)))),
+  keeps_less h vm id v ss is not_of.1,
 )

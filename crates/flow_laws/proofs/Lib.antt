@@ -18,3 +18,5 @@ pub mod Effects
 pub mod Readings
 pub mod Elsewhere
 pub mod Jobs
+pub mod Deaths
+pub mod Contexts

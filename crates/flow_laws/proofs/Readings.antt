@@ -37,13 +37,13 @@ use Rattle.flow_laws.proofs.Lines.{get_set, place_set}
 
 -- ---- gentle changes: the chains stay, and what the VMs have among the contexts
 
-record Gentle (n : ℕ) (x : Exchange) (room : Room) (place : ℕ) (after : Room) : Type 0 where
-  then_is : Exchange
-  on : IsOn n after then_is
-  there : on.place ≡ place
-  request : then_is.request ≡ x.request
-  response : then_is.response ≡ x.response
-  vms : after.hub.contexts.vms ≡ room.hub.contexts.vms
+pub record Gentle (n : ℕ) (x : Exchange) (room : Room) (place : ℕ) (after : Room) : Type 0 where
+  pub then_is : Exchange
+  pub on : IsOn n after then_is
+  pub there : on.place ≡ place
+  pub request : then_is.request ≡ x.request
+  pub response : then_is.response ≡ x.response
+  pub vms : after.hub.contexts.vms ≡ room.hub.contexts.vms
 
 still : (n : ℕ) (x : Exchange) (room : Room) (on : IsOn n room x) (after : Room) → after.lines ≡ room.lines → after.hub.contexts.vms ≡ room.hub.contexts.vms → Gentle n x room on.place after
 still n x room on after is vms = record {
@@ -74,11 +74,11 @@ then_gentle n x room mid after place one two = record {
 
 -- ---- a change of a line
 
-record IsSoft (change : Line → Line) : Type 0 where
-  number : (line : Line) → (change line).number ≡ line.number
-  exchange : (line : Line) (x : Exchange) → line.exchange ≡ Some x → (y : Exchange) × ((change line).exchange ≡ Some y) × (y.request ≡ x.request) × (y.response ≡ x.response)
+pub record IsSoft (change : Line → Line) : Type 0 where
+  pub number : (line : Line) → (change line).number ≡ line.number
+  pub exchange : (line : Line) (x : Exchange) → line.exchange ≡ Some x → (y : Exchange) × ((change line).exchange ≡ Some y) × (y.request ≡ x.request) × (y.response ≡ x.response)
 
-soft_exchange : (change : Exchange → Exchange) → ((x : Exchange) → (change x).request ≡ x.request) → ((x : Exchange) → (change x).response ≡ x.response) → IsSoft (change_line change)
+pub soft_exchange : (change : Exchange → Exchange) → ((x : Exchange) → (change x).request ≡ x.request) → ((x : Exchange) → (change x).response ≡ x.response) → IsSoft (change_line change)
 soft_exchange change request response = record {
   number = λ line. by_exchange line line.exchange;
   exchange = λ line x is. (change x, ap (λ (o : Option Exchange). (change_exchange change line o).exchange) is, request x, response x);
@@ -91,7 +91,7 @@ soft_exchange change request response = record {
 same_line : (lines : List Line) (p : ℕ) (a b : Line) → slice_get lines p ≡ Some a → slice_get lines p ≡ Some b → a ≡ b
 same_line lines p a b one two = cc
 
-lines_gentle : (change : Line → Line) → IsSoft change → (n : ℕ) (x : Exchange) (room : Room) (on : IsOn n room x) (o : Option ℕ)
+pub lines_gentle : (change : Line → Line) → IsSoft change → (n : ℕ) (x : Exchange) (room : Room) (on : IsOn n room x) (o : Option ℕ)
     → Gentle n x room on.place (record room { lines = line_at_place change room.lines o })
 lines_gentle change soft n x room on None = still n x room on (record room { lines = room.lines }) refl refl
 lines_gentle change soft n x room on (Some p) = by_line (slice_get room.lines p) refl

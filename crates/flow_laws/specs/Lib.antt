@@ -12,4 +12,6 @@ pub mod Effects
 pub mod Readings
 pub mod Elsewhere
 pub mod Jobs
+pub mod Deaths
+pub mod Contexts
 pub mod Steps

@@ -1,6 +1,8 @@
 // What flows through one direction of an exchange. The functions have nothing to do: their contracts are the laws.
 ghost use Rattle.flow_laws.specs.Apart.{ExchangesPassBy};
 ghost use Rattle.flow_laws.specs.Besides.{OtherLinesLeave, OtherDirectionLeaves, QuietStepsLeave};
+ghost use Rattle.flow_laws.specs.Contexts.{CallsAreRuns, ContextsLeave};
+ghost use Rattle.flow_laws.specs.Deaths.{AllLinesLeave};
 ghost use Rattle.flow_laws.specs.Effects.{AskingElsewhereLeaves, CallbacksAreRuns, MildEffectsAreOthers};
 ghost use Rattle.flow_laws.specs.Elsewhere.{OtherDirectionMoves, OtherLinesMove};
 ghost use Rattle.flow_laws.specs.Examples.{ExchangeExamples, PassThroughExamples};
@@ -70,6 +72,18 @@ pub fn others_move<H>()
 pub fn jobs_leave_directions<H>()
     ensures quiet { JobsLeave }
     ensures telling { TellsAreRuns H }
+{}
+
+/// What is done on all lines and does nothing to the exchange itself leaves a direction as it was; so the death of a VM that is none of its stages'.
+pub fn deaths_of_others()
+    ensures { AllLinesLeave }
+{}
+
+/// Contexts of others come and go, and that leaves a direction as it was. A callback of no stage is what the law takes a worker to do besides, where
+/// what comes behind it leaves the direction as it was.
+pub fn contexts_of_others<H>()
+    ensures contexts { ContextsLeave }
+    ensures calls { CallsAreRuns H }
 {}
 
 /// A reading step leaves a direction as it was, where no exchange begins by it on the line.

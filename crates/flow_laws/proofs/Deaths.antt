@@ -1,0 +1,172 @@
+-- What is done on all lines at once.
+use Rattle.std.proofs.Common.{◌≡◌, ℕ, zero, suc, ◌+◌, ◌==◌, Bool, true, false, not, List, [], ◌∷◌, ◌++◌, length, cond, ap, ◌∙◌, sym, refl, subst}
+use Rattle.std.specs.List.{position_or_len}
+use Rattle.std.specs.Prelude.{Option, None, Some, slice_get, nat_lt, if◌then◌else◌}
+use Rattle.contexts.specs.declared.parts.Contexts.{Contexts}
+use Rattle.course.specs.declared.host.Death.{Death}
+use Rattle.exchange.specs.declared.types.Exchange.{Exchange}
+use Rattle.exchange.specs.declared.types.Hub.{Hub}
+use Rattle.exchange.specs.Answering.{directly}
+use Rattle.exchange.specs.Passing.{chain_of, dies, fails_closed, gives_way, opens_at, opens, opens_all}
+use Rattle.filter_chain.specs.declared.stage.Stage.{Stage}
+use Rattle.gate_base.specs.declared.level.Level.TheVariants.{Critical}
+use Rattle.gate_io.specs.declared.event.Sent.TheVariants.{Log}
+use Rattle.worker.specs.declared.room.Room.{Room}
+use Rattle.worker.specs.declared.types.Line.{Line}
+use Rattle.worker.specs.Rooms.{marking, with_result, in_exchange, in_line, all_lines, with_lines, place_in, sending, death_text, died}
+use Rattle.contexts.specs.Reached.{vm_in}
+use Rattle.flow_laws.specs.Acts.{AreThere}
+use Rattle.flow_laws.specs.Apart.{IsAlien, PassesBy, Does, PassesAliens}
+use Rattle.flow_laws.specs.Besides.{OthersAreAlien, IsWhole}
+use Rattle.flow_laws.specs.Deaths.{NoneOf, AllLinesLeave}
+use Rattle.flow_laws.specs.Rooms.{IsOn, Leaves}
+use Rattle.flow_laws.proofs.Apart.{Holds, same, next, by_vms, exchanges_pass_by}
+use Rattle.flow_laws.proofs.Lines.{marking_vms}
+
+-- ---- one line
+
+one_number : (does : Does) (line : Line) (hub : Hub) → (in_line does line hub).0.number ≡ line.number
+one_number does line hub = by_exchange line.exchange
+  where
+    by_exchange : (o : Option Exchange) → (in_exchange does line o hub).0.number ≡ line.number
+    by_exchange None = refl
+    by_exchange (Some y) = refl
+
+one_holds : (does : Does) → PassesAliens does → (ss : List Stage) (line : Line) (hub : Hub) → ((y : Exchange) → line.exchange ≡ Some y → IsAlien ss y)
+    → Holds ss hub.contexts (in_line does line hub).1.contexts
+one_holds does passes ss line hub alien = by_exchange line.exchange refl
+  where
+    by_exchange : (o : Option Exchange) → line.exchange ≡ o → Holds ss hub.contexts (in_exchange does line o hub).1.contexts
+    by_exchange None is = same ss hub.contexts
+    by_exchange (Some y) is =
+        let r : Exchange × Hub = does line.number y hub in
+        let by : PassesBy ss hub r.0 r.1 = passes ss line.number y hub (alien y is) in
+        next ss hub.contexts r.1.contexts (marking r).1.contexts (record { holds = by.holds; there = by.there }) (by_vms ss r.1.contexts (marking r).1.contexts (marking_vms r))
+
+-- the line of an exchange to which nothing is done
+own_is : (does : Does) (n : ℕ) (x : Exchange) (line : Line) (hub : Hub) → line.exchange ≡ Some x → line.number ≡ n → ((h : Hub) → does n x h ≡ (x, h))
+    → in_line does line hub ≡ with_result line (marking (x, hub))
+own_is does n x line hub is number nothing =
+    ap (λ (o : Option Exchange). in_exchange does line o hub) is
+    ∙ (ap (λ (m : ℕ). with_result line (marking (does m x hub))) number ∙ ap (λ (r : Exchange × Hub). with_result line (marking r)) (nothing hub))
+
+own_same : (x : Exchange) (line : Line) (hub : Hub) → line.exchange ≡ Some x → (with_result line (marking (x, hub))).0 ≡ line
+own_same x line hub is = λ i. record line { exchange = sym is i }
+
+-- ---- all of them
+
+same_places : (does : Does) (n : ℕ) (lines : List Line) (hub : Hub)
+    → position_or_len (λ (l : Line). l.number == n) (all_lines does lines hub).0 ≡ position_or_len (λ (l : Line). l.number == n) lines
+same_places does n [] hub = refl
+same_places does n (line ∷ lines) hub =
+    let one : (in_line does line hub).0.number ≡ line.number = one_number does line hub in
+    ap (λ (m : ℕ). cond (not (m == n)) (1 + position_or_len (λ (l : Line). l.number == n) (all_lines does lines (in_line does line hub).1).0) 0) one
+    ∙ ap (λ (m : ℕ). cond (not (line.number == n)) (1 + m) 0) (same_places does n lines (in_line does line hub).1)
+
+same_many : (does : Does) (lines : List Line) (hub : Hub) → length (all_lines does lines hub).0 ≡ length lines
+same_many does [] hub = refl
+same_many does (line ∷ lines) hub = ap suc (same_many does lines (in_line does line hub).1)
+
+others_hold : (does : Does) → PassesAliens does → (ss : List Stage) (lines : List Line) (hub : Hub)
+    → ((p : ℕ) (line : Line) (y : Exchange) → slice_get lines p ≡ Some line → line.exchange ≡ Some y → IsAlien ss y) → Holds ss hub.contexts (all_lines does lines hub).1.contexts
+others_hold does passes ss [] hub alien = same ss hub.contexts
+others_hold does passes ss (line ∷ lines) hub alien =
+    let mid : Hub = (in_line does line hub).1 in
+    next ss hub.contexts mid.contexts (all_lines does lines mid).1.contexts (one_holds does passes ss line hub (λ y is. alien 0 line y refl is))
+    (others_hold does passes ss lines mid (λ p l y at is. alien (suc p) l y at is))
+
+own_there : (does : Does) (n : ℕ) (x : Exchange) (lines : List Line) (hub : Hub) (place : ℕ) (line : Line) → slice_get lines place ≡ Some line → line.exchange ≡ Some x → line.number ≡ n
+    → ((h : Hub) → does n x h ≡ (x, h)) → slice_get (all_lines does lines hub).0 place ≡ Some line
+own_there does n x [] hub place line at is number nothing = absurd (cc)
+own_there does n x (l ∷ lines) hub zero line at is number nothing =
+    let here : l ≡ line = (cc) in
+    let has : l.exchange ≡ Some x = ap (λ (k : Line). k.exchange) here ∙ is in
+    let no : l.number ≡ n = ap (λ (k : Line). k.number) here ∙ number in
+    ap (λ (k : Line). Some k) (ap (λ (r : Line × Hub). r.0) (own_is does n x l hub has no nothing) ∙ (own_same x l hub has ∙ here))
+own_there does n x (l ∷ lines) hub (suc place) line at is number nothing = own_there does n x lines (in_line does l hub).1 place line at is number nothing
+
+own_holds : (does : Does) → PassesAliens does → (ss : List Stage) (n : ℕ) (x : Exchange) (lines : List Line) (hub : Hub) (place : ℕ) (line : Line) → slice_get lines place ≡ Some line
+    → line.exchange ≡ Some x → line.number ≡ n → ((h : Hub) → does n x h ≡ (x, h))
+    → ((p : ℕ) (l : Line) (y : Exchange) → slice_get lines p ≡ Some l → l.exchange ≡ Some y → (p ≡ place → ⊥) → IsAlien ss y) → Holds ss hub.contexts (all_lines does lines hub).1.contexts
+own_holds does passes ss n x [] hub place line at is number nothing alien = absurd (cc)
+own_holds does passes ss n x (l ∷ lines) hub zero line at is number nothing alien =
+    let here : l ≡ line = (cc) in
+    let has : l.exchange ≡ Some x = ap (λ (k : Line). k.exchange) here ∙ is in
+    let no : l.number ≡ n = ap (λ (k : Line). k.number) here ∙ number in
+    let mid : Hub = (in_line does l hub).1 in
+    let vms : mid.contexts.vms ≡ hub.contexts.vms = ap (λ (r : Line × Hub). r.1.contexts.vms) (own_is does n x l hub has no nothing) ∙ marking_vms (x, hub) in
+    next ss hub.contexts mid.contexts (all_lines does lines mid).1.contexts (by_vms ss hub.contexts mid.contexts vms)
+    (others_hold does passes ss lines mid (λ p k y at_ is_. alien (suc p) k y at_ is_ (λ e. cc e)))
+own_holds does passes ss n x (l ∷ lines) hub (suc place) line at is number nothing alien =
+    let mid : Hub = (in_line does l hub).1 in
+    next ss hub.contexts mid.contexts (all_lines does lines mid).1.contexts (one_holds does passes ss l hub (λ y is_. alien 0 l y refl is_ (λ e. cc e)))
+    (own_holds does passes ss n x lines mid place line at is number nothing (λ p k y at_ is_ apart. alien (suc p) k y at_ is_ (λ e. apart (cc e))))
+
+all_leave : (does : Does) → PassesAliens does → (response : Bool) (n : ℕ) (x : Exchange) (room : Room) (on : IsOn n room x) → OthersAreAlien (chain_of response x) on.place room
+    → IsWhole response x room → ((hub : Hub) → does n x hub ≡ (x, hub)) → Leaves response n x room x (with_lines room (all_lines does room.lines room.hub))
+all_leave does passes response n x room on alien whole nothing =
+    let r : List Line × Hub = all_lines does room.lines room.hub in
+    let holds : Holds (chain_of response x) room.hub.contexts r.1.contexts
+    = own_holds does passes (chain_of response x) n x room.lines room.hub on.place on.line on.at on.exchange on.number nothing alien in
+    let one : position_or_len (λ (l : Line). l.number == n) r.0 ≡ position_or_len (λ (l : Line). l.number == n) room.lines = same_places does n room.lines room.hub in
+    let two : length r.0 ≡ length room.lines = same_many does room.lines room.hub in
+    record {
+      on = record {
+        place = on.place;
+        line = on.line;
+        stands = (λ i. cond (nat_lt (one i) (two i)) (Some (one i)) None) ∙ on.stands;
+        at = own_there does n x room.lines room.hub on.place on.line on.at on.exchange on.number nothing;
+        number = on.number;
+        exchange = on.exchange;
+      };
+      chain = refl;
+      holds = holds.holds;
+      there = holds.there whole;
+    }
+
+-- ---- deaths
+
+by_bool : {A : Type 0} (P : A → Type 0) (b : Bool) (a c : A) → (b ≡ true → P a) → (b ≡ false → P c) → P (if b then a else c)
+by_bool P true a c here there = here refl
+by_bool P false a c here there = there refl
+
+none_at : (vm : ℕ) (ss : List Stage) (k : ℕ) (s : Stage) → slice_get ss k ≡ Some s → NoneOf vm ss → (s.vm == vm) ≡ false
+none_at vm [] k s at none = absurd (cc)
+none_at vm (x ∷ xs) zero s at none =
+    let here : x ≡ s = (cc) in
+    subst (λ (y : Stage). (y.vm == vm) ≡ false) here none.0
+none_at vm (x ∷ xs) (suc k) s at none = none_at vm xs k s at none.1
+
+opens_none_at : (response : Bool) (vm n k : ℕ) (x : Exchange) (hub : Hub) → NoneOf vm (chain_of response x) → (o : Option Stage) → slice_get (chain_of response x) k ≡ o
+    → opens_at response vm n k o x hub ≡ (x, hub)
+opens_none_at response vm n k x hub none None at = refl
+opens_none_at response vm n k x hub none (Some s) at = ap (λ (b : Bool). if b then gives_way response n k x hub else (x, hub)) (none_at vm (chain_of response x) k s at none)
+
+opens_none : (response : Bool) (vm n m : ℕ) (x : Exchange) (hub : Hub) → NoneOf vm (chain_of response x) → opens response vm n m (x, hub) ≡ (x, hub)
+opens_none response vm n zero x hub none = refl
+opens_none response vm n (suc k) x hub none =
+    ap (opens response vm n k) (opens_none_at response vm n k x hub none (slice_get (chain_of response x) k) refl) ∙ opens_none response vm n k x hub none
+
+dies_none : (vm n : ℕ) (x : Exchange) (hub : Hub) → fails_closed vm x ≡ false → NoneOf vm x.request → NoneOf vm x.response → dies vm n x hub ≡ (x, hub)
+dies_none vm n x hub closed request response =
+    let all : opens_all vm n x hub ≡ (x, hub)
+    = ap (λ (r : Exchange × Hub). opens true vm n (length r.0.response) r) (opens_none false vm n (length x.request) x hub request)
+    ∙ opens_none true vm n (length x.response) x hub response in
+    by_bool (λ (r : Exchange × Hub). r ≡ (x, hub)) x.has_ended (x, hub) (if fails_closed vm x then directly n 503 [] [] x hub else opens_all vm n x hub) (λ e. refl)
+    (λ e. ap (λ (b : Bool). if b then directly n 503 [] [] x hub else opens_all vm n x hub) closed ∙ all)
+
+pub all_lines_leave : AllLinesLeave
+all_lines_leave = record {
+  on_all = all_leave;
+  dying = λ vm death response n x room on alien whole closed request responses.
+      let told : Room = sending (Log Critical (death_text (vm_in room.hub.contexts vm).name death) ∷ []) room in
+      let told_on : IsOn n told x = record { place = on.place; line = on.line; stands = on.stands; at = on.at; number = on.number; exchange = on.exchange } in
+      let l : Leaves response n x told x (with_lines told (all_lines (dies vm) told.lines told.hub))
+      = all_leave (dies vm) (exchanges_pass_by.dying vm) response n x told told_on alien whole (λ hub. dies_none vm n x hub closed request responses) in
+      record {
+        on = record { place = l.on.place; line = l.on.line; stands = l.on.stands; at = l.on.at; number = l.on.number; exchange = l.on.exchange };
+        chain = refl;
+        holds = l.holds;
+        there = l.there;
+      };
+}

@@ -1,0 +1,25 @@
+-- WHAT IS DONE ON ALL LINES AT ONCE, such as where a VM died.
+use Rattle.std.specs.Prelude.{◌≡◌, ℕ, ◌==◌, Bool, false, List, [], ◌∷◌}
+use Rattle.course.specs.declared.host.Death.{Death}
+use Rattle.exchange.specs.declared.types.Exchange.{Exchange}
+use Rattle.exchange.specs.declared.types.Hub.{Hub}
+use Rattle.exchange.specs.Passing.{chain_of, fails_closed}
+use Rattle.filter_chain.specs.declared.stage.Stage.{Stage}
+use Rattle.worker.specs.declared.room.Room.{Room}
+use Rattle.worker.specs.Rooms.{all_lines, with_lines, died}
+use Rattle.flow_laws.specs.Apart.{Does, PassesAliens}
+use Rattle.flow_laws.specs.Besides.{OthersAreAlien, IsWhole}
+use Rattle.flow_laws.specs.Rooms.{IsOn, Leaves}
+
+-- none of the stages is of the VM
+abbrev pub NoneOf : ℕ → List Stage → Type 0
+NoneOf vm [] = Unit {0}
+NoneOf vm (s ∷ ss) = ((s.vm == vm) ≡ false) × NoneOf vm ss
+
+-- ON ALL LINES: what does nothing to the exchange itself leaves the direction as it was. So does the death of a VM that is none of its stages', where no
+-- filter of the exchange fails closed by it.
+pub record AllLinesLeave : Type 0 where
+  pub on_all : (does : Does) → PassesAliens does → (response : Bool) (n : ℕ) (x : Exchange) (room : Room) (on : IsOn n room x) → OthersAreAlien (chain_of response x) on.place room
+      → IsWhole response x room → ((hub : Hub) → does n x hub ≡ (x, hub)) → Leaves response n x room x (with_lines room (all_lines does room.lines room.hub))
+  pub dying : (vm : ℕ) (death : Death) (response : Bool) (n : ℕ) (x : Exchange) (room : Room) (on : IsOn n room x) → OthersAreAlien (chain_of response x) on.place room
+      → IsWhole response x room → fails_closed vm x ≡ false → NoneOf vm x.request → NoneOf vm x.response → Leaves response n x room x (died vm death room)
