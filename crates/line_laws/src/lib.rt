@@ -3,4 +3,7 @@
 
 mod laws;
 
-pub use laws::{exchanges_live, machines_write_logs, no_server_sees_two_messages, worked_lines, workers_begin_so};
+pub use laws::{
+    exchanges_live, machines_write_logs, no_server_sees_two_messages, worked_lines,
+    workers_begin_so,
+};
