@@ -1,12 +1,11 @@
 -- Stages stay those of their contexts, whatever becomes of what they hold.
-use Rattle.std.proofs.Common.{◌≡◌, ◌<◌, ◌≤◌, ℕ, zero, suc, ◌+◌, Bool, true, false, List, [], ◌∷◌, ◌++◌, length, ap, ◌∙◌, sym, refl, subst, ⊎_elim, arith}
+use Rattle.std.proofs.Common.{◌≡◌, ◌<◌, ◌≤◌, ℕ, zero, suc, false, List, [], ◌∷◌, length, ap, ◌∙◌, sym, refl, subst, ⊎_elim, arith}
 use Rattle.std.specs.Prelude.{Option, None, Some, slice_get, slice_set, get_or}
 use Rattle.std.proofs.lemmas.Bool.{cases_lt}
 use Rattle.contexts.specs.declared.parts.Contexts.{Contexts}
 use Rattle.contexts.specs.Holding.{IsThere}
 use Rattle.filter_chain.specs.declared.stage.Stage.{Stage}
 use Rattle.filter_chain.specs.declared.item.Item.{Item}
-use Rattle.filter_chain.specs.declared.item.Passed.{Passed}
 use Rattle.filter_chain.specs.Chains.{target, onto, with_more}
 use Rattle.filter_chain.specs.Flow.{IsOtherThan, NoneIs, IsAlone}
 use Rattle.filter_chain.proofs.Sizes.{target_here, target_past}

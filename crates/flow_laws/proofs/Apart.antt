@@ -1,5 +1,5 @@
 -- What is done to one exchange passes by the stages of others.
-use Rattle.std.proofs.Common.{◌≡◌, ℕ, zero, suc, ◌-◌, ◌+◌, ◌==◌, Bool, true, false, not, ◌||◌, List, [], ◌∷◌, ◌++◌, length, refl, ◌∙◌, ap, sym, subst}
+use Rattle.std.proofs.Common.{◌≡◌, ℕ, zero, suc, ◌-◌, ◌+◌, ◌==◌, Bool, true, false, not, ◌||◌, List, [], ◌∷◌, ◌++◌, length, refl, subst}
 use Rattle.std.specs.Prelude.{if◌then◌else◌, Option, None, Some, slice_get, slice_set, drop}
 use Rattle.contexts.specs.declared.parts.Contexts.{Contexts}
 use Rattle.contexts.specs.declared.parts.ExchangeView.{ExchangeView}
@@ -7,11 +7,11 @@ use Rattle.contexts.specs.Reached.{view_at}
 use Rattle.contexts.specs.Stages.{let_go as nothing, returned, emptied}
 use Rattle.exchange.specs.declared.types.Exchange.{Exchange}
 use Rattle.exchange.specs.declared.types.Hub.{Hub}
-use Rattle.exchange.specs.Answering.{none_held, cut_off, directly, passed_down, put_went_down, puts_down, reached_of, answered_by, with_answer, through, is_direct, shutting, answers_open, answer, stays_open, with_held}
+use Rattle.exchange.specs.Answering.{none_held, cut_off, directly, passed_down, put_went_down, puts_down, answered_by, with_answer, through, is_direct, shutting, answers_open, answer, with_held}
 use Rattle.exchange.specs.Heads.{is_bare, is_final, passes_filters, shuts}
-use Rattle.exchange.specs.Leaving.{sending, sends, leaves, left, up, down, is_due}
+use Rattle.exchange.specs.Leaving.{leaves, left, up, down, is_due}
 use Rattle.exchange.specs.Maps.{in_view, put_response, answer_map}
-use Rattle.exchange.specs.Passing.{went, put_went, passed_on, puts, puts_all, put_in, goes_on, gives_way, resumes, resumes_at, stage_of, acts, closed, opens_at, opens, opens_response, opens_all, dies, fails_closed, refused, expires, takes_nothing, chain_of, with_chain, pauses}
+use Rattle.exchange.specs.Passing.{went, put_went, passed_on, puts, puts_all, put_in, goes_on, gives_way, resumes, resumes_at, stage_of, acts, closed, opens_at, opens, opens_all, dies, fails_closed, refused, expires, takes_nothing, chain_of, with_chain, pauses}
 use Rattle.filter_chain.specs.declared.item.Item.{Item}
 use Rattle.filter_chain.specs.declared.item.Item.TheVariants.{Head, Piece, Trailers}
 use Rattle.filter_chain.specs.declared.item.Passed.{Passed}

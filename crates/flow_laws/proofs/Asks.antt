@@ -1,6 +1,6 @@
 -- What asking a stage makes of it.
-use Rattle.std.proofs.Common.{◌≡◌, ℕ, zero, suc, ◌+◌, Bool, true, false, ◌&&◌, List, [], ◌∷◌, ◌++◌, length, ap, ◌∙◌, sym, refl, subst}
-use Rattle.std.specs.Prelude.{Option, None, Some, slice_get, slice_set, nat_le, if◌then◌else◌}
+use Rattle.std.proofs.Common.{◌≡◌, ℕ, zero, suc, ◌+◌, Bool, true, false, ◌&&◌, List, [], ◌∷◌, ◌++◌, length, ap, ◌∙◌, sym, refl}
+use Rattle.std.specs.Prelude.{Option, None, Some, slice_get, slice_set, nat_le}
 use Rattle.std.proofs.lemmas.List.{append_assoc}
 use Rattle.contexts.specs.declared.parts.Contexts.{Contexts}
 use Rattle.contexts.specs.Stages.{filled, with_bytes}
@@ -24,7 +24,7 @@ use Rattle.flow_laws.specs.Acts.{AreThere}
 use Rattle.flow_laws.specs.PassThrough.{AreApart}
 use Rattle.flow_laws.proofs.Alike.{IsSame}
 use Rattle.flow_laws.proofs.Holding.{HoldBut, but_all, but_changed}
-use Rattle.flow_laws.proofs.Order.{ends, stage_ends}
+use Rattle.flow_laws.proofs.Order.{stage_ends}
 use Rattle.flow_laws.proofs.Calm.{AreCalm, CalmFor, IsClean, calm_set, busy_set}
 
 -- what the stage was asked about, and what it and the contexts are then

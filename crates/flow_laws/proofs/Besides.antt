@@ -1,5 +1,5 @@
 -- What else a worker does leaves a direction as it was.
-use Rattle.std.proofs.Common.{◌≡◌, ℕ, zero, suc, ◌+◌, ◌==◌, Bool, true, false, not, ◌||◌, List, [], ◌∷◌, ◌++◌, length, map, ap, ◌∙◌, sym, refl, subst}
+use Rattle.std.proofs.Common.{◌≡◌, ℕ, zero, suc, ◌==◌, Bool, true, false, not, List, [], ◌∷◌, map, ap, ◌∙◌, sym, refl, subst}
 use Rattle.std.specs.Prelude.{Option, None, Some, slice_get, slice_set, if◌then◌else◌}
 use Rattle.contexts.specs.declared.parts.Contexts.{Contexts}
 use Rattle.contexts.specs.Stages.{with_bytes}
@@ -7,32 +7,29 @@ use Rattle.exchange.specs.declared.types.Exchange.{Exchange}
 use Rattle.exchange.specs.declared.types.Hub.{Hub}
 use Rattle.exchange.specs.Answering.{with_held}
 use Rattle.exchange.specs.Leaving.{leaves, left, up, down}
-use Rattle.exchange.specs.Passing.{chain_of, with_chain, passed_on, went, put_went, puts, puts_all, put_in, goes_on, acts, resumes, resumes_at, stage_of, pauses, takes_nothing}
+use Rattle.exchange.specs.Passing.{chain_of, with_chain, passed_on, went, put_went, puts, puts_all, put_in, goes_on, acts, resumes, resumes_at, stage_of, pauses}
 use Rattle.filter_chain.specs.declared.stage.Stage.{Stage}
-use Rattle.filter_chain.specs.declared.item.Ask.{Ask}
 use Rattle.filter_chain.specs.declared.item.AskKind.{AskKind}
-use Rattle.filter_chain.specs.declared.item.Asking.{Asking}
-use Rattle.filter_chain.specs.declared.item.Asking.TheVariants.{Asks}
 use Rattle.filter_chain.specs.declared.item.Item.{Item}
 use Rattle.filter_chain.specs.declared.item.Item.TheVariants.{Head, Piece, Trailers}
 use Rattle.filter_chain.specs.declared.item.Passed.{Passed}
-use Rattle.filter_chain.specs.Chains.{put, asked, continued, bytes_at}
+use Rattle.filter_chain.specs.Chains.{put, continued}
 use Rattle.filter_chain.specs.Flow.{left_in, NoneIs}
 use Rattle.worker.specs.declared.room.Room.{Room}
 use Rattle.worker.specs.declared.types.ContextAt.{ContextAt}
 use Rattle.worker.specs.declared.types.Job.{Job}
 use Rattle.worker.specs.declared.types.Line.{Line}
-use Rattle.worker.specs.Rooms.{marking, with_result, in_exchange, in_line, put_back, at_some, at_place, with_lines, place_in, place_of, on_number, on_context}
-use Rattle.worker.specs.Steps.{first_begun, frees_at, frees}
-use Rattle.flow_laws.specs.Acts.{HoldSame, AreThere, IsLeft}
-use Rattle.flow_laws.specs.Apart.{AreAliens, IsAlien, PassesBy, Does, PassesAliens}
+use Rattle.worker.specs.Rooms.{marking, in_exchange, put_back, at_some, at_place, with_lines, place_in, place_of, on_number, on_context}
+use Rattle.worker.specs.Steps.{first_begun, frees_at}
+use Rattle.flow_laws.specs.Acts.{IsLeft}
+use Rattle.flow_laws.specs.Apart.{AreAliens, PassesBy, Does, PassesAliens}
 use Rattle.flow_laws.specs.Besides.{OthersAreAlien, IsWhole, OtherLinesLeave, OtherDirectionLeaves, QuietStepsLeave}
-use Rattle.flow_laws.specs.Deeds.{comes, Running, done, done_by, AreDeeds, IsDeed}
-use Rattle.flow_laws.specs.Rooms.{IsOn, Leaves, running, IsAsked, asked_exchange, question}
+use Rattle.flow_laws.specs.Deeds.{comes, AreDeeds}
+use Rattle.flow_laws.specs.Rooms.{IsOn, Leaves, IsAsked, asked_exchange, question}
 use Rattle.flow_laws.proofs.Apart.{Holds, Chained, same, next, by_vms, alien_at, continues, pauses_by}
 use Rattle.flow_laws.proofs.Asks.{Took, TookFor, Taken, took_head, took_piece, took_trailers, took}
 use Rattle.flow_laws.proofs.Deeds.{passed_is, puts_is, goes_is}
-use Rattle.flow_laws.proofs.Holding.{hold_all, hold_then, hold_by_vms, there_by_vms, hold_other, there_other}
+use Rattle.flow_laws.proofs.Holding.{hold_all, hold_then, hold_other, there_other}
 use Rattle.flow_laws.proofs.Lines.{with_exchange, on_set, on_number_is, on_context_is, marking_vms, place_set}
 
 -- ---- a room with the same lines

@@ -1,5 +1,5 @@
 -- Which stages hold bytes of a body, where each callback for bodies and trailers answers Continue: none but the one that is asked.
-use Rattle.std.proofs.Common.{◌≡◌, ℕ, zero, suc, Bool, true, false, List, [], ◌∷◌, ◌++◌, ap, ◌∙◌, sym, refl, subst}
+use Rattle.std.proofs.Common.{◌≡◌, ℕ, zero, suc, true, false, List, [], ◌∷◌, ◌++◌, ap, ◌∙◌, refl, subst}
 use Rattle.std.specs.Prelude.{Option, None, Some, slice_get, slice_set, drop}
 use Rattle.contexts.specs.declared.parts.Contexts.{Contexts}
 use Rattle.filter_chain.specs.declared.stage.Stage.{Stage}
@@ -9,10 +9,9 @@ use Rattle.filter_chain.specs.declared.item.AskKind.TheVariants as kinds
 use Rattle.filter_chain.specs.declared.item.Item.{Item}
 use Rattle.filter_chain.specs.declared.item.Held.{Held}
 use Rattle.filter_chain.specs.declared.item.Held.TheVariants as held
-use Rattle.filter_chain.specs.declared.item.Passed.{Passed}
 use Rattle.filter_chain.specs.Items.{joined, holds_bytes}
-use Rattle.filter_chain.specs.Chains.{with_more, onto, let_go, bytes_at}
-use Rattle.filter_chain.specs.Flow.{flow, kept}
+use Rattle.filter_chain.specs.Chains.{onto, let_go, bytes_at}
+use Rattle.filter_chain.specs.Flow.{flow}
 use Rattle.flow_laws.specs.Acts.{HoldSame}
 use Rattle.flow_laws.proofs.Holding.{HoldBut}
 use Rattle.flow_laws.proofs.Order.{ends, held_ends, stage_ends, chain_ends, none_both}

@@ -1,21 +1,18 @@
 -- Why contexts of others that come and go leave a direction as it was.
-use Rattle.std.proofs.Common.{◌≡◌, ◌<◌, ℕ, zero, suc, ◌+◌, ◌==◌, Bool, true, false, not, ◌&&◌, ◌||◌, List, [], ◌∷◌, ◌++◌, length, ap, ◌∙◌, sym, refl, subst}
+use Rattle.std.proofs.Common.{◌≡◌, ℕ, ◌+◌, Bool, true, false, not, ◌&&◌, ◌||◌, List, [], ◌∷◌, ◌++◌, ap, ◌∙◌, sym, refl, subst}
 use Rattle.std.specs.Prelude.{Option, None, Some, slice_get, slice_set, if◌then◌else◌}
 use Rattle.contexts.specs.declared.parts.Context.{Context}
 use Rattle.contexts.specs.declared.parts.Contexts.{Contexts}
 use Rattle.contexts.specs.declared.parts.VmContexts.{VmContexts}
-use Rattle.contexts.specs.Creating.{next_id, plugin_in, plugin_at, open_place, root_context, stream_context, with_context, root_created, stream_created, awaited, freed, freed_of, has_ended, is_referred, without_id, without_context, deleted}
+use Rattle.contexts.specs.Creating.{next_id, plugin_in, plugin_at, open_place, root_context, stream_context, with_context, root_created, stream_created, awaited, freed_of, has_ended, is_referred, without_id, without_context, deleted}
 use Rattle.contexts.specs.Reached.{vm_in, context_in, exchange_of, exchange_at, contains, seen}
 use Rattle.course.specs.Called.{Called}
 use Rattle.course.specs.Course.{Course, ends, runs_then, then_do, Met, Reaches}
 use Rattle.course.specs.declared.host.CallEnd.{CallEnd}
-use Rattle.course.specs.declared.host.Callback.{Callback}
 use Rattle.course.specs.declared.host.Death.TheVariants as deaths
 use Rattle.exchange.specs.declared.types.Exchange.{Exchange}
 use Rattle.exchange.specs.declared.types.Filter.{Filter}
-use Rattle.exchange.specs.declared.types.Hub.{Hub}
 use Rattle.exchange.specs.Passing.{chain_of}
-use Rattle.filter_chain.specs.declared.stage.Stage.{Stage}
 use Rattle.store_model.specs.Program.{Program}
 use Rattle.worker.specs.declared.room.Room.{Room}
 use Rattle.worker.specs.declared.types.ContextAt.{ContextAt}
@@ -23,15 +20,14 @@ use Rattle.worker.specs.declared.types.Line.{Line}
 use Rattle.worker.specs.declared.types.NewContext.{NewContext}
 use Rattle.worker.specs.declared.types.Own.TheVariants as owns
 use Rattle.worker.specs.Rooms.{place_in, with_contexts, is_dead, died, answered_with, valued}
-use Rattle.worker.specs.Steps.{Both, both, Then, Answered, answered, goes_on_with, called_in, calls_live, has_vm, in_front, waits, deletes, is_drawn_out, may_root, root_jobs, new_one, rooting, with_filter, change_line, line_at_place, on_line, may_stream, with_stream, streaming, creating_filter, filter_at, creating}
-use Rattle.flow_laws.specs.Acts.{HoldSame, AreThere}
+use Rattle.worker.specs.Steps.{Both, both, Answered, answered, goes_on_with, called_in, has_vm, in_front, waits, deletes, is_drawn_out, may_root, root_jobs, new_one, rooting, with_filter, change_line, line_at_place, may_stream, with_stream, streaming, creating_filter, filter_at, creating}
 use Rattle.flow_laws.specs.Besides.{IsWhole}
 use Rattle.flow_laws.specs.Contexts.{NotOf, ContextsLeave, CallsAreRuns}
 use Rattle.flow_laws.specs.Elsewhere.{IsBeside, behind_effects}
-use Rattle.flow_laws.specs.Rooms.{IsOn, Leaves, leaves, Part, others, Run, rests, goes}
+use Rattle.flow_laws.specs.Rooms.{IsOn, Leaves, leaves, Meanwhile, nothing, other}
 use Rattle.flow_laws.proofs.Besides.{stays}
 use Rattle.flow_laws.proofs.Elsewhere.{run_then, Beside, beside}
-use Rattle.flow_laws.proofs.Holding.{hold_then, hold_by_vms, there_by_vms, hold_set, there_set, keeps_same, keeps_more, keeps_less, KeepsFound}
+use Rattle.flow_laws.proofs.Holding.{hold_set, there_set, keeps_same, keeps_more, keeps_less, KeepsFound}
 use Rattle.flow_laws.proofs.Moving.{then_runs, Ran, ran}
 use Rattle.flow_laws.proofs.Readings.{Gentle, soft_exchange, lines_gentle}
 
@@ -152,18 +148,18 @@ contexts_leave = record {
 
 pub calls_are : (H : Type 0) → CallsAreRuns H
 calls_are H calling response n count vm name context first second behind x room on host ms b none callbacks reaches =
-    by_bool (λ (k : Course (Answered H)). Reaches (then_do k (λ a. ends (goes_on_with behind a))) ms (ends b) → (y : Exchange) × Run H response n count x room y b.room) (is_dead vm room)
+    by_bool (λ (k : Course (Answered H)). Reaches (then_do k (λ a. ends (goes_on_with behind a))) ms (ends b) → (y : Exchange) × Meanwhile response n count x room y b.room) (is_dead vm room)
     (ends (answered None (both host room))) (called_in calling vm name context first second owns.Nobody host room) (λ e r. dead ms r) (λ e r. live r) reaches
   where
-    dead : (ns : List Met) → Reaches (ends (both host (behind None room))) ns (ends b) → (y : Exchange) × Run H response n count x room y b.room
+    dead : (ns : List Met) → Reaches (ends (both host (behind None room))) ns (ends b) → (y : Exchange) × Meanwhile response n count x room y b.room
     dead [] is =
         let is_b : b ≡ both host (behind None room) = sym (cc) in
-        subst (λ (d : Both H). (y : Exchange) × Run H response n count x room y d.room) (sym is_b)
-        (none.0, goes (others none.0 (behind None room) (leaves none.1)) (rests none.0 (behind None room)))
+        subst (λ (d : Both H). (y : Exchange) × Meanwhile response n count x room y d.room) (sym is_b)
+        (none.0, other (leaves none.1) (nothing none.0 (behind None room)))
     dead (m ∷ ns) is = absurd is
 
     live : Reaches (then_do (called_in calling vm name context first second owns.Nobody host room) (λ a. ends (goes_on_with behind a))) ms (ends b)
-        → (y : Exchange) × Run H response n count x room y b.room
+        → (y : Exchange) × Meanwhile response n count x room y b.room
     live r =
         let q : Program (Called H) = calling host vm name context first second room.hub.moment room.hub.contexts in
         let f : Called H → Answered H = λ c. answered (valued c.end) (both c.host (answered_with vm owns.Nobody c.end c.lines c.contexts room)) in
@@ -181,5 +177,5 @@ calls_are H calling response n count vm name context first second behind x room 
         let last : Room = behind (Some e.value) (behind_effects vm owns.Nobody c room) in
         let l : (y : Exchange) × Leaves response n mid.then_is (behind_effects vm owns.Nobody c room) y last = both_.1 mid.then_is mid.on in
         let is_b : b ≡ both c.host last = end.is ∙ ap (λ (t : CallEnd). both c.host (behind (valued t) (answered_with vm owns.Nobody t c.lines c.contexts room))) e.returned in
-        subst (λ (d : Both H). (y : Exchange) × Run H response n count x room y d.room) (sym is_b)
-        (l.0, run_then mid.run (goes (others l.0 last (leaves l.1)) (rests l.0 last)))
+        subst (λ (d : Both H). (y : Exchange) × Meanwhile response n count x room y d.room) (sym is_b)
+        (l.0, run_then mid.run (other (leaves l.1) (nothing l.0 last)))

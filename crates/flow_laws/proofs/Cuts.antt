@@ -1,15 +1,13 @@
 -- What passes the cut in front of a stage, and what is behind it.
-use Rattle.std.proofs.Common.{◌≡◌, ◌<◌, ◌≤◌, ℕ, zero, suc, ◌+◌, Bool, true, false, List, [], ◌∷◌, ◌++◌, length, ap, ◌∙◌, sym, refl, subst, arith}
+use Rattle.std.proofs.Common.{◌≡◌, ◌≤◌, ℕ, zero, suc, ◌+◌, Bool, true, false, List, [], ◌∷◌, ◌++◌, length, ap, ◌∙◌, sym, refl, arith}
 use Rattle.std.specs.Prelude.{Option, None, Some, slice_get, slice_set, drop, if◌then◌else◌}
 use Rattle.std.proofs.lemmas.List.{append_assoc, append-nil}
 use Rattle.contexts.specs.declared.parts.Contexts.{Contexts}
 use Rattle.filter_chain.specs.declared.stage.Stage.{Stage}
 use Rattle.filter_chain.specs.declared.item.Item.{Item}
-use Rattle.filter_chain.specs.declared.item.Item.TheVariants.{Head, Piece, Trailers}
+use Rattle.filter_chain.specs.declared.item.Item.TheVariants.{Head, Trailers}
 use Rattle.filter_chain.specs.declared.item.Held.{Held}
 use Rattle.filter_chain.specs.declared.item.Held.TheVariants as held
-use Rattle.filter_chain.specs.declared.item.Passed.{Passed}
-use Rattle.filter_chain.specs.declared.item.Passed.TheVariants as passed
 use Rattle.filter_chain.specs.Items.{bytes_in, joined, piece_of, held_items, holds_bytes}
 use Rattle.filter_chain.specs.Chains.{with_more, onto, bytes_at}
 use Rattle.filter_chain.specs.Flow.{kept, flow, left_in}

@@ -1,9 +1,7 @@
 -- What is done on all lines at once.
-use Rattle.std.proofs.Common.{◌≡◌, ℕ, zero, suc, ◌+◌, ◌==◌, Bool, true, false, not, List, [], ◌∷◌, ◌++◌, length, cond, ap, ◌∙◌, sym, refl, subst}
+use Rattle.std.proofs.Common.{◌≡◌, ℕ, zero, suc, ◌+◌, ◌==◌, Bool, true, false, not, List, [], ◌∷◌, length, cond, ap, ◌∙◌, sym, refl, subst}
 use Rattle.std.specs.List.{position_or_len}
 use Rattle.std.specs.Prelude.{Option, None, Some, slice_get, nat_lt, if◌then◌else◌}
-use Rattle.contexts.specs.declared.parts.Contexts.{Contexts}
-use Rattle.course.specs.declared.host.Death.{Death}
 use Rattle.exchange.specs.declared.types.Exchange.{Exchange}
 use Rattle.exchange.specs.declared.types.Hub.{Hub}
 use Rattle.exchange.specs.Answering.{directly}
@@ -13,9 +11,8 @@ use Rattle.gate_base.specs.declared.level.Level.TheVariants.{Critical}
 use Rattle.gate_io.specs.declared.event.Sent.TheVariants.{Log}
 use Rattle.worker.specs.declared.room.Room.{Room}
 use Rattle.worker.specs.declared.types.Line.{Line}
-use Rattle.worker.specs.Rooms.{marking, with_result, in_exchange, in_line, all_lines, with_lines, place_in, sending, death_text, died}
+use Rattle.worker.specs.Rooms.{marking, with_result, in_exchange, in_line, all_lines, with_lines, sending, death_text}
 use Rattle.contexts.specs.Reached.{vm_in}
-use Rattle.flow_laws.specs.Acts.{AreThere}
 use Rattle.flow_laws.specs.Apart.{IsAlien, PassesBy, Does, PassesAliens}
 use Rattle.flow_laws.specs.Besides.{OthersAreAlien, IsWhole}
 use Rattle.flow_laws.specs.Deaths.{NoneOf, AllLinesLeave}

@@ -1,6 +1,6 @@
 -- Deeds on an exchange are acts at the chain of a direction of it.
-use Rattle.std.proofs.Common.{◌≡◌, ◌<◌, ◌≤◌, ℕ, zero, suc, ◌+◌, ◌==◌, Bool, true, false, not, ◌||◌, ◌&&◌, List, [], ◌∷◌, ◌++◌, length, ap, ◌∙◌, sym, refl, subst, arith}
-use Rattle.std.specs.Prelude.{Option, None, Some, slice_get, if◌then◌else◌}
+use Rattle.std.proofs.Common.{◌≡◌, ℕ, suc, ◌+◌, ◌==◌, Bool, true, false, ◌||◌, ◌&&◌, List, [], ◌∷◌, ◌++◌, ap, ◌∙◌, sym, refl, subst}
+use Rattle.std.specs.Prelude.{Option, None, Some, if◌then◌else◌}
 use Rattle.std.proofs.lemmas.List.{append_assoc, append-nil}
 use Rattle.contexts.specs.declared.parts.Contexts.{Contexts}
 use Rattle.exchange.specs.declared.types.Exchange.{Exchange}
@@ -8,7 +8,6 @@ use Rattle.exchange.specs.declared.types.Hub.{Hub}
 use Rattle.exchange.specs.Answering.{with_held}
 use Rattle.exchange.specs.Leaving.{up, down, leaves, left}
 use Rattle.exchange.specs.Passing.{chain_of, with_chain, passed_on, went, put_went, takes_nothing, puts, goes_on, pauses, stage_of, resumes_at}
-use Rattle.exchange.specs.Passing as passing
 use Rattle.filter_chain.specs.declared.stage.Stage.{Stage}
 use Rattle.filter_chain.specs.declared.item.Ask.{Ask}
 use Rattle.filter_chain.specs.declared.item.Asking.{Asking}
@@ -20,11 +19,11 @@ use Rattle.filter_chain.specs.declared.item.Passed.TheVariants as passed
 use Rattle.filter_chain.specs.Items.{joined}
 use Rattle.filter_chain.specs.Chains.{put, asked, continued}
 use Rattle.filter_chain.specs.Flow.{left_in}
-use Rattle.flow_laws.specs.Acts.{Act, Standing, AreActs, IsLeft, IsCall, IsAnswer, put_in, gone_on, returned}
+use Rattle.flow_laws.specs.Acts.{Act, Standing, AreActs, IsLeft, IsCall, IsAnswer, gone_on, returned}
 use Rattle.flow_laws.specs.Acts as at_chain
-use Rattle.flow_laws.specs.Deeds.{Deed, comes, calls, answers, resumes, turns, Running, standing, done, called, answered, done_by, resumed, acts_of, left_by, came, buffers_by, LeavesChain, IsDeed, AreDeeds, Writes, IsWritten}
+use Rattle.flow_laws.specs.Deeds.{Deed, comes, calls, answers, resumes, turns, Running, standing, done, called, answered, done_by, resumed, acts_of, left_by, came, buffers_by, IsDeed, AreDeeds, Writes, IsWritten}
 use Rattle.flow_laws.specs.Exchanges.{ExchangesPassBodies}
-use Rattle.flow_laws.specs.PassThrough.{IsInOrder, IsNew, PassesThrough}
+use Rattle.flow_laws.specs.PassThrough.{IsInOrder, PassesThrough}
 use Rattle.flow_laws.proofs.Through.{stands_after, bodies_pass}
 
 -- ---- what leaves changes no chain and no context

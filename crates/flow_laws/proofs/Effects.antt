@@ -1,6 +1,6 @@
 -- What callbacks of others come to, as a direction sees them.
-use Rattle.std.proofs.Common.{◌≡◌, ℕ, zero, suc, ◌+◌, ◌==◌, Bool, true, false, not, List, [], ◌∷◌, ◌++◌, length, ap, ◌∙◌, sym, refl, subst, inl, inr, ⊎_elim}
-use Rattle.std.specs.Prelude.{Option, None, Some, slice_get, slice_set, nat_le, if◌then◌else◌, ◌⊎◌}
+use Rattle.std.proofs.Common.{◌≡◌, ℕ, zero, suc, ◌+◌, Bool, true, false, List, [], ◌∷◌, length, ap, ◌∙◌, sym, refl, subst, inl, inr, ⊎_elim}
+use Rattle.std.specs.Prelude.{Option, None, Some, slice_get, nat_le, if◌then◌else◌, ◌⊎◌}
 use Rattle.std.proofs.lemmas.Bool.{cases_eq}
 use Rattle.contexts.specs.declared.parts.Contexts.{Contexts}
 use Rattle.contexts.specs.declared.parts.Effect.{Effect}
@@ -28,14 +28,13 @@ use Rattle.worker.specs.declared.types.Change.TheVariants as changes
 use Rattle.worker.specs.declared.types.Line.{Line}
 use Rattle.worker.specs.declared.types.Own.{Own}
 use Rattle.worker.specs.Changes.{changed}
-use Rattle.worker.specs.Moves.{asks_as, asks_chain, asks_response, asks_exchange, asks_with, asks_in, asks_back, asks_at}
-use Rattle.worker.specs.Rooms.{place_in, place_of, with_lines, on_context, does, effects_of, is_own, marking}
+use Rattle.worker.specs.Moves.{asks_chain, asks_response, asks_exchange, asks_in, asks_back, asks_at}
+use Rattle.worker.specs.Rooms.{place_of, with_lines, on_context, does, effects_of, is_own, marking}
 use Rattle.flow_laws.specs.Acts.{HoldSame, AreThere}
-use Rattle.flow_laws.specs.Apart.{AreAliens, IsAlien, PassesBy, Does, PassesAliens}
-use Rattle.flow_laws.specs.Besides.{OthersAreAlien, IsWhole}
-use Rattle.flow_laws.specs.Effects.{MayResume, MayDo, IsMild, AreMild, MildEffectsAreOthers, CallbacksAreRuns, AskingElsewhereLeaves}
-use Rattle.flow_laws.specs.Rooms.{IsOn, Leaves, Wakes, Other, wakes, leaves, Others, running, quiet_room, Part, others, Run, rests, goes}
-use Rattle.flow_laws.proofs.Apart.{Holds, same, next, by_vms, alien_at, alien_set, alien_with, alien_chain, passed_on_by, and_then, held_by, exchanges_pass_by}
+use Rattle.flow_laws.specs.Apart.{AreAliens, IsAlien, PassesBy}
+use Rattle.flow_laws.specs.Effects.{MayResume, IsMild, MildEffectsAreOthers, CallbacksAreRuns, AskingElsewhereLeaves}
+use Rattle.flow_laws.specs.Rooms.{IsOn, Leaves, Other, wakes, leaves, Others, quiet_room, Meanwhile, nothing, other}
+use Rattle.flow_laws.proofs.Apart.{Holds, same, by_vms, alien_at, alien_set, alien_with, alien_chain, passed_on_by, and_then, held_by, exchanges_pass_by}
 use Rattle.flow_laws.proofs.Besides.{stays, on_other, other_lines, other_direction}
 use Rattle.flow_laws.proofs.Holding.{hold_all, hold_then, hold_by_vms, there_by_vms, hold_other, there_other}
 use Rattle.flow_laws.proofs.Lines.{marking_vms}
@@ -50,33 +49,33 @@ by_bool P false a c here there = there refl
 -- it is on the exchange's line, or not
 record Seen (response : Bool) (n count : ℕ) (due : Option Ask) (x : Exchange) (room after : Room) : Type 0 where
   then_is : Exchange
-  other : Other response n count due x room then_is after
+  seen : Other response n count due x room then_is after
 
 here_or_not : (o : Option ℕ) (place : ℕ) → (o ≡ Some place) ⊎ (o ≡ Some place → ⊥)
 here_or_not None place = inr (λ e. cc e)
 here_or_not (Some p) place = ⊎_elim (λ (e : p ≡ place). inl (ap (λ (q : ℕ). Some q) e)) (λ (no_ : p ≡ place → ⊥). inr (λ e. no_ (cc e))) (cases_eq p place)
 
 aside : (response : Bool) (n count : ℕ) (due : Option Ask) (x : Exchange) (room after : Room) → Leaves response n x room x after → Seen response n count due x room after
-aside response n count due x room after l = record { then_is = x; other = leaves l }
+aside response n count due x room after l = record { then_is = x; seen = leaves l }
 
 resumed : (response of_response : Bool) (n count : ℕ) (due : Option Ask) (vm context : ℕ) (x : Exchange) (room : Room) → (m : IsMild response n count due vm context (what.Continue of_response) x room)
     → (same_line : place_of vm context room.lines ≡ Some m.on.place) → MayResume response of_response count due vm context x room
     → Seen response n count due x room (on_context (passing.resumes vm context of_response) vm context room)
 resumed false false n count due vm context x room m same_line may = record {
   then_is = (passing.resumes vm context false n x room.hub).0;
-  other = wakes (record { on = m.on; vm = vm; context = context; line = same_line ∙ sym m.on.stands; deed = may; exchange = refl; room_is = refl });
+  seen = wakes (record { on = m.on; vm = vm; context = context; line = same_line ∙ sym m.on.stands; deed = may; exchange = refl; room_is = refl });
 }
 resumed true true n count due vm context x room m same_line may = record {
   then_is = (passing.resumes vm context true n x room.hub).0;
-  other = wakes (record { on = m.on; vm = vm; context = context; line = same_line ∙ sym m.on.stands; deed = may; exchange = refl; room_is = refl });
+  seen = wakes (record { on = m.on; vm = vm; context = context; line = same_line ∙ sym m.on.stands; deed = may; exchange = refl; room_is = refl });
 }
 resumed false true n count due vm context x room m same_line may = record {
   then_is = (passing.resumes vm context true n x room.hub).0;
-  other = leaves (other_direction.resuming false n vm context x room m.on may.1 m.whole may.0 may.2 (same_line ∙ sym m.on.stands));
+  seen = leaves (other_direction.resuming false n vm context x room m.on may.1 m.whole may.0 may.2 (same_line ∙ sym m.on.stands));
 }
 resumed true false n count due vm context x room m same_line may = record {
   then_is = (passing.resumes vm context false n x room.hub).0;
-  other = leaves (other_direction.resuming true n vm context x room m.on may.1 m.whole may.0 may.2 (same_line ∙ sym m.on.stands));
+  seen = leaves (other_direction.resuming true n vm context x room m.on may.1 m.whole may.0 may.2 (same_line ∙ sym m.on.stands));
 }
 
 effect_seen : (response : Bool) (n count : ℕ) (due : Option Ask) (vm : ℕ) (own : Own) (context : ℕ) (w : What) (x : Exchange) (room : Room) → IsMild response n count due vm context w x room
@@ -109,17 +108,17 @@ effects_seen response n count due vm own [] x room mild = (x, (refl, mild))
 effects_seen response n count due vm own (e ∷ es) x room mild =
     let after : Room = does vm own e.context e.what room in
     let one : Seen response n count due x room after = effect_seen response n count due vm own e.context e.what x room mild.0 in
-    let on : IsOn n after one.then_is = other_on response n count due x room one.then_is after one.other in
+    let on : IsOn n after one.then_is = other_on response n count due x room one.then_is after one.seen in
     let later : (z : Exchange) × Others response n count due vm own es one.then_is after z = effects_seen response n count due vm own es one.then_is after (mild.1 one.then_is on) in
-    (later.0, (one.then_is, one.other, later.1))
+    (later.0, (one.then_is, one.seen, later.1))
 
 -- ---- callbacks
 
 pub others_run : (H : Type 0) (response : Bool) (n count vm : ℕ) (own : Own) (es : List Effect) (x : Exchange) (room : Room) (z : Exchange) → Others response n count None vm own es x room z
-    → Run H response n count x room z (effects_of vm own es room)
-others_run H response n count vm own [] x room z are = subst (λ (y : Exchange). Run H response n count x room y room) (sym are.0) (rests x room)
+    → Meanwhile response n count x room z (effects_of vm own es room)
+others_run H response n count vm own [] x room z are = subst (λ (y : Exchange). Meanwhile response n count x room y room) (sym are.0) (nothing x room)
 others_run H response n count vm own (e ∷ es) x room z are =
-    goes (others are.0 (does vm own e.context e.what room) are.1) (others_run H response n count vm own es are.0 (does vm own e.context e.what room) z are.2)
+    other are.1 (others_run H response n count vm own es are.0 (does vm own e.context e.what room) z are.2)
 
 -- the callback has returned, and its effects are still to be done
 pub quietly : {H : Type 0} (response : Bool) (n : ℕ) (c : Called H) (x : Exchange) (room : Room) → IsOn n room x → HoldSame room.hub.contexts c.contexts (chain_of response x)
@@ -136,7 +135,7 @@ pub callbacks_are : (H : Type 0) → CallbacksAreRuns H
 callbacks_are H = λ response n count vm own c value x room on holds there mild.
     let mid : Room = quiet_room c room in
     let seen : (z : Exchange) × Others response n count None vm own c.contexts.effects x mid z = effects_seen response n count None vm own c.contexts.effects x mid mild in
-    (seen.0, goes (others x mid (leaves (quietly response n c x room on holds there))) (others_run H response n count vm own c.contexts.effects x mid seen.0 seen.1))
+    (seen.0, other (leaves (quietly response n c x room on holds there)) (others_run H response n count vm own c.contexts.effects x mid seen.0 seen.1))
 
 -- ---- asking on another line
 

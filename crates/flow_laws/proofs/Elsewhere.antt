@@ -1,44 +1,40 @@
 -- Why moves of other lines and of the other direction are what the law takes a worker to do besides.
-use Rattle.std.proofs.Common.{◌≡◌, ℕ, ◌==◌, Bool, true, false, not, List, [], ◌∷◌, ◌++◌, ap, ◌∙◌, sym, refl, subst}
-use Rattle.std.specs.Prelude.{Option, None, Some, slice_get, slice_set}
-use Rattle.contexts.specs.declared.parts.Contexts.{Contexts}
+use Rattle.std.proofs.Common.{◌≡◌, ℕ, Bool, not, List, [], ◌∷◌, ap, ◌∙◌, sym, refl, subst}
+use Rattle.std.specs.Prelude.{Option, None, Some, slice_get}
 use Rattle.course.specs.Called.{Called}
-use Rattle.course.specs.Course.{Course, ends, runs_then, Met, Reaches}
+use Rattle.course.specs.Course.{ends, Met, Reaches}
 use Rattle.course.specs.declared.host.CallEnd.{CallEnd}
-use Rattle.course.specs.declared.host.CallEnd.TheVariants as call_ends
 use Rattle.exchange.specs.declared.types.Exchange.{Exchange}
 use Rattle.exchange.specs.declared.types.Hub.{Hub}
 use Rattle.exchange.specs.Answering.{with_held}
-use Rattle.exchange.specs.Passing.{chain_of, acts}
+use Rattle.exchange.specs.Passing.{acts}
 use Rattle.worker.specs.declared.room.Room.{Room}
 use Rattle.worker.specs.declared.types.Asked.{Asked}
 use Rattle.worker.specs.declared.types.Line.{Line}
 use Rattle.worker.specs.declared.types.Own.{Own}
 use Rattle.worker.specs.declared.types.Own.TheVariants as owns
 use Rattle.worker.specs.Moves.{asks_at}
-use Rattle.worker.specs.Rooms.{with_lines, on_number, answered_with, effects_of, valued}
-use Rattle.worker.specs.Steps.{Both, both, action_of, acts_on, moved_with, move_at}
-use Rattle.flow_laws.specs.Apart.{AreAliens}
-use Rattle.flow_laws.specs.Besides.{OthersAreAlien, IsWhole}
+use Rattle.worker.specs.Rooms.{with_lines, on_number, answered_with, valued}
+use Rattle.worker.specs.Steps.{Both, both, action_of, acts_on, moved_with}
 use Rattle.flow_laws.specs.Elsewhere.{IsBeside, behind_effects, asked_program, IsElsewhere, OtherLinesMove, IsAcross, OtherDirectionMoves}
-use Rattle.flow_laws.specs.Rooms.{IsOn, Leaves, Others, wakes, leaves, IsAsked, asked_exchange, question, stage_own, quiet_room, Part, moves, puts, others, Run, rests, goes, running}
-use Rattle.flow_laws.specs.Steps.{Calling, callback_program}
+use Rattle.flow_laws.specs.Rooms.{IsOn, Leaves, Others, leaves, asked_exchange, question, stage_own, quiet_room, Meanwhile, nothing, other}
+use Rattle.flow_laws.specs.Steps.{callback_program}
 use Rattle.flow_laws.proofs.Apart.{exchanges_pass_by}
 use Rattle.flow_laws.proofs.Besides.{other_lines, other_direction}
 use Rattle.flow_laws.proofs.Effects.{effects_seen, quietly, others_run, asking_elsewhere}
 use Rattle.flow_laws.proofs.Moving.{Ran, behind_it, the_asked, the_lines, asks_is, move_ran}
 use Rattle.flow_laws.proofs.Rooms.{others_on}
 
-pub run_then : {H : Type 0} {response : Bool} {n count : ℕ} {x y z : Exchange} {room mid after : Room} → Run H response n count x room y mid → Run H response n count y mid z after
-    → Run H response n count x room z after
-run_then (rests x room) later = later
-run_then (goes part run) later = goes part (run_then run later)
+pub run_then : {response : Bool} {n count : ℕ} {x y z : Exchange} {room mid after : Room} → Meanwhile response n count x room y mid → Meanwhile response n count y mid z after
+    → Meanwhile response n count x room z after
+run_then (nothing x room) later = later
+run_then (other o first) later = other o (run_then first later)
 
 -- a callback beside
 pub record Beside (H : Type 0) (response : Bool) (n count : ℕ) (x : Exchange) (room after : Room) : Type 0 where
   pub then_is : Exchange
   pub on : IsOn n after then_is
-  pub run : Run H response n count x room then_is after
+  pub run : Meanwhile response n count x room then_is after
 
 pub beside : {H : Type 0} (response : Bool) (n count vm : ℕ) (own : Own) (c : Called H) (x : Exchange) (room : Room) → IsOn n room x → IsBeside response n count vm own c x room
     → Beside H response n count x room (behind_effects vm own c room)
@@ -48,7 +44,7 @@ beside {H} response n count vm own c x room on is =
     record {
       then_is = seen.0;
       on = others_on response n count None vm own c.contexts.effects x mid seen.0 seen.1;
-      run = goes (others x mid (leaves (quietly response n c x room on is.holds is.there))) (others_run H response n count vm own c.contexts.effects x mid seen.0 seen.1);
+      run = other (leaves (quietly response n c x room on is.holds is.there)) (others_run H response n count vm own c.contexts.effects x mid seen.0 seen.1);
     }
 
 -- ---- another line
@@ -60,17 +56,17 @@ other_lines_move H calling plan response n count place x room on host ms b alien
     first : Leaves response n x room x (with_lines room ((asks_at place (slice_get room.lines place) room.lines room.hub).1, (asks_at place (slice_get room.lines place) room.lines room.hub).2))
     first = asking_elsewhere response n place x room on alien whole apart
 
-    by_asked : (r : Option Asked × List Line × Hub) → asks_at place (slice_get room.lines place) room.lines room.hub ≡ r → (y : Exchange) × Run H response n count x room y b.room
+    by_asked : (r : Option Asked × List Line × Hub) → asks_at place (slice_get room.lines place) room.lines room.hub ≡ r → (y : Exchange) × Meanwhile response n count x room y b.room
     by_asked (None, lines, hub) is =
         let here : Reaches (moved_with calling host room (None, lines, hub)) ms (ends b) = subst (λ (r : Option Asked × List Line × Hub). Reaches (moved_with calling host room r) ms (ends b)) is reaches in
         let l : Leaves response n x room x (with_lines room (lines, hub)) = subst (λ (r : Option Asked × List Line × Hub). Leaves response n x room x (with_lines room (r.1, r.2))) is first in
         ended ms here l
       where
         ended : (ns : List Met) → Reaches (ends (both host (with_lines room (lines, hub)))) ns (ends b) → Leaves response n x room x (with_lines room (lines, hub))
-            → (y : Exchange) × Run H response n count x room y b.room
+            → (y : Exchange) × Meanwhile response n count x room y b.room
         ended [] same l =
             let is_b : b ≡ both host (with_lines room (lines, hub)) = sym (cc) in
-            subst (λ (d : Both H). (y : Exchange) × Run H response n count x room y d.room) (sym is_b) (x, goes (others x (with_lines room (lines, hub)) (leaves l)) (rests x (with_lines room (lines, hub))))
+            subst (λ (d : Both H). (y : Exchange) × Meanwhile response n count x room y d.room) (sym is_b) (x, other (leaves l) (nothing x (with_lines room (lines, hub))))
         ended (m ∷ ns) same l = absurd same
     by_asked (Some a, lines, hub) is =
         let room1 : Room = with_lines room (lines, hub) in
@@ -88,8 +84,8 @@ other_lines_move H calling plan response n count place x room on host ms b alien
         (e.alien mid.then_is mid.on) (e.whole mid.then_is mid.on) (e.away mid.then_is mid.on) in
         let is_b : b ≡ both c.host last
         = end.is ∙ ap (λ (t : CallEnd). both c.host (acts_on a (valued t) (answered_with a.vm own t c.lines c.contexts room1))) e.callback.returned in
-        subst (λ (d : Both H). (y : Exchange) × Run H response n count x room y d.room) (sym is_b)
-        (mid.then_is, goes (others x room1 (leaves l)) (run_then mid.run (goes (others mid.then_is last (leaves m)) (rests mid.then_is last))))
+        subst (λ (d : Both H). (y : Exchange) × Meanwhile response n count x room y d.room) (sym is_b)
+        (mid.then_is, other (leaves l) (run_then mid.run (other (leaves m) (nothing mid.then_is last))))
 
 -- ---- the other direction
 
@@ -113,5 +109,5 @@ other_direction_moves H calling plan response n count x room q host ms b alien w
     (e.goes mid.then_is mid.on) in
     let is_b : b ≡ both c.host last
     = end.is ∙ ap (λ (t : CallEnd). both c.host (acts_on a (valued t) (answered_with a.vm own t c.lines c.contexts room1))) e.callback.returned in
-    subst (λ (d : Both H). (y : Exchange) × Run H response n count x room y d.room) (sym is_b)
-    (z, goes (others (asked_exchange q) room1 (leaves l)) (run_then mid.run (goes (others z last (leaves m)) (rests z last))))
+    subst (λ (d : Both H). (y : Exchange) × Meanwhile response n count x room y d.room) (sym is_b)
+    (z, other (leaves l) (run_then mid.run (other (leaves m) (nothing z last))))

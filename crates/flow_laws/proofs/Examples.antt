@@ -1,5 +1,5 @@
 -- The worked examples, by computation.
-use Rattle.std.proofs.Common.{◌≡◌, false, refl, arith}
+use Rattle.std.proofs.Common.{false, refl, arith}
 use Rattle.flow_laws.specs.Acts.{AreActs}
 use Rattle.flow_laws.specs.Deeds.{AreDeeds}
 use Rattle.httparse.proofs.OnLiterals.{httparse_on_literals}

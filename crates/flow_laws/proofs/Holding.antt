@@ -14,7 +14,7 @@ use Rattle.contexts.specs.declared.parts.VmContexts.{VmContexts}
 use Rattle.contexts.specs.Keyed.{found, removed}
 use Rattle.contexts.specs.Reached.{Changes, no_changes, no_vm, vm_in, vm_after, context_no, context_in, reach_by, fitted, put_of}
 use Rattle.contexts.specs.Lending.{stage_in, with_stage, own_put_of}
-use Rattle.contexts.specs.Stages.{own_at, held_in, held_at, stage_after, stage_changed, with_bytes, let_go, returned, filled, emptied, answered}
+use Rattle.contexts.specs.Stages.{own_at, held_in, stage_after, stage_changed, let_go, returned, answered}
 use Rattle.contexts.specs.Holding.{IsThere}
 use Rattle.contexts.proofs.Holding.{holds_its_own}
 use Rattle.contexts.proofs.Isolation.{put_is_seen, all_else_stays}

@@ -1,21 +1,17 @@
 -- Why jobs leave a direction as it was.
-use Rattle.std.proofs.Common.{◌≡◌, ◌<◌, ℕ, zero, suc, ◌+◌, Bool, true, false, not, ◌&&◌, List, [], ◌∷◌, ◌++◌, length, ap, ◌∙◌, sym, refl, subst}
-use Rattle.std.specs.Prelude.{Option, None, Some, slice_get, slice_set, nat_lt, if◌then◌else◌}
+use Rattle.std.proofs.Common.{◌≡◌, ◌<◌, ℕ, Bool, true, false, not, ◌&&◌, List, [], ◌∷◌, length, ap, ◌∙◌, sym, refl, subst}
+use Rattle.std.specs.Prelude.{Option, None, Some, slice_get, slice_set, if◌then◌else◌}
 use borrow.Author.Tests.{ltb-true}
 use Rattle.contexts.specs.declared.parts.Contexts.{Contexts}
-use Rattle.contexts.specs.declared.parts.Exchange as parts
 use Rattle.contexts.specs.declared.parts.Tick.{Tick}
-use Rattle.contexts.specs.Creating.{ended, ended_one, freed, has_ended, is_referred}
-use Rattle.contexts.specs.Reached.{Changes as ContextChanges, no_changes, vm_in, tick_in, exchange_at, effective_of, put, put_of}
+use Rattle.contexts.specs.Creating.{ended, has_ended, is_referred}
+use Rattle.contexts.specs.Reached.{Changes as ContextChanges, no_changes, vm_in, tick_in, exchange_at, effective_of, put}
 use Rattle.course.specs.Called.{Called}
 use Rattle.course.specs.Course.{Course, ends, runs_then, then_do, Met, Reaches}
 use Rattle.course.specs.declared.host.CallEnd.{CallEnd}
-use Rattle.course.specs.declared.host.Callback.{Callback}
 use Rattle.exchange.specs.declared.types.Exchange.{Exchange}
-use Rattle.exchange.specs.declared.types.Hub.{Hub}
 use Rattle.exchange.specs.Passing.{chain_of}
 use Rattle.filter_chain.specs.declared.stage.Stage.{Stage}
-use Rattle.gate_io.specs.declared.event.Sent.{Sent}
 use Rattle.store_model.specs.Program.{Program}
 use Rattle.store_model.specs.declared.call.Reply.{Reply}
 use Rattle.store_model.specs.declared.call.Reply.TheVariants as replies
@@ -24,13 +20,12 @@ use Rattle.worker.specs.declared.types.Line.{Line}
 use Rattle.worker.specs.declared.types.Own.TheVariants as owns
 use Rattle.worker.specs.Moves.{ended_in, ended_back, ended_at}
 use Rattle.worker.specs.Rooms.{place_in, with_contexts, is_dead, answered_with, valued}
-use Rattle.worker.specs.Steps.{Both, both, Answered, answered, goes_on_with, nothing_more, called_in, called_live, noticed, ends_with, ends_at, is_due_tick, next_tick, has_vm, with_tick, ticked_at, ticked, tells}
+use Rattle.worker.specs.Steps.{Both, both, Answered, answered, goes_on_with, nothing_more, called_in, noticed, ends_with, ends_at, is_due_tick, next_tick, has_vm, with_tick, ticked_at}
 use Rattle.worker.specs.Turn.{emptied, facing}
-use Rattle.flow_laws.specs.Acts.{HoldSame, AreThere}
 use Rattle.flow_laws.specs.Besides.{IsWhole}
 use Rattle.flow_laws.specs.Elsewhere.{IsBeside, behind_effects}
 use Rattle.flow_laws.specs.Jobs.{JobsLeave, TellsAreRuns}
-use Rattle.flow_laws.specs.Rooms.{IsOn, Leaves, Run, rests}
+use Rattle.flow_laws.specs.Rooms.{IsOn, Leaves, Meanwhile, nothing}
 use Rattle.flow_laws.proofs.Besides.{stays, on_other}
 use Rattle.flow_laws.proofs.Elsewhere.{Beside, beside}
 use Rattle.flow_laws.proofs.Holding.{hold_all, hold_then, hold_by_vms, there_by_vms, hold_kept, there_kept, kept_many}
@@ -152,16 +147,16 @@ jobs_leave = record {
 
 pub tells_are : (H : Type 0) → TellsAreRuns H
 tells_are H calling response n count vm name context first x room on host ms b callbacks reaches =
-    by_bool (λ (k : Course (Answered H)). Reaches (then_do k (λ a. ends (goes_on_with nothing_more a))) ms (ends b) → (y : Exchange) × Run H response n count x room y b.room) (is_dead vm room)
+    by_bool (λ (k : Course (Answered H)). Reaches (then_do k (λ a. ends (goes_on_with nothing_more a))) ms (ends b) → (y : Exchange) × Meanwhile response n count x room y b.room) (is_dead vm room)
     (ends (answered None (both host room))) (called_in calling vm name context first 0 owns.Nobody host room) (λ e r. dead ms r) (λ e r. live r) reaches
   where
-    dead : (ns : List Met) → Reaches (ends (both host room)) ns (ends b) → (y : Exchange) × Run H response n count x room y b.room
+    dead : (ns : List Met) → Reaches (ends (both host room)) ns (ends b) → (y : Exchange) × Meanwhile response n count x room y b.room
     dead [] same =
         let is_b : b ≡ both host room = sym (cc) in
-        subst (λ (d : Both H). (y : Exchange) × Run H response n count x room y d.room) (sym is_b) (x, rests x room)
+        subst (λ (d : Both H). (y : Exchange) × Meanwhile response n count x room y d.room) (sym is_b) (x, nothing x room)
     dead (m ∷ ns) same = absurd same
 
-    live : Reaches (then_do (called_in calling vm name context first 0 owns.Nobody host room) (λ a. ends (goes_on_with nothing_more a))) ms (ends b) → (y : Exchange) × Run H response n count x room y b.room
+    live : Reaches (then_do (called_in calling vm name context first 0 owns.Nobody host room) (λ a. ends (goes_on_with nothing_more a))) ms (ends b) → (y : Exchange) × Meanwhile response n count x room y b.room
     live r =
         let q : Program (Called H) = calling host vm name context first 0 room.hub.moment room.hub.contexts in
         let f : Called H → Answered H = λ c. answered (valued c.end) (both c.host (answered_with vm owns.Nobody c.end c.lines c.contexts room)) in
@@ -173,4 +168,4 @@ tells_are H calling response n count vm name context first x room on host ms b c
         let e : IsBeside response n count vm owns.Nobody c x room = callbacks c end.reached in
         let mid : Beside H response n count x room (behind_effects vm owns.Nobody c room) = beside response n count vm owns.Nobody c x room on e in
         let is_b : b ≡ both c.host (behind_effects vm owns.Nobody c room) = end.is ∙ ap (λ (t : CallEnd). both c.host (answered_with vm owns.Nobody t c.lines c.contexts room)) e.returned in
-        subst (λ (d : Both H). (y : Exchange) × Run H response n count x room y d.room) (sym is_b) (mid.then_is, mid.run)
+        subst (λ (d : Both H). (y : Exchange) × Meanwhile response n count x room y d.room) (sym is_b) (mid.then_is, mid.run)

@@ -20,3 +20,6 @@ pub mod Elsewhere
 pub mod Jobs
 pub mod Deaths
 pub mod Contexts
+pub mod Events
+pub mod Stepping
+pub mod Turns

@@ -1,6 +1,6 @@
 -- A change of the exchange on a line.
-use Rattle.std.proofs.Common.{◌≡◌, ◌<◌, ℕ, zero, suc, ◌+◌, ◌==◌, Bool, true, false, not, List, [], ◌∷◌, ◌++◌, length, cond, ap, ◌∙◌, sym, refl, subst}
-use Rattle.std.specs.List.{position_or_len, position}
+use Rattle.std.proofs.Common.{◌≡◌, ℕ, zero, suc, ◌+◌, ◌==◌, Bool, not, List, [], ◌∷◌, length, cond, ap, ◌∙◌, sym, refl}
+use Rattle.std.specs.List.{position_or_len}
 use Rattle.std.specs.Prelude.{Option, None, Some, slice_get, slice_set, nat_lt}
 use Rattle.std.proofs.Math.ListN.{length-set}
 use Rattle.contexts.specs.declared.parts.Contexts.{Contexts}
@@ -11,7 +11,7 @@ use Rattle.exchange.specs.declared.types.Hub.{Hub}
 use Rattle.exchange.specs.Maps.{in_view, marked, mark}
 use Rattle.worker.specs.declared.room.Room.{Room}
 use Rattle.worker.specs.declared.types.Line.{Line}
-use Rattle.worker.specs.Rooms.{Changes, marking, with_result, in_exchange, in_line, put_back, at_some, at_place, with_lines, place_in, on_number, on_context, place_of}
+use Rattle.worker.specs.Rooms.{Changes, marking, with_result, in_exchange, put_back, at_some, at_place, with_lines, place_in, on_number, on_context, place_of}
 use Rattle.flow_laws.specs.Rooms.{IsOn}
 
 -- ---- lists

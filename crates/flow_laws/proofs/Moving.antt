@@ -1,18 +1,16 @@
 -- A step that moves a direction comes to the end of its move.
-use Rattle.std.proofs.Common.{◌≡◌, ℕ, Bool, true, false, List, [], ◌∷◌, ◌++◌, ap, ◌∙◌, sym, refl, subst}
-use Rattle.std.specs.Prelude.{Option, None, Some, slice_get, slice_set, option_map}
+use Rattle.std.proofs.Common.{◌≡◌, ℕ, Bool, true, false, List, [], ◌∷◌, ap, ◌∙◌, sym, refl, subst}
+use Rattle.std.specs.Prelude.{Option, Some, slice_get, slice_set, option_map}
 use Rattle.contexts.specs.declared.parts.Contexts.{Contexts}
 use Rattle.course.specs.Called.{Called}
-use Rattle.course.specs.Course.{Course, ends, asks, measures, hears, then_do, runs_then, Met, called, measured, heard, Reaches}
+use Rattle.course.specs.Course.{Course, ends, asks, measures, then_do, runs_then, Met, called, measured, heard, Reaches}
 use Rattle.course.specs.declared.host.CallEnd.{CallEnd}
 use Rattle.exchange.specs.declared.types.Exchange.{Exchange}
 use Rattle.exchange.specs.declared.types.Hub.{Hub}
 use Rattle.exchange.specs.Answering.{with_held}
 use Rattle.exchange.specs.Passing.{chain_of, with_chain}
 use Rattle.filter_chain.specs.declared.stage.Stage.{Stage}
-use Rattle.filter_chain.specs.declared.item.Ask.{Ask}
 use Rattle.filter_chain.specs.declared.item.Asking.{Asking}
-use Rattle.filter_chain.specs.declared.item.Asking.TheVariants.{Asks}
 use Rattle.filter_chain.specs.Chains.{asked}
 use Rattle.store_model.specs.Program.{Program, done, ask, measure}
 use Rattle.worker.specs.declared.room.Room.{Room}
@@ -20,12 +18,12 @@ use Rattle.worker.specs.declared.types.Asked.{Asked}
 use Rattle.worker.specs.declared.types.Job.{Job}
 use Rattle.worker.specs.declared.types.Line.{Line}
 use Rattle.worker.specs.declared.types.Own.TheVariants as owns
-use Rattle.worker.specs.Moves.{count_of, asks_stage, asks_as, asks_chain, asks_with, asks_in, asks_back, asks_at}
+use Rattle.worker.specs.Moves.{asks_stage, asks_chain, asks_with, asks_in, asks_back, asks_at}
 use Rattle.worker.specs.Rooms.{with_lines, answered_with, valued}
-use Rattle.worker.specs.Steps.{Both, both, Answered, answered, callback_of, number_of, acts_on, goes_on_with, moved_with, move_at, works_first}
+use Rattle.worker.specs.Steps.{Both, both, Answered, answered, acts_on, goes_on_with, moved_with, move_at, works_first}
 use Rattle.flow_laws.specs.Elsewhere.{asked_program}
-use Rattle.flow_laws.specs.Rooms.{IsOn, IsAsked, asked_exchange, question, stage_own, IsMove, moved_room}
-use Rattle.flow_laws.specs.Steps.{Calling, told_count, callback_program, MoveEnds, MovesAreSteps, PutsAreSteps}
+use Rattle.flow_laws.specs.Rooms.{IsAsked, asked_exchange, question}
+use Rattle.flow_laws.specs.Steps.{Calling, told_count, callback_program, MovesAreSteps, PutsAreSteps}
 
 -- ---- courses of programs
 

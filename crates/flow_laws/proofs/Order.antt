@@ -3,12 +3,10 @@ use Rattle.std.proofs.Common.{◌≡◌, ℕ, zero, suc, Bool, true, false, ◌|
 use Rattle.std.specs.List.{list_any}
 use Rattle.std.specs.Prelude.{Option, None, Some, slice_get, slice_set, drop}
 use Rattle.std.proofs.lemmas.List.{append_assoc, append-nil}
-use Rattle.contexts.specs.declared.parts.Contexts.{Contexts}
 use Rattle.filter_chain.specs.declared.stage.Stage.{Stage}
 use Rattle.filter_chain.specs.declared.item.Item.{Item}
 use Rattle.filter_chain.specs.declared.item.Held.{Held}
 use Rattle.filter_chain.specs.declared.item.Held.TheVariants as held
-use Rattle.filter_chain.specs.declared.item.Passed.{Passed}
 use Rattle.filter_chain.specs.Items.{piece_of, held_items}
 use Rattle.filter_chain.specs.Chains.{with_more, onto, let_go}
 use Rattle.filter_chain.specs.Flow.{left_in}

@@ -1,17 +1,16 @@
 -- Why a reading leaves a direction as it was.
-use Rattle.std.proofs.Common.{◌≡◌, ℕ, zero, suc, ◌==◌, Bool, true, false, not, ◌&&◌, ◌||◌, List, [], ◌∷◌, ◌++◌, ap, ◌∙◌, sym, refl, subst, ⊎_elim}
+use Rattle.std.proofs.Common.{◌≡◌, ℕ, Bool, true, false, ◌||◌, List, [], ◌∷◌, ap, ◌∙◌, sym, refl, subst, ⊎_elim}
 use Rattle.std.specs.Prelude.{Option, None, Some, is_some, slice_get, slice_set, if◌then◌else◌}
 use Rattle.std.proofs.lemmas.Bool.{cases_eq}
 use Rattle.contexts.specs.declared.parts.Contexts.{Contexts}
 use Rattle.contexts.specs.declared.parts.ExchangeView.{ExchangeView}
 use Rattle.contexts.specs.Creating.{opened}
 use Rattle.contexts.specs.Reached.{view_at}
-use Rattle.course.specs.Course.{Course, ends, hears, Met, called, measured, heard, Reaches}
-use Rattle.course.specs.Heard.{Heard, hands, halts, Hears}
+use Rattle.course.specs.Course.{ends, Met, called, measured, heard, Reaches}
+use Rattle.course.specs.Heard.{Heard, hands, halts}
 use Rattle.exchange.specs.declared.types.Exchange.{Exchange}
-use Rattle.exchange.specs.declared.types.Hub.{Hub}
 use Rattle.exchange.specs.Heads.{path_of, route_in}
-use Rattle.exchange.specs.Maps.{in_view, put_response, put_request_trailers, put_response_trailers, with_fields}
+use Rattle.exchange.specs.Maps.{in_view, put_response, with_fields}
 use Rattle.exchange.specs.Passing.{chain_of}
 use Rattle.filter_chain.specs.declared.item.Item.{Item}
 use Rattle.filter_chain.specs.declared.item.Item.TheVariants as items
@@ -25,9 +24,8 @@ use Rattle.worker.specs.declared.types.Job.TheVariants as jobs
 use Rattle.worker.specs.declared.types.Line.{Line}
 use Rattle.worker.specs.declared.types.Reads.{Reads}
 use Rattle.worker.specs.Plan.{Plan}
-use Rattle.worker.specs.Rooms.{place_in, with_contexts, sending}
-use Rattle.worker.specs.Steps.{Both, both, change_exchange, change_line, line_at, line_at_place, on_line, on_lines, with_exchange, exchange_for, free_place, begun, with_reader, read_on, noted, is_last, in_front, reading_ends, with_item, joins, takes, keeps_response, in_contexts, head_item, put_trailers, interim_heard, hands_part, stops, after_heard, reading_on, reads_in, reads_next, exchange_on}
-use Rattle.flow_laws.specs.Acts.{AreThere}
+use Rattle.worker.specs.Rooms.{place_in, with_contexts}
+use Rattle.worker.specs.Steps.{Both, both, change_exchange, change_line, line_at, line_at_place, on_lines, with_exchange, exchange_for, free_place, begun, with_reader, read_on, noted, is_last, in_front, reading_ends, with_item, joins, takes, keeps_response, in_contexts, head_item, put_trailers, interim_heard, hands_part, stops, after_heard, reading_on, reads_in, reads_next, exchange_on}
 use Rattle.flow_laws.specs.Besides.{IsWhole}
 use Rattle.flow_laws.specs.Readings.{BeginsNone, HearsNone, ReadingLeaves}
 use Rattle.flow_laws.specs.Rooms.{IsOn, Leaves}

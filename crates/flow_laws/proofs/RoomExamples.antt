@@ -1,8 +1,7 @@
 -- The worked example of a worker, by computation.
-use Rattle.std.proofs.Common.{◌≡◌, ℕ, Bool, true, false, List, [], ◌∷◌, refl, arith}
-use Rattle.std.specs.Prelude.{Option, None, Some, codes}
+use Rattle.std.proofs.Common.{ℕ, true, false, List, [], ◌∷◌, refl, arith}
+use Rattle.std.specs.Prelude.{Some, codes}
 use Rattle.contexts.specs.declared.parts.Stage as parts
-use Rattle.contexts.specs.declared.parts.Contexts.{Contexts}
 use Rattle.contexts.specs.Stages.{stage_changed}
 use Rattle.course.specs.Called.{Called, called_back}
 use Rattle.course.specs.declared.host.CallEnd.TheVariants as call_ends
@@ -12,14 +11,13 @@ use Rattle.filter_chain.specs.declared.item.Item.{Item}
 use Rattle.filter_chain.specs.declared.item.Item.TheVariants.{Head, Piece}
 use Rattle.filter_chain.specs.Chains.{asked}
 use Rattle.worker.specs.declared.room.Room.{Room}
-use Rattle.worker.specs.declared.types.Line.{Line}
 use Rattle.worker.specs.Rooms.{on_number}
 use Rattle.flow_laws.specs.Examples.{upload_start, asked_with}
 use Rattle.flow_laws.specs.RoomExamples.{upload_room, RoomExample}
 use Rattle.flow_laws.proofs.Examples.{exchange_examples}
 use Rattle.httparse.proofs.OnLiterals.{httparse_on_literals}
 use Rattle.std.specs.Fmt.{digits}
-use Rattle.flow_laws.specs.Rooms.{IsOn, IsAsked, IsMove, IsPut, asked_exchange, moves, puts, Run, rests, goes, moved_exchange, moved_room}
+use Rattle.flow_laws.specs.Rooms.{IsAsked, IsMove, IsPut, asked_exchange, moves, puts, Run, rests, goes, moved_exchange, moved_room}
 
 -- what a callback leaves: the contexts with the buffer as it was, or written
 abbrev looks : Exchange → Room → Called ℕ

@@ -1,13 +1,13 @@
 -- What a worker does are deeds on the exchange of a line.
-use Rattle.std.proofs.Common.{◌≡◌, ◌<◌, ◌≤◌, ℕ, zero, suc, ◌+◌, ◌==◌, Bool, true, false, List, [], ◌∷◌, ◌++◌, length, map, ap, ◌∙◌, sym, refl, subst, arith}
-use Rattle.std.specs.Prelude.{Option, None, Some, slice_get, slice_set, drop, if◌then◌else◌}
+use Rattle.std.proofs.Common.{◌≡◌, ℕ, suc, ◌+◌, Bool, List, [], ◌∷◌, ◌++◌, map, ap, ◌∙◌, sym, refl, subst, arith}
+use Rattle.std.specs.Prelude.{Option, None, Some, slice_get, drop, if◌then◌else◌}
 use Rattle.std.proofs.lemmas.List.{append_assoc, append-nil}
 use Rattle.contexts.specs.declared.parts.Contexts.{Contexts}
 use Rattle.contexts.specs.declared.parts.Effect.{Effect}
 use Rattle.course.specs.Called.{Called}
 use Rattle.exchange.specs.declared.types.Exchange.{Exchange}
 use Rattle.exchange.specs.declared.types.Hub.{Hub}
-use Rattle.exchange.specs.Passing.{chain_of, with_chain, put_in, puts, puts_all, acts}
+use Rattle.exchange.specs.Passing.{chain_of, put_in, puts, puts_all, acts}
 use Rattle.exchange.specs.Passing as passing
 use Rattle.filter_chain.specs.declared.stage.Stage.{Stage}
 use Rattle.filter_chain.specs.declared.item.Ask.{Ask}
@@ -18,20 +18,19 @@ use Rattle.filter_chain.specs.Chains.{asked}
 use Rattle.filter_chain.specs.Items.{joined}
 use Rattle.worker.specs.declared.room.Room.{Room}
 use Rattle.worker.specs.declared.types.Own.{Own}
-use Rattle.worker.specs.declared.types.Own.TheVariants as owns
-use Rattle.worker.specs.Rooms.{Changes, marking, on_number, on_context, does, effects_of}
+use Rattle.worker.specs.Rooms.{Changes, marking, on_number, does, effects_of}
 use Rattle.worker.specs.Steps.{action_of}
-use Rattle.flow_laws.specs.Acts.{HoldSame, AreThere, AreActs, IsCall, is_body, where_one, buffer_in, buffer_at, buffer_due, buffer_called, Standing}
+use Rattle.flow_laws.specs.Acts.{AreThere, IsCall, is_body, where_one, buffer_in, buffer_at, buffer_called}
 use Rattle.flow_laws.specs.Acts as at_chain
-use Rattle.flow_laws.specs.Deeds.{Deed, comes, calls, answers, resumes, turns, Running, standing, done, called, resumed, done_by, done_all, acts_of, left_by, came, buffers_by, IsDeed, AreDeeds}
-use Rattle.flow_laws.specs.PassThrough.{IsInOrder, IsNew, PassesThrough}
-use Rattle.flow_laws.specs.Rooms.{IsOn, running, Leaves, Wakes, Other, wakes, leaves, Others, asked_room, quiet_room, IsAsked, asked_exchange, question, stage_own, IsMove, affected, moved_exchange, moved_room, IsPut, Part, moves, puts as puts_part, others, Run, rests, goes, other_deeds, effect_deeds, part_deeds, run_deeds, part_items, run_items, part_buffers, run_buffers}
-use Rattle.flow_laws.specs.Workers.{AreTheDeeds, WorkersPassBodies, LastStagesPass, UnchangedPass}
+use Rattle.flow_laws.specs.Deeds.{Deed, comes, calls, answers, resumes, turns, Running, standing, done, called, resumed, done_by, done_all, acts_of, left_by, came, buffers_by, AreDeeds}
+use Rattle.flow_laws.specs.PassThrough.{IsInOrder, PassesThrough}
+use Rattle.flow_laws.specs.Rooms.{IsOn, running, Leaves, Wakes, Other, wakes, leaves, Meanwhile, nothing, other, Others, quiet_room, IsAsked, asked_exchange, question, stage_own, IsMove, affected, moved_exchange, moved_room, IsPut, Part, moves, puts as puts_part, others, Run, rests, goes, other_deeds, effect_deeds, part_deeds, run_deeds, part_items, run_items, part_buffers, run_buffers}
+use Rattle.flow_laws.specs.Workers.{IsIdleRun, MeanwhileRuns, WorkersPassBodies, LastStagesPass, UnchangedPass}
 use Rattle.flow_laws.proofs.Deeds.{deed_does, exchanges_pass}
-use Rattle.flow_laws.proofs.Holding.{hold_then, hold_drop, hold_by_vms, there_by_vms}
+use Rattle.flow_laws.proofs.Holding.{hold_then, hold_by_vms, there_by_vms}
 use Rattle.flow_laws.proofs.Lines.{with_exchange, on_set, on_number_is, on_context_is, marking_vms}
 use Rattle.flow_laws.proofs.Steps.{Keeps}
-use Rattle.flow_laws.proofs.Through.{Went, went, stands_after, new_keeps}
+use Rattle.flow_laws.proofs.Through.{Went, went, new_keeps}
 
 -- ---- deeds, one list behind the other
 
@@ -225,7 +224,7 @@ module _ {H : Type 0} (response : Bool) (n count : ℕ) (c : Called H) (x : Exch
       (done None (acts response q.ask.stage (action_of m.value) n m.behind (affected c q).hub)) [] (λ k. [])
   answer_told = record { are = (m.answer, tt); last = refl; cames = refl; lefts = λ k. refl }
 
-  moved_on : IsOn n (moved_room m) (moved_exchange m)
+  pub moved_on : IsOn n (moved_room m) (moved_exchange m)
   moved_on =
       let on : IsOn n (affected c q) m.behind
       = others_on response n count (Some q.ask) q.stage.vm (stage_own q) c.contexts.effects first_exchange first_room m.behind m.effects in
@@ -349,3 +348,12 @@ unchanged_bodies H = λ response n x y room after run new order.
     = run_told run (new_keeps 0 (standing response w) new (omega arith)) in
     subst (λ (l : List Item). PassesThrough (left_by response n (run_deeds run) w) (joined l)) told.cames
     (exchanges_pass.unchanged response n w (run_deeds run) new told.are (subst IsInOrder (sym told.cames) order))
+
+pub meanwhile_runs : (H : Type 0) → MeanwhileRuns H
+meanwhile_runs H response n count x y room after m = run_of m
+  where
+    run_of : {x y : Exchange} {room after : Room} → Meanwhile response n count x room y after → (run : Run H response n count x room y after) × IsIdleRun run
+    run_of (nothing x room) = (rests x room, record { items = refl; buffers = λ k. refl })
+    run_of (other {x} {y} {z} {room} {mid} {after} o later) =
+        let r : (run : Run H response n count y mid z after) × IsIdleRun run = run_of later in
+        (goes (others y mid o) r.0, record { items = r.1.items; buffers = λ k. r.1.buffers k })

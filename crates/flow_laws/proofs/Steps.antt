@@ -3,7 +3,6 @@ use Rattle.std.proofs.Common.{◌≡◌, ◌≤◌, ℕ, zero, suc, ◌+◌, ◌
 use Rattle.std.specs.Prelude.{Option, None, Some, slice_get, slice_set, drop, if◌then◌else◌}
 use Rattle.std.proofs.lemmas.List.{append_assoc, append-nil}
 use Rattle.contexts.specs.declared.parts.Contexts.{Contexts}
-use Rattle.contexts.specs.Holding.{IsThere}
 use Rattle.filter_chain.specs.declared.stage.Stage.{Stage}
 use Rattle.filter_chain.specs.declared.item.Ask.{Ask}
 use Rattle.filter_chain.specs.declared.item.AskKind.{AskKind}
@@ -15,16 +14,16 @@ use Rattle.filter_chain.specs.declared.item.Item.{Item}
 use Rattle.filter_chain.specs.declared.item.Passed.{Passed}
 use Rattle.filter_chain.specs.declared.item.Passed.TheVariants as passed
 use Rattle.filter_chain.specs.Items.{joined, held_items, holds_bytes, size}
-use Rattle.filter_chain.specs.Chains.{target, accepts, onto, handed, given, put, asked, bytes_at, bytes_held, without_held, let_go, unless_over, continued_at, continued}
+use Rattle.filter_chain.specs.Chains.{target, accepts, onto, handed, put, asked, bytes_at, bytes_held, without_held, let_go, unless_over, continued_at, continued}
 use Rattle.filter_chain.specs.Flow.{flow, left_in}
 use Rattle.flow_laws.specs.Acts.{Act, comes, calls, answers, resumes, turns, Standing, put_in, gone_on, called, returned, answered, done_by, item_in, is_body, where_one, buffer_in, buffer_at, buffer_due, buffer_called, buffer_by, HoldSame, AreThere, IsLeft, IsContinue, IsCall, IsAnswer, IsOfAnother, IsAct}
 use Rattle.flow_laws.specs.PassThrough.{AreApart}
-use Rattle.flow_laws.proofs.Alike.{IsSame, AreSame, AreAsked, same_set, same_all, goes_same, comes_same, same_length, there_same, apart_same, asked_same, there_at, next_is}
-use Rattle.flow_laws.proofs.Holding.{HoldBut, hold_all, hold_drop, hold_at, paused_same, paused_there, gone_but, gone_there, gone_here, gone_bytes}
-use Rattle.flow_laws.proofs.Cuts.{joined_more, joined_held, cut_set, over, into, cut_goes, cut_comes, cut_same}
-use Rattle.flow_laws.proofs.Order.{ends, chain_ends, Thinner, thin_here, thin_same, comes_ends, set_ends, goes_ends}
-use Rattle.flow_laws.proofs.Calm.{AreCalm, CalmBut, CalmFor, CalmWhile, AreClean, IsClean, calm_at, busy_at, calm_beside, while_comes, calm_goes, beside_goes, answer_goes, clean_same, clean_comes, clean_set, clean_goes}
-use Rattle.flow_laws.proofs.Asks.{Taken, Took, TookFor, took, taken_same, taken_kept, taken_but, taken_clean, taken_calm, taken_ends, held_nothing}
+use Rattle.flow_laws.proofs.Alike.{AreSame, AreAsked, same_set, goes_same, comes_same, same_length, there_same, apart_same, asked_same, there_at, next_is}
+use Rattle.flow_laws.proofs.Holding.{HoldBut, hold_drop, hold_at, paused_same, paused_there, gone_but, gone_there, gone_here, gone_bytes}
+use Rattle.flow_laws.proofs.Cuts.{joined_held, cut_set, over, into, cut_goes, cut_comes, cut_same}
+use Rattle.flow_laws.proofs.Order.{ends, chain_ends, Thinner, thin_same, comes_ends, set_ends, goes_ends}
+use Rattle.flow_laws.proofs.Calm.{AreCalm, CalmBut, CalmFor, CalmWhile, AreClean, calm_at, busy_at, calm_beside, while_comes, calm_goes, beside_goes, answer_goes, clean_same, clean_comes, clean_set, clean_goes}
+use Rattle.flow_laws.proofs.Asks.{TookFor, took, taken_same, taken_kept, taken_but, taken_clean, taken_calm, taken_ends, held_nothing}
 
 -- ---- what holds between acts
 

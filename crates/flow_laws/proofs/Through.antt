@@ -1,25 +1,21 @@
 -- All acts, and what has passed behind them.
-use Rattle.std.proofs.Common.{◌≡◌, ◌<◌, ◌≤◌, ℕ, zero, suc, ◌+◌, Bool, true, false, List, [], ◌∷◌, ◌++◌, length, ap, ◌∙◌, sym, refl, subst, arith}
-use Rattle.std.specs.List.{list_any}
-use Rattle.std.specs.Prelude.{Option, None, Some, slice_get, drop, if◌then◌else◌}
+use Rattle.std.proofs.Common.{◌≡◌, ◌≤◌, ℕ, zero, suc, ◌+◌, Bool, List, [], ◌∷◌, ◌++◌, length, ap, ◌∙◌, sym, refl, subst, arith}
+use Rattle.std.specs.Prelude.{Option, None, Some, drop, if◌then◌else◌}
 use Rattle.std.proofs.lemmas.List.{append_assoc, append-nil}
 use Rattle.contexts.specs.declared.parts.Contexts.{Contexts}
 use Rattle.filter_chain.specs.declared.stage.Stage.{Stage}
 use Rattle.filter_chain.specs.declared.item.Ask.{Ask}
 use Rattle.filter_chain.specs.declared.item.AskKind.{AskKind}
 use Rattle.filter_chain.specs.declared.item.AskKind.TheVariants as kinds
-use Rattle.filter_chain.specs.declared.item.Held.{Held}
-use Rattle.filter_chain.specs.declared.item.Held.TheVariants as held
 use Rattle.filter_chain.specs.declared.item.Item.{Item}
 use Rattle.filter_chain.specs.Items.{joined, holds_bytes}
-use Rattle.filter_chain.specs.Chains.{bytes_at}
 use Rattle.filter_chain.specs.Flow.{flow}
-use Rattle.flow_laws.specs.Acts.{Act, Standing, done_by, left_by, item_in, came, buffer_by, buffers_by, buffer_due, is_body, where_one, buffer_at, IsAct, AreActs}
-use Rattle.flow_laws.specs.PassThrough.{is_end, has_end, IsInOrder, IsIdle, AreIdle, IsNew, IsFront, PassesThrough, BodiesPassThrough}
+use Rattle.flow_laws.specs.Acts.{Act, Standing, done_by, left_by, item_in, came, buffers_by, buffer_due, is_body, where_one, buffer_at, AreActs}
+use Rattle.flow_laws.specs.PassThrough.{IsInOrder, AreIdle, IsNew, PassesThrough, BodiesPassThrough}
 use Rattle.flow_laws.proofs.Alike.{AreAsked}
 use Rattle.flow_laws.proofs.Cuts.{joined_more}
-use Rattle.flow_laws.proofs.Order.{ends, held_ends, stage_ends, chain_ends, ends_more, Thinner, thin_here, thin_same, thin_both, thin_then, IsLast, last_thin, last_in, last_left, ends_behind}
-use Rattle.flow_laws.proofs.Calm.{AreCalm, CalmBut, CalmFor, CalmWhile, AreClean, flow_none, none_busy}
+use Rattle.flow_laws.proofs.Order.{ends, held_ends, chain_ends, ends_more, Thinner, thin_here, thin_same, thin_both, thin_then, IsLast, last_thin, last_in, last_left, ends_behind}
+use Rattle.flow_laws.proofs.Calm.{AreCalm, CalmFor, CalmWhile, AreClean, flow_none, none_busy}
 use Rattle.flow_laws.proofs.Steps.{Keeps, pending, pending_for, behind, source, Stepped, steps}
 
 -- ---- all acts

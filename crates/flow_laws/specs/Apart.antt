@@ -1,6 +1,5 @@
 -- WHAT IS DONE TO ONE EXCHANGE leaves what the stages of others hold.
-use Rattle.std.specs.Prelude.{◌≡◌, ℕ, Bool, List, [], ◌∷◌}
-use Rattle.contexts.specs.declared.parts.Contexts.{Contexts}
+use Rattle.std.specs.Prelude.{ℕ, Bool, List, [], ◌∷◌}
 use Rattle.exchange.specs.declared.types.Exchange.{Exchange}
 use Rattle.exchange.specs.declared.types.Hub.{Hub}
 use Rattle.exchange.specs.Answering.{answer}

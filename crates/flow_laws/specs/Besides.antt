@@ -1,8 +1,6 @@
 -- WHAT ELSE A WORKER DOES that leaves a direction as it was.
-use Rattle.std.specs.Prelude.{◌≡◌, ℕ, ◌==◌, Bool, true, false, not, List, [], ◌∷◌, Option, None, Some, slice_get, map}
-use Rattle.contexts.specs.declared.parts.Contexts.{Contexts}
+use Rattle.std.specs.Prelude.{◌≡◌, ℕ, ◌==◌, Bool, true, false, not, List, [], ◌∷◌, None, Some, slice_get, map}
 use Rattle.exchange.specs.declared.types.Exchange.{Exchange}
-use Rattle.exchange.specs.declared.types.Hub.{Hub}
 use Rattle.exchange.specs.Passing.{chain_of, put_in, acts, resumes, stage_of, pauses}
 use Rattle.filter_chain.specs.declared.stage.Stage.{Stage}
 use Rattle.filter_chain.specs.declared.item.Item.{Item}

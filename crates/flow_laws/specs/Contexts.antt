@@ -1,20 +1,19 @@
 -- CONTEXTS OF OTHERS come and go: that leaves a direction as it was.
 use Rattle.std.specs.Prelude.{◌≡◌, ℕ, Bool, false, List, [], ◌∷◌, Option, None, Some}
 use Rattle.course.specs.Called.{Called}
-use Rattle.course.specs.Course.{Course, ends, runs_then, Met, Reaches}
+use Rattle.course.specs.Course.{ends, runs_then, Met, Reaches}
 use Rattle.course.specs.declared.host.Callback.{Callback}
 use Rattle.exchange.specs.declared.types.Exchange.{Exchange}
 use Rattle.exchange.specs.declared.types.Filter.{Filter}
 use Rattle.exchange.specs.Passing.{chain_of}
 use Rattle.filter_chain.specs.declared.stage.Stage.{Stage}
-use Rattle.store_model.specs.Program.{Program}
 use Rattle.worker.specs.declared.room.Room.{Room}
 use Rattle.worker.specs.declared.types.ContextAt.{ContextAt}
 use Rattle.worker.specs.declared.types.Own.TheVariants as owns
 use Rattle.worker.specs.Steps.{Both, Then, waits, deletes, is_drawn_out, rooting, filter_at, creating, calls_live}
 use Rattle.flow_laws.specs.Besides.{IsWhole}
 use Rattle.flow_laws.specs.Elsewhere.{IsBeside, behind_effects}
-use Rattle.flow_laws.specs.Rooms.{IsOn, Leaves, Run}
+use Rattle.flow_laws.specs.Rooms.{IsOn, Leaves, Meanwhile}
 use Rattle.flow_laws.specs.Steps.{Calling}
 
 -- none of the stages is of the context
@@ -40,4 +39,4 @@ CallsAreRuns H = (calling : Calling H) (response : Bool) (n count vm : ℕ) (nam
     → (e : IsBeside response n count vm owns.Nobody c x room)
     × ((z : Exchange) → IsOn n (behind_effects vm owns.Nobody c room) z
     → (y : Exchange) × Leaves response n z (behind_effects vm owns.Nobody c room) y (behind (Some e.value) (behind_effects vm owns.Nobody c room))))
-    → Reaches (calls_live calling vm name context first second behind host room) ms (ends b) → (y : Exchange) × Run H response n count x room y b.room
+    → Reaches (calls_live calling vm name context first second behind host room) ms (ends b) → (y : Exchange) × Meanwhile response n count x room y b.room

@@ -1,28 +1,23 @@
 -- CALLBACKS OF OTHERS, as a direction sees them: of other lines, of the other direction, and of roots.
-use Rattle.std.specs.Prelude.{◌≡◌, ℕ, Bool, true, false, not, List, [], ◌∷◌, Option, None, Some, slice_get}
-use Rattle.contexts.specs.declared.parts.Contexts.{Contexts}
+use Rattle.std.specs.Prelude.{◌≡◌, ℕ, Bool, true, false, List, [], ◌∷◌, Option, None, Some, slice_get}
 use Rattle.contexts.specs.declared.parts.Effect.{Effect}
 use Rattle.contexts.specs.declared.parts.What.{What}
 use Rattle.contexts.specs.declared.parts.What.TheVariants as what
 use Rattle.course.specs.Called.{Called}
 use Rattle.course.specs.declared.host.CallEnd.TheVariants as call_ends
 use Rattle.exchange.specs.declared.types.Exchange.{Exchange}
-use Rattle.exchange.specs.declared.types.Hub.{Hub}
-use Rattle.exchange.specs.Passing.{chain_of, acts, stage_of}
-use Rattle.filter_chain.specs.declared.stage.Stage.{Stage}
+use Rattle.exchange.specs.Passing.{chain_of, stage_of}
 use Rattle.filter_chain.specs.declared.item.Ask.{Ask}
 use Rattle.filter_chain.specs.Chains.{continued}
 use Rattle.worker.specs.declared.room.Room.{Room}
-use Rattle.worker.specs.declared.types.Asked.{Asked}
-use Rattle.worker.specs.declared.types.Line.{Line}
 use Rattle.worker.specs.declared.types.Own.{Own}
 use Rattle.worker.specs.Moves.{asks_at}
-use Rattle.worker.specs.Rooms.{place_of, with_lines, does, effects_of, answered_with}
+use Rattle.worker.specs.Rooms.{place_of, with_lines, does, answered_with}
 use Rattle.flow_laws.specs.Acts.{HoldSame, AreThere, IsLeft}
 use Rattle.flow_laws.specs.Apart.{AreAliens}
 use Rattle.flow_laws.specs.Besides.{OthersAreAlien, IsWhole}
 use Rattle.flow_laws.specs.Deeds.{resumes, IsDeed}
-use Rattle.flow_laws.specs.Rooms.{IsOn, Leaves, Other, Others, running, quiet_room, Run}
+use Rattle.flow_laws.specs.Rooms.{IsOn, Leaves, Others, running, quiet_room, Meanwhile, running}
 
 -- ---- effects
 
@@ -71,7 +66,7 @@ CallbacksAreRuns H =
     (response : Bool) (n count vm : ℕ) (own : Own) (c : Called H) (value : Option ℕ) (x : Exchange) (room : Room) → IsOn n room x
     → HoldSame room.hub.contexts c.contexts (chain_of response x) → AreThere c.contexts (chain_of response x)
     → AreMild response n count None vm own c.contexts.effects x (quiet_room c room)
-    → (y : Exchange) × Run H response n count x room y (answered_with vm own (call_ends.Returned value) c.lines c.contexts room)
+    → (y : Exchange) × Meanwhile response n count x room y (answered_with vm own (call_ends.Returned value) c.lines c.contexts room)
 
 -- ---- moves of other lines
 

@@ -1,8 +1,7 @@
 -- MOVES of other lines and of the other direction, as a direction sees them.
 use Rattle.std.specs.Prelude.{◌≡◌, ℕ, ◌==◌, Bool, true, false, not, List, Option, None, Some, slice_get}
-use Rattle.contexts.specs.declared.parts.Contexts.{Contexts}
 use Rattle.course.specs.Called.{Called}
-use Rattle.course.specs.Course.{Course, ends, runs_then, Met, Reaches}
+use Rattle.course.specs.Course.{ends, runs_then, Met, Reaches}
 use Rattle.course.specs.declared.host.CallEnd.TheVariants as call_ends
 use Rattle.exchange.specs.declared.types.Exchange.{Exchange}
 use Rattle.exchange.specs.declared.types.Hub.{Hub}
@@ -23,7 +22,7 @@ use Rattle.flow_laws.specs.Acts.{HoldSame, AreThere, IsLeft}
 use Rattle.flow_laws.specs.Apart.{AreAliens}
 use Rattle.flow_laws.specs.Besides.{OthersAreAlien, IsWhole}
 use Rattle.flow_laws.specs.Effects.{AreMild}
-use Rattle.flow_laws.specs.Rooms.{IsOn, IsAsked, asked_exchange, question, stage_own, quiet_room, Run}
+use Rattle.flow_laws.specs.Rooms.{IsOn, IsAsked, asked_exchange, question, stage_own, quiet_room, Meanwhile}
 use Rattle.flow_laws.specs.Steps.{Calling, callback_program}
 
 -- A callback of another stage, as the exchange and the room are when it comes: it returns, leaves what the direction's stages hold as it was, and its
@@ -60,7 +59,7 @@ OtherLinesMove H = (calling : Calling H) (plan : Plan) (response : Bool) (n coun
     → OthersAreAlien (chain_of response x) on.place room → IsWhole response x room → (place ≡ on.place → ⊥)
     → ((a : Asked) (lines : List Line) (hub : Hub) (c : Called H) → asks_at place (slice_get room.lines place) room.lines room.hub ≡ (Some a, lines, hub)
     → Reaches (runs_then (asked_program calling host a (with_lines room (lines, hub))) ends) ms (ends c) → IsElsewhere response n count a c x (with_lines room (lines, hub)))
-    → Reaches (step calling plan (next.Move place) host room) ms (ends b) → (y : Exchange) × Run H response n count x room y b.room
+    → Reaches (step calling plan (next.Move place) host room) ms (ends b) → (y : Exchange) × Meanwhile response n count x room y b.room
 
 -- ---- the other direction
 
@@ -78,4 +77,4 @@ abbrev pub OtherDirectionMoves : Type 0 → Type 0
 OtherDirectionMoves H = (calling : Calling H) (plan : Plan) (response : Bool) (n count : ℕ) (x : Exchange) (room : Room) (q : IsAsked (not response) n x room) (host : H) (ms : List Met) (b : Both H)
     → AreAliens (chain_of response x) (chain_of (not response) x) → IsWhole response x room
     → ((c : Called H) → Reaches (runs_then (callback_program calling host q) ends) ms (ends c) → IsAcross response count q c)
-    → Reaches (step calling plan (next.Move q.on.place) host room) ms (ends b) → (y : Exchange) × Run H response n count x room y b.room
+    → Reaches (step calling plan (next.Move q.on.place) host room) ms (ends b) → (y : Exchange) × Meanwhile response n count x room y b.room

@@ -1,17 +1,16 @@
 -- Worked examples: three pieces pass two filters.
-use Rattle.std.specs.Prelude.{◌≡◌, ℕ, Bool, true, false, List, [], ◌∷◌, ◌++◌, Option, None, Some, codes}
+use Rattle.std.specs.Prelude.{◌≡◌, ℕ, true, false, List, [], ◌∷◌, ◌++◌, None, codes}
 use Rattle.contexts.specs.declared.parts.Stage as parts
 use Rattle.contexts.specs.declared.parts.Contexts.{Contexts}
 use Rattle.contexts.specs.Stages.{stage_changed}
 use Rattle.exchange.specs.declared.types.Hub.{Hub}
 use Rattle.exchange.specs.Examples as exchange
 use Rattle.filter_chain.specs.declared.stage.Stage.{Stage}
-use Rattle.filter_chain.specs.declared.item.Ask.{Ask}
 use Rattle.filter_chain.specs.declared.item.Asking.{Asking}
-use Rattle.filter_chain.specs.declared.item.Asking.TheVariants.{Nothing, Over, Asks}
+use Rattle.filter_chain.specs.declared.item.Asking.TheVariants.{Nothing}
 use Rattle.filter_chain.specs.declared.item.Held.TheVariants as held
 use Rattle.filter_chain.specs.declared.item.Item.{Item}
-use Rattle.filter_chain.specs.declared.item.Item.TheVariants.{Head, Piece, Trailers}
+use Rattle.filter_chain.specs.declared.item.Item.TheVariants.{Head, Piece}
 use Rattle.filter_chain.specs.Chains.{asked}
 use Rattle.filter_chain.specs.Examples.{host, two}
 use Rattle.filter_chain.specs.Items.{joined}

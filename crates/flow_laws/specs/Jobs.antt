@@ -1,13 +1,10 @@
 -- WHAT A WORKER DOES BETWEEN MOVES that leaves a direction as it was.
-use Rattle.std.specs.Prelude.{◌≡◌, ℕ, Bool, List, Option, None, Some, slice_get}
-use Rattle.contexts.specs.declared.parts.Contexts.{Contexts}
-use Rattle.contexts.specs.declared.parts.Tick.{Tick}
+use Rattle.std.specs.Prelude.{◌≡◌, ℕ, Bool, List}
 use Rattle.course.specs.Called.{Called}
-use Rattle.course.specs.Course.{Course, ends, runs_then, Met, Reaches}
+use Rattle.course.specs.Course.{ends, runs_then, Met, Reaches}
 use Rattle.course.specs.declared.host.Callback.{Callback}
 use Rattle.exchange.specs.declared.types.Exchange.{Exchange}
 use Rattle.gate_io.specs.declared.event.Event.{Event}
-use Rattle.store_model.specs.Program.{Program}
 use Rattle.store_model.specs.declared.call.Reply.{Reply}
 use Rattle.worker.specs.declared.room.Room.{Room}
 use Rattle.worker.specs.declared.types.Job.{Job}
@@ -17,7 +14,7 @@ use Rattle.worker.specs.Steps.{Both, noticed, ends_at, ticked, tells}
 use Rattle.worker.specs.Turn.{emptied, facing}
 use Rattle.flow_laws.specs.Besides.{IsWhole}
 use Rattle.flow_laws.specs.Elsewhere.{IsBeside}
-use Rattle.flow_laws.specs.Rooms.{IsOn, Leaves, Run}
+use Rattle.flow_laws.specs.Rooms.{IsOn, Leaves, Meanwhile}
 use Rattle.flow_laws.specs.Steps.{Calling}
 
 -- THE NEXT TURN BEGINS, a job is taken in hand, a notice was taken, a tick is due, or the exchange of another line is taken off it: that leaves the
@@ -36,4 +33,4 @@ pub record JobsLeave : Type 0 where
 abbrev pub TellsAreRuns : Type 0 → Type 0
 TellsAreRuns H = (calling : Calling H) (response : Bool) (n count vm : ℕ) (name : Callback) (context first : ℕ) (x : Exchange) (room : Room) → IsOn n room x → (host : H) (ms : List Met) (b : Both H)
     → ((c : Called H) → Reaches (runs_then (calling host vm name context first 0 room.hub.moment room.hub.contexts) ends) ms (ends c) → IsBeside response n count vm owns.Nobody c x room)
-    → Reaches (tells calling vm name context first host room) ms (ends b) → (y : Exchange) × Run H response n count x room y b.room
+    → Reaches (tells calling vm name context first host room) ms (ends b) → (y : Exchange) × Meanwhile response n count x room y b.room

@@ -1,6 +1,6 @@
 -- WHAT IS READ, as a direction sees that.
-use Rattle.std.specs.Prelude.{◌≡◌, ℕ, Bool, true, false, List, Option, None, Some}
-use Rattle.course.specs.Course.{Course, ends, Met, Reaches}
+use Rattle.std.specs.Prelude.{◌≡◌, ℕ, Bool, false, List, Some}
+use Rattle.course.specs.Course.{ends, Met, Reaches}
 use Rattle.course.specs.Heard.{Heard, hands, halts, Hears}
 use Rattle.exchange.specs.declared.types.Exchange.{Exchange}
 use Rattle.http1_model.specs.Unread.{Part, head_part, interim_part, piece, trailer_part, Reading}

@@ -1,15 +1,14 @@
 -- A worked example: a worker whose filter changes the body of a request.
-use Rattle.std.specs.Prelude.{◌≡◌, ℕ, Bool, true, false, List, [], ◌∷◌, Option, None, Some, codes}
+use Rattle.std.specs.Prelude.{◌≡◌, ℕ, true, false, [], ◌∷◌, None, Some, codes}
 use Rattle.exchange.specs.declared.types.Exchange.{Exchange}
 use Rattle.filter_chain.specs.declared.item.Item.TheVariants.{Head, Piece}
 use Rattle.filter_chain.specs.Items.{joined}
 use Rattle.http1_model.specs.Unread.{new_reading}
 use Rattle.worker.specs.declared.room.Room.{Room}
-use Rattle.worker.specs.declared.types.Line.{Line}
 use Rattle.flow_laws.specs.Deeds.{standing, left_by}
 use Rattle.flow_laws.specs.Examples.{upload_start}
-use Rattle.flow_laws.specs.PassThrough.{IsInOrder, IsNew, has_end}
-use Rattle.flow_laws.specs.Rooms.{IsOn, running, Run, run_deeds, run_items, run_buffers}
+use Rattle.flow_laws.specs.PassThrough.{IsNew, has_end}
+use Rattle.flow_laws.specs.Rooms.{running, Run, run_deeds, run_items, run_buffers}
 
 -- line 1 alone, with an exchange that begins, whose request has one filter
 abbrev pub upload_room : Room

@@ -1,11 +1,10 @@
 -- WHAT A WORKER DOES, as one direction of the exchange on a line sees that.
-use Rattle.std.specs.Prelude.{◌≡◌, ℕ, Bool, true, false, List, [], ◌∷◌, ◌++◌, map, Option, None, Some, slice_get, slice_set}
+use Rattle.std.specs.Prelude.{◌≡◌, ℕ, Bool, false, List, [], ◌∷◌, ◌++◌, map, Option, None, Some, slice_get, slice_set}
 use Rattle.contexts.specs.declared.parts.Contexts.{Contexts}
 use Rattle.contexts.specs.declared.parts.Effect.{Effect}
 use Rattle.course.specs.Called.{Called}
 use Rattle.course.specs.declared.host.CallEnd.TheVariants as call_ends
 use Rattle.exchange.specs.declared.types.Exchange.{Exchange}
-use Rattle.exchange.specs.declared.types.Hub.{Hub}
 use Rattle.exchange.specs.Answering.{with_held}
 use Rattle.exchange.specs.Passing.{chain_of, with_chain, put_in, acts}
 use Rattle.exchange.specs.Passing as passing
@@ -58,6 +57,11 @@ pub record Wakes (response : Bool) (n count : ℕ) (due : Option Ask) (x : Excha
 pub data Other (response : Bool) (n count : ℕ) (due : Option Ask) (x : Exchange) (room : Room) (y : Exchange) (after : Room) : Type 0 where
   wakes : Wakes response n count due x room y after → Other response n count due x room y after
   leaves : Leaves response n x room y after → Other response n count due x room y after
+
+-- these, one behind the other
+pub data Meanwhile (response : Bool) (n count : ℕ) : Exchange → Room → Exchange → Room → Type 0 where
+  nothing : (x : Exchange) (room : Room) → Meanwhile response n count x room x room
+  other : {x y z : Exchange} {room mid after : Room} → Other response n count None x room y mid → Meanwhile response n count y mid z after → Meanwhile response n count x room z after
 
 -- the effects of a callback, one behind the other
 abbrev pub Others : Bool → ℕ → ℕ → Option Ask → ℕ → Own → List Effect → Exchange → Room → Exchange → Type 0

@@ -2,7 +2,7 @@
 use Rattle.std.specs.Prelude.{◌≡◌, ℕ, Bool, List, [], ◌∷◌}
 use Rattle.contexts.specs.declared.parts.Contexts.{Contexts}
 use Rattle.course.specs.Called.{Called}
-use Rattle.course.specs.Course.{Course, ends, runs_then, Met, Reaches}
+use Rattle.course.specs.Course.{ends, runs_then, Met, Reaches}
 use Rattle.course.specs.declared.host.Callback.{Callback}
 use Rattle.exchange.specs.declared.types.Exchange.{Exchange}
 use Rattle.exchange.specs.Answering.{with_held}

@@ -1,24 +1,12 @@
 -- BODIES PASS THROUGH WORKERS.
-use Rattle.std.specs.Prelude.{◌≡◌, ◌<◌, ◌≤◌, ℕ, suc, Bool, List, length, Option, None, Some, slice_get}
-use Rattle.contexts.specs.declared.parts.Contexts.{Contexts}
-use Rattle.course.specs.Called.{Called}
-use Rattle.course.specs.Course.{Course, ends, runs_then, Met, Reaches}
-use Rattle.course.specs.declared.host.Callback.{Callback}
+use Rattle.std.specs.Prelude.{◌≡◌, ◌<◌, ◌≤◌, ℕ, suc, Bool, [], length, None}
 use Rattle.exchange.specs.declared.types.Exchange.{Exchange}
-use Rattle.exchange.specs.declared.types.Hub.{Hub}
 use Rattle.exchange.specs.Passing.{chain_of}
 use Rattle.filter_chain.specs.Items.{joined}
-use Rattle.store_model.specs.Program.{Program}
 use Rattle.worker.specs.declared.room.Room.{Room}
-use Rattle.worker.specs.declared.types.Asked.{Asked}
-use Rattle.worker.specs.declared.types.Line.{Line}
-use Rattle.worker.specs.declared.types.Own.TheVariants as owns
-use Rattle.worker.specs.Moves.{asks_at}
-use Rattle.worker.specs.Rooms.{with_lines, answered_with, valued}
-use Rattle.worker.specs.Steps.{Both, both, callback_of, number_of, acts_on, move_at}
-use Rattle.flow_laws.specs.Deeds.{Running, standing, left_by, AreDeeds, done_all}
+use Rattle.flow_laws.specs.Deeds.{standing, left_by, AreDeeds, done_all}
 use Rattle.flow_laws.specs.PassThrough.{IsInOrder, IsNew, PassesThrough}
-use Rattle.flow_laws.specs.Rooms.{IsOn, running, IsAsked, IsMove, moved_room, Run, run_deeds, run_items, run_buffers}
+use Rattle.flow_laws.specs.Rooms.{running, Meanwhile, Run, run_deeds, run_items, run_buffers}
 
 -- what a worker does are deeds of the law on exchanges: from the exchange and what all lines have in common to those behind it
 pub record AreTheDeeds {H : Type 0} {response : Bool} {n count : ℕ} {x y : Exchange} {room after : Room} (run : Run H response n count x room y after) : Type 0 where
@@ -40,3 +28,12 @@ abbrev pub UnchangedPass : Type 0 → Type 0
 UnchangedPass H = (response : Bool) (n : ℕ) (x y : Exchange) (room after : Room) (run : Run H response n 0 x room y after)
     → IsNew (standing response (running None x room)) → IsInOrder (run_items run)
     → PassesThrough (left_by response n (run_deeds run) (running None x room)) (joined (run_items run))
+
+-- what resumes stages of the direction, or leaves that as it was, is a run by which nothing is put and no callback of the direction comes
+pub record IsIdleRun {H : Type 0} {response : Bool} {n count : ℕ} {x y : Exchange} {room after : Room} (run : Run H response n count x room y after) : Type 0 where
+  pub items : run_items run ≡ []
+  pub buffers : (k : ℕ) → run_buffers k run ≡ []
+
+abbrev pub MeanwhileRuns : Type 0 → Type 0
+MeanwhileRuns H = (response : Bool) (n count : ℕ) (x y : Exchange) (room after : Room) → Meanwhile response n count x room y after
+    → (run : Run H response n count x room y after) × IsIdleRun run

@@ -5,14 +5,17 @@ ghost use Rattle.flow_laws.specs.Contexts.{CallsAreRuns, ContextsLeave};
 ghost use Rattle.flow_laws.specs.Deaths.{AllLinesLeave};
 ghost use Rattle.flow_laws.specs.Effects.{AskingElsewhereLeaves, CallbacksAreRuns, MildEffectsAreOthers};
 ghost use Rattle.flow_laws.specs.Elsewhere.{OtherDirectionMoves, OtherLinesMove};
+ghost use Rattle.flow_laws.specs.Events.{EventsLeave};
 ghost use Rattle.flow_laws.specs.Examples.{ExchangeExamples, PassThroughExamples};
 ghost use Rattle.flow_laws.specs.Exchanges.{ExchangesPassBodies};
 ghost use Rattle.flow_laws.specs.Jobs.{JobsLeave, TellsAreRuns};
 ghost use Rattle.flow_laws.specs.PassThrough.{BodiesPassThrough};
 ghost use Rattle.flow_laws.specs.Readings.{ReadingLeaves};
 ghost use Rattle.flow_laws.specs.RoomExamples.{RoomExample};
+ghost use Rattle.flow_laws.specs.Stepping.{StepsBeside};
 ghost use Rattle.flow_laws.specs.Steps.{MovesAreSteps, PutsAreSteps};
-ghost use Rattle.flow_laws.specs.Workers.{WorkersPassBodies, LastStagesPass, UnchangedPass};
+ghost use Rattle.flow_laws.specs.Turns.{TurnsPassBodies};
+ghost use Rattle.flow_laws.specs.Workers.{LastStagesPass, MeanwhileRuns, UnchangedPass, WorkersPassBodies};
 
 /// Where the callbacks for bodies and trailers of one direction all answer Continue, the bytes that left its chain are a front of what the body
 /// callbacks of its last such stage left, and of what came where no buffer is changed; and all of it once the end has left.
@@ -31,6 +34,7 @@ pub fn workers_pass_bodies<H>()
     ensures deeds { WorkersPassBodies H }
     ensures last_stage { LastStagesPass H }
     ensures unchanged { UnchangedPass H }
+    ensures meanwhile { MeanwhileRuns H }
 {}
 
 /// A worker's step that moves a direction comes to the end of a callback of the stage that is asked, and then to the room behind that move; one
@@ -86,13 +90,31 @@ pub fn contexts_of_others<H>()
     ensures calls { CallsAreRuns H }
 {}
 
+/// Lines come and go, texts grow, other exchanges begin, are refused and are answered for: that leaves a direction as it was.
+pub fn events_leave_directions()
+    ensures { EventsLeave }
+{}
+
 /// A reading step leaves a direction as it was, where no exchange begins by it on the line.
 pub fn reading_leaves_directions<H>()
     ensures { ReadingLeaves H }
 {}
 
-/// Two filters, worked: three pieces of which the second filter changes one, and a head that the first filter holds. And an exchange, whose filter
-/// changes the body of a request.
+/// A worker's step that is none of a direction resumes stages of it, or leaves it as it was.
+pub fn steps_beside<H>()
+    ensures { StepsBeside H }
+{}
+
+/// Over all steps of a worker, in turns one behind the other: the passed bytes of one direction of an exchange are a front of what the body callbacks
+/// of its last such stage left, or of what was read where no buffer is changed; and all of it once the end has left. Every callback returns, those for
+/// bodies and trailers of the direction with Continue; the exchange is neither answered nor closed; no stage is in two chains, the contexts of the
+/// direction's stages are there, and callbacks of others leave what these hold as it was.
+pub fn turns_pass_bodies<H>()
+    ensures { TurnsPassBodies H }
+{}
+
+/// Two filters, worked: three pieces of which the second filter changes one, and a head that the first filter holds. And an exchange, and the worker
+/// with it, whose filter changes the body of a request.
 pub fn worked_bodies()
     ensures chains { PassThroughExamples }
     ensures exchanges { ExchangeExamples }

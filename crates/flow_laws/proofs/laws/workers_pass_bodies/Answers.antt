@@ -1,4 +1,4 @@
-use Rattle.flow_laws.proofs.Rooms.{workers_pass, last_stages, unchanged_bodies}
+use Rattle.flow_laws.proofs.Rooms.{last_stages, meanwhile_runs, unchanged_bodies, workers_pass}
 use Rattle.flow_laws.proofs.laws.workers_pass_bodies.Goals as goal
 
 pub returns-clause-deeds : goal.returns-clause-deeds
@@ -9,3 +9,6 @@ returns-clause-last_stage g c = last_stages _
 
 pub returns-clause-unchanged : goal.returns-clause-unchanged
 returns-clause-unchanged g c = unchanged_bodies _
+
+pub returns-clause-meanwhile : goal.returns-clause-meanwhile
+returns-clause-meanwhile g c = meanwhile_runs _

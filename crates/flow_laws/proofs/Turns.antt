@@ -1,0 +1,144 @@
+-- Why bodies pass through turns.
+use Rattle.std.proofs.Common.{◌≡◌, ◌≤◌, ℕ, zero, suc, ◌+◌, Bool, List, [], ◌∷◌, ◌++◌, length, ap, ◌∙◌, sym, refl, subst, arith}
+use Rattle.std.specs.Prelude.{None}
+use Rattle.std.proofs.lemmas.List.{append_assoc, append-nil}
+use Rattle.course.specs.Called.{Called}
+use Rattle.course.specs.Course.{Course, ends, Met, Reaches}
+use Rattle.exchange.specs.declared.types.Exchange.{Exchange}
+use Rattle.exchange.specs.Passing.{chain_of, put_in}
+use Rattle.filter_chain.specs.declared.item.Item.{Item}
+use Rattle.filter_chain.specs.Items.{joined}
+use Rattle.worker.specs.declared.room.Room.{Room}
+use Rattle.worker.specs.declared.types.Job.{Job}
+use Rattle.worker.specs.declared.types.Next.{Next}
+use Rattle.worker.specs.Plan.{Plan}
+use Rattle.worker.specs.Rooms.{next_of, marking, on_number}
+use Rattle.worker.specs.Steps.{Both, both, step}
+use Rattle.worker.specs.Turn.{emptied, facing}
+use Rattle.flow_laws.specs.Besides.{IsWhole}
+use Rattle.flow_laws.specs.Deeds.{left_by}
+use Rattle.flow_laws.specs.PassThrough.{IsInOrder, PassesThrough}
+use Rattle.flow_laws.specs.Rooms.{IsOn, running, Leaves, leaves, Meanwhile, nothing, other, IsMove, IsPut, moved_exchange, moved_room, moves, puts, others, Run, rests, goes, run_deeds, part_items, run_items, run_buffers}
+use Rattle.flow_laws.specs.Stepping.{in_hand}
+use Rattle.flow_laws.specs.Steps.{Calling, MoveEnds}
+use Rattle.flow_laws.specs.Turns.{MayStep, moves_own, puts_own, is_beside, Steps, no_step, one_step, next_turn, HavePassed, TurnsPassBodies}
+use Rattle.flow_laws.specs.Workers.{IsIdleRun}
+use Rattle.flow_laws.proofs.Jobs.{jobs_leave}
+use Rattle.flow_laws.proofs.Lines.{on_set, on_number_is}
+use Rattle.flow_laws.proofs.Moving.{moves_are, puts_are}
+use Rattle.flow_laws.proofs.Rooms.{other_on, moved_on, meanwhile_runs, workers_pass, last_stages, unchanged_bodies}
+use Rattle.flow_laws.proofs.Stepping.{steps_beside}
+
+-- ---- the run of a step
+
+record Went (H : Type 0) (response : Bool) (n count : ℕ) (x : Exchange) (room after : Room) (items : List Item) : Type 0 where
+  last : Exchange
+  on : IsOn n after last
+  run : Run H response n count x room last after
+  put : run_items run ≡ items
+
+meanwhile_on : {response : Bool} {n count : ℕ} {x y : Exchange} {room after : Room} → Meanwhile response n count x room y after → IsOn n room x → IsOn n after y
+meanwhile_on (nothing x room) on = on
+meanwhile_on {response} {n} {count} (other {x} {y} {z} {room} {mid} {after} o later) on = meanwhile_on later (other_on response n count None x room y mid o)
+
+went_as : (H : Type 0) (response : Bool) (n count : ℕ) (x : Exchange) (room after end : Room) (items : List Item) → after ≡ end → Went H response n count x room end items
+    → Went H response n count x room after items
+went_as H response n count x room after end items is w = subst (λ (r : Room). Went H response n count x room r items) (sym is) w
+
+-- it puts what was read, with its job in hand
+put_went : (H : Type 0) (response : Bool) (n count : ℕ) (x : Exchange) (room : Room) (items : List Item) (later : List Job) → IsOn n room x → IsWhole response x room
+    → IsPut response n count items x (in_hand later room) → Went H response n count x room (on_number (put_in response items) n (in_hand later room)) items
+put_went H response n count x room items later on whole is =
+    let mid : Room = in_hand later room in
+    let after : Room = on_number (put_in response items) n mid in
+    let y : Exchange = (put_in response items n x mid.hub).0 in
+    let l : Leaves response n x room x mid = jobs_leave.in_hand later response n x room on whole in
+    record {
+      last = y;
+      on = subst (λ (r : Room). IsOn n r y) (sym (on_number_is (put_in response items) n mid x is.on)) (on_set n mid x is.on (marking (put_in response items n x mid.hub)));
+      run = goes (others x mid (leaves l)) (goes (puts items is) (rests y after));
+      put = append-nil items;
+    }
+
+step_went : {H : Type 0} (calling : Calling H) (plan : Plan) (response : Bool) (n count : ℕ) (x : Exchange) (b m : Both H) (ms : List Met) (nx : Next) (items : List Item) → IsOn n b.room x
+    → IsWhole response x b.room → MayStep calling response n count x b ms nx items → Reaches (step calling plan nx b.host b.room) ms (ends m) → Went H response n count x b.room m.room items
+step_went {H} calling plan response n count x b m ms _ _ on whole (moves_own q may) reaches =
+    let end : MoveEnds calling b.host q ms m = moves_are H calling plan response n x b.room q b.host ms m reaches in
+    let c : Called H = end.end in
+    let move : IsMove count c q = may c end.reached in
+    let is : m.room ≡ moved_room move = ap (λ (d : Both H). d.room) (end.moves count move) in
+    went_as H response n count x b.room m.room (moved_room move) [] is
+    (record {
+      last = moved_exchange move;
+      on = moved_on response n count c x b.room q move;
+      run = goes (moves c q move) (rests (moved_exchange move) (moved_room move));
+      put = refl;
+    })
+step_went {H} calling plan response n count x b m ms _ _ on whole (puts_own items later is put) reaches = by_met ms (subst (λ (k : Course (Both H)). Reaches k ms (ends m)) (puts_are H calling plan response n items later b.host b.room is) reaches)
+  where
+    by_met : (ns : List Met) → Reaches (ends (both b.host (on_number (put_in response items) n (in_hand later b.room)))) ns (ends m) → Went H response n count x b.room m.room items
+    by_met [] same =
+        let is_m : m ≡ both b.host (on_number (put_in response items) n (in_hand later b.room)) = sym (cc) in
+        went_as H response n count x b.room m.room (on_number (put_in response items) n (in_hand later b.room)) items (ap (λ (d : Both H). d.room) is_m)
+        (put_went H response n count x b.room items later on whole put)
+    by_met (c ∷ ns) same = absurd same
+step_went {H} calling plan response n count x b m ms _ _ on whole (is_beside nx may) reaches =
+    let w : (y : Exchange) × Meanwhile response n count x b.room y m.room = steps_beside H calling plan response n count x b m ms nx on whole may reaches in
+    let r : (run : Run H response n count x b.room w.0 m.room) × IsIdleRun run = meanwhile_runs H response n count x w.0 b.room m.room w.1 in
+    record { last = w.0; on = meanwhile_on w.1 on; run = r.0; put = r.1.items }
+
+-- ---- runs, one behind the other
+
+run_join : {H : Type 0} {response : Bool} {n count : ℕ} {x y z : Exchange} {room mid after : Room} (one : Run H response n count x room y mid) (two : Run H response n count y mid z after)
+    → (run : Run H response n count x room z after) × (run_items run ≡ run_items one ++ run_items two)
+run_join (rests x room) two = (two, refl)
+run_join (goes part one) two =
+    let later = run_join one two in
+    (goes part later.0, ap (λ (l : List Item). part_items part ++ l) later.1 ∙ sym (append_assoc (part_items part) (run_items one) (run_items two)))
+
+steps_went : {H : Type 0} (calling : Calling H) (plan : Plan) (response : Bool) (n count : ℕ) (x : Exchange) (b e : Both H) (items : List Item) → Steps calling plan response n count x b items e
+    → IsOn n b.room x → Went H response n count x b.room e.room items
+steps_went {H} calling plan response n count _ _ _ _ (no_step x b) on = record { last = x; on = on; run = rests x b.room; put = refl }
+steps_went {H} calling plan response n count _ _ _ _ (one_step x b m e items more ms there whole may reaches later) on =
+    let first : Went H response n count x b.room m.room items = step_went calling plan response n count x b m ms (next_of b.room) items there whole may reaches in
+    let rest : Went H response n count first.last m.room e.room more = steps_went calling plan response n count first.last m e more (later first.last first.on) first.on in
+    let r : (run : Run H response n count x b.room rest.last e.room) × (run_items run ≡ run_items first.run ++ run_items rest.run) = run_join first.run rest.run in
+    record { last = rest.last; on = rest.on; run = r.0; put = r.1 ∙ (λ i. first.put i ++ rest.put i) }
+steps_went {H} calling plan response n count _ _ _ _ (next_turn x b e items event there whole later) on =
+    let mid : Room = facing plan event (emptied b.room) in
+    let l : Leaves response n x b.room x mid = jobs_leave.facing_next plan event response n x b.room there whole in
+    let rest : Went H response n count x mid e.room items = steps_went calling plan response n count x (both b.host mid) e items later l.on in
+    record { last = rest.last; on = rest.on; run = goes (others x mid (leaves l)) rest.run; put = rest.put }
+
+-- ---- THE LAW
+
+pub turns_pass : (H : Type 0) → TurnsPassBodies H
+turns_pass H calling plan response n count x b e items steps on new within order = by_count count steps within
+  where
+    by_count : (c : ℕ) → Steps calling plan response n c x b items e → c ≤ length (chain_of response x) → HavePassed response n c x b items e
+    by_count zero steps_ within_ =
+        let w : Went H response n 0 x b.room e.room items = steps_went calling plan response n 0 x b e items steps_ on in
+        let law : PassesThrough (left_by response n (run_deeds w.run) (running None x b.room)) (joined (run_items w.run))
+        = unchanged_bodies H response n x w.last b.room e.room w.run new (subst IsInOrder (sym w.put) order) in
+        record {
+          last = w.last;
+          run = w.run;
+          put = w.put;
+          deeds = workers_pass H response n 0 x w.last b.room e.room w.run new within_;
+          last_stage = λ k is. absurd (cc is);
+          unchanged = λ is. subst (λ (l : List Item). PassesThrough (left_by response n (run_deeds w.run) (running None x b.room)) (joined l)) w.put law;
+        }
+    by_count (suc j) steps_ within_ =
+        let w : Went H response n (suc j) x b.room e.room items = steps_went calling plan response n (suc j) x b e items steps_ on in
+        let law : PassesThrough (left_by response n (run_deeds w.run) (running None x b.room)) (run_buffers j w.run)
+        = last_stages H response n j x w.last b.room e.room w.run new (omega arith) (subst IsInOrder (sym w.put) order) in
+        record {
+          last = w.last;
+          run = w.run;
+          put = w.put;
+          deeds = workers_pass H response n (suc j) x w.last b.room e.room w.run new within_;
+          last_stage = λ k is.
+              let same : j ≡ k = (cc is) in
+              subst (λ (i : ℕ). PassesThrough (left_by response n (run_deeds w.run) (running None x b.room)) (run_buffers i w.run)) same law;
+          unchanged = λ is. absurd (cc is);
+        }

@@ -1,0 +1,117 @@
+-- THE STEPS OF A WORKER, as a direction sees them.
+use Rattle.std.specs.Prelude.{◌≡◌, ℕ, Bool, false, not, List, [], ◌∷◌, map, Option, None, Some, slice_get}
+use Rattle.course.specs.Called.{Called}
+use Rattle.course.specs.Course.{ends, runs_then, Met, Reaches}
+use Rattle.course.specs.Heard.{Heard, Hears}
+use Rattle.course.specs.declared.host.Callback.{Callback}
+use Rattle.course.specs.declared.host.Callback.TheVariants as callbacks
+use Rattle.exchange.specs.declared.types.Exchange.{Exchange}
+use Rattle.exchange.specs.declared.types.Filter.{Filter}
+use Rattle.exchange.specs.declared.types.Hub.{Hub}
+use Rattle.exchange.specs.Passing.{chain_of, expires}
+use Rattle.filter_chain.specs.declared.item.Item.{Item}
+use Rattle.gate_io.specs.declared.event.What.{What}
+use Rattle.http1_model.specs.Unread.{Reading}
+use Rattle.worker.specs.declared.room.Room.{Room}
+use Rattle.worker.specs.declared.types.Asked.{Asked}
+use Rattle.worker.specs.declared.types.ContextAt.{ContextAt}
+use Rattle.worker.specs.declared.types.Job.{Job}
+use Rattle.worker.specs.declared.types.Job.TheVariants as jobs
+use Rattle.worker.specs.declared.types.Line.{Line}
+use Rattle.worker.specs.declared.types.NewContext.{NewContext}
+use Rattle.worker.specs.declared.types.Next.{Next}
+use Rattle.worker.specs.declared.types.Next.TheVariants as next
+use Rattle.worker.specs.declared.types.Own.TheVariants as owns
+use Rattle.worker.specs.declared.types.Reads.{Reads}
+use Rattle.worker.specs.Moves.{asks_at}
+use Rattle.worker.specs.Plan.{Plan}
+use Rattle.worker.specs.Rooms.{place_in, with_lines}
+use Rattle.worker.specs.Steps.{Both, is_zero, vm_length, plugin_length, ticked, is_drawn_out, rooting, filter_at, creating, reading_on, step}
+use Rattle.flow_laws.specs.Apart.{AreAliens}
+use Rattle.flow_laws.specs.Besides.{OthersAreAlien, IsWhole}
+use Rattle.flow_laws.specs.Contexts.{NotOf}
+use Rattle.flow_laws.specs.Deeds.{comes, AreDeeds}
+use Rattle.flow_laws.specs.Elsewhere.{IsBeside, behind_effects, asked_program, IsElsewhere, IsAcross}
+use Rattle.flow_laws.specs.Events.{LosesNone}
+use Rattle.flow_laws.specs.Readings.{HearsNone}
+use Rattle.flow_laws.specs.Rooms.{IsOn, running, IsAsked, Meanwhile}
+use Rattle.flow_laws.specs.Steps.{Calling, callback_program}
+
+-- the room once the first job is in hand
+abbrev pub in_hand : List Job → Room → Room
+in_hand later room = record room { jobs = later }
+
+-- every end of this callback of no stage is one that may be
+abbrev pub Tells : {H : Type 0} → Calling H → Bool → ℕ → ℕ → Exchange → H → List Met → Room → ℕ → Callback → ℕ → ℕ → Type 0
+Tells calling response n count x host ms room vm name context first =
+    (c : Called _) → Reaches (runs_then (calling host vm name context first 0 room.hub.moment room.hub.contexts) ends) ms (ends c)
+    → IsBeside response n count vm owns.Nobody c x room
+
+-- the same, with what is to hold behind it
+abbrev pub TellsThen : {H : Type 0} → Calling H → Bool → ℕ → ℕ → Exchange → H → List Met → Room → ℕ → Callback → ℕ → ℕ → (Option ℕ → Exchange → Room → Type 0) → Type 0
+TellsThen calling response n count x host ms room vm name context first Holds =
+    (c : Called _) → Reaches (runs_then (calling host vm name context first 0 room.hub.moment room.hub.contexts) ends) ms (ends c)
+    → (e : IsBeside response n count vm owns.Nobody c x room)
+    × ((z : Exchange) → IsOn n (behind_effects vm owns.Nobody c room) z → IsWhole response z (behind_effects vm owns.Nobody c room) × Holds e.value z (behind_effects vm owns.Nobody c room))
+
+-- A JOB that is none of the direction
+pub data MayJob {H : Type 0} (calling : Calling H) (response : Bool) (n count : ℕ) (x : Exchange) (host : H) (ms : List Met) (room : Room) : Job → Type 0 where
+  begin : (vm : ℕ) → Tells calling response n count x host ms room vm callbacks.Begin 0 0 → MayJob calling response n count x host ms room (jobs.Begin vm)
+  root : (vm plugin : ℕ) (first : Bool) → is_drawn_out vm room.hub.contexts ≡ false
+      → ((c : NewContext) → (rooting vm plugin first room).0 ≡ Some c → Tells calling response n count x host ms (rooting vm plugin first room).1 c.vm callbacks.ContextCreate c.context c.root)
+      → MayJob calling response n count x host ms room (jobs.Root vm plugin first)
+  start : (vm at : ℕ) → TellsThen calling response n count x host ms room vm callbacks.VmStart at (vm_length vm room.hub.contexts) (λ value z r. is_zero value ≡ false)
+      → MayJob calling response n count x host ms room (jobs.Start vm at)
+  configure : (vm at plugin : ℕ)
+      → TellsThen calling response n count x host ms room vm callbacks.Configure at (plugin_length plugin room.hub.contexts) (λ value z r. is_zero value ≡ false)
+      → MayJob calling response n count x host ms room (jobs.Configure vm at plugin)
+  tick : (vm at : ℕ) → Tells calling response n count x host ms (ticked vm at room).1 vm callbacks.Tick at 0 → MayJob calling response n count x host ms room (jobs.Tick vm at)
+  expire : (on : IsOn n room x) → OthersAreAlien (chain_of response x) on.place room → ((hub : Hub) → expires n x hub ≡ (x, hub)) → MayJob calling response n count x host ms room jobs.Expire
+  happen : (w : What) (on : IsOn n room x) → OthersAreAlien (chain_of response x) on.place room → LosesNone w n on.place room → MayJob calling response n count x host ms room (jobs.Happen w)
+  create : (number k : ℕ) → ((f : Filter) → filter_at number k room.lines ≡ Some f → is_drawn_out f.vm room.hub.contexts ≡ false)
+      → ((c : NewContext) (y : Exchange) → (creating number k room).0 ≡ Some c → IsOn n (creating number k room).1 y
+      → Tells calling response n count y host ms (creating number k room).1 c.vm callbacks.ContextCreate c.context c.root)
+      → MayJob calling response n count x host ms room (jobs.Create number k)
+  enter : (number : ℕ) (on : IsOn n room x) → (place_in number room.lines ≡ Some on.place → ⊥) → MayJob calling response n count x host ms room (jobs.Enter number)
+  put_across : (items : List Item) → x.is_answered ≡ false → AreDeeds (not response) n 0 (map comes items) (running None x room)
+      → MayJob calling response n count x host ms room (jobs.Put n (not response) items)
+  put_elsewhere : (number : ℕ) (of_response : Bool) (items : List Item) (on : IsOn n room x) → OthersAreAlien (chain_of response x) on.place room
+      → (place_in number room.lines ≡ Some on.place → ⊥) → MayJob calling response n count x host ms room (jobs.Put number of_response items)
+  refuse : (number status : ℕ) (on : IsOn n room x) → OthersAreAlien (chain_of response x) on.place room → (number ≡ n → ⊥) → MayJob calling response n count x host ms room (jobs.Refuse number status)
+  done : (c : ContextAt) → TellsThen calling response n count x host ms room c.vm callbacks.Done c.context 0 (λ value z r. Unit {0}) → MayJob calling response n count x host ms room (jobs.Done c)
+  log : (c : ContextAt) → Tells calling response n count x host ms room c.vm callbacks.Log c.context 0 → MayJob calling response n count x host ms room (jobs.Log c)
+  delete : (c : ContextAt) → NotOf c.vm c.context (chain_of response x)
+      → TellsThen calling response n count x host ms room c.vm callbacks.Delete c.context 0 (λ value z r. NotOf c.vm c.context (chain_of response z))
+      → MayJob calling response n count x host ms room (jobs.Delete c)
+  close : (number : ℕ) (stays : Bool) → (number ≡ n → ⊥) → MayJob calling response n count x host ms room (jobs.Close number stays)
+  notice : (vm left : ℕ) → MayJob calling response n count x host ms room (jobs.Notice vm left)
+  ready : (vm at queue : ℕ) → Tells calling response n count x host ms room vm callbacks.QueueReady at queue → MayJob calling response n count x host ms room (jobs.Ready vm at queue)
+
+pub data MayWork {H : Type 0} (calling : Calling H) (response : Bool) (n count : ℕ) (x : Exchange) (host : H) (ms : List Met) (room : Room) : List Job → Type 0 where
+  no_job : MayWork calling response n count x host ms room []
+  first_job : (job : Job) (later : List Job) → MayJob calling response n count x host ms (in_hand later room) job → MayWork calling response n count x host ms room (job ∷ later)
+
+-- A STEP that is none of the direction: readings that begin no exchange on the line, moves of the other direction and of other lines, jobs, and ends of
+-- other exchanges
+pub data MayBeside {H : Type 0} (calling : Calling H) (response : Bool) (n count : ℕ) (x : Exchange) (b : Both H) (ms : List Met) : Next → Type 0 where
+  reads : (on : IsOn n b.room x)
+      → ((r : Reads) (reading : Reading) (h : Heard) → b.room.reading ≡ Some r → reading_on r b.room ≡ Some reading → Hears reading h → HearsNone r on.place b.room h)
+      → MayBeside calling response n count x b ms next.Read
+  moves_across : (q : IsAsked (not response) n x b.room) → AreAliens (chain_of response x) (chain_of (not response) x)
+      → ((c : Called H) → Reaches (runs_then (callback_program calling b.host q) ends) ms (ends c) → IsAcross response count q c)
+      → MayBeside calling response n count x b ms (next.Move q.on.place)
+  moves_elsewhere : (place : ℕ) (on : IsOn n b.room x) → OthersAreAlien (chain_of response x) on.place b.room → (place ≡ on.place → ⊥)
+      → ((a : Asked) (lines : List Line) (hub : Hub) (c : Called H) → asks_at place (slice_get b.room.lines place) b.room.lines b.room.hub ≡ (Some a, lines, hub)
+      → Reaches (runs_then (asked_program calling b.host a (with_lines b.room (lines, hub))) ends) ms (ends c)
+      → IsElsewhere response n count a c x (with_lines b.room (lines, hub)))
+      → MayBeside calling response n count x b ms (next.Move place)
+  works : MayWork calling response n count x b.host ms b.room b.room.jobs → MayBeside calling response n count x b ms next.Work
+  frees : (at : ℕ) → MayBeside calling response n count x b ms (next.Free at)
+  ends_other : (place : ℕ) (on : IsOn n b.room x) → (place ≡ on.place → ⊥) → MayBeside calling response n count x b ms (next.End place)
+  begins : MayBeside calling response n count x b ms next.Begin
+  stops : MayBeside calling response n count x b ms next.Rest
+
+-- STEPS BESIDE resume stages of the direction, or leave it as it was.
+abbrev pub StepsBeside : Type 0 → Type 0
+StepsBeside H = (calling : Calling H) (plan : Plan) (response : Bool) (n count : ℕ) (x : Exchange) (b m : Both H) (ms : List Met) (nx : Next) → IsOn n b.room x → IsWhole response x b.room
+    → MayBeside calling response n count x b ms nx → Reaches (step calling plan nx b.host b.room) ms (ends m) → (y : Exchange) × Meanwhile response n count x b.room y m.room

@@ -1,0 +1,60 @@
+-- BODIES PASS THROUGH TURNS: over all steps of a worker, in turns one behind the other.
+use Rattle.std.specs.Prelude.{◌≡◌, ◌≤◌, ℕ, suc, Bool, List, [], ◌∷◌, ◌++◌, length, None}
+use Rattle.course.specs.Called.{Called}
+use Rattle.course.specs.Course.{ends, runs_then, Met, Reaches}
+use Rattle.exchange.specs.declared.types.Exchange.{Exchange}
+use Rattle.exchange.specs.Passing.{chain_of}
+use Rattle.filter_chain.specs.declared.item.Item.{Item}
+use Rattle.filter_chain.specs.Items.{joined}
+use Rattle.gate_io.specs.declared.event.Event.{Event}
+use Rattle.worker.specs.declared.types.Job.{Job}
+use Rattle.worker.specs.declared.types.Job.TheVariants as jobs
+use Rattle.worker.specs.declared.types.Next.{Next}
+use Rattle.worker.specs.declared.types.Next.TheVariants as next
+use Rattle.worker.specs.Plan.{Plan}
+use Rattle.worker.specs.Rooms.{next_of}
+use Rattle.worker.specs.Steps.{Both, both, step}
+use Rattle.worker.specs.Turn.{emptied, facing}
+use Rattle.flow_laws.specs.Besides.{IsWhole}
+use Rattle.flow_laws.specs.Deeds.{standing, left_by}
+use Rattle.flow_laws.specs.PassThrough.{IsInOrder, IsNew, PassesThrough}
+use Rattle.flow_laws.specs.Rooms.{IsOn, running, IsAsked, IsMove, IsPut, Run, run_deeds, run_items, run_buffers}
+use Rattle.flow_laws.specs.Stepping.{in_hand, MayBeside}
+use Rattle.flow_laws.specs.Steps.{Calling, callback_program}
+use Rattle.flow_laws.specs.Workers.{AreTheDeeds}
+
+-- What a step may be, and the items that it puts into the chain of the direction: a move of the direction, each end of whose callback is a move of the
+-- law; a put of what was read; or a step beside.
+pub data MayStep {H : Type 0} (calling : Calling H) (response : Bool) (n count : ℕ) (x : Exchange) (b : Both H) (ms : List Met) : Next → List Item → Type 0 where
+  moves_own : (q : IsAsked response n x b.room) → ((c : Called H) → Reaches (runs_then (callback_program calling b.host q) ends) ms (ends c) → IsMove count c q)
+      → MayStep calling response n count x b ms (next.Move q.on.place) []
+  puts_own : (items : List Item) (later : List Job) → b.room.jobs ≡ jobs.Put n response items ∷ later → IsPut response n count items x (in_hand later b.room)
+      → MayStep calling response n count x b ms next.Work items
+  is_beside : (nx : Next) → MayBeside calling response n count x b ms nx → MayStep calling response n count x b ms nx []
+
+-- STEPS OF A WORKER from one state to another, each that which is next, and the turns between them; with the exchange that is on the line at first, and
+-- the items that are put into the chain of the direction.
+pub data Steps {H : Type 0} (calling : Calling H) (plan : Plan) (response : Bool) (n count : ℕ) : Exchange → Both H → List Item → Both H → Type 0 where
+  no_step : (x : Exchange) (b : Both H) → Steps calling plan response n count x b [] b
+  one_step : (x : Exchange) (b m e : Both H) (items more : List Item) (ms : List Met) → IsOn n b.room x → IsWhole response x b.room
+      → MayStep calling response n count x b ms (next_of b.room) items → Reaches (step calling plan (next_of b.room) b.host b.room) ms (ends m)
+      → ((y : Exchange) → IsOn n m.room y → Steps calling plan response n count y m more e) → Steps calling plan response n count x b (items ++ more) e
+  next_turn : (x : Exchange) (b e : Both H) (items : List Item) (event : Event) → IsOn n b.room x → IsWhole response x b.room
+      → Steps calling plan response n count x (both b.host (facing plan event (emptied b.room))) items e → Steps calling plan response n count x b items e
+
+-- what passed: these are deeds of the law on exchanges, from the state at first to that behind; and the passed bytes are as that says
+pub record HavePassed {H : Type 0} (response : Bool) (n count : ℕ) (x : Exchange) (b : Both H) (items : List Item) (e : Both H) : Type 0 where
+  pub last : Exchange
+  pub run : Run H response n count x b.room last e.room
+  pub put : run_items run ≡ items
+  pub deeds : AreTheDeeds run
+  -- where this count is that of the last stage with a body callback, from 1: a front of what its body callbacks left
+  pub last_stage : (k : ℕ) → count ≡ suc k → PassesThrough (left_by response n (run_deeds run) (running None x b.room)) (run_buffers k run)
+  -- where no buffer of its stages is changed by a callback: a front of what was read
+  pub unchanged : count ≡ 0 → PassesThrough (left_by response n (run_deeds run) (running None x b.room)) (joined items)
+
+-- BODIES PASS THROUGH TURNS, from an exchange whose stages were made and through which nothing passed yet. (Every callback that comes returns; the law is
+-- silent on runs in which a VM dies, be it one of others.)
+abbrev pub TurnsPassBodies : Type 0 → Type 0
+TurnsPassBodies H = (calling : Calling H) (plan : Plan) (response : Bool) (n count : ℕ) (x : Exchange) (b e : Both H) (items : List Item) → Steps calling plan response n count x b items e
+    → IsOn n b.room x → IsNew (standing response (running None x b.room)) → count ≤ length (chain_of response x) → IsInOrder items → HavePassed response n count x b items e
