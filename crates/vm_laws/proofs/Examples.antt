@@ -7,13 +7,14 @@ use Rattle.contexts.proofs.Places.{from_some}
 use Rattle.contexts.specs.Examples.{host, set}
 use Rattle.contexts.specs.Keyed.{found}
 use Rattle.contexts.specs.Properties.{property_of}
-use Rattle.contexts.specs.Reached.{no_vm, context_no, vm_in}
+use Rattle.contexts.specs.Reached.{no_vm, common_of, reach_by, seen_of, exchange_of, context_no, vm_in}
 use Rattle.contexts.specs.Creating.{root_context, stream_context}
 use Rattle.contexts.specs.declared.parts.Context.{Context}
 use Rattle.contexts.specs.declared.parts.VmContexts.{VmContexts}
-use Rattle.vm_laws.specs.Examples.{closes, IsolationExamples}
+use Rattle.vm_laws.specs.Examples.{together, separate, closes, IsolationExamples}
 use Rattle.vm_laws.specs.OwnChanges.{HasNoneAt, ChangesItsOwn}
 use Rattle.vm_laws.specs.OwnEffects.{IsEffectOf}
+use Rattle.vm_laws.specs.OwnStores.{IsRootOf}
 use Rattle.vm_laws.specs.SeesItsOwn.{LookTheSame, ShareNone}
 
 -- one of two
@@ -85,6 +86,36 @@ of_root is = none-some is.2 (ap (λ (c : Context). c.exchange) (from_some is.1) 
 of_another : IsEffectOf host 1 (closes 3) → ⊥
 of_another is = none-some is.0 is.1
 
+-- one of three
+of_three : (P : Context → Type 0) (b d f : Bool) (x y z c : Context) → cond b (Some x) (cond d (Some y) (cond f (Some z) None)) ≡ Some c → P x → P y → P z → P c
+of_three P true d f x y z c is px py pz = subst P (from_some is) px
+of_three P false d f x y z c is px py pz = of_two P d f y z c is py pz
+
+abbrev HasRoot1 : Context → Type 0
+HasRoot1 c = c.root ≡ 1
+
+not_by_stream : IsRootOf host 0 2 → ⊥
+not_by_stream is =
+    let one : is.1.root ≡ 1 = of_three HasRoot1 (1 == is.0) (2 == is.0) (3 == is.0) (root_context 1 0) (stream_context 2 0 1 (Some 0)) (stream_context 3 0 1 (Some 1)) is.1 is.2 refl refl refl in
+    let two : is.1.root ≡ 2 = is.3 in
+    omega (arith, one, two)
+
+-- ---- streams of one exchange and of two
+
+-- the same reach, whichever context it is
+reach_alike : (b d f : Bool) → reach_by together (vm_in together 0) (cond b (Some (root_context 1 0)) (cond d (Some (stream_context 2 0 1 (Some 0))) (cond f (Some (stream_context 3 0 1 (Some 0))) None)))
+    ≡ reach_by separate (vm_in separate 0) (cond b (Some (root_context 1 0)) (cond d (Some (stream_context 2 0 1 (Some 0))) (cond f (Some (stream_context 3 0 1 (Some 1))) None)))
+reach_alike true d f = refl
+reach_alike false true f = refl
+reach_alike false false true = refl
+reach_alike false false false = refl
+
+alike : (e : ℕ) → seen_of together 0 e ≡ seen_of separate 0 e
+alike e = λ i. record { common = common_of together (vm_in together 0); reach = reach_alike (1 == e) (2 == e) (3 == e) i }
+
+not_one : ◌≡◌ {A = Option ℕ} (Some 0) (Some 1) → ⊥
+not_one same = let no : 0 ≡ 1 = from_some same in omega (arith, no)
+
 pub isolation_examples : IsolationExamples
 isolation_examples = record {
   outlined = refl;
@@ -108,4 +139,19 @@ isolation_examples = record {
   bytes = λ is. is;
   in_step = (refl, refl, λ r. refl);
   out_of_step = λ is. (let no = is.0 in omega (arith, no));
+  own_value = refl;
+  another_value = λ is. omega (arith, is);
+  queue = (omega arith, refl);
+  another_queue = λ is. (let no = is.1 in omega (arith, no));
+  no_such_vm = λ is. omega (arith, is);
+  registered = (refl, (1, root_context 1 0, refl, refl));
+  not_by_stream = λ is. not_by_stream is.1;
+  takes_part = λ x. refl;
+  not_yet = λ x. refl;
+  no_more = λ x. refl;
+  another_part = λ x. refl;
+  looks_alike = alike;
+  not_the_same = λ same. not_one (ap (λ (v : VmContexts). exchange_of (found context_no 3 v.contexts)) same.own);
+  told_together = refl;
+  not_told_apart = refl;
 }

@@ -1,6 +1,7 @@
 mod Ends
 mod Apart
 mod Silent
+mod MadeVms
 mod Whole
 mod OwnChanges
 mod Fitting
@@ -8,6 +9,8 @@ mod OwnEffects
 mod Looking
 mod Stepping
 mod SeesItsOwn
+mod OwnStores
 mod Frames
 mod LastIds
+mod OwnLines
 mod Examples

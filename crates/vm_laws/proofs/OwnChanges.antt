@@ -11,7 +11,7 @@ use Rattle.contexts.proofs.Keyed.{kept}
 use Rattle.contexts.proofs.Places.{from_some}
 use Rattle.contexts.specs.Isolation.{Stays}
 use Rattle.contexts.specs.Keyed.{found}
-use Rattle.contexts.specs.Reached.{Changes, no_changes, vm_in, no_vm, context_in, context_no, exchange_at, effective_of, with_own, with_tick, with_view, changed_by, contexts_after, viewed_by, exchanges_by, exchanges_after, vm_after, put}
+use Rattle.contexts.specs.Reached.{Changes, seen, no_changes, vm_in, no_vm, context_in, context_no, exchange_at, effective_of, with_own, with_tick, with_view, changed_by, contexts_after, viewed_by, exchanges_by, exchanges_after, vm_after, put}
 use Rattle.contexts.specs.declared.parts.Context.{Context}
 use Rattle.contexts.specs.declared.parts.Contexts.{Contexts}
 use Rattle.contexts.specs.declared.parts.Exchange.{Exchange}
@@ -28,7 +28,7 @@ use Rattle.vm_host.specs.HostStates.{HostState}
 use Rattle.vm_host.specs.Slots.{Came, silent, calling_live, calling_slot, is_at_home, slot_in, with_live, calling}
 use Rattle.vm_host.specs.Vms.{VmAt}
 use Rattle.vm_laws.proofs.Apart.{with_other, with_own as own_live}
-use Rattle.vm_laws.proofs.Ends.{all_then, all_weaker}
+use Rattle.vm_laws.proofs.Ends.{AllAlong, AnyCall, AnyMeasure, along_ends, all_then, all_weaker}
 use Rattle.vm_laws.proofs.Whole.{HasCalls, CameKeeps, live_keeps}
 use Rattle.vm_laws.specs.Apart.{AllEnds}
 use Rattle.vm_laws.specs.OwnChanges.{IsPlaced, ArePlaced, PlacesBegin, PlacesStay, outline, outlines, HasNoneAt, ChangesItsOwn, CallbacksChangeTheirOwn}
@@ -141,10 +141,10 @@ put_own s vm h there =
 -- ---- a callback
 
 -- the VM's contexts are there, and what was changed since is its own
-abbrev IsOwn : ℕ → Contexts → HostState → Type 0
+abbrev pub IsOwn : ℕ → Contexts → HostState → Type 0
 IsOwn vm h s = (vm < length s.contexts.vms) × ChangesItsOwn vm h s.contexts
 
-own_step : (c : Changes) (vm : ℕ) (h k : Contexts) → vm < length k.vms → ChangesItsOwn vm h k → (vm < length (put c vm k).vms) × ChangesItsOwn vm h (put c vm k)
+pub own_step : (c : Changes) (vm : ℕ) (h k : Contexts) → vm < length k.vms → ChangesItsOwn vm h k → (vm < length (put c vm k).vms) × ChangesItsOwn vm h (put c vm k)
 own_step c vm h k there own =
     let step : ChangesItsOwn vm k (put c vm k) = put_own c vm k there in
     (subst (λ n. vm < n) (sym step.count) there, own_then vm h k (put c vm k) own step)
@@ -157,10 +157,10 @@ placed_calls : (d : Dispatcher) (o : Option VmAt) → HasCalls d o → IsPlaced 
 placed_calls d None same = tt
 placed_calls d (Some w) same = ap (λ (c : Dispatcher). c.place) same
 
-any_end : {A : Type 0} (p : Program A) → AllEnds (λ a. Unit {0}) p
+any_end : {A : Type 0} (p : Program A) → AllAlong AnyCall AnyMeasure (λ (a : A). Unit {0}) p
 any_end (done a) = tt
-any_end (ask vm call k) = λ r. any_end (k r)
-any_end (measure vm asked k) = λ r. any_end (k r)
+any_end (ask n call k) = (tt, λ r. any_end (k r))
+any_end (measure n asked k) = (tt, λ r. any_end (k r))
 
 abbrev CameOwn : ℕ → Contexts → Came → Type 0
 CameOwn vm h c = ChangesItsOwn vm h c.contexts × IsPlaced vm c.live
@@ -172,12 +172,13 @@ live_own : (v : VmAt) (name : Callback) (context first second now : ℕ) (h : Co
     → AllEnds (CameOwn v.calls.place h) (calling_live v name context first second now h)
 live_own v name context first second now h there =
     all_weaker (CameKeeps v.calls (IsOwn v.calls.place h)) (CameOwn v.calls.place h) (calling_live v name context first second now h)
-    (live_keeps v.calls (IsOwn v.calls.place h) (λ s c. Unit {0})
+    (along_ends AnyCall AnyMeasure (CameKeeps v.calls (IsOwn v.calls.place h)) (calling_live v name context first second now h)
+    (live_keeps v.calls AnyCall AnyMeasure (IsOwn v.calls.place h) (λ s c. Unit {0})
     (λ s c is good. own_step c.changes v.calls.place h s.contexts is.0 is.1)
     (λ s e is. own_step (record no_changes { effective = Some e }) v.calls.place h s.contexts is.0 is.1)
-    (λ c n args g s. any_end (hosting c n v.calls.place args g s))
-    (λ c n args g s. any_end (wasi_hosting c n v.calls.place args g s))
-    v name context first second now h refl (there, own_same v.calls.place h))
+    (λ c n args g s is. any_end (hosting c n v.calls.place args g (seen s.contexts v.calls.place)))
+    (λ c n args g s is. any_end (wasi_hosting c n v.calls.place args g (seen s.contexts v.calls.place)))
+    v name context first second now h refl (there, own_same v.calls.place h)))
     (came_own v h)
 
 home_own : (b : Bool) (most : ℕ) (v : VmAt) (name : Callback) (context first second now : ℕ) (h : Contexts) → is_at_home most v.calls.place h ≡ b

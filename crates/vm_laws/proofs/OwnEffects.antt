@@ -5,7 +5,7 @@ use Rattle.std.proofs.lemmas.List.Elements.{All-nil, All-append}
 use Rattle.std.proofs.lemmas.Option.{none-some}
 use Rattle.std.specs.Option.{option_map}
 use Rattle.std.specs.Prelude.{slice_set}
-use Rattle.abi_calls.specs.Hosting.{Hosted}
+use Rattle.abi_calls.specs.Hosting.{Hosted, hosting, wasi_hosting}
 use Rattle.contexts.proofs.Places.{from_some}
 use Rattle.contexts.specs.Reached.{Changes, seen, no_changes, vm_in, context_in, exchange_at, view_at, view_in, with_view, effective_of, level_no, reach_by, viewed_by, exchanges_by, exchanges_after, put}
 use Rattle.contexts.specs.declared.parts.Context.{Context}
@@ -23,7 +23,7 @@ use Rattle.vm_host.specs.HostStates.{HostState, host_state}
 use Rattle.vm_host.specs.Slots.{Came, silent, calling_live, calling_slot, is_at_home, slot_in, with_live, calling}
 use Rattle.vm_host.specs.Vms.{VmAt}
 use Rattle.vm_host.specs.declared.slots.Vms.{Vms}
-use Rattle.vm_laws.proofs.Ends.{all_then, all_weaker}
+use Rattle.vm_laws.proofs.Ends.{AnyCall, AnyMeasure, along_ends, ends_along, all_then, all_weaker}
 use Rattle.vm_laws.proofs.Fitting.{IsEffectSeen, view_marks, KeepsMarks, Fits, IsGood, env_good, wasi_good}
 use Rattle.vm_laws.proofs.OwnChanges.{both_left, same_outline, exchange_kept, own_same, own_then, put_own}
 use Rattle.vm_laws.proofs.Whole.{CameKeeps, live_keeps}
@@ -90,10 +90,10 @@ pub record IsWork (vm : ℕ) (h : Contexts) (s : HostState) : Type 0 where
   pub effects : GrowsBy (IsEffectOf h vm) h.effects s.contexts.effects
   pub marks : (n : ℕ) → marks_at s.contexts n ≡ marks_at h n
 
-grown : {A : Type 0} (P : A → Type 0) (old new more : List A) → GrowsBy P old new → All P more → GrowsBy P old (new ++ more)
+pub grown : {A : Type 0} (P : A → Type 0) (old new more : List A) → GrowsBy P old new → All P more → GrowsBy P old (new ++ more)
 grown P old new more by all = (by.0 ++ more, ap (λ xs. xs ++ more) by.1 ∙ append_assoc old by.0 more, All-append P by.0 more by.2 all)
 
-all_as : {A : Type 0} (P Q : A → Type 0) (xs : List A) → ((a : A) → P a → Q a) → All P xs → All Q xs
+pub all_as : {A : Type 0} (P Q : A → Type 0) (xs : List A) → ((a : A) → P a → Q a) → All P xs → All Q xs
 all_as P Q xs so all = λ k d within. so (get_or xs k d) (all k d within)
 
 work_step : (vm : ℕ) (h : Contexts) (s : HostState) (c : Changes) (ls : List Sent) → IsWork vm h s → Fits (seen s.contexts vm) c → All (IsLine (level_no h.level)) ls → IsWork vm h (host_state (put c vm s.contexts) ls)
@@ -133,10 +133,13 @@ live_asked : (v : VmAt) (name : Callback) (context first second now : ℕ) (h : 
 live_asked v name context first second now h there =
     let none = nothing_asked v.calls.place h in
     all_weaker (CameKeeps v.calls (IsWork v.calls.place h)) (CameAsked v.calls.place h) (calling_live v name context first second now h)
-    (live_keeps v.calls (IsWork v.calls.place h) IsGood (serve_step v.calls.place h) (wake_step v.calls.place h)
-    (λ c n args g s. env_good c n v.calls.place args g s)
-    (λ c n args g s. wasi_good c n v.calls.place args g s)
-    v name context first second now h refl (record { there = there; own = own_same v.calls.place h; lines = none.0; effects = none.1; marks = none.2 }))
+    (along_ends AnyCall AnyMeasure (CameKeeps v.calls (IsWork v.calls.place h)) (calling_live v name context first second now h)
+    (live_keeps v.calls AnyCall AnyMeasure (IsWork v.calls.place h) IsGood (serve_step v.calls.place h) (wake_step v.calls.place h)
+    (λ c n args g s is.
+    ends_along (IsGood (seen s.contexts v.calls.place)) (hosting c n v.calls.place args g (seen s.contexts v.calls.place)) (env_good c n v.calls.place args g (seen s.contexts v.calls.place)))
+    (λ c n args g s is.
+    ends_along (IsGood (seen s.contexts v.calls.place)) (wasi_hosting c n v.calls.place args g (seen s.contexts v.calls.place)) (wasi_good c n v.calls.place args g (seen s.contexts v.calls.place)))
+    v name context first second now h refl (record { there = there; own = own_same v.calls.place h; lines = none.0; effects = none.1; marks = none.2 })))
     (λ c kept. (kept.0.lines, kept.0.effects, kept.0.marks))
 
 home_asked : (b : Bool) (most : ℕ) (v : VmAt) (name : Callback) (context first second now : ℕ) (h : Contexts) → is_at_home most v.calls.place h ≡ b

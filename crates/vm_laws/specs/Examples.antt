@@ -1,8 +1,13 @@
 -- What two VMs of one worker have and share, worked.
-use Rattle.std.specs.Prelude.{◌≡◌, ℕ, false, [], ◌∷◌, None, Some}
-use Rattle.contexts.specs.Examples.{host, set}
+use Rattle.std.specs.Prelude.{◌≡◌, ℕ, false, [], ◌∷◌, None, Some, Bool, true, codes}
+use Rattle.contexts.specs.Examples.{request, roots, host, path_seen, set}
+use Rattle.contexts.specs.Creating.{opened, new_view, stream_created}
+use Rattle.contexts.specs.Reached.{no_changes, seen_of, put_of}
+use Rattle.contexts.specs.declared.parts.Contexts.{Contexts}
 use Rattle.contexts.specs.declared.parts.Effect.{Effect}
 use Rattle.contexts.specs.declared.parts.What.TheVariants as what
+use Rattle.exchange.specs.declared.types.Exchange.{Exchange}
+use Rattle.exchange.specs.declared.types.Filter.{Filter}
 use Rattle.gate_base.specs.declared.level.Level.TheVariants as levels
 use Rattle.gate_io.specs.declared.event.Sent.TheVariants as sent
 use Rattle.gate_io.specs.declared.event.Side.TheVariants.{Down}
@@ -10,10 +15,26 @@ use Rattle.store_model.specs.Program.{done, ask}
 use Rattle.store_model.specs.declared.call.Call.TheVariants as store
 use Rattle.vm_laws.specs.OwnChanges.{outlines, line_at, HasNoneAt, ChangesItsOwn}
 use Rattle.vm_laws.specs.OwnEffects.{IsLine, IsEffectOf, marks_at}
+use Rattle.vm_laws.specs.OwnLines.{takes_part as is_part}
+use Rattle.vm_laws.specs.OwnStores.{IsCallOf}
 use Rattle.vm_laws.specs.SeesItsOwn.{InStep, LookTheSame, ShareNone}
 
 abbrev pub closes : ℕ → Effect
 closes id = record { context = id; what = what.Close }
+
+abbrev pub made_filter : (vm : ℕ) (created : Bool) → Filter
+made_filter vm created = record { plugin = 0; vm = vm; fails_open = false; created = created; context = 2 }
+
+-- Two streams of VM 0, of one exchange and of two that look alike. Each context sees the same in both.
+abbrev pub together : Contexts
+together = stream_created 0 1 7 (stream_created 0 1 7 (opened 7 (request (codes "/a")) roots))
+
+abbrev pub separate : Contexts
+separate = stream_created 0 1 8 (stream_created 0 1 7 (opened 8 (request (codes "/a")) (opened 7 (request (codes "/a")) roots)))
+
+-- the first of them has written another path
+abbrev pub written_by_first : Contexts → Contexts
+written_by_first h = put_of (record no_changes { exchange = Some (new_view (request (codes "/z"))) }) 0 2 h
 
 -- VM 0 has a root and a stream on each of the lines 7 and 8; VM 1 a root and a stream on line 7. In `set` the first stream of VM 0 has set a
 -- property.
@@ -46,3 +67,23 @@ pub record IsolationExamples : Type 0 where
   -- the same call on another store is another step
   pub in_step : InStep {A = ℕ} {B = ℕ} (λ a b. a ≡ b) (ask 0 (store.Get []) (λ r. done 3)) (ask 0 (store.Get []) (λ r. done 3))
   pub out_of_step : InStep {A = ℕ} {B = ℕ} (λ a b. a ≡ b) (ask 0 (store.Get []) (λ r. done 3)) (ask 1 (store.Get []) (λ r. done 3)) → ⊥
+  -- a VM asks its own store for values; a queue's id says of which VM it is, and queues are used under each VM there is
+  pub own_value : IsCallOf host 0 0 (store.Get [])
+  pub another_value : IsCallOf host 0 1 (store.Get []) → ⊥
+  pub queue : IsCallOf host 0 1 (store.Dequeue 16777216)
+  pub another_queue : IsCallOf host 0 0 (store.Dequeue 16777216) → ⊥
+  pub no_such_vm : IsCallOf host 0 2 (store.Resolve []) → ⊥
+  -- a root is told of items, not a stream
+  pub registered : IsCallOf host 0 0 (store.Register [] 1)
+  pub not_by_stream : IsCallOf host 0 0 (store.Register [] 2) → ⊥
+  -- a VM takes part in an open exchange once a context of it was created there
+  pub takes_part : (x : Exchange) → is_part 1 (Some (record x { has_ended = false; filters = made_filter 1 true ∷ [] })) ≡ true
+  pub not_yet : (x : Exchange) → is_part 1 (Some (record x { has_ended = false; filters = made_filter 1 false ∷ [] })) ≡ false
+  pub no_more : (x : Exchange) → is_part 1 (Some (record x { has_ended = true; filters = made_filter 1 true ∷ [] })) ≡ false
+  pub another_part : (x : Exchange) → is_part 1 (Some (record x { has_ended = false; filters = made_filter 0 true ∷ [] })) ≡ false
+  -- What each context sees is not all that a VM tells by: that two contexts are of one exchange neither of them sees, but what the one writes there
+  -- the other does. So what looks the same agrees on the places of exchanges too.
+  pub looks_alike : (e : ℕ) → seen_of together 0 e ≡ seen_of separate 0 e
+  pub not_the_same : LookTheSame 0 together separate → ⊥
+  pub told_together : path_seen (written_by_first together) 0 3 ≡ Some (codes "/z")
+  pub not_told_apart : path_seen (written_by_first separate) 0 3 ≡ Some (codes "/a")

@@ -15,12 +15,15 @@ use Rattle.wasm_syntax.specs.declared.types.ValueType.TheVariants.{I32}
 -- THE FRAMES OF ALL CALLS COUNT TOGETHER: with more than 256 of them, of the topmost call and of those below that wait for it, the run is the trap
 -- `stack`, and spends nothing
 abbrev pub FramesCountTogether : Type 0
-FramesCountTogether = (p : Program) (fuel : ℕ) (s : Stores) (calls : List Calling) → most_frames < all_frames calls → run p fuel (config s calls) ≡ has_trapped cause.Stack fuel
+FramesCountTogether =
+    (p : Program) (fuel : ℕ) (s : Stores) (calls : List Calling) → most_frames < all_frames calls
+    → run p fuel (config s calls) ≡ has_trapped cause.Stack fuel
 
 -- AN ALLOCATION finds no frame left where the calls that wait have them all
 abbrev pub AllocationsNeedAFrame : Type 0
 AllocationsNeedAFrame =
-    (g : GuestAt) (f len : ℕ) (t : FunctionType) (locals : List ValueType) (body : Nested) → g.allocator ≡ Some f → slice_get g.program.functions f ≡ Some (inside t locals body)
+    (g : GuestAt) (f len : ℕ) (t : FunctionType) (locals : List ValueType) (body : Nested)
+    → g.allocator ≡ Some f → slice_get g.program.functions f ≡ Some (inside t locals body)
     → most_frames ≤ all_frames g.config.calls → allocating len g ≡ alloc_trapped cause.Stack g.fuel
 
 -- ---- worked

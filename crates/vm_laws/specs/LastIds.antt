@@ -30,7 +30,8 @@ pub record IdsRunOut : Type 0 where
       → rooting vm plugin first room ≡ (None, died vm deaths.Ids room)
   pub stream :
       (number k id : ℕ) (f : Filter) (room : Room) → is_dead f.vm room ≡ false → may_stream f.vm id room.hub.contexts ≡ true → last_of f.vm room < greatest
-      → ((streaming number k f (Some id) room).0 ≡ Some (new_one f.vm (last_of f.vm room + 1) id)) × (last_of f.vm (streaming number k f (Some id) room).1 ≡ last_of f.vm room + 1)
+      → ((streaming number k f (Some id) room).0 ≡ Some (new_one f.vm (last_of f.vm room + 1) id))
+      × (last_of f.vm (streaming number k f (Some id) room).1 ≡ last_of f.vm room + 1)
   pub no_stream :
       (number k id : ℕ) (f : Filter) (room : Room) → is_dead f.vm room ≡ false → may_stream f.vm id room.hub.contexts ≡ true → last_of f.vm room ≡ greatest
       → streaming number k f (Some id) room ≡ (None, died f.vm deaths.Ids room)
@@ -42,7 +43,16 @@ abbrev pub drawn_to : ℕ → Contexts
 drawn_to last = record host { vms = slice_set host.vms 0 (record (vm_in host 0) { last = last }) }
 
 abbrev pub room_of : Contexts → Room
-room_of h = record { lines = []; hub = record { moment = 0; contexts = h; sent = [] }; reading = None; jobs = []; agenda = []; waits = []; dead = []; is_begun = true }
+room_of h = record {
+  lines = [];
+  hub = record { moment = 0; contexts = h; sent = [] };
+  reading = None;
+  jobs = [];
+  agenda = [];
+  waits = [];
+  dead = [];
+  is_begun = true;
+}
 
 abbrev pub filter_of : (plugin vm : ℕ) → Filter
 filter_of plugin vm = record { plugin = plugin; vm = vm; fails_open = false; created = false; context = 0 }

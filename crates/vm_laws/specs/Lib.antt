@@ -1,8 +1,11 @@
 pub mod Apart
 pub mod Silent
 pub mod OwnChanges
+pub mod MadeVms
 pub mod OwnEffects
 pub mod SeesItsOwn
+pub mod OwnStores
 pub mod Frames
 pub mod LastIds
+pub mod OwnLines
 pub mod Examples

@@ -3,8 +3,11 @@ ghost use Rattle.vm_laws.specs.Apart.{CallbacksAreApart};
 ghost use Rattle.vm_laws.specs.Examples.{IsolationExamples};
 ghost use Rattle.vm_laws.specs.Frames.{FramesCountTogether, AllocationsNeedAFrame, FrameExamples};
 ghost use Rattle.vm_laws.specs.LastIds.{IdsRunOut, LastIdExamples};
+ghost use Rattle.vm_laws.specs.MadeVms.{MadeVmsAreInPlace};
 ghost use Rattle.vm_laws.specs.OwnChanges.{CallbacksChangeTheirOwn, PlacesBegin, PlacesStay};
 ghost use Rattle.vm_laws.specs.OwnEffects.{EffectsAreOwn};
+ghost use Rattle.vm_laws.specs.OwnLines.{EffectsActOnOwnLines};
+ghost use Rattle.vm_laws.specs.OwnStores.{CallbacksAskTheirOwn};
 ghost use Rattle.vm_laws.specs.SeesItsOwn.{CallbacksSeeTheirOwn, CallbacksAreUnseen};
 ghost use Rattle.vm_laws.specs.Silent.{DeadVmsAreSilent, MissingCallbacksAreSilent, TiesBegin, TiesStay};
 
@@ -24,6 +27,12 @@ pub fn nothing_runs()
     ensures stays { TiesStay }
 {}
 
+/// The machines that are made of the VMs of a configuration: each stands at the number of its contexts, and what says which callbacks it exports is
+/// of its module.
+pub fn made_vms_are_in_place()
+    ensures { MadeVmsAreInPlace }
+{}
+
 /// A whole callback of one VM, whatever its module does and whatever the shared stores reply, leaves what every other VM has among the contexts
 /// just as it was, and each exchange of which its own VM has no context. It makes no contexts and takes none away, and neither the plug-ins nor
 /// what is configured change. Each machine stands at the number of its contexts: it is so of every VM that begins, and stays so.
@@ -35,9 +44,11 @@ pub fn callbacks_change_their_own()
 
 /// A whole callback sends nothing but lines for the log, each not below the log's level and no longer than a line may be. What it asks its worker to
 /// do stands behind what was asked before, each of it for a context of its own VM that is of an exchange; and it answers no exchange and ends
-/// none by itself.
+/// none by itself. Where its effects are done, whatever they are, a line in whose exchange the VM takes no part stays as it was, what is sent goes
+/// out on lines in whose exchanges it does, and no VM dies.
 pub fn effects_are_own()
-    ensures { EffectsAreOwn }
+    ensures asked { EffectsAreOwn }
+    ensures lines { EffectsActOnOwnLines }
 {}
 
 /// What a callback does depends on nothing that other VMs have, but for their names: on two workers that have the same machine of the VM, and that
@@ -47,6 +58,12 @@ pub fn effects_are_own()
 pub fn callbacks_see_their_own()
     ensures sees { CallbacksSeeTheirOwn }
     ensures unseen { CallbacksAreUnseen }
+{}
+
+/// What a callback asks of the shared stores, whatever is replied: values and metrics of its own VM's alone. A queue is registered there too, for the
+/// root of one of the VM's contexts; it is looked up and used in the store of any VM there is, by its id in the one that the id says.
+pub fn callbacks_ask_their_own()
+    ensures { CallbacksAskTheirOwn }
 {}
 
 /// Two VMs with their contexts on two lines, of which they share one, worked.
