@@ -39,6 +39,7 @@ use Rattle.line_laws.proofs.Finding.{Seeks, missing, first, seeks, IsOnce, set_o
 use Rattle.line_laws.proofs.Items.{message_front}
 use Rattle.line_laws.proofs.Lives.{came_of, lives_with}
 use Rattle.line_laws.proofs.Looks.{is_n, look, equal_by, equal_is, other_is, other_by}
+use Rattle.line_laws.proofs.Readable.{readable}
 use Rattle.line_laws.proofs.Rooms.{AllFree}
 use Rattle.line_laws.proofs.Story.{puts_of, HasClose, Tail, Matches, pending, Stream, fresh, going, doomed, Story, Tale, plainly, filtered, Busy, ExOk, LineOk, Known}
 use Rattle.line_laws.proofs.Calmed.{free_puts, free_has, free_no, free_tail}
@@ -219,14 +220,14 @@ module _ (plan : Plan) (n : ℕ) (past : List Sent) where
               = all ∙ ((λ i. w.goes.adds i ++ closing i) ∙ append_assoc (ups n s.start_hub.sent) w.goes.went (closes ∷ [])) in
               subst (OneByOne plan) (sym total)
               (another (ups n s.start_hub.sent) (w.goes.went ++ closes ∷ []) s.before
-              (of_one (record { head = s.head; judged = s.began.judged; request = w.request; sent_of = w.sent_of; went = w.goes.went; front = w.goes.front; is = inr refl })))
+              (of_one (record { head = s.head; judged = s.began.judged; request = w.request; sent_of = w.sent_of; reads_back = λ ended other room suits. w.goes.read_back ended (readable s.head w.request s.began.judged w.sent_of other room) suits; went = w.goes.went; front = w.goes.front; is = inr refl })))
           by_reader None reader (inl opened) = let never : ◌≡◌ {A = Bool} false true = ap is_some (sym reader) ∙ opened in absurd (cc)
           by_reader None reader (inr (same, over)) =
               let closing : ups n (close_up m x.reader) ≡ [] = ap (λ (o : Option Reading). ups n (close_up m o)) reader in
               let total : ups n (past ++ sent) ≡ ups n s.start_hub.sent ++ [] = all ∙ (λ i. same i ++ closing i) in
               subst (OneByOne plan) (sym total)
               (another (ups n s.start_hub.sent) [] s.before
-              (of_one (record { head = s.head; judged = s.began.judged; request = w.request; sent_of = w.sent_of; went = []; front = (opens ∷ map byte (out_wire w.request), refl); is = inl refl })))
+              (of_one (record { head = s.head; judged = s.began.judged; request = w.request; sent_of = w.sent_of; reads_back = λ ended other room suits. w.goes.read_back ended (readable s.head w.request s.began.judged w.sent_of other room) suits; went = []; front = (opens ∷ map byte (out_wire w.request), refl); is = inl refl })))
 
   pub end_known : (place : ℕ) (room : Room) → Known plan n past room → room.jobs ≡ [] → room.reading ≡ None → position rooms.is_over room.lines ≡ Some place → Known plan n past (ends_at place room)
   end_known place room k jobless quiet at = by_seek (seeks rooms.is_over room.lines)

@@ -245,11 +245,11 @@ acts_kept response k value n x hub =
 pub closed_kept : (n : ℕ) (x : Exchange) (hub : Hub) → K x (passing.closed n x hub)
 closed_kept n x hub = by_bool (K x) x.has_ended (x, hub) (cut_off x hub) (λ e. kept_itself x) (λ e. cut_off_kept x hub)
 
-opens_at_kept : (response : Bool) (vm n k : ℕ) (o : Option Stage) (x : Exchange) (hub : Hub) → K x (opens_at response vm n k o x hub)
+pub opens_at_kept : (response : Bool) (vm n k : ℕ) (o : Option Stage) (x : Exchange) (hub : Hub) → K x (opens_at response vm n k o x hub)
 opens_at_kept response vm n k None x hub = kept_itself x
 opens_at_kept response vm n k (Some s) x hub = by_bool (K x) (s.vm == vm) (gives_way response n k x hub) (x, hub) (λ e. gives_way_kept response n k x hub) (λ e. kept_itself x)
 
-opens_kept : (response : Bool) (vm n m : ℕ) (p : Exchange × Hub) → K p.0 (opens response vm n m p)
+pub opens_kept : (response : Bool) (vm n m : ℕ) (p : Exchange × Hub) → K p.0 (opens response vm n m p)
 opens_kept response vm n zero p = kept_itself p.0
 opens_kept response vm n (suc k) p =
     let q : Exchange × Hub = opens_at response vm n k (slice_get (chain_of response p.0) k) p.0 p.1 in

@@ -26,3 +26,5 @@ pub mod Stepping
 pub mod Turning
 pub mod Worked
 pub mod Machines
+pub mod Readable
+pub mod Product

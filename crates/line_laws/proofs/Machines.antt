@@ -1,12 +1,12 @@
 -- The machines of VMs write logs, and send nothing else by themselves.
-use Rattle.std.proofs.Common.{◌≡◌, ℕ, zero, suc, Bool, true, false, ◌||◌, ◌&&◌, List, [], ◌∷◌, ◌++◌, length, map, refl, subst}
-use Rattle.std.specs.Prelude.{Option, None, Some, nat_lt, nat_le, slice_get, if◌then◌else◌}
-use Rattle.abi_calls.specs.Hosting.{Hosted, hosting, wasi_hosting, of_does, of_writes, of_called, asking}
+use Rattle.std.proofs.Common.{ℕ, zero, suc, ◌||◌, ◌&&◌, List, [], ◌∷◌, ◌++◌, length, map}
+use Rattle.std.specs.Prelude.{Option, None, Some, nat_lt, slice_get}
+use Rattle.abi_calls.specs.Hosting.{Hosted, hosting, wasi_hosting, of_called, asking}
 use Rattle.abi_model.specs.Asking.{Asking, asks}
 use Rattle.abi_model.specs.Calls as model
 use Rattle.abi_model.specs.Rows.{all_inside, taken}
 use Rattle.abi_model.specs.Table.{arg, row_of, wasi_row_of}
-use Rattle.abi_model.specs.Writing.{Logged, quiet, writes, writes_logged, Writing}
+use Rattle.abi_model.specs.Writing.{Logged, quiet, writes, writes_logged}
 use Rattle.abi_model.specs.declared.table.HostCall.{HostCall}
 use Rattle.abi_model.specs.declared.table.HostCall.TheVariants as call
 use Rattle.abi_model.specs.declared.table.Param.{Param}
@@ -28,7 +28,7 @@ use Rattle.proxy_links.specs.declared.target.Target.{Target}
 use Rattle.proxy_links.specs.declared.target.Target.TheVariants as target
 use Rattle.store_model.specs.Program.{Program, done, ask, measure, bind}
 use Rattle.vm_host.specs.Calling.{Called, called, call_trapped, call_spent, call_open, Returned, returned, run_trapped, run_spent, run_open, Abi, served, running_by, running, calling_back, asked_at}
-use Rattle.vm_host.specs.Dispatching.{ends_as, served_as, serving, by_found, by_target, proxy_call, wasi_call, dispatching}
+use Rattle.vm_host.specs.Dispatching.{ends_as, served_as, serving, by_found, by_target, wasi_call, dispatching}
 use Rattle.vm_host.specs.HostStates.{HostState, host_state}
 use Rattle.vm_host.specs.Slots as slots
 use Rattle.vm_host.specs.Slots.{Came, came_of, calling_live, calling_slot, by_role, role_of, is_at_home, slot_in, silent}
@@ -38,7 +38,7 @@ use Rattle.vm_host.specs.RoleTypes.{beginner_in}
 use Rattle.vm_host.specs.declared.dispatch.Dispatcher.{Dispatcher}
 use Rattle.vm_host.specs.declared.roles.Role.{Role}
 use Rattle.vm_host.specs.declared.slots.Vms.{Vms}
-use Rattle.wasm_syntax.specs.ReductionRuns.{Stopped, has_finished, has_asked, has_trapped, has_spent, goes_on, is_stuck, run, enough}
+use Rattle.wasm_syntax.specs.ReductionRuns.{Stopped, has_finished, has_asked, has_trapped, has_spent, goes_on, is_stuck, run}
 use Rattle.wasm_syntax.specs.declared.types.Value.{Value}
 use Rattle.line_laws.specs.Logs.{AreLogs, OnlyLogs, WriteLogs}
 use Rattle.line_laws.proofs.Kept.{by_bool}

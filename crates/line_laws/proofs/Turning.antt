@@ -44,6 +44,7 @@ use Rattle.line_laws.proofs.Joining.{ups_joined}
 use Rattle.line_laws.proofs.Kept.{by_bool}
 use Rattle.line_laws.proofs.Lives.{came_of, came_join, lives_with}
 use Rattle.line_laws.proofs.Looks.{look, line_in_is, lives_join}
+use Rattle.line_laws.proofs.Readable.{readable}
 use Rattle.line_laws.proofs.Rooms.{AllParts}
 use Rattle.line_laws.proofs.Stepping.{settling_keeps}
 use Rattle.line_laws.proofs.Story.{IsFresh, IsRefusing, pending, Stream, fresh, going, doomed, Story, Tale, plainly, filtered, Idle, ExOk, LineOk, Known}
@@ -220,6 +221,7 @@ so_far plan n past room x s =
       judged = s.began.judged;
       request = w.request;
       sent_of = w.sent_of;
+      reads_back = λ ended other room suits. w.goes.read_back ended (readable s.head w.request s.began.judged w.sent_of other room) suits;
       items = requests_in s.deeds;
       message = is_message plan n past room.reading room.jobs room.lines x room.hub s;
       came = came_of n s.start s.start_hub s.deeds;

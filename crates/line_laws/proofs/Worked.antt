@@ -1,5 +1,5 @@
 -- The worked turns, by computation, behind texts that are read.
-use Rattle.std.proofs.Common.{◌≡◌, Bool, true, false, List, [], ◌∷◌, ◌++◌, map, None, Some, codes, refl, inl, inr, lit<, lit≤}
+use Rattle.std.proofs.Common.{◌≡◌, Bool, true, false, List, [], ◌∷◌, ◌++◌, map, length, None, Some, codes, refl, inl, inr, arith, lit<, lit≤}
 use Rattle.std.specs.Fmt.{digits}
 use Rattle.course.specs.Course.{Course, ends, asks, measures, hears, Met, called, measured, heard, Reaches}
 use Rattle.course.specs.Heard.{Hears, hands, halts}
@@ -7,7 +7,10 @@ use Rattle.exchange_laws.specs.Traffic.{opens, byte, closes, ups}
 use Rattle.gate_io.specs.declared.event.Side.TheVariants.{Down, Up}
 use Rattle.gate_io.specs.declared.event.What.{What}
 use Rattle.gate_io.specs.declared.event.What.TheVariants as whats
+use Rattle.h1_write.specs.Lines.{out_wire}
+use Rattle.h1_write.specs.Requests.{request_fields}
 use Rattle.http_header.specs.Token.{is_token_byte}
+use Rattle.http1_model.specs.Framing.{head_wire}
 use Rattle.http1_model.proofs.Carried.{take_carries}
 use Rattle.http1_model.proofs.Examples.{worked_head_is, worked_response_is}
 use Rattle.http1_model.specs.Examples.{worked_text, worked_head, worked_wire, worked_response}
@@ -25,7 +28,7 @@ use Rattle.worker.specs.Steps.{Both}
 use Rattle.worker.specs.Turn.{Outcome, outcome, turn}
 use Rattle.worker.specs.declared.no_machines.NoMachines.{NoMachines}
 use Rattle.worker.specs.declared.types.Line.{Line}
-use Rattle.line_laws.specs.Examples.{open_plan, new_worker, event, whole_response, LineExamples}
+use Rattle.line_laws.specs.Examples.{open_plan, new_worker, event, whole_response, worked_request, LineExamples}
 use Rattle.line_laws.specs.Turns.{Done, Turns, sent_in}
 
 -- its end behind these, or this where it has none there
@@ -261,6 +264,18 @@ both_go_up : ups 1 (sent_in both_turns) ≡ opens ∷ map byte worked_wire ++ cl
 unfolding settling httparse_on_literals httpdate_on_literals digits year_from month_from matchit_on_literals is_token_byte
 both_go_up = refl
 
+wire_is : out_wire worked_request ≡ worked_wire
+unfolding httparse_on_literals is_token_byte
+wire_is = refl
+
+three_fields : length (request_fields worked_request.framing worked_request.head) ≡ 3
+unfolding httparse_on_literals is_token_byte
+three_fields = refl
+
+head_bytes : length (head_wire worked_request.framing worked_request.head) ≡ 65
+unfolding httparse_on_literals is_token_byte
+head_bytes = refl
+
 pub line_examples : LineExamples
 line_examples = record {
   logs = λ host vm name context one two now h. tt;
@@ -269,4 +284,6 @@ line_examples = record {
   get_stays = get_leaves;
   pipeline = record { turns = both_turns; to = (comes_to both_met sending_both).state; run = both_run; happened = refl };
   pipeline_up = both_go_up;
+  wire = wire_is;
+  room = record { few = omega (arith, three_fields); short = omega (arith, head_bytes) };
 }

@@ -7,13 +7,18 @@ use Rattle.gate_io.specs.declared.event.Event.{Event}
 use Rattle.gate_io.specs.declared.event.Side.TheVariants.{Down, Up}
 use Rattle.gate_io.specs.declared.event.What.{What}
 use Rattle.gate_io.specs.declared.event.What.TheVariants as whats
-use Rattle.http1_model.specs.Examples.{worked_text, worked_wire, worked_response_text}
+use Rattle.exchange.specs.Heads.{sent_head, up_tail}
+use Rattle.h1_write.specs.Lines.{OutRequest, out_wire}
+use Rattle.h1_write.specs.Round.{last_bytes}
+use Rattle.http1_model.specs.Examples.{worked_head, worked_text, worked_wire, worked_response_text}
+use Rattle.http1_model.specs.Framing.{no_body}
 use Rattle.worker.specs.NoCalls.{no_calling}
 use Rattle.worker.specs.Plan.{Plan}
 use Rattle.worker.specs.Steps.{Both, both}
 use Rattle.worker.specs.declared.no_machines.NoMachines.{NoMachines}
 use Rattle.worker.specs.declared.types.Line.{Line}
 use Rattle.line_laws.specs.Logs.{WriteLogs}
+use Rattle.line_laws.specs.Requests.{HasRoom}
 use Rattle.line_laws.specs.Turns.{Done, Turns, new_room, sent_in}
 
 -- one route, which takes every path and has no filters
@@ -37,6 +42,10 @@ get_events = event (whats.Opened 1) ∷ event (whats.Bytes 1 Down worked_text) �
 abbrev pub pipeline_events : List Event
 pipeline_events = event (whats.Opened 1) ∷ event (whats.Bytes 1 Down (worked_text ++ worked_text)) ∷ event (whats.Bytes 1 Up whole_response) ∷ []
 
+-- the request that goes up
+abbrev pub worked_request : OutRequest
+worked_request = record { framing = no_body; head = sent_head worked_head.fields (up_tail worked_head.minor); pieces = []; ending = last_bytes [] }
+
 -- there are such turns
 pub record Runs (events : List Event) : Type 0 where
   pub turns : List (Done NoMachines)
@@ -52,3 +61,6 @@ pub record LineExamples : Type 0 where
   pub get_stays : map (λ (l : Line). l.number) get.to.room.lines ≡ 1 ∷ []
   pub pipeline : Runs pipeline_events
   pub pipeline_up : ups 1 (sent_in pipeline.turns) ≡ opens ∷ map byte worked_wire ++ closes ∷ opens ∷ map byte worked_wire
+  -- a reader has room for its head
+  pub wire : out_wire worked_request ≡ worked_wire
+  pub room : HasRoom worked_request

@@ -3,6 +3,10 @@ use Rattle.std.specs.Prelude.{◌≡◌, ℕ, ◌++◌, List, [], Some}
 use Rattle.contexts.specs.declared.parts.Contexts.{Contexts}
 use Rattle.exchange.specs.declared.types.Exchange.{Exchange}
 use Rattle.exchange_laws.specs.Traffic.{ups}
+use Rattle.gate_config.specs.declared.config.Config.{Config}
+use Rattle.vm_host.specs.Slots as slots
+use Rattle.vm_host.specs.declared.slots.Vms.{Vms}
+use Rattle.worker.specs.Making.{first_room}
 use Rattle.worker.specs.Plan.{Plan}
 use Rattle.worker.specs.Steps.{Both, both, exchange_on}
 use Rattle.line_laws.specs.Logs.{Calling, WriteLogs}
@@ -23,3 +27,9 @@ abbrev pub NoServerSeesTwoMessages : (H : Type 0) → Type 0
 NoServerSeesTwoMessages H =
     (calling : Calling H) (plan : Plan) (contexts : Contexts) (host : H) (turns : List (Done H)) (to : Both H) (n : ℕ) → WriteLogs calling
     → Turns calling plan (both host (new_room contexts)) turns to → GoesUpBy plan to.room (exchange_on n to.room) (ups n (sent_in turns))
+
+-- THE SAME OF THE PRODUCT: a worker of any configuration, with the machines of its VMs, whatever these are.
+abbrev pub NoServerOfTheProduct : Type 0
+NoServerOfTheProduct =
+    (plan : Plan) (config : Config) (seed : List ℕ) (host : Vms) (turns : List (Done Vms)) (to : Both Vms) (n : ℕ)
+    → Turns slots.calling plan (both host (first_room config seed)) turns to → GoesUpBy plan to.room (exchange_on n to.room) (ups n (sent_in turns))

@@ -1,5 +1,5 @@
 -- What goes up on a line, exchange by exchange.
-use Rattle.std.specs.Prelude.{◌≡◌, ◌⊎◌, ℕ, Bool, true, false, ◌||◌, List, [], ◌∷◌, ◌++◌, map, Option, None, Some}
+use Rattle.std.specs.Prelude.{◌≡◌, ◌≤◌, ◌⊎◌, ℕ, Bool, true, false, ◌||◌, List, [], ◌∷◌, ◌++◌, map, length, Option, None, Some}
 use Rattle.exchange.specs.declared.types.Exchange.{Exchange}
 use Rattle.exchange.specs.declared.types.Hub.{Hub}
 use Rattle.exchange.specs.Heads.{request_of, sent_head, up_framing, up_tail}
@@ -9,10 +9,15 @@ use Rattle.exchange_laws.specs.Responses.{IsMessage}
 use Rattle.exchange_laws.specs.Traffic.{Traffic, opens, byte, closes, traffic, IsFront}
 use Rattle.filter_chain.specs.declared.item.Item.{Item}
 use Rattle.filter_chain.specs.declared.item.Item.TheVariants.{Head as head, Piece, Trailers}
-use Rattle.h1_write.specs.Lines.{OutRequest, out_wire}
+use Rattle.h1_write.specs.Lines.{OutRequest, out_wire, in_items}
+use Rattle.h1_write.specs.Requests.{request_fields}
+use Rattle.h1_write.specs.Round.{Suits, stop_behind, IsReadAs}
 use Rattle.http1_model.specs.Framing.{OutItem, head_wire}
 use Rattle.http1_model.specs.Framing as out
 use Rattle.http1_model.specs.Head.{Head, SpellsStep, found}
+use Rattle.http1_model.specs.Lines.{head_limit, line_limit}
+use Rattle.http1_model.specs.Messages.{head as head_is_due}
+use Rattle.http1_model.specs.Target.{absolute}
 use Rattle.worker.specs.Plan.{Plan}
 use Rattle.worker.specs.Steps.{exchange_for, is_last}
 use Rattle.worker.specs.declared.room.Room.{Room}
@@ -30,6 +35,19 @@ pub record IsSentOf (h : Head) (q : OutRequest) : Type 0 where
   pub filtered : Bool
   pub head : q.head ≡ sent_head h.fields (up_tail h.minor)
   pub framing : q.framing ≡ up_framing filtered (request_of h)
+
+-- A reader has room for the head of it: it has at most as many field lines and bytes as a reader takes. (The head that was judged had so; `host`, the
+-- field that tells the framing, `via` and `connection: close` are written anew.)
+pub record HasRoom (q : OutRequest) : Type 0 where
+  pub few : length (request_fields q.framing q.head) ≤ line_limit
+  pub short : length (head_wire q.framing q.head) ≤ head_limit
+
+-- where its target was received in another than the absolute form, a reader with room for its head reads its bytes back as that request and nothing
+-- else, where its pieces suit its framing; `ended` says that no bytes follow
+abbrev pub ReadsBack : Head → OutRequest → Type 0
+ReadsBack h q =
+    (ended : Bool) → (h.form ≡ Some absolute → ⊥) → HasRoom q → Suits q.framing q.pieces q.ending ended []
+    → IsReadAs (out_wire q) ended None head_is_due (in_items q) (stop_behind ended None)
 
 -- an exchange that began with the head of a request: as new, with the map of that head's fields at its place
 pub record Began (plan : Plan) (h : Head) (x : Exchange) (hub : Hub) : Type 0 where
@@ -58,6 +76,7 @@ pub record IsOfOne (part : List Traffic) : Type 0 where
   pub judged : IsJudged head
   pub request : OutRequest
   pub sent_of : IsSentOf head request
+  pub reads_back : ReadsBack head request
   pub went : List Traffic
   pub front : IsFront went (opens ∷ map byte (out_wire request))
   pub is : (part ≡ []) ⊎ (part ≡ went ++ closes ∷ [])
@@ -99,6 +118,7 @@ pub record IsSoFar (plan : Plan) (room : Room) (x : Exchange) (total : List Traf
   pub judged : IsJudged head
   pub request : OutRequest
   pub sent_of : IsSentOf head request
+  pub reads_back : ReadsBack head request
   -- what was read of it and came to its chain, and the same as it goes out
   pub items : List Item
   pub message : IsMessage items

@@ -1,6 +1,6 @@
 // What holds of lines over turns. The functions have nothing to do: their contracts are the laws.
 ghost use Rattle.line_laws.specs.Examples.{LineExamples};
-ghost use Rattle.line_laws.specs.Laws.{ExchangesLive, NoServerSeesTwoMessages};
+ghost use Rattle.line_laws.specs.Laws.{ExchangesLive, NoServerSeesTwoMessages, NoServerOfTheProduct};
 ghost use Rattle.line_laws.specs.Logs.{WriteLogs};
 ghost use Rattle.line_laws.specs.Turns.{WorkersBeginSo};
 ghost use Rattle.vm_host.specs.Slots.{calling};
@@ -24,6 +24,11 @@ pub fn no_server_sees_two_messages<H>()
 /// The machines of VMs send nothing but logs by themselves, whatever their modules do.
 pub fn machines_write_logs()
     ensures { WriteLogs calling }
+{}
+
+/// So it is of a worker of any configuration and the machines of its VMs, whatever their modules do.
+pub fn no_server_of_the_product()
+    ensures { NoServerOfTheProduct }
 {}
 
 /// A GET goes up and its response comes down; two that come at once go up one behind the other, each over a connection of its own.

@@ -4,6 +4,6 @@
 mod laws;
 
 pub use laws::{
-    exchanges_live, machines_write_logs, no_server_sees_two_messages, worked_lines,
-    workers_begin_so,
+    exchanges_live, machines_write_logs, no_server_of_the_product, no_server_sees_two_messages,
+    worked_lines, workers_begin_so,
 };
