@@ -48,31 +48,31 @@ adds_none n before more none = adds n before more [] none ∙ append-nil (downs 
 -- ---- an exchange that runs: whether its head is out
 
 -- whether its client sent HEAD and speaks HTTP/1.0; and, once its head is out, by what its body is written and whether the line stays behind it
-record Kept : Type 0 where
-  to_head : Bool
-  old_client : Bool
-  written : Framing
-  keeps : Bool
+pub record Kept : Type 0 where
+  pub to_head : Bool
+  pub old_client : Bool
+  pub written : Framing
+  pub keeps : Bool
 
-record IsOpen (b : Bool) (w : Kept) (x : Exchange) : Type 0 where
-  request : x.request ≡ []
-  response : x.response ≡ []
-  head : x.is_head_out ≡ b
-  running : x.has_ended ≡ false
-  unanswered : x.is_answered ≡ false
-  method : x.asked.is_head ≡ w.to_head
-  version : x.asked.old_client ≡ w.old_client
-  framed : b ≡ true → written_framing x ≡ w.written
-  stays : b ≡ true → x.stays ≡ w.keeps
+pub record IsOpen (b : Bool) (w : Kept) (x : Exchange) : Type 0 where
+  pub request : x.request ≡ []
+  pub response : x.response ≡ []
+  pub head : x.is_head_out ≡ b
+  pub running : x.has_ended ≡ false
+  pub unanswered : x.is_answered ≡ false
+  pub method : x.asked.is_head ≡ w.to_head
+  pub version : x.asked.old_client ≡ w.old_client
+  pub framed : b ≡ true → written_framing x ≡ w.written
+  pub stays : b ≡ true → x.stays ≡ w.keeps
 
 -- what becomes of it by what brings nothing of the response: it goes on as before; it ends, and its line with it; or it is answered
-data After (n : ℕ) (b : Bool) (w : Kept) (hub : Hub) (y : Exchange) (after : Hub) : Type 0 where
+pub data After (n : ℕ) (b : Bool) (w : Kept) (hub : Hub) (y : Exchange) (after : Hub) : Type 0 where
   runs_on : downs n after.sent ≡ downs n hub.sent → IsOpen b w y → After n b w hub y after
   stops : downs n after.sent ≡ downs n hub.sent → y.has_ended ≡ true → y.stays ≡ false → After n b w hub y after
   replies : b ≡ false → (wire : List ℕ) → downs n after.sent ≡ downs n hub.sent ++ wire → IsReply w.to_head y.stays wire ⊎ IsResponse w.to_head w.old_client y.stays wire true
       → y.has_ended ≡ true → After n b w hub y after
 
-abbrev AfterIt : ℕ → Bool → Kept → Hub → Exchange × Hub → Type 0
+abbrev pub AfterIt : ℕ → Bool → Kept → Hub → Exchange × Hub → Type 0
 AfterIt n b w hub p = After n b w hub p.0 p.1
 
 parts : (a b : Bool) → (a || b) ≡ false → (a ≡ false) × (b ≡ false)
@@ -374,7 +374,7 @@ body_down n w (Trailers ∷ items) later x hub o is =
 
 -- ---- each thing that happens, but for what is read of the response
 
-any_after : (n : ℕ) (b : Bool) (w : Kept) (deed : Deed) (x : Exchange) (hub : Hub) → response_in deed ≡ [] → IsOpen b w x → IsFairDown n deed x hub
+pub any_after : (n : ℕ) (b : Bool) (w : Kept) (deed : Deed) (x : Exchange) (hub : Hub) → response_in deed ≡ [] → IsOpen b w x → IsFairDown n deed x hub
     → AfterIt n b w hub (done_by n deed x hub)
 any_after n b w (comes items) x hub none o fair = subst (AfterIt n b w hub) (sym (comes_open n items x hub o.unanswered)) (comes_after n b w items x hub o)
 any_after n b w (responds items) x hub none o fair =
