@@ -33,7 +33,7 @@ use Rattle.worker.specs.Plan.{Plan}
 use Rattle.worker.specs.Settling.{settling}
 use Rattle.worker.specs.Steps.{Both, both, exchange_of_line, exchange_on}
 use Rattle.worker.specs.Turn.{Outcome, turn, turn_by, facing, agenda_of, starts, starts_of, start_of, roots_from, vms_in, is_of, ticks_in, ticks_of, ticks_due, deadlines, notice_of, notices_of, is_due_now, registers_at, most_steps, comes_to, emptied}
-use Rattle.line_laws.specs.Laws.{ExchangesLive, NoServerSeesTwoMessages}
+use Rattle.line_laws.specs.Laws.{ExchangesLive, RequestsGoUpOneByOne}
 use Rattle.line_laws.specs.Logs.{Calling, WriteLogs}
 use Rattle.line_laws.specs.Living.{requests_in, request_in, LivesBy}
 use Rattle.line_laws.specs.Requests.{AreOf, OneByOne, nothing, is_whole, IsSoFar, IsOpen, without, with_some, GoesUpBy, HasLived}
@@ -294,8 +294,8 @@ pub exchanges_live : (H : Type 0) → ExchangesLive H
 exchanges_live H calling plan contexts host ts to n x logs turned on none =
     lived plan n (sent_in ts) to.room x (turns_keep calling logs plan [] (both host (new_room contexts)) ts to (new_known plan contexts) turned n) on none
 
-pub no_server_sees_two : (H : Type 0) → NoServerSeesTwoMessages H
-no_server_sees_two H calling plan contexts host ts to n logs turned =
+pub all_go_up_one_by_one : (H : Type 0) → RequestsGoUpOneByOne H
+all_go_up_one_by_one H calling plan contexts host ts to n logs turned =
     let k : Known plan n (sent_in ts) to.room = turns_keep calling logs plan [] (both host (new_room contexts)) ts to (new_known plan contexts) turned n in
     let none : to.room.hub.sent ≡ [] = turns_empty calling logs plan (both host (new_room contexts)) ts to refl turned in
     subst (GoesUpBy plan to.room (exchange_on n to.room)) (ap (ups n) (append-nil (sent_in ts))) (subst (λ l. GoesUpBy plan to.room (exchange_on n to.room) (ups n (sent_in ts ++ l))) none (goes_up_by plan n (sent_in ts) to.room k))

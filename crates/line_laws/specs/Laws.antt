@@ -21,15 +21,15 @@ ExchangesLive H =
     → Turns calling plan (both host (new_room contexts)) turns to → exchange_on n to.room ≡ Some x → x.filters ≡ []
     → HasLived plan n x (record to.room.hub { sent = sent_in turns ++ to.room.hub.sent })
 
--- NO SERVER SEES TWO MESSAGES, of the turns that run: all that goes up on a line over the turns of a new worker is what one exchange after another sent;
--- and what one without filters sent is a front of one connection and the bytes of one request.
-abbrev pub NoServerSeesTwoMessages : (H : Type 0) → Type 0
-NoServerSeesTwoMessages H =
+-- REQUESTS GO UP ONE BY ONE: all that goes up on a line over the turns of a new worker is parts, one behind the other; where no route of the plan has
+-- filters, each is a front of one connection and the bytes of one request of a judged head. That the head came on this line is not said.
+abbrev pub RequestsGoUpOneByOne : (H : Type 0) → Type 0
+RequestsGoUpOneByOne H =
     (calling : Calling H) (plan : Plan) (contexts : Contexts) (host : H) (turns : List (Done H)) (to : Both H) (n : ℕ) → WriteLogs calling
     → Turns calling plan (both host (new_room contexts)) turns to → GoesUpBy plan to.room (exchange_on n to.room) (ups n (sent_in turns))
 
 -- THE SAME OF THE PRODUCT: a worker of any configuration, with the machines of its VMs, whatever these are.
-abbrev pub NoServerOfTheProduct : Type 0
-NoServerOfTheProduct =
+abbrev pub RequestsOfTheProductGoUp : Type 0
+RequestsOfTheProductGoUp =
     (plan : Plan) (config : Config) (seed : List ℕ) (host : Vms) (turns : List (Done Vms)) (to : Both Vms) (n : ℕ)
     → Turns slots.calling plan (both host (first_room config seed)) turns to → GoesUpBy plan to.room (exchange_on n to.room) (ups n (sent_in turns))

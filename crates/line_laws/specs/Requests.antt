@@ -23,7 +23,7 @@ use Rattle.worker.specs.Steps.{exchange_for, is_last}
 use Rattle.worker.specs.declared.room.Room.{Room}
 use Rattle.line_laws.specs.Living.{requests_in}
 
--- the head of a request as it was judged: the unread text of a client spells it
+-- a head of a request as heads are judged: some text spells it
 pub record IsJudged (h : Head) : Type 0 where
   pub text : List ℕ
   pub used : ℕ

@@ -4,6 +4,6 @@
 mod laws;
 
 pub use laws::{
-    exchanges_live, machines_write_logs, no_server_of_the_product, no_server_sees_two_messages,
+    exchanges_live, machines_write_logs, requests_go_up_one_by_one, requests_of_the_product_go_up,
     worked_lines, workers_begin_so,
 };
