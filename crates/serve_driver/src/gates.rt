@@ -6,8 +6,8 @@ use gate_io::{Gate, Point};
 use std::alloc::Global;
 use std::sync::atomic::{AtomicU64, Ordering};
 
-/// How often a worker that is held looks whether it may go on.
-const LOOKS: u32 = 10_000_000;
+/// How often a worker that is held looks whether it may go on: for ten seconds and more, so that a busy machine does not let it go too early.
+const LOOKS: u64 = 10_000_000_000;
 
 /// What a gate holds.
 #[derive(Clone, Copy, PartialEq, Eq)]
