@@ -121,7 +121,7 @@ AreDeeds response n count (deed ∷ deeds) w = IsDeed response count deed w × A
 
 -- ---- what left the chain is what is written
 
--- behind what was sent before comes what these items are
+-- Behind what was sent before comes what these items are, as some exchange writes them. It may be one that has ended, which writes nothing.
 pub record Writes (response : Bool) (n : ℕ) (items : List Item) (before after : Running) : Type 0 where
   pub exchange : Exchange
   pub hub : Hub

@@ -23,7 +23,8 @@ pub fn bodies_pass_through()
     ensures { BodiesPassThrough }
 {}
 
-/// The same of an exchange, whatever happens to it while it runs and is not answered: what left the chain of a direction is what is written.
+/// The same of an exchange, whatever happens to it while it runs and is not answered. By one deed what left the chain of a direction is what some exchange
+/// writes of it over the same connections; whether that exchange had ended, and so wrote nothing, is not said.
 pub fn exchanges_pass_bodies()
     ensures { ExchangesPassBodies }
 {}
@@ -106,7 +107,7 @@ pub fn steps_beside<H>()
 {}
 
 /// Over all steps of a worker, in turns one behind the other: the passed bytes of one direction of an exchange are a front of what the body callbacks
-/// of its last such stage left, or of what was read where no buffer is changed; and all of it once the end has left. Every callback returns, those for
+/// of its last such stage left, or of what was put where no buffer is changed; and all of it once the end has left. Every callback returns, those for
 /// bodies and trailers of the direction with Continue; the exchange is neither answered nor closed; no stage is in two chains, the contexts of the
 /// direction's stages are there, and callbacks of others leave what these hold as it was.
 pub fn turns_pass_bodies<H>()

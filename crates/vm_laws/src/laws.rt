@@ -51,8 +51,9 @@ pub fn effects_are_own()
     ensures lines { EffectsActOnOwnLines }
 {}
 
-/// What a callback does depends on nothing that other VMs have, but for their names: on two workers that have the same machine of the VM, and that
-/// look the same to it, its callback asks the same of the shared stores, and for equal replies ends the same, with the same lines and the same
+/// What a callback does depends on nothing that other VMs have, but for their names and what all have in common (the log's level, what was asked of the
+/// worker and is not done yet, the place in the random stream, exchanges in which both have contexts): on two workers that have the same machine of the VM,
+/// and that look the same to it, its callback asks the same of the shared stores, and for equal replies ends the same, with the same lines and the same
 /// machine, and leaves contexts that look the same to it. And to a VM that shares no exchange with it the contexts look afterwards as they did
 /// before, but for the effects, which the worker takes out behind each callback, and the place in the random stream.
 pub fn callbacks_see_their_own()
