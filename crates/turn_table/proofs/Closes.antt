@@ -1,5 +1,5 @@
 -- What a table has at its end, where the seat of number 1 is the only live one.
-use Rattle.std.proofs.Common.{◌≡◌, ◌≢◌, ℕ, ◌%◌, ◌^◌, ◌<◌, true, false, List, [], ◌∷◌, length, ap, sym, subst, ◌∙◌, ⊎_elim, arith, Option, Some}
+use Rattle.std.proofs.Common.{◌≡◌, ◌≢◌, ℕ, ◌%◌, ◌^◌, ◌<◌, true, false, List, [], ◌∷◌, length, ap, sym, subst, ◌∙◌, ⊎_elim, arith}
 use mathlib.Core.Logic.{dite}
 use mathlib.Core.Option.{some}
 use native.Mathlib.Decide.{ℕ_discrete}
@@ -14,7 +14,7 @@ use Rattle.turn_table.specs.Steps.{IsLast, Shut}
 use Rattle.turn_table.proofs.Places.{at_same}
 
 module _ {S : Type 0} (a : Acts S) (vm : ℕ) where
-  module _ (id : ℕ) (v : View) (one : v.number ≡ 1) (idle : v.holds ≡ false) (last : IsLast v) (s : State (Option S) View) (r : Kept a vm s) (at : get_elem? s.views id ≡ some v) where
+  module _ (id : ℕ) (v : View) (one : v.number ≡ 1) (idle : v.holds ≡ false) (last : IsLast v) (s : State S View) (r : Kept a vm s) (at : get_elem? s.views id ≡ some v) where
     -- the only live view
     only : (i : ℕ) (d : View) → get_elem? s.views i ≡ some d → 0 < d.number → i ≡ id
     only i d e live =
@@ -41,7 +41,7 @@ module _ {S : Type 0} (a : Acts S) (vm : ℕ) where
             let holds : v.holds ≡ true = subst (λ (y : View). y.holds ≡ true) same taken.held.2 in
             absurd (cc)
 
-  pub closes : (id : ℕ) (v : View) (ws : List ℕ) (xs : List (Option S)) → v.number ≡ 1 → v.holds ≡ false → IsLast v → Final (Seen (Kept a vm) id v) ws xs → Shut a v ws xs
+  pub closes : (id : ℕ) (v : View) (ws : List ℕ) (xs : List S) → v.number ≡ 1 → v.holds ≡ false → IsLast v → Final (Seen (Kept a vm) id v) ws xs → Shut a v ws xs
   closes id v ws xs one idle last (s, seen, words, long, slots) =
       let r = seen.0 in
       let at = seen.1 in
@@ -50,8 +50,9 @@ module _ {S : Type 0} (a : Acts S) (vm : ℕ) where
       let all : v.seen ≡ r.history = saw_all id v one idle last s r at in
       let free = is_free id v one idle last s r at in
       record {
-        count = sym words ∙ (free.words ∙ ap (λ h. 0 ∷ (length h % 2 ^ 64) ∷ []) (sym all));
-        slot = slots 0 (Some (value_after a v.vm v.seen)) (ap (λ hs. get_elem? hs 0) free.homes ∙ (λ i. some (some (Some (value_after a (sym k.same_vm i) (sym all i))))));
+        asleep = free.asleep;
+        words_are = sym words ∙ (free.words ∙ ap (λ h. 0 ∷ (length h % 2 ^ 64) ∷ free.asleep ∷ []) (sym all));
+        slot = slots 0 (value_after a v.vm v.seen) (ap (λ hs. get_elem? hs 0) free.homes ∙ (λ i. some (some (value_after a (sym k.same_vm i) (sym all i)))));
         one_slot = sym long ∙ ap length free.homes;
         legal = subst (λ (t : ℕ × List Entry). IsLegalFor a t.0 t.1) (λ i. (sym k.same_vm i, sym all i)) r.legal;
         none_of_spent = ap (own 0) all ∙ l.none_of_spent;

@@ -1,5 +1,5 @@
 -- The first state meets the rule, and the steps of a call keep it: take, record, give.
-use Rattle.std.proofs.Common.{◌≡◌, ◌≢◌, ℕ, zero, suc, ◌+◌, ◌%◌, ◌^◌, ◌<◌, ◌≤◌, eqb, Bool, true, false, List, [], ◌∷◌, ◌++◌, length, get_or, set, refl, ap, sym, subst, ◌∙◌, ⊎_elim, inl, inr, arith, Option, Some, length-append}
+use Rattle.std.proofs.Common.{◌≡◌, ◌≢◌, ℕ, zero, suc, ◌+◌, ◌%◌, ◌^◌, ◌<◌, ◌≤◌, eqb, Bool, true, false, List, [], ◌∷◌, ◌++◌, length, get_or, set, refl, ap, sym, subst, ◌∙◌, ⊎_elim, inl, inr, arith, length-append}
 use mathlib.Core.List.{IsPrefix}
 use mathlib.Core.Logic.{dite}
 use mathlib.Core.Option.{none, some, some-injective, some-ne-none}
@@ -21,17 +21,17 @@ use Rattle.turn_table.proofs.Prefixes.{prefix_self, prefix_trans, prefix_between
 
 module _ {S : Type 0} (a : Acts S) (vm : ℕ) where
   abbrev Table : Type 0
-  Table = State (Option S) View
+  Table = State S View
 
   abbrev Holder : Type 0
-  Holder = Me (Option S) View
+  Holder = Me S View
 
   -- ---- the start
-  pub opens : Kept a vm (opening (0 ∷ 0 ∷ []) (Some (a.empty vm) ∷ []) (first_view vm))
+  pub opens : Kept a vm (opening (0 ∷ 0 ∷ 0 ∷ []) (a.empty vm ∷ []) (first_view vm))
   opens = record {
     history = [];
     legal = refl;
-    turn = inl record { words = refl; homes = refl; none_holds = λ i v at. alone (λ x. x.holds ≡ false) refl i v at };
+    turn = inl record { asleep = 0; words = refl; homes = refl; none_holds = λ i v at. alone (λ x. x.holds ≡ false) refl i v at };
     knows = λ i v at. alone (λ x. 0 < x.number → Knows vm [] x) (λ live. record { same_vm = refl; begins = ([], refl); entries = refl; all = λ _. refl; before_begins = ([], refl); before_entries = refl }) i v at;
     live_holds = λ i v at. alone (λ x. x.holds ≡ true → 0 < x.number) (λ _. omega arith) i v at;
     apart = λ i k v w ei ek live is. first_place i v ei ∙ sym (first_place k w ek);
@@ -59,6 +59,34 @@ module _ {S : Type 0} (a : Acts S) (vm : ℕ) where
       let again = set_again s.views id v at in
       let here : s ≡ record { words = ws; homes = s.homes; views = set s.views id v } = (λ i. record { words = sym is i; homes = s.homes; views = sym again i }) in
       subst (Kept a vm) here r
+
+  -- ---- a seat that waits
+  -- the mark that seats sleep may be anything
+  pub any_mark : (s : Table) (r : Kept a vm s) (ws : List ℕ) (n : ℕ) → ws ≡ set s.words 2 n → Kept a vm (record { words = ws; homes = s.homes; views = s.views })
+  any_mark s r ws n is = record {
+    history = r.history;
+    legal = r.legal;
+    turn = ⊎_elim
+        (λ (free : IsFree a vm r.history s). inl record { asleep = n; words = is ∙ ap (λ l. set l 2 n) free.words; homes = free.homes; none_holds = free.none_holds })
+        (λ (taken : IsTaken a vm r.history s). inr record { asleep = n; words = is ∙ ap (λ l. set l 2 n) taken.words; homes = taken.homes; holder = taken.holder; held = taken.held; one_holds = taken.one_holds })
+        r.turn;
+    knows = r.knows;
+    live_holds = r.live_holds;
+    apart = r.apart;
+    leads = r.leads;
+    whole = r.whole;
+  }
+
+  -- whatever becomes of that word
+  pub marks_sleep : (f : ℕ → ℕ) (slots id : ℕ) (me : Holder) → Allows (Kept a vm) slots id me 2 f (λ _ m'. m' ≡ me)
+  marks_sleep f slots id me s r deep at small = (
+    me.0,
+    keeps,
+    tt,
+    subst (λ (vs : List View). Kept a vm (record { words = set s.words 2 (f (get_or s.words 2 0)); homes = s.homes; views = vs })) (sym (set_again s.views id me.0 at))
+        (any_mark s r (set s.words 2 (f (get_or s.words 2 0))) (f (get_or s.words 2 0)) refl),
+    refl,
+  )
 
   -- ---- a seat sees more of the history
   module _ (s : Table) (r : Kept a vm s) (id : ℕ) (v : View) (at : get_elem? s.views id ≡ some v) (holds : Bool) (seen : List Entry) (more : IsPrefix v.seen seen) (within : IsPrefix seen r.history) where
@@ -120,12 +148,13 @@ module _ {S : Type 0} (a : Acts S) (vm : ℕ) where
       (λ (free : IsFree a vm r.history s).
       let zero_there : get_or s.words 0 0 ≡ 0 = ap (λ ws. get_or ws 0 0) free.words in (
         w,
-        takes 0 (Some (value_after a v.vm seen)),
-        ap (λ hs. get_elem? hs 0) free.homes ∙ (λ i. some (some (Some (value_after a (sym k.same_vm i) (sym is i))))),
+        takes 0 (value_after a v.vm seen),
+        ap (λ hs. get_elem? hs 0) free.homes ∙ (λ i. some (some (value_after a (sym k.same_vm i) (sym is i)))),
         record {
           history = r.history;
           legal = r.legal;
           turn = inr record {
+            asleep = free.asleep;
             words = ap (λ ws. set ws 0 (either (eqb (get_or ws 0 0) 0) 1 (get_or ws 0 0))) free.words;
             homes = ap (λ hs. set hs 0 none) free.homes;
             holder = id;
@@ -142,7 +171,7 @@ module _ {S : Type 0} (a : Acts S) (vm : ℕ) where
           (λ _. record {
             others = others;
             view = refl;
-            slot = ap (λ c. (0, Some (value_after a v.vm seen)) ∷ c) empty;
+            slot = ap (λ c. (0, value_after a v.vm seen) ∷ c) empty;
             legal = subst (λ (t : ℕ × List Entry). IsLegalFor a t.0 t.1) (λ i. (sym k.same_vm i, sym is i)) r.legal;
             foreign = none_behind v.number v.seen others (k.entries ∙ ap (own v.number) (sym is));
           }),
@@ -164,7 +193,7 @@ module _ {S : Type 0} (a : Acts S) (vm : ℕ) where
   not_true true f = absurd (f refl)
   not_true false f = refl
 
-  pub gives_turn : (slots id : ℕ) (me : Holder) → me.0.holds ≡ true → me.1 ≡ (0, Some (value_after a me.0.vm me.0.seen)) ∷ [] → Allows (Kept a vm) slots id me 0 (λ _. 0) (λ _. gave a (step slots 0 0 0 none) me 0)
+  pub gives_turn : (slots id : ℕ) (me : Holder) → me.0.holds ≡ true → me.1 ≡ (0, value_after a me.0.vm me.0.seen) ∷ [] → Allows (Kept a vm) slots id me 0 (λ _. 0) (λ _. gave a (step slots 0 0 0 none) me 0)
   gives_turn slots id me holding carried s r deep at small =
       let v = me.0 in
       let live = r.live_holds id v at holding in
@@ -183,8 +212,9 @@ module _ {S : Type 0} (a : Acts S) (vm : ℕ) where
           history = r.history;
           legal = r.legal;
           turn = inl record {
+            asleep = taken.asleep;
             words = ap (λ ws. set ws 0 0) taken.words;
-            homes = (λ i. put_back (taken.homes i) (carried i)) ∙ (λ i. some (Some (value_after a (k.same_vm i) (is i))) ∷ []);
+            homes = (λ i. put_back (taken.homes i) (carried i)) ∙ (λ i. some (value_after a (k.same_vm i) (is i)) ∷ []);
             none_holds = each_set (λ i d. d.holds ≡ false) s.views id w refl (λ i d ne e. not_true d.holds (λ it. ne (taken.one_holds i d e it ∙ sym here)));
           };
           knows = knows_more s r id v at false v.seen more k.begins (λ e. absurd (cc));
@@ -240,7 +270,8 @@ module _ {S : Type 0} (a : Acts S) (vm : ℕ) where
           history = longer;
           legal = legal_snoc a vm v.seen e (subst (IsLegalFor a vm) (sym is) r.legal) (reply ∙ ap (λ n. a.reply e.who e.call (value_after a n v.seen)) k.same_vm);
           turn = inr record {
-            words = ap (λ ws. set ws 1 ((get_or ws 1 0 + 1) % 2 ^ 64)) taken.words ∙ ap (λ n. 1 ∷ n ∷ []) (count_up (length r.history) ∙ ap (λ n. n % 2 ^ 64) (ap (λ l. length l + 1) (sym is) ∙ sym (length-append v.seen (e ∷ []))));
+            asleep = taken.asleep;
+            words = ap (λ ws. set ws 1 ((get_or ws 1 0 + 1) % 2 ^ 64)) taken.words ∙ ap (λ n. 1 ∷ n ∷ taken.asleep ∷ []) (count_up (length r.history) ∙ ap (λ n. n % 2 ^ 64) (ap (λ l. length l + 1) (sym is) ∙ sym (length-append v.seen (e ∷ []))));
             homes = taken.homes;
             holder = id;
             held = (w, set_here s.views id w (at_below s.views id v at), holding);

@@ -1,5 +1,5 @@
 -- Joining a seat into that of number 1 keeps the rule, and a look at the table tells the seat of number 1 what the rule says of it.
-use Rattle.std.proofs.Common.{◌≡◌, ◌≢◌, ◌⊎◌, ℕ, ◌<◌, true, false, List, length, get_or, set, refl, ap, sym, subst, ◌∙◌, ⊎_elim, inl, inr, arith, Option}
+use Rattle.std.proofs.Common.{◌≡◌, ◌≢◌, ◌⊎◌, ℕ, ◌<◌, true, false, List, length, get_or, set, refl, ap, sym, subst, ◌∙◌, ⊎_elim, inl, inr, arith}
 use mathlib.Core.List.{IsPrefix}
 use mathlib.Core.Logic.{dite}
 use mathlib.Core.Option.{none, some}
@@ -21,10 +21,10 @@ use Rattle.turn_table.proofs.Prefixes.{prefix_trans, prefix_between}
 
 module _ {S : Type 0} (a : Acts S) (vm : ℕ) where
   abbrev Table : Type 0
-  Table = State (Option S) View
+  Table = State S View
 
   abbrev Holder : Type 0
-  Holder = Me (Option S) View
+  Holder = Me S View
 
   -- ---- a look
   pub looks : (slots id : ℕ) (me : Holder) → me.0.number ≡ 1 → Allows (Kept a vm) slots id me 0 (λ n. n) (looked a (step slots 0 0 0 none) me)
@@ -98,10 +98,12 @@ module _ {S : Type 0} (a : Acts S) (vm : ℕ) where
 
     turn_meets : IsFree a vm r.history s ⊎ IsTaken a vm r.history s → IsFree a vm r.history (record s { views = Both }) ⊎ IsTaken a vm r.history (record s { views = Both })
     turn_meets = ⊎_elim (λ (free : IsFree a vm r.history s). inl record {
+      asleep = free.asleep;
       words = free.words;
       homes = free.homes;
       none_holds = each_both (λ i d. d.holds ≡ false) v_idle refl (λ i d ne e. free.none_holds i d e);
     }) (λ (taken : IsTaken a vm r.history s). inr record {
+      asleep = taken.asleep;
       words = taken.words;
       homes = taken.homes;
       holder = taken.holder;

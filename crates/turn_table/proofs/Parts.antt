@@ -1,5 +1,5 @@
 -- Giving out a number keeps the rule.
-use Rattle.std.proofs.Common.{◌≡◌, ◌≢◌, ◌⊎◌, ℕ, ◌+◌, ◌<◌, ◌≤◌, true, false, List, [], ◌∷◌, ◌++◌, length, set, refl, sym, subst, ◌∙◌, ⊎_elim, inl, inr, arith, Option}
+use Rattle.std.proofs.Common.{◌≡◌, ◌≢◌, ◌⊎◌, ℕ, ◌+◌, ◌<◌, ◌≤◌, true, false, List, [], ◌∷◌, ◌++◌, length, set, refl, sym, subst, ◌∙◌, ⊎_elim, inl, inr, arith}
 use mathlib.Core.Logic.{dite}
 use mathlib.Core.Option.{some}
 use native.Mathlib.Decide.{ℕ_discrete}
@@ -15,7 +15,7 @@ use Rattle.turn_table.proofs.Places.{at_snoc, at_below, at_same, each_set, Keeps
 
 module _ {S : Type 0} (a : Acts S) (vm : ℕ) where
   abbrev Table : Type 0
-  Table = State (Option S) View
+  Table = State S View
 
   module _ (id : ℕ) (v : View) (one : v.number ≡ 1) (s : Table) (r : Kept a vm s) (at : get_elem? s.views id ≡ some v) where
     abbrev Left : View
@@ -46,10 +46,12 @@ module _ {S : Type 0} (a : Acts S) (vm : ℕ) where
 
     turn_parts : IsFree a vm r.history s ⊎ IsTaken a vm r.history s → IsFree a vm r.history (record s { views = Both }) ⊎ IsTaken a vm r.history (record s { views = Both })
     turn_parts = ⊎_elim (λ (free : IsFree a vm r.history s). inl record {
+      asleep = free.asleep;
       words = free.words;
       homes = free.homes;
       none_holds = each_both (λ i d. d.holds ≡ false) (each_set (λ i d. d.holds ≡ false) s.views id Left (free.none_holds id v at) (λ i d ne e. free.none_holds i d e)) refl;
     }) (λ (taken : IsTaken a vm r.history s). inr record {
+      asleep = taken.asleep;
       words = taken.words;
       homes = taken.homes;
       holder = taken.holder;

@@ -27,27 +27,26 @@ pub stale : stale_call
 stale t = record { others = entry 1 (set_k 50 1) (Done 2) ∷ []; foreign = refl; seen = refl; legal = refl; entries = refl }
 
 -- nobody has seen a call
-none_seen : (k : Kept store_acts 0 (lone 0 0 (value_after store_acts 0 row) (first_view 0))) → k.history ≡ []
+none_seen : (k : Kept store_acts 0 (lone 0 0 0 (value_after store_acts 0 row) (first_view 0))) → k.history ≡ []
 none_seen k =
     let same : first_view 0 ≡ k.whole.1 = ⊎_elim (λ t. absurd (omega (arith, t.0))) (λ t. t.1) (at_snoc [] (first_view 0) k.whole.1 k.whole.0 k.whole.2) in
     sym k.whole.4 ∙ ap (λ (v : View). v.seen) (sym same)
 
 abbrev Homes : Type 0
-Homes = List (mathlib.Core.Option.Option (Option Store))
+Homes = List (mathlib.Core.Option.Option Store)
 
 -- the number that the next Set draws in the store at home
 abbrev next_at : Homes → ℕ
 next_at [] = 0
 next_at (none ∷ hs) = 0
-next_at (some None ∷ hs) = 0
-next_at (some (Some s) ∷ hs) = s.keys.next
+next_at (some s ∷ hs) = s.keys.next
 
 pub store_is_ahead : store_ahead
 store_is_ahead k = ⊎_elim
-    (λ (free : IsFree store_acts 0 k.history (lone 0 0 (value_after store_acts 0 row) (first_view 0))).
+    (λ (free : IsFree store_acts 0 k.history (lone 0 0 0 (value_after store_acts 0 row) (first_view 0))).
     let next : 4 ≡ 1 = ap next_at free.homes ∙ ap (λ h. (value_after store_acts 0 h).keys.next) (none_seen k) in
     absurd (omega arith))
-    (λ (taken : IsTaken store_acts 0 k.history (lone 0 0 (value_after store_acts 0 row) (first_view 0))). let next : 4 ≡ 0 = ap next_at taken.homes in absurd (omega arith))
+    (λ (taken : IsTaken store_acts 0 k.history (lone 0 0 0 (value_after store_acts 0 row) (first_view 0))). let next : 4 ≡ 0 = ap next_at taken.homes in absurd (omega arith))
     k.turn
 
 apart_places : (i k : ℕ) → i < k → i ≡ k → ⊥

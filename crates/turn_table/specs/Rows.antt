@@ -1,5 +1,5 @@
 -- Worked examples: a history of two workers, and tables that keep the rule or do not.
-use Rattle.std.specs.Prelude.{◌≡◌, ℕ, List, [], ◌∷◌, Option, Some}
+use Rattle.std.specs.Prelude.{◌≡◌, ℕ, List, [], ◌∷◌}
 use Rattle.atomic_table.specs.Seated.{TableId}
 use Rattle.atomic_table.specs.Table.{State, opening}
 use Rattle.store_model.specs.History.{store_acts, entry, own}
@@ -53,24 +53,28 @@ stale_call = (t : TableId) →
 abbrev pub longer_stays : Type 0
 longer_stays = (a b : Entry) → (longer (a ∷ []) (a ∷ b ∷ []) ≡ a ∷ b ∷ []) × (longer (a ∷ b ∷ []) (a ∷ []) ≡ a ∷ b ∷ [])
 
--- a table with this turn, this count, this store at home, and one view
-abbrev pub lone : ℕ → ℕ → Store → View → State (Option Store) View
-lone turn count store v = opening (turn ∷ count ∷ []) (Some store ∷ []) v
+-- a table with this turn, this count, this mark that seats sleep, this store at home, and one view
+abbrev pub lone : ℕ → ℕ → ℕ → Store → View → State Store View
+lone turn count asleep store v = opening (turn ∷ count ∷ asleep ∷ []) (store ∷ []) v
 
 abbrev pub new_table_keeps : Type 0
-new_table_keeps = Kept store_acts 0 (lone 0 0 (empty_store 0) (first_view 0))
+new_table_keeps = Kept store_acts 0 (lone 0 0 0 (empty_store 0) (first_view 0))
+
+-- the mark may stand while nobody has the turn
+abbrev pub any_mark_keeps : Type 0
+any_mark_keeps = (asleep : ℕ) → Kept store_acts 0 (lone 0 0 asleep (empty_store 0) (first_view 0))
 
 -- the turn is taken, and nobody has it
 abbrev pub turn_without_holder : Type 0
-turn_without_holder = Kept store_acts 0 (lone 1 0 (empty_store 0) (first_view 0)) → ⊥
+turn_without_holder = Kept store_acts 0 (lone 1 0 0 (empty_store 0) (first_view 0)) → ⊥
 
 -- a call is counted that nobody has seen
 abbrev pub count_ahead : Type 0
-count_ahead = Kept store_acts 0 (lone 0 1 (empty_store 0) (first_view 0)) → ⊥
+count_ahead = Kept store_acts 0 (lone 0 1 0 (empty_store 0) (first_view 0)) → ⊥
 
 -- the store at home is not what the history leaves
 abbrev pub store_ahead : Type 0
-store_ahead = Kept store_acts 0 (lone 0 0 (value_after store_acts 0 row) (first_view 0)) → ⊥
+store_ahead = Kept store_acts 0 (lone 0 0 0 (value_after store_acts 0 row) (first_view 0)) → ⊥
 
 -- The two views have one number.
 abbrev pub one_number_twice : Type 0

@@ -1,5 +1,5 @@
--- The rule of the table, which holds between any two steps. The table has two words, the turn and the count, and one slot, in which the value is at home.
-use Rattle.std.specs.Prelude.{◌≡◌, ◌≢◌, ◌⊎◌, ℕ, ◌%◌, ◌^◌, ◌<◌, ◌≤◌, true, false, List, [], ◌∷◌, length, Option, Some}
+-- The rule of the table, which holds between any two steps. The table has three words, the turn, the count and the mark that seats sleep, and one slot, in which the value is at home.
+use Rattle.std.specs.Prelude.{◌≡◌, ◌≢◌, ◌⊎◌, ℕ, ◌%◌, ◌^◌, ◌<◌, ◌≤◌, true, false, List, [], ◌∷◌, length}
 use mathlib.Core.List.{IsPrefix}
 use mathlib.Core.Option.{none, some}
 use lib.ListN.{get_elem?}
@@ -40,22 +40,24 @@ abbrev pub AreApart : List View → Type 0
 AreApart views = (i k : ℕ) (v w : View) → get_elem? views i ≡ some v → get_elem? views k ≡ some w → 0 < v.number → v.number ≡ w.number → i ≡ k
 
 module _ {S : Type 0} (a : Acts S) where
-  -- nobody has the turn: the value is at home, and is what the history leaves
-  pub record IsFree (vm : ℕ) (history : List Entry) (s : State (Option S) View) : Type 0 where
-    pub words : s.words ≡ 0 ∷ (length history % 2 ^ 64) ∷ []
-    pub homes : s.homes ≡ some (Some (value_after a vm history)) ∷ []
+  -- nobody has the turn: the value is at home, and is what the history leaves. The mark that seats sleep may be anything.
+  pub record IsFree (vm : ℕ) (history : List Entry) (s : State S View) : Type 0 where
+    pub asleep : ℕ
+    pub words : s.words ≡ 0 ∷ (length history % 2 ^ 64) ∷ asleep ∷ []
+    pub homes : s.homes ≡ some (value_after a vm history) ∷ []
     pub none_holds : Each s.views (λ i v. v.holds ≡ false)
 
-  -- just one seat has the turn, and the value is out
-  pub record IsTaken (vm : ℕ) (history : List Entry) (s : State (Option S) View) : Type 0 where
-    pub words : s.words ≡ 1 ∷ (length history % 2 ^ 64) ∷ []
+  -- just one seat has the turn, and the value is out. The mark that seats sleep may be anything.
+  pub record IsTaken (vm : ℕ) (history : List Entry) (s : State S View) : Type 0 where
+    pub asleep : ℕ
+    pub words : s.words ≡ 1 ∷ (length history % 2 ^ 64) ∷ asleep ∷ []
     pub homes : s.homes ≡ none ∷ []
     pub holder : ℕ
     pub held : (v : View) × (get_elem? s.views holder ≡ some v) × (v.holds ≡ true)
     pub one_holds : Each s.views (λ i v. v.holds ≡ true → i ≡ holder)
 
   -- There is one legal history. It stands in this rule alone: nothing stores it.
-  pub record Kept (vm : ℕ) (s : State (Option S) View) : Type 0 where
+  pub record Kept (vm : ℕ) (s : State S View) : Type 0 where
     pub history : List Entry
     pub legal : IsLegalFor a vm history
     pub turn : IsFree vm history s ⊎ IsTaken vm history s

@@ -21,9 +21,9 @@ pub record TurnTableId : Type 0 where
 abbrev pub turn_table : TableId → ℕ → TurnTableId
 turn_table t vm = record { table = t; vm = vm }
 
--- the table has two words and one slot
+-- the table has three words and one slot
 abbrev pub HasShape : TableId → Type 0
-HasShape t = (t.words ≡ 2) × (t.slots ≡ 1)
+HasShape t = (t.words ≡ 3) × (t.slots ≡ 1)
 
 -- A seat between two calls: its table, its worker's number, the entries that it has seen, how many numbers were given out, and the seats that were joined into it. The last two count at the seat of number 1 alone.
 pub record Seated : Type 0 where

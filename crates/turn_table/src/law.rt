@@ -3,7 +3,7 @@ ghost use Rattle.std.specs.Prelude.{ℕ, ◌≤◌, All};
 ghost use Rattle.store_model.specs.History.{entry};
 ghost use Rattle.store_model.specs.declared.call.Call.{Call};
 ghost use Rattle.store_model.specs.declared.call.Reply.{Reply};
-ghost use Rattle.turn_table.specs.Rows.{row_is_legal, stale_row_is_not, first_workers_own, stale_call, longer_stays, new_table_keeps, turn_without_holder, count_ahead, store_ahead, one_number_twice, numbers_in_order};
+ghost use Rattle.turn_table.specs.Rows.{row_is_legal, stale_row_is_not, first_workers_own, stale_call, longer_stays, new_table_keeps, any_mark_keeps, turn_without_holder, count_ahead, store_ahead, one_number_twice, numbers_in_order};
 ghost use Rattle.turn_table.specs.Seats.{Seated, Called, Refused, Closed};
 ghost use mathlib.Core.List.{IsPrefix};
 
@@ -21,6 +21,7 @@ pub fn worked_histories()
 /// Worked examples of the rule: a table that keeps it, and some that do not.
 pub fn worked_tables()
     ensures new_table_keeps { new_table_keeps }
+    ensures any_mark_keeps { any_mark_keeps }
     ensures turn_without_holder { turn_without_holder }
     ensures count_ahead { count_ahead }
     ensures store_ahead { store_ahead }

@@ -1,5 +1,5 @@
 // What each step on the table tells the seat that makes it.
-ghost use Rattle.turn_table.specs.Steps.{took, recorded, gave, looked};
+ghost use Rattle.turn_table.specs.Steps.{took, waits, recorded, gave, looked};
 ghost use Rattle.turn_table.specs.Views.{after_split, split_off, joined, spent_view};
 
 use crate::{Turned, View};
@@ -26,8 +26,15 @@ pub(crate) struct Takes<S> {
     of: PhantomData<S>,
 }
 
-impl<S: Turned> Play<Option<S>, View> for Takes<S> {
+impl<S: Turned> Play<S, View> for Takes<S> {
     ghost then = { took S.acts };
+}
+
+/// The mark that seats sleep is made, or taken away.
+pub(crate) struct Waits;
+
+impl<S> Play<S, View> for Waits {
+    ghost then = { waits };
 }
 
 /// The entry of E goes behind the history.
@@ -35,7 +42,7 @@ pub(crate) struct Records<S, E> {
     of: PhantomData<(S, E)>,
 }
 
-impl<S: Turned, E: Naming> Play<Option<S>, View> for Records<S, E> {
+impl<S: Turned, E: Naming> Play<S, View> for Records<S, E> {
     ghost then = { recorded S.acts E.entry };
 }
 
@@ -44,7 +51,7 @@ pub(crate) struct Gives<S> {
     of: PhantomData<S>,
 }
 
-impl<S: Turned> Play<Option<S>, View> for Gives<S> {
+impl<S: Turned> Play<S, View> for Gives<S> {
     ghost then = { gave S.acts };
 }
 
@@ -53,7 +60,7 @@ pub(crate) struct Looks<S> {
     of: PhantomData<S>,
 }
 
-impl<S: Turned> Play<Option<S>, View> for Looks<S> {
+impl<S: Turned> Play<S, View> for Looks<S> {
     ghost then = { looked S.acts };
 }
 

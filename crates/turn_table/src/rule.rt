@@ -9,7 +9,7 @@ pub struct InTurn<S> {
     of: PhantomData<S>,
 }
 
-impl<S: Turned> TableRule<Option<S>, View, VmNo> for InTurn<S> {
+impl<S: Turned> TableRule<S, View, VmNo> for InTurn<S> {
     ghost use Rattle.turn_table.specs.Rule.{Kept};
     ghost use Rattle.turn_table.specs.Views.{first_view};
 

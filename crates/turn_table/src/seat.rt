@@ -9,7 +9,7 @@ use std::marker::Model;
 use std::mem;
 
 /// A step on the table is made by it.
-pub(crate) type Pass<S> = atomic_table::Seat<Option<S>, View>;
+pub(crate) type Pass<S> = atomic_table::Seat<S, View>;
 
 /// A worker's seat at a turn table. Clauses see what it has seen of the history, as `Seated`.
 #[derive(Drop)]

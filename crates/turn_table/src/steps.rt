@@ -1,18 +1,19 @@
 // The steps of a call: the turn is taken, the entry is recorded, the turn is given back.
-ghost use Rattle.std.specs.Prelude.{◌≡◌, ◌<◌, true, Some, None, [], ◌∷◌};
+ghost use Rattle.std.specs.Prelude.{◌≡◌, ◌<◌, true, false, [], ◌∷◌};
 ghost use Rattle.atomic_table.specs.Table.{step};
 ghost use Rattle.store_model.specs.History.{entry};
 ghost use Rattle.turn_table.specs.Histories.{value_after};
 ghost use Rattle.turn_table.specs.Seats.{HasShape};
-ghost use Rattle.turn_table.specs.Steps.{InHand, recorded, gave};
+ghost use Rattle.turn_table.specs.Steps.{Won, recorded, gave};
 ghost use mathlib.Core.Option.{none};
 
-use crate::plays::{Gives, Naming, Records, Takes};
+use crate::plays::{Gives, Naming, Records, Takes, Waits};
 use crate::rule::InTurn;
 use crate::seat::Pass;
 use crate::{Turned, View};
 use atomic_table::Shared;
 use gate_base::{VmNo, WorkerNo};
+use std::hint::spin_loop;
 use std::sync::Wait;
 use store_model::{Call, Reply};
 
@@ -22,26 +23,81 @@ pub(crate) const TURN: usize = 0;
 /// The word that is the length of the history, modulo 2^64.
 pub(crate) const COUNT: usize = 1;
 
+/// The word that marks that seats may sleep until the turn is given back.
+pub(crate) const ASLEEP: usize = 2;
+
+/// How often a seat looks whether the turn is free, before it sleeps: for longer than most calls take.
+const LOOKS: u32 = 100;
+
 /// The slot in which the value is at home.
 pub(crate) const HOME: usize = 0;
 
 /// The table as all seats share it.
-pub(crate) type Top<S> = Shared<Option<S>, View, VmNo, InTurn<S>>;
+pub(crate) type Top<S> = Shared<S, View, VmNo, InTurn<S>>;
 
-/// Waits for the turn, and takes the value out of its slot.
-pub(crate) fn take<S: Turned, R: Wait>(rt: &R, top: &Top<S>, pass: &mut Pass<S>) -> S
+/// Waits for the turn. The value's slot is then out with the seat.
+pub(crate) fn take<S: Turned, R: Wait>(rt: &R, top: &Top<S>, pass: &mut Pass<S>)
     requires table { (pass.old.table_id ≡ top.now.table_id) × HasShape top.now.table_id }
     requires seat { (0 < pass.old.me.0.number) × (pass.old.me.1 ≡ []) }
     ensures same { (pass.new.table_id ≡ pass.old.table_id) × (pass.new.id ≡ pass.old.id) }
-    ensures won { InHand S.acts pass.old.me pass.new.me result }
+    ensures won { Won S.acts pass.old.me pass.new.me }
+{
+    if try_take(top, pass) {
+        return;
+    }
+    look(top);
+    if try_take(top, pass) {
+        return;
+    }
+    wait(rt, top, pass);
+}
+
+/// Looks until no seat has the turn, but not for long.
+fn look<S: Turned>(top: &Top<S>)
+    requires { HasShape top.now.table_id }
+{
+    for _ in 0..LOOKS {
+        if top.peek(TURN) == 0 {
+            return;
+        }
+        spin_loop();
+    }
+}
+
+/// Takes the turn if no seat has it.
+fn try_take<S: Turned>(top: &Top<S>, pass: &mut Pass<S>) -> bool
+    requires table { (pass.old.table_id ≡ top.now.table_id) × HasShape top.now.table_id }
+    requires seat { (0 < pass.old.me.0.number) × (pass.old.me.1 ≡ []) }
+    ensures same { (pass.new.table_id ≡ pass.old.table_id) × (pass.new.id ≡ pass.old.id) }
+    ensures won { result ≡ true → Won S.acts pass.old.me pass.new.me }
+    ensures not { result ≡ false → pass.new.me ≡ pass.old.me }
+{
+    top.compare_exchange::<Takes<S>>(pass, TURN, 0, 1) == 0
+}
+
+/// Waits for the turn, which another seat had.
+///
+/// The seat marks that seats sleep before it tries again, and sleeps only while the mark stands; `give` looks at the mark behind its give,
+/// takes it away and wakes one; a seat that was woken marks again before it tries. All these steps stand in one order. Hence:
+/// - Where a seat sleeps, the mark stands, or a giver that took it away is about to wake a seat, or one that was woken is about to mark.
+/// - Where the mark stands, the seat that made it last tries behind it, and takes a free turn. If another has the turn then, the give of
+///   that one stands behind the try and so behind the mark, and sees it.
+///
+/// So where seats sleep and nobody has the turn, a seat is about to try, or a giver is about to look or to wake.
+fn wait<S: Turned, R: Wait>(rt: &R, top: &Top<S>, pass: &mut Pass<S>)
+    requires table { (pass.old.table_id ≡ top.now.table_id) × HasShape top.now.table_id }
+    requires seat { (0 < pass.old.me.0.number) × (pass.old.me.1 ≡ []) }
+    ensures same { (pass.new.table_id ≡ pass.old.table_id) × (pass.new.id ≡ pass.old.id) }
+    ensures won { Won S.acts pass.old.me pass.new.me }
 {
     for _ in rt.forever() {
-        if top.compare_exchange::<Takes<S>>(pass, TURN, 0, 1) == 0 {
-            return top.exchange(pass, HOME, None).unwrap();
+        top.store::<Waits>(pass, ASLEEP, 1);
+        if try_take(top, pass) {
+            break;
         }
-        top.park(rt, TURN, 1);
+        top.park(rt, ASLEEP, 1);
+        look(top);
     }
-    unreachable!()
 }
 
 /// Records the call, which is E's entry, by the one step on the count.
@@ -62,15 +118,16 @@ pub(crate) fn record<S: Turned, E: Naming>(
     top.fetch_add::<Records<S, E>>(pass, COUNT, 1);
 }
 
-/// Puts the value back into its slot, and gives the turn back.
-pub(crate) fn give<S: Turned>(top: &Top<S>, pass: &mut Pass<S>, value: S)
+/// Gives the turn back, with the value in its slot, and wakes a seat if one may sleep.
+pub(crate) fn give<S: Turned>(top: &Top<S>, pass: &mut Pass<S>)
     requires table { (pass.old.table_id ≡ top.now.table_id) × HasShape top.now.table_id }
-    requires holds { (pass.old.me.0.holds ≡ true) × (pass.old.me.1 ≡ (0, None) ∷ []) × (value ≡ value_after S.acts pass.old.me.0.vm pass.old.me.0.seen) }
+    requires holds { (pass.old.me.0.holds ≡ true) × (pass.old.me.1 ≡ (0, value_after S.acts pass.old.me.0.vm pass.old.me.0.seen) ∷ []) }
     ensures same { (pass.new.table_id ≡ pass.old.table_id) × (pass.new.id ≡ pass.old.id) }
     ensures gave { gave S.acts (step 1 0 0 0 none) pass.old.me 0 pass.new.me }
 {
-    let left = top.exchange(pass, HOME, Some(value));
-    let None = left else { unreachable!() };
     top.store::<Gives<S>>(pass, TURN, 0);
-    top.wake_one(TURN);
+    if top.peek(ASLEEP) != 0 {
+        top.store::<Waits>(pass, ASLEEP, 0);
+        top.wake_one(ASLEEP);
+    }
 }

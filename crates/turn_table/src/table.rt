@@ -19,7 +19,7 @@ use store_model::{Call, Reply};
 /// One value that workers call in turns. Clauses see which table it is, and the number of its VM.
 #[derive(Drop)]
 pub struct TurnTable<S: Turned> {
-    table: Table<Option<S>, View, VmNo, InTurn<S>, Global>,
+    pub(crate) table: Table<S, View, VmNo, InTurn<S>, Global>,
 }
 
 impl<S: Turned> Model for TurnTable<S> {
@@ -41,8 +41,8 @@ impl<S: Turned + Drop> TurnTable<S> {
         let who = WorkerNo::new(1).unwrap();
         let vm = start.vm();
         let mut slots = Vec::new(alloc);
-        slots.push(Some(start))?;
-        match Table::new(alloc, &[0, 0], slots, &vm) {
+        slots.push(start)?;
+        match Table::new(alloc, &[0, 0, 0], slots, &vm) {
             Ok((table, pass)) => Ok((
                 TurnTable { table },
                 Seat {
@@ -107,7 +107,7 @@ impl<S: Turned> TurnTable<S> {
         let count = closed.word(COUNT);
         let value = closed.take(HOME);
         closed.free();
-        (value.unwrap(), count)
+        (value, count)
     }
 
     /// Waits for the turn, makes the call, and gives the turn back. A call that is refused memory is not in the history.

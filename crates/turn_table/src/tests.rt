@@ -1,7 +1,8 @@
 // What no clause says: that calls are answered where memory is ample, what the gate is told, and that threads go on.
-ghost use Rattle.std.specs.Prelude.{◌≡◌, [], IfOk};
+ghost use Rattle.std.specs.Prelude.{◌≡◌, [], All, IfOk};
 ghost use Rattle.turn_table.specs.Seats.{IsSameSeat, first_seat};
 
+use crate::steps::ASLEEP;
 use crate::{Seat, TurnTable, Turned};
 use gate_base::{ContextId, Octets, OutOfMemory, QueueId, VmNo, WorkerNo};
 use gate_io::{Gate, NoGate, Point};
@@ -10,7 +11,7 @@ use std::marker::Model;
 use std::sync::Wait;
 use std::sync::atomic::{AtomicU64, Ordering};
 use std::test::Fail;
-use std::thread::{Threads, join};
+use std::thread::{Threads, join, map_vec};
 use store_model::{Call, Reply};
 
 /// A number that is set under itself, as `Tally`.
@@ -394,5 +395,111 @@ fn a_table_does_not_wait_for_another(rt: HostRuntime) -> Result<(), Fail> {
     assert_eq!(rt; count, 1);
     let (_, count) = shut(free, other, two);
     assert_eq!(rt; count, 1);
+    Ok(())
+}
+
+/// The seats of workers 2 to 8 and then of worker 1, whose seat is that of a new table.
+fn eight_seats(
+    alloc: Global,
+    table: &TurnTable<Number>,
+    mut first: Seat,
+) -> Result<Vec<Seat>, OutOfMemory>
+    requires { first ≡ first_seat table.now }
+    ensures { IfOk result (λ seats. All (λ s. s.table ≡ table.now) seats.items) }
+{
+    let mut seats = Vec::new(alloc);
+    for number in 2..9u8 {
+        let _ = number;
+        seats.push(table.split(&mut first)?)?;
+    }
+    seats.push(first)?;
+    Ok(seats)
+}
+
+/// The mark that seats sleep.
+fn mark(table: &TurnTable<Number>) -> u64 {
+    table.table.shared.peek(ASLEEP)
+}
+
+/// Holds worker 1 inside its turn until the other seven have come, and then for as long as it takes them to sleep.
+#[derive(Drop)]
+struct UntilAllWait<'a> {
+    table: &'a TurnTable<Number>,
+    inside: AtomicU64,
+    come: AtomicU64,
+}
+
+impl Gate for UntilAllWait<'_> {
+    fn at(&self, worker: WorkerNo, point: Point) {
+        let _ = point;
+        if worker.get() != 1 {
+            return;
+        }
+        self.inside.store(1, Ordering::SeqCst);
+        for _ in 0..u64::MAX {
+            if self.come.load(Ordering::SeqCst) == 7 && mark(self.table) == 1 {
+                break;
+            }
+        }
+        for _ in 0..10_000_000u32 {
+            self.inside.load(Ordering::SeqCst);
+        }
+    }
+}
+
+/// Makes a call once worker 1 is inside its turn: whether it was answered.
+fn ask_behind_first<R: Wait>(
+    rt: &R,
+    alloc: Global,
+    table: &TurnTable<Number>,
+    mut seat: Seat,
+    gate: &UntilAllWait<'_>,
+) -> bool
+    requires { seat.table ≡ table.now }
+{
+    if seat.who().get() != 1 {
+        for _ in 0..u64::MAX {
+            if gate.inside.load(Ordering::SeqCst) == 1 {
+                break;
+            }
+        }
+        gate.come.fetch_add(1, Ordering::SeqCst);
+    }
+    table
+        .with_turn(rt, alloc, &mut seat, &Call::Notice, gate)
+        .is_ok()
+}
+
+/// Makes these calls of all seats, each in a thread of its own.
+fn ask_all<R: Threads + Wait + Sync>(
+    rt: &R,
+    alloc: Global,
+    table: &TurnTable<Number>,
+    seats: Vec<Seat>,
+    gate: &UntilAllWait<'_>,
+) -> Result<Vec<bool>, OutOfMemory>
+    requires { All (λ s. s.table ≡ table.now) seats.items }
+{
+    map_vec(
+        rt,
+        seats,
+        &|seat| ask_behind_first(rt, alloc, table, seat, gate),
+    )
+}
+
+#[test]
+fn seats_that_sleep_are_woken_one_after_another(rt: HostRuntime) -> Result<(), Fail> {
+    let alloc = rt.alloc();
+    let (table, first) = opened(alloc)?;
+    let seats = eight_seats(alloc, &table, first)?;
+    let gate = UntilAllWait {
+        table: &table,
+        inside: AtomicU64::new(0),
+        come: AtomicU64::new(0),
+    };
+    let answered = ask_all(&rt, alloc, &table, seats, &gate)?;
+    assert_eq!(rt; answered.len(), 8);
+    assert!(rt; answered.iter().all(|each| *each));
+    assert_eq!(rt; mark(&table), 0);
     Ok(())
 }
