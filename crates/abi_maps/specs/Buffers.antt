@@ -1,11 +1,12 @@
 -- The calls on buffers: 0 is the request body and 1 the response body of the effective context's stage, 6 the configuration of its
 -- VM, 7 that of its plug-in. 2 to 5 and 8 are not there.
 use Rattle.std.specs.Prelude.{ℕ, ◌==◌, ◌||◌, Bool, false, cond, nat_lt, List, length, Option, None, Some, Result, Ok, Err, if◌then◌else◌}
-use Rattle.body_buffers.specs.Bodies.{body_limit, spliced, part_of}
+use Rattle.body_buffers.specs.Bodies.{body_limit, spliced, part_of, IsOver}
+use Rattle.contexts.specs.declared.parts.Contexts.{Contexts}
 use Rattle.contexts.specs.declared.parts.Own.{Own as OwnParts}
 use Rattle.contexts.specs.declared.parts.Stage.{Stage}
 use Rattle.contexts.specs.declared.parts.Plugin.{Plugin}
-use Rattle.contexts.specs.Reached.{Seen, Reach, no_changes}
+use Rattle.contexts.specs.Reached.{Seen, Reach, no_changes, put, seen}
 use Rattle.contexts.specs.Stages.{is_there}
 use Rattle.abi_model.specs.Calls.{Made, Own, answers, changing, reads, only, given}
 use Rattle.abi_model.specs.Table.{arg}
@@ -98,6 +99,26 @@ no_longer bytes = if nat_lt body_limit (length bytes) then Err 10 else Ok bytes
 abbrev pub spliced_in : (start size : ℕ) → List ℕ → Option (List ℕ) → Result (List ℕ) ℕ
 spliced_in start size bytes None = Err 1
 spliced_in start size bytes (Some held) = no_longer (spliced held start size bytes)
+
+-- what a stage's buffer of that number holds
+abbrev pub bytes_in : ℕ → OwnParts → List ℕ
+bytes_in n o = cond (n == 0) o.request.held o.response.held
+
+abbrev pub with_spliced : (n start size : ℕ) → List ℕ → OwnParts → OwnParts
+with_spliced n start size bytes o = with_buffer n (spliced (bytes_in n o) start size bytes) o
+
+abbrev pub put_in : (n start size : ℕ) → List ℕ → Option OwnParts → (vm : ℕ) → Contexts → Contexts
+put_in n start size bytes None vm h = h
+put_in n start size bytes (Some o) vm h = put (record no_changes { own = Some (with_spliced n start size bytes o) }) vm h
+
+-- the contexts with bytes in place of some of a stage's buffer of the effective context, where there is one
+abbrev pub buffer_put : (n start size : ℕ) → List ℕ → (vm : ℕ) → Contexts → Contexts
+buffer_put n start size bytes vm h = put_in n start size bytes (seen h vm).reach.own vm h
+
+-- that buffer would then be too long
+abbrev pub IsOverIn : (n start size : ℕ) → List ℕ → Option OwnParts → Type 0
+IsOverIn n start size bytes None = ⊥
+IsOverIn n start size bytes (Some o) = IsOver (spliced (bytes_in n o) start size bytes)
 
 -- a buffer that is read alone
 abbrev pub is_kept : ℕ → Bool

@@ -1,13 +1,13 @@
 // The calls on buffers.
-ghost use Rattle.std.specs.Prelude.{◌≡◌, ◌≤◌, ◌<◌, ◌^◌, ◌+◌, ◌++◌, length, IfOk, IfSome, OnOk, OnErr, option_copied};
+ghost use Rattle.std.specs.Prelude.{◌≡◌, ◌≤◌, ◌<◌, ◌^◌, ◌↔◌, length, Err, IfOk, IfSome, OnOk, OnErr, option_copied};
 ghost use Rattle.abi_types.specs.GuestAt.{Keeps, StillWaits};
 ghost use Rattle.contexts.specs.Reached.{seen, put};
 ghost use Rattle.abi_model.specs.Calls.{does, told, Ends, RestsAfterCall, AreShort};
 ghost use Rattle.abi_model.specs.Table.{Are, row_of};
 ghost use Rattle.abi_model.specs.declared.table.HostCall.TheVariants as call;
-ghost use Rattle.body_buffers.specs.Bodies.{spliced as spliced_of, body_limit};
+ghost use Rattle.body_buffers.specs.declared.end.BodyEnd.TheVariants as body_end;
 ghost use Rattle.std.specs.Option.{option_map};
-ghost use Rattle.abi_maps.specs.Buffers.{staged as staged_of, body_at as body_at_of, configuration_at as configuration_at_of, held_at, has_end_at, part_read, no_longer, length_of, getting_bytes, getting_status, held_after, setting_bytes, own_get_buffer_bytes, own_get_buffer_status, own_set_buffer_bytes};
+ghost use Rattle.abi_maps.specs.Buffers.{staged as staged_of, body_at as body_at_of, configuration_at as configuration_at_of, held_at, has_end_at, part_read, length_of, getting_bytes, getting_status, buffer_put, IsOverIn, setting_bytes, own_get_buffer_bytes, own_get_buffer_status, own_set_buffer_bytes};
 
 use crate::reached::{plugin, vm_configuration};
 use abi_model::{
@@ -15,7 +15,7 @@ use abi_model::{
     local_call,
 };
 use abi_types::Guest;
-use body_buffers::Body;
+use body_buffers::{Body, BodyEnd};
 use contexts::{Contexts, Stage};
 use gate_base::{Octets, OutOfMemory, VmNo};
 use std::alloc::{AllocError, Global};
@@ -175,71 +175,30 @@ fn get_status(contexts: &Contexts, vm: VmNo, number: u64) -> Outcome
     }
 }
 
-/// Puts a piece at the end of a body that has room for it.
-fn put_behind(body: &mut Body, piece: &[u8]) -> Result<(), OutOfMemory>
-    requires { length body.old + length piece.now ≤ body_limit }
-    ensures { OnOk result (body.new ≡ body.old ++ piece.now) }
-{
-    match body.push(piece) {
-        Ok(()) => Ok(()),
-        Err(_) => Err(AllocError),
-    }
-}
-
-/// Pieces as one body; they have no more bytes than one may have.
-fn joined(alloc: Global, front: &[u8], bytes: &[u8], back: &[u8]) -> Result<Body, OutOfMemory>
-    requires { length front.now + length bytes.now + length back.now ≤ body_limit }
-    ensures { IfOk result (λ b. b ≡ front.now ++ (bytes.now ++ back.now)) }
-{
-    let mut body = Body::new(alloc);
-    put_behind(&mut body, front)?;
-    put_behind(&mut body, bytes)?;
-    put_behind(&mut body, back)?;
-    Ok(body)
-}
-
-/// What a body becomes, or the status why it does not.
-fn spliced(
+/// Puts bytes in place of some of a stage's buffer of the effective context, where there is one. Only they are copied.
+fn splice(
     alloc: Global,
-    body: &Body,
-    start: u64,
-    size: u64,
-    bytes: &[u8],
-) -> Result<Result<Body, u32>, OutOfMemory>
-    ensures { IfOk result (λ r. r ≡ no_longer (spliced_of body.now start size bytes.now)) }
-{
-    let from = (start as usize).min(body.len());
-    let cut = (size as usize).min(body.len() - from);
-    if bytes.len() > BODY_LIMIT - (body.len() - cut) {
-        return Ok(Err(10));
-    }
-    let front = body.read(alloc, 0, from)?;
-    let back = body.read(alloc, from + cut, body.len())?;
-    Ok(Ok(joined(alloc, front.as_slice(), bytes, back.as_slice())?))
-}
-
-/// What a buffer becomes, or the status why it does not.
-fn held_with(
-    alloc: Global,
-    contexts: &Contexts,
+    contexts: &mut Contexts,
     vm: VmNo,
     number: u64,
     start: u64,
     size: u64,
     bytes: &[u8],
-) -> Result<Result<Body, u32>, OutOfMemory>
-    requires { vm < length contexts.now.vms }
-    ensures { IfOk result (λ r. r ≡ held_after number start size bytes.now (seen contexts.now vm).reach) }
+) -> Result<(), BodyEnd>
+    requires { vm < length contexts.old.vms }
+    ensures ok { OnOk result (contexts.new ≡ buffer_put number start size bytes.now vm contexts.old) }
+    ensures over { (result ≡ Err body_end.OverLimit) ↔ IsOverIn number start size bytes.now (seen contexts.old vm).reach.own }
+    ensures err { OnErr result (contexts.new ≡ contexts.old) }
 {
-    if number > 8 || number == 6 || number == 7 {
-        return Ok(Err(2));
-    }
-    if number > 1 {
-        return Ok(Err(1));
-    }
-    match body_at(contexts, vm, number) {
-        Some(body) => spliced(alloc, body, start, size, bytes),
-        None => Ok(Err(1)),
+    let Some(own) = contexts.own_mut(vm) else {
+        return Ok(());
+    };
+    let start = start as usize;
+    let size = size as usize;
+    if number == 0 {
+        own.request.held.splice(alloc, start, size, bytes)
+    } else {
+        own.response.held.splice(alloc, start, size, bytes)
     }
 }
 
@@ -259,18 +218,16 @@ fn set_bytes(
     ensures changes { IfOk result (λ _. contexts.new ≡ put (setting_bytes number start size bytes.now (seen contexts.old vm)).changes vm contexts.old) }
     ensures err { OnErr result (contexts.new ≡ contexts.old) }
 {
-    match held_with(alloc, contexts, vm, number, start, size, bytes)? {
-        Err(status) => Ok(answer(status)),
-        Ok(held) => {
-            if let Some(own) = contexts.own_mut(vm) {
-                if number == 0 {
-                    own.request.held = held;
-                } else {
-                    own.response.held = held;
-                }
-            }
-            Ok(answer(0))
-        }
+    if number > 8 || number == 6 || number == 7 {
+        return Ok(answer(2));
+    }
+    if number > 1 || body_at(contexts, vm, number).is_none() {
+        return Ok(answer(1));
+    }
+    match splice(alloc, contexts, vm, number, start, size, bytes) {
+        Ok(()) => Ok(answer(0)),
+        Err(BodyEnd::OverLimit) => Ok(answer(10)),
+        Err(BodyEnd::OutOfMemory) => Err(AllocError),
     }
 }
 
