@@ -1,5 +1,5 @@
 -- Steps over lists of items and of stages.
-use Rattle.std.proofs.Common.{◌≡◌, ℕ, ◌+◌, ◌<◌, ◌≤◌, List, [], ◌∷◌, length, drop, get_or, take, ◌-◌, ap, ◌∙◌, arith, true, false}
+use Rattle.std.proofs.Common.{◌≡◌, ℕ, ◌+◌, ◌<◌, ◌≤◌, List, [], ◌∷◌, ◌++◌, length, drop, get_or, take, ◌-◌, ap, ◌∙◌, arith, true, false}
 use Rattle.std.specs.Prelude.{not, suc, remove}
 use Rattle.std.specs.List.{position_or_len, suffix_len}
 use Rattle.std.proofs.lemmas.List.Sums.{suffix_len-take_yes, suffix_len-take_no}
@@ -14,6 +14,10 @@ size_more items i d inside = ap size (drop_more items i d inside)
 
 pub size_all : (items : List Item) (i : ℕ) → length items ≤ i → size (drop i items) ≡ 0
 size_all items i past = ap size (drop_all i items past)
+
+pub size_append : (xs ys : List Item) → size (xs ++ ys) ≡ size xs + size ys
+size_append [] ys = omega arith
+size_append (x ∷ xs) ys = omega (arith, size_append xs ys)
 
 passes_more : (s : Stage) (ss : List Stage) → s.passes ≡ true → position_or_len (λ (t : Stage). not t.passes) (s ∷ ss) ≡ 1 + position_or_len (λ (t : Stage). not t.passes) ss
 passes_more s ss is = rw is

@@ -5,7 +5,8 @@ ghost use Rattle.filter_chain.specs.declared.stage.Stage.{Stage};
 ghost use Rattle.filter_chain.specs.Items.{size, bytes_in, held_items, holds_bytes, is_free, piece_of, first_of};
 ghost use Rattle.filter_chain.specs.Chains.{reached, has_head, is_head, onto, accepts, asking, ask_stage, ask_item, target, fits, with_more, handed, given, put, continued, paused, let_through, may_be_picked, ready, asked, asked_at, bytes_at, bytes_held, without_held, unless_over, let_go, opened, waiting_of, without_waiting, cleared, is_of, with_first};
 
-use crate::{Ask, AskKind, Asking, Held, Item, Passed, Stage};
+use crate::waiting::bytes_len;
+use crate::{Ask, AskKind, Asking, Held, Item, Passed, Stage, Waiting};
 use contexts::Contexts;
 use gate_base::{ContextId, Octets, OutOfMemory, VmNo};
 use queue::Queue;
@@ -28,33 +29,6 @@ impl Model for Chain {
     ghost Value = { List Stage };
 
     ghost view = { λ c. c.stages.items };
-}
-
-/// How many bytes an item has.
-fn bytes_len(item: &Item) -> usize
-    ensures { result ≡ length (bytes_in item.now) }
-{
-    match item {
-        Item::Head { .. } => 0,
-        Item::Piece { bytes, .. } => bytes.len(),
-        Item::Trailers => 0,
-    }
-}
-
-/// What is left of so many bytes behind those of these items; none where they are more.
-#[tactic(auto, using(crate::proofs::Sizes::size_more, crate::proofs::Sizes::size_all))]
-fn left_after(items: &[Item], most: usize) -> Option<usize>
-    ensures { MatchOption result (most < size items.now) (λ left. left + size items.now ≡ most) }
-{
-    let mut left = most;
-    for item in items {
-        let n = bytes_len(item);
-        if left < n {
-            return None;
-        }
-        left -= n;
-    }
-    Some(left)
 }
 
 /// Whether bytes are held.
@@ -112,7 +86,7 @@ fn items_held(alloc: Global, held: Held, bytes: Octets) -> Result<Queue<Item>, O
 fn is_ready(stage: &Stage) -> bool
     ensures { result ≡ may_be_picked stage.now }
 {
-    if stage.waiting.as_slice().is_empty() {
+    if stage.waiting.first().is_none() {
         return false;
     }
     match stage.held {
@@ -181,7 +155,7 @@ fn open_up(alloc: Global, stage: &mut Stage, contexts: &mut Contexts)
 }
 
 /// How many bytes the first of these has, where it is a piece.
-fn first_bytes(items: &[Item]) -> Option<usize>
+fn first_bytes(items: &Waiting) -> Option<usize>
     ensures { result ≡ first_of items.now }
 {
     match items.first() {
@@ -194,7 +168,7 @@ fn first_bytes(items: &[Item]) -> Option<usize>
 fn starts_with_head(stage: &Stage) -> bool
     ensures { result ≡ has_head stage.now.waiting }
 {
-    match stage.waiting.as_slice().first() {
+    match stage.waiting.first() {
         Some(Item::Head { .. }) => true,
         _ => false,
     }
@@ -220,7 +194,7 @@ fn hold_first(stage: &Stage, contexts: &mut Contexts) -> Result<(), OutOfMemory>
     ensures ok { OnOk result (contexts.new ≡ with_first contexts.old stage.now stage.now.waiting) }
     ensures err { OnErr result (contexts.new ≡ contexts.old) }
 {
-    match stage.waiting.as_slice().first() {
+    match stage.waiting.first() {
         Some(Item::Piece { bytes, end }) => {
             contexts.hold(
                 stage.vm,
@@ -241,7 +215,7 @@ fn ask_one(stage: &mut Stage, contexts: &mut Contexts, at: usize) -> Result<Aski
     ensures contexts { OnErr result (contexts.new ≡ contexts.old) }
 {
     let held = buffered(stage, contexts);
-    if let Some(n) = first_bytes(stage.waiting.as_slice()) {
+    if let Some(n) = first_bytes(&stage.waiting) {
         if n > LIMIT || held > LIMIT - n {
             return Ok(Asking::Over { stage: at });
         }
@@ -265,25 +239,19 @@ fn ask_one(stage: &mut Stage, contexts: &mut Contexts, at: usize) -> Result<Aski
     }
 }
 
-/// Are so many bytes more and those of these items not too many for a stage?
-fn has_room(contexts: &Contexts, stage: &Stage, first: usize, items: &[Item]) -> bool
-    ensures { result ≡ fits contexts.now (first + size items.now) stage.now }
+/// Are so many bytes more and so many further ones not too many for a stage?
+fn has_room(contexts: &Contexts, stage: &Stage, first: usize, more: usize) -> bool
+    ensures { result ≡ fits contexts.now (first + more) stage.now }
 {
-    let Some(rest) = left_after(items, LIMIT) else {
-        return false;
-    };
-    if first > rest {
+    if first > LIMIT || more > LIMIT - first {
         return false;
     }
-    let more = first + (LIMIT - rest);
-    if more == 0 {
+    let left = LIMIT - first - more;
+    if left == LIMIT {
         return true;
     }
-    let held = buffered(stage, contexts);
-    match left_after(stage.waiting.as_slice(), LIMIT - more) {
-        None => false,
-        Some(left) => held <= left,
-    }
+    let waits = stage.waiting.bytes();
+    waits <= left && buffered(stage, contexts) <= left - waits
 }
 
 impl Chain {
@@ -322,13 +290,12 @@ impl Chain {
         n
     }
 
-    /// Are so many bytes more and those of these items not too many where they go: for the stage at a place, if there is
-    /// one?
-    fn accepts(&self, contexts: &Contexts, to: usize, first: usize, items: &[Item]) -> bool
-        ensures { result ≡ accepts contexts.now (first + size items.now) (slice_get self.now to) }
+    /// Are so many bytes more and so many further ones not too many where they go: for the stage at a place, if there is one?
+    fn accepts(&self, contexts: &Contexts, to: usize, first: usize, more: usize) -> bool
+        ensures { result ≡ accepts contexts.now (first + more) (slice_get self.now to) }
     {
         match self.stages.get(to) {
-            Some(stage) => has_room(contexts, stage, first, items),
+            Some(stage) => has_room(contexts, stage, first, more),
             None => true,
         }
     }
@@ -429,11 +396,11 @@ impl Chain {
         ensures ok { IfOk result (λ p. put contexts.now item self.old ≡ (p, self.new)) }
         ensures err { OnErr result (self.new ≡ self.old) }
     {
-        let items = one(alloc, item)?;
         let to = self.target(0);
-        if !self.accepts(contexts, to, 0, items.as_slice()) {
+        if !self.accepts(contexts, to, bytes_len(&item), 0) {
             return Ok(Passed::Over);
         }
+        let items = one(alloc, item)?;
         self.hand(alloc, to, items)
     }
 
@@ -465,7 +432,7 @@ impl Chain {
     {
         let first = held_len(&self.stages[at], contexts);
         let to = self.target(at + 1);
-        if !self.accepts(contexts, to, first, &[]) {
+        if !self.accepts(contexts, to, first, 0) {
             return Ok(Passed::Over);
         }
         let items = copied(alloc, &self.stages[at], contexts)?;
@@ -488,7 +455,7 @@ impl Chain {
     {
         let first = held_len(&self.stages[at], contexts);
         let to = self.target(at + 1);
-        if !self.accepts(contexts, to, first, self.stages[at].waiting.as_slice()) {
+        if !self.accepts(contexts, to, first, self.stages[at].waiting.bytes()) {
             return Ok(Passed::Over);
         }
         let items = copied(alloc, &self.stages[at], contexts)?;
@@ -510,7 +477,7 @@ impl Chain {
         ensures ok { IfOk result (λ p. let rest = without_waiting at self.old (slice_get self.old at) in onto to (items ++ waiting_of (slice_get self.old at)) rest (slice_get rest to) ≡ (p, self.new)) }
         ensures err { OnErr result (self.new ≡ self.old) }
     {
-        let mut waiting = std::mem::replace(&mut self.stages[at].waiting, Queue::new(alloc));
+        let mut waiting = std::mem::replace(&mut self.stages[at].waiting, Waiting::new(alloc));
         match self.hand_both(alloc, to, items, &mut waiting) {
             Ok(passed) => Ok(passed),
             Err(refused) => {
@@ -526,19 +493,21 @@ impl Chain {
         alloc: Global,
         to: usize,
         items: Queue<Item>,
-        waiting: &mut Queue<Item>,
+        waiting: &mut Waiting,
     ) -> Result<Passed, OutOfMemory>
         ensures ok { IfOk result (λ p. onto to (items ++ waiting.old) self.old (slice_get self.old to) ≡ (p, self.new)) }
         ensures stages { OnErr result (self.new ≡ self.old) }
         ensures waiting { OnErr result (waiting.new ≡ waiting.old) }
     {
-        let mut left = Queue::new(alloc);
+        let mut left = Waiting::new(alloc);
         if to >= self.stages.len() {
             left.append_both(items, waiting)?;
         } else {
             self.stages[to].waiting.append_both(items, waiting)?;
         }
-        Ok(Passed::Left { items: left })
+        Ok(Passed::Left {
+            items: left.into_queue(),
+        })
     }
 
     /// The stage at a place goes on holding: an answer Pause.

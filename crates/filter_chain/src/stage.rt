@@ -1,7 +1,6 @@
 // One filter of an exchange in one direction.
-use crate::{Held, Item};
+use crate::{Held, Waiting};
 use gate_base::{ContextId, VmNo};
-use queue::Queue;
 
 /// One filter of an exchange in one direction. The bytes that it holds are its buffer in its context.
 #[derive(Drop)]
@@ -11,7 +10,7 @@ pub struct Stage {
     /// Of the direction from the upstream.
     pub response: bool,
     /// Not asked about yet.
-    pub waiting: Queue<Item>,
+    pub waiting: Waiting,
     pub held: Held,
     /// It passes everything unasked.
     pub passes: bool,

@@ -14,7 +14,7 @@ use crate::types::{Bodies, Job, Line, NewContext, Rules};
 use contexts::{Context, ContextEnd, Contexts, Exchange as Marked, Tick};
 use course::Death;
 use exchange::{Exchange, Filter, path_route, request_of, response_of};
-use filter_chain::{Chain, Held, Stage};
+use filter_chain::{Chain, Held, Stage, Waiting};
 use gate_base::{ContextId, LineNo, OutOfMemory, VmNo};
 use gate_config::{PluginEntry, PluginNos, RouteEntry};
 use h1_head::Head;
@@ -97,7 +97,7 @@ fn new_stage(alloc: Global, response: bool, f: Filter) -> Stage
         vm: f.vm,
         context: f.context,
         response,
-        waiting: Queue::new(alloc),
+        waiting: Waiting::new(alloc),
         held: Held::Nothing,
         passes: false,
     }

@@ -1,6 +1,6 @@
 use Rattle.std.proofs.Common.{◌≡◌, ◌+◌, drop}
 use Rattle.filter_chain.specs.Items.{size}
-use Rattle.filter_chain.proofs.chain.left_after.Given as goal
+use Rattle.filter_chain.proofs.waiting.with_bytes.Given as goal
 
 abbrev pub invariant-loop-item : goal.invariant-loop-item
-invariant-loop-item l = size l.items + l.left ≡ l.most + size (drop l.item-index l.items)
+invariant-loop-item l = l.some + size l.items ≡ l.sum + size (drop l.item-index l.items)
