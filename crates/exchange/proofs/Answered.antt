@@ -8,7 +8,7 @@ use Rattle.gate_io.specs.declared.event.Side.TheVariants.{Down}
 use Rattle.http1_model.specs.Framing.{Framing, no_body, piece_wire, trailer_wire}
 use Rattle.exchange.specs.declared.types.Exchange.{Exchange}
 use Rattle.exchange.specs.declared.types.Hub.{Hub}
-use Rattle.exchange.specs.Heads.{lacks_body}
+use Rattle.exchange.specs.Heads.{lacks_body, with_connection}
 use Rattle.exchange.specs.Laws.{NoBodyGoesDown}
 use Rattle.exchange.specs.Leaving.{out_framing, sending, sends, written_framing}
 use Rattle.exchange.specs.Maps.{response_trailers}
@@ -44,6 +44,6 @@ no_body_down = record {
       ap (λ (f : Framing). (record x { has_ended = end }, sends (sending n Down (piece_wire f bytes end)) hub)) (unwritten x is)
       ∙ ap (λ (h : Hub). (record x { has_ended = end }, h)) (sends_none hub);
   trailers = λ n x hub is.
-      ap (λ (f : Framing). (record x { has_ended = true }, sends (sending n Down (trailer_wire f (response_trailers x.place hub.contexts).pairs)) hub)) (unwritten x is)
+      ap (λ (f : Framing). (record x { has_ended = true }, sends (sending n Down (trailer_wire f (with_connection x.connection_down (response_trailers x.place hub.contexts).pairs))) hub)) (unwritten x is)
       ∙ ap (λ (h : Hub). (record x { has_ended = true }, h)) (sends_none hub);
 }

@@ -13,7 +13,7 @@ use Rattle.httparse.proofs.OnLiterals.{httparse_on_literals}
 use Rattle.httpdate.proofs.OnLiterals.{httpdate_on_literals}
 use Rattle.exchange.specs.declared.types.Exchange.{Exchange}
 use Rattle.exchange.specs.declared.types.Hub.{Hub}
-use Rattle.exchange.specs.Examples.{TooMuchExamples, NoStageExamples, NoBodyExamples, at_body, at_head, batch, held_of, host, let_down, stage}
+use Rattle.exchange.specs.Examples.{TooMuchExamples, NoStageExamples, NoBodyExamples, TrailerExamples, at_body, at_head, batch, held_of, host, let_down, stage}
 use Rattle.exchange.specs.Passing.{put_went, puts_all}
 
 -- ---- too much
@@ -80,3 +80,9 @@ no_body_examples = record {
   not_modified_stays = refl;
   no_content = refl;
 }
+
+-- ---- trailers
+
+pub trailer_examples : TrailerExamples
+unfolding httparse_on_literals httpdate_on_literals digits year_from month_from
+trailer_examples = record { up = refl; down = refl; up_then = refl; down_then = refl; up_late = refl; down_late = refl }

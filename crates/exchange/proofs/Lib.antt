@@ -1,3 +1,4 @@
 pub mod Lengths
 mod Answered
+mod Trailing
 mod Examples

@@ -1,4 +1,5 @@
--- Worked examples: a request that is too large, one that is answered past its filter, and responses of which no body goes down.
+-- Worked examples: a request that is too large, one that is answered past its filter, responses of which no body goes down, and trailers that the
+-- head's Connection lists.
 use Rattle.std.specs.Prelude.{◌≡◌, ◌<◌, ℕ, Bool, true, false, List, [], ◌∷◌, ◌++◌, length, None, Some, codes}
 use Rattle.contexts.specs.declared.parts.Contexts.{Contexts}
 use Rattle.contexts.specs.Creating.{opened, root_created, stream_created}
@@ -11,17 +12,18 @@ use Rattle.filter_chain.specs.declared.item.Held.TheVariants as held
 use Rattle.filter_chain.specs.declared.item.Item.TheVariants.{Head, Piece, Trailers}
 use Rattle.filter_chain.specs.Chains.{asked}
 use Rattle.gate_base.specs.declared.level.Level.TheVariants as levels
-use Rattle.gate_io.specs.declared.event.Sent.TheVariants.{Bytes}
-use Rattle.gate_io.specs.declared.event.Side.TheVariants.{Down}
+use Rattle.gate_io.specs.declared.event.Sent.TheVariants.{Bytes, Connect}
+use Rattle.gate_io.specs.declared.event.Side.TheVariants.{Down, Up}
 use Rattle.h1_head.specs.declared.head.Length.TheVariants as lengths
-use Rattle.header_maps.specs.Operations.{request_headers, response_headers}
+use Rattle.header_maps.specs.Headers.{Headers}
+use Rattle.header_maps.specs.Operations.{no_headers, request_headers, response_headers, added}
 use Rattle.httparse.specs.Ascii.{crlf_bytes}
 use Rattle.exchange.specs.declared.types.Exchange.{Exchange}
 use Rattle.exchange.specs.declared.types.Hub.{Hub}
 use Rattle.exchange.specs.declared.types.Request.{Request}
 use Rattle.exchange.specs.declared.types.Response.{Response}
 use Rattle.exchange.specs.Answering.{directly, with_held}
-use Rattle.exchange.specs.Maps.{put_response}
+use Rattle.exchange.specs.Maps.{put_request, put_response, put_request_trailers, put_response_trailers}
 use Rattle.exchange.specs.Passing.{put_in, acts, closed}
 
 abbrev line : List ℕ → List ℕ
@@ -61,6 +63,8 @@ exchange asked told request response = record {
   due = None;
   refusal = None;
   is_head_up = false;
+  connection_up = [];
+  connection_down = [];
   is_read = false;
   is_entered = true;
   is_headed = false;
@@ -162,3 +166,67 @@ pub record NoBodyExamples : Type 0 where
   pub not_modified_stays : (responded false 304).0.stays ≡ true
   -- or 204, which tells no length
   pub no_content : (responded false 204).1.sent ≡ Bytes 1 Down (line (codes "HTTP/1.1 204 ") ++ first_date ++ line []) ∷ []
+
+-- ---- trailers: there are two, of which a Connection field lists one that a filter put into the head
+
+abbrev posted : Headers
+posted = request_headers (codes "POST") (codes "http") (codes "h") (codes "/")
+
+abbrev listing : Headers → Headers
+listing head = added head (codes "connection") (codes "x-other, X-Sum")
+
+abbrev two_trailers : Headers
+two_trailers = added (added no_headers (codes "x-sum") (codes "1")) (codes "x-kept") (codes "2")
+
+-- the heads of the exchange are these, and its trailers those two
+abbrev with_heads : (request response : Headers) → Contexts → Contexts
+with_heads request response contexts =
+    put_response_trailers two_trailers 0 (put_request_trailers two_trailers 0 (put_response response 0 (put_request request 0 contexts)))
+
+-- a filter changes the heads behind that
+abbrev pub plain_again : Exchange × Hub → Exchange × Hub
+plain_again (x, hub) = (x, record hub { contexts = with_heads posted (response_headers 200) hub.contexts })
+
+abbrev pub listing_again : Exchange × Hub → Exchange × Hub
+listing_again (x, hub) = (x, record hub { contexts = with_heads (listing posted) (listing (response_headers 200)) hub.contexts })
+
+abbrev chunked_response : Response
+chunked_response = record { to_head = false; status = Some 200; length = lengths.Chunked; told = None }
+
+-- the head of a request in chunks leaves, and that of a response in chunks
+abbrev pub head_leaves : (response : Bool) → Exchange × Hub → Exchange × Hub
+head_leaves response (x, hub) = put_in response (Head false ∷ []) 1 x hub
+
+abbrev pub trailers_leave : (response : Bool) → Exchange × Hub → Exchange × Hub
+trailers_leave response (x, hub) = put_in response (Trailers ∷ []) 1 x hub
+
+abbrev pub uploads : Exchange × Hub
+uploads = (exchange upload no_response [] [], hub_of host)
+
+abbrev pub responds : Exchange × Hub
+responds = (exchange (wanted false) chunked_response [] [], hub_of host)
+
+abbrev chunked_up : List ℕ
+chunked_up =
+    line (codes "POST / HTTP/1.1") ++ line (codes "host: h") ++ line (codes "transfer-encoding: chunked") ++ line (codes "via: 1.1 wasmgate")
+    ++ line (codes "connection: close") ++ line []
+
+abbrev chunked_down : List ℕ
+chunked_down = line (codes "HTTP/1.1 200 ") ++ line (codes "transfer-encoding: chunked") ++ first_date ++ line []
+
+abbrev kept_alone : List ℕ
+kept_alone = line (codes "0") ++ line (codes "x-kept: 2") ++ line []
+
+abbrev both_kept : List ℕ
+both_kept = line (codes "0") ++ line (codes "x-sum: 1") ++ line (codes "x-kept: 2") ++ line []
+
+pub record TrailerExamples : Type 0 where
+  -- the one that is listed goes neither up nor down
+  pub up : (trailers_leave false (head_leaves false (listing_again uploads))).1.sent ≡ Connect 1 ∷ Bytes 1 Up chunked_up ∷ Bytes 1 Up kept_alone ∷ []
+  pub down : (trailers_leave true (head_leaves true (listing_again responds))).1.sent ≡ Bytes 1 Down chunked_down ∷ Bytes 1 Down kept_alone ∷ []
+  -- so where the field is taken out of the map behind the head
+  pub up_then : (trailers_leave false (plain_again (head_leaves false (listing_again uploads)))).1.sent ≡ Connect 1 ∷ Bytes 1 Up chunked_up ∷ Bytes 1 Up kept_alone ∷ []
+  pub down_then : (trailers_leave true (plain_again (head_leaves true (listing_again responds)))).1.sent ≡ Bytes 1 Down chunked_down ∷ Bytes 1 Down kept_alone ∷ []
+  -- where it is put there behind the head, both go
+  pub up_late : (trailers_leave false (listing_again (head_leaves false (plain_again uploads)))).1.sent ≡ Connect 1 ∷ Bytes 1 Up chunked_up ∷ Bytes 1 Up both_kept ∷ []
+  pub down_late : (trailers_leave true (listing_again (head_leaves true (plain_again responds)))).1.sent ≡ Bytes 1 Down chunked_down ∷ Bytes 1 Down both_kept ∷ []

@@ -1,12 +1,12 @@
 -- Heads on their way out, how messages are framed, the route of a request, and the rule of persistence.
-use Rattle.std.specs.Prelude.{ℕ, Bool, true, false, ◌&&◌, ◌||◌, not, List, [], ◌∷◌, ◌++◌, length, ◌==◌, bytes_eq, codes, Option, None, Some, nat_lt, nat_le, if◌then◌else◌}
+use Rattle.std.specs.Prelude.{ℕ, Bool, true, false, ◌&&◌, ◌||◌, not, List, [], ◌∷◌, ◌++◌, filter, length, ◌==◌, bytes_eq, codes, Option, None, Some, nat_lt, nat_le, if◌then◌else◌}
 use Rattle.std.specs.List.{list_all, before_first}
 use Rattle.gate_config.specs.declared.entries.RouteEntry.{RouteEntry}
 use Rattle.gate_config.specs.Routes.{route_of}
 use Rattle.header_maps.specs.declared.kind.ListKind.TheVariants.{Plain}
 use Rattle.header_maps.specs.Headers.{Headers}
 use Rattle.header_maps.specs.Judged.{status_of}
-use Rattle.http1_model.specs.Fields.{Pair}
+use Rattle.http1_model.specs.Fields.{Pair, is_named}
 use Rattle.http1_model.specs.Framing.{Framing, no_body, by_length, by_chunks, by_close, told_framing, framing_of}
 use Rattle.http1_model.specs.Head.{Head}
 use Rattle.http1_model.specs.Length as model
@@ -104,6 +104,17 @@ close_fields stays = if stays then [] else close_field ∷ []
 
 abbrev pub down_tail : Bool → ℕ → Headers → List Pair
 down_tail stays now fields = date_fields (sent_fields fields.pairs) now ++ close_fields stays
+
+-- ---- trailers on their way out (RFC 9110, section 7.6.1)
+
+-- the Connection fields of a head as it goes out, where filters put some: they list names, of which no trailer goes out
+abbrev pub connection_fields : Headers → List Pair
+connection_fields head = filter (is_named (codes "connection")) head.pairs
+
+-- The fields of trailers with those of the head behind them, so that what these list is left out as what the trailers' own list is. The
+-- Connection fields themselves never go out.
+abbrev pub with_connection : List Pair → List Pair → List Pair
+with_connection connection trailers = trailers ++ connection
 
 -- ---- how messages are framed
 

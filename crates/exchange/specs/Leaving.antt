@@ -10,7 +10,7 @@ use Rattle.http1_model.specs.Framing.{Framing, head_wire, piece_wire, trailer_wi
 use Rattle.http1_model.specs.Unread.{new_reading}
 use Rattle.exchange.specs.declared.types.Exchange.{Exchange}
 use Rattle.exchange.specs.declared.types.Hub.{Hub}
-use Rattle.exchange.specs.Heads.{sent_head, up_tail, down_tail, up_framing, down_framing, body_framing, asked_by, is_head, status_in, is_by_close, may_stay}
+use Rattle.exchange.specs.Heads.{sent_head, up_tail, down_tail, connection_fields, with_connection, up_framing, down_framing, body_framing, asked_by, is_head, status_in, is_by_close, may_stay}
 use Rattle.exchange.specs.Maps.{request_map, response_map, request_trailers, response_trailers}
 
 -- bytes for a side, if there are any
@@ -27,14 +27,18 @@ sends more hub = record hub { sent = hub.sent ++ more }
 abbrev pub goes_up : Exchange → Framing
 goes_up x = up_framing x.filters_requests x.asked
 
--- with the head a connection is opened, over which the response comes
+-- With the head a connection is opened, over which the response comes. What its Connection fields list goes out as no trailer behind it.
 abbrev pub up : ℕ → Item → Exchange → Hub → Exchange × Hub
 up n (Head end) x hub = (
-  record x { reader = Some (new_reading (Some (asked_by (request_map x.place hub.contexts)))); is_head_up = is_head (request_map x.place hub.contexts) },
+  record x {
+    reader = Some (new_reading (Some (asked_by (request_map x.place hub.contexts))));
+    is_head_up = is_head (request_map x.place hub.contexts);
+    connection_up = connection_fields (request_map x.place hub.contexts);
+  },
   sends (Connect n ∷ sending n Up (head_wire (goes_up x) (sent_head (request_map x.place hub.contexts) (up_tail x.asked.minor)))) hub,
 )
 up n (Piece bytes end) x hub = (x, sends (sending n Up (piece_wire (goes_up x) bytes end)) hub)
-up n Trailers x hub = (x, sends (sending n Up (trailer_wire (goes_up x) (request_trailers x.place hub.contexts).pairs)) hub)
+up n Trailers x hub = (x, sends (sending n Up (trailer_wire (goes_up x) (with_connection x.connection_up (request_trailers x.place hub.contexts).pairs))) hub)
 
 -- ---- what leaves the chain of the response goes down
 
@@ -56,7 +60,7 @@ with_out status x = record x { out = status }
 -- The head settles how the response is framed, and whether the line stays open. The end of the exchange is due where the response is whole.
 abbrev pub head_down : ℕ → Bool → Exchange → Hub → Exchange × Hub
 head_down n end x hub = (
-  record x { is_head_out = true; stays = stays_behind x (out_framing x); has_ended = end },
+  record x { is_head_out = true; stays = stays_behind x (out_framing x); has_ended = end; connection_down = connection_fields (response_map x.place hub.contexts) },
   sends (sending n Down (head_wire (out_framing x) (sent_head (response_map x.place hub.contexts)
       (down_tail (stays_behind x (out_framing x)) hub.moment (response_map x.place hub.contexts))))) hub,
 )
@@ -64,7 +68,7 @@ head_down n end x hub = (
 abbrev pub down : ℕ → Item → Exchange → Hub → Exchange × Hub
 down n (Head end) x hub = head_down n end (with_out (status_in (response_map x.place hub.contexts)) x) hub
 down n (Piece bytes end) x hub = (record x { has_ended = end }, sends (sending n Down (piece_wire (written_framing x) bytes end)) hub)
-down n Trailers x hub = (record x { has_ended = true }, sends (sending n Down (trailer_wire (written_framing x) (response_trailers x.place hub.contexts).pairs)) hub)
+down n Trailers x hub = (record x { has_ended = true }, sends (sending n Down (trailer_wire (written_framing x) (with_connection x.connection_down (response_trailers x.place hub.contexts).pairs))) hub)
 
 -- ---- one item after another, unless the exchange has ended
 

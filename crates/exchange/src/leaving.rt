@@ -5,7 +5,7 @@ ghost use Rattle.gate_io.specs.declared.event.Side.TheVariants.{Down, Up};
 ghost use Rattle.http1_model.specs.Framing.{head_wire, piece_wire, trailer_wire};
 ghost use Rattle.http1_model.specs.Unread.{new_reading};
 ghost use Rattle.h1_write.specs.Seen.{seen_framing};
-ghost use Rattle.exchange.specs.Heads.{asked_by, is_head, status_in, sent_head, up_tail, down_tail};
+ghost use Rattle.exchange.specs.Heads.{asked_by, is_head, status_in, sent_head, up_tail, down_tail, connection_fields, with_connection};
 ghost use Rattle.exchange.specs.Maps.{request_map, response_map, request_trailers, response_trailers};
 ghost use Rattle.exchange.specs.Leaving.{sending, sends, goes_up, up, out_framing, written_framing, stays_behind, head_down, down, leaves, left};
 
@@ -14,9 +14,9 @@ use crate::heads::{
 };
 use crate::maps::{request_map, request_trailers, response_map, response_trailers};
 use crate::types::{Exchange, Hub};
-use crate::writing::{request_bytes, response_bytes, trailer_bytes};
+use crate::writing::{connection_fields, request_bytes, response_bytes, trailer_bytes};
 use filter_chain::Item;
-use gate_base::{LineNo, Octets, OutOfMemory};
+use gate_base::{LineNo, Octets, OutOfMemory, Pairs};
 use gate_io::{Sent, Side};
 use h1_head::Item as Part;
 use h1_stream::MessageReader;
@@ -77,6 +77,14 @@ fn request_up(
     Ok((bytes, reader, is_head(map)))
 }
 
+/// The Connection fields of the request's head as it goes up.
+fn connection_up(alloc: Global, x: &Exchange, hub: &Hub) -> Result<Pairs, OutOfMemory>
+    ensures { IfOk result (λ pairs. pairs ≡ connection_fields (request_map x.now.place hub.now.contexts)) }
+{
+    let none = HeaderList::new(alloc);
+    connection_fields(alloc, request_map(&hub.contexts, x.place, &none))
+}
+
 /// The request's head leaves.
 fn head_up(
     alloc: Global,
@@ -87,6 +95,7 @@ fn head_up(
 ) -> Result<(), OutOfMemory>
     ensures { OnOk result (up n (Item.Head end) x.old hub.old ≡ (x.new, hub.new)) }
 {
+    x.connection_up = connection_up(alloc, x, hub)?;
     let (bytes, reader, is_head) = request_up(alloc, x, hub)?;
     hub.sent.push(Sent::Connect { line: n })?;
     send(hub, n, Side::Up, bytes)?;
@@ -97,11 +106,11 @@ fn head_up(
 
 /// The bytes of the request's trailers.
 fn trailers_up(alloc: Global, x: &Exchange, hub: &Hub) -> Result<Octets, OutOfMemory>
-    ensures { IfOk result (λ bytes. bytes ≡ trailer_wire (goes_up x.now) (request_trailers x.now.place hub.now.contexts).pairs) }
+    ensures { IfOk result (λ bytes. bytes ≡ trailer_wire (goes_up x.now) (with_connection x.now.connection_up (request_trailers x.now.place hub.now.contexts).pairs)) }
 {
     let none = HeaderList::new(alloc);
     let map = request_trailers(&hub.contexts, x.place, &none);
-    trailer_bytes(alloc, map, goes_up(x))
+    trailer_bytes(alloc, x.connection_up.as_slice(), map, goes_up(x))
 }
 
 /// An item leaves the chain of the request.
@@ -145,6 +154,14 @@ fn response_down(alloc: Global, x: &Exchange, hub: &Hub, stays: bool) -> Result<
     response_bytes(alloc, map, out_framing(x), stays, hub.moment)
 }
 
+/// The Connection fields of the response's head as it goes down.
+fn connection_down(alloc: Global, x: &Exchange, hub: &Hub) -> Result<Pairs, OutOfMemory>
+    ensures { IfOk result (λ pairs. pairs ≡ connection_fields (response_map x.now.place hub.now.contexts)) }
+{
+    let none = HeaderList::new(alloc);
+    connection_fields(alloc, response_map(&hub.contexts, x.place, &none))
+}
+
 /// The response's head leaves, whose status is known.
 fn head_down(
     alloc: Global,
@@ -155,6 +172,7 @@ fn head_down(
 ) -> Result<(), OutOfMemory>
     ensures { OnOk result (head_down n end x.old hub.old ≡ (x.new, hub.new)) }
 {
+    x.connection_down = connection_down(alloc, x, hub)?;
     let stays = stays_behind(x, out_framing(x));
     let bytes = response_down(alloc, x, hub, stays)?;
     send(hub, n, Side::Down, bytes)?;
@@ -166,11 +184,11 @@ fn head_down(
 
 /// The bytes of the response's trailers.
 fn trailers_down(alloc: Global, x: &Exchange, hub: &Hub) -> Result<Octets, OutOfMemory>
-    ensures { IfOk result (λ bytes. bytes ≡ trailer_wire (written_framing x.now) (response_trailers x.now.place hub.now.contexts).pairs) }
+    ensures { IfOk result (λ bytes. bytes ≡ trailer_wire (written_framing x.now) (with_connection x.now.connection_down (response_trailers x.now.place hub.now.contexts).pairs)) }
 {
     let none = HeaderList::new(alloc);
     let map = response_trailers(&hub.contexts, x.place, &none);
-    trailer_bytes(alloc, map, written_framing(x))
+    trailer_bytes(alloc, x.connection_down.as_slice(), map, written_framing(x))
 }
 
 /// An item leaves the chain of the response.

@@ -12,7 +12,9 @@ mod writing;
 
 pub use answering::answer;
 pub use heads::{is_bare, is_due, is_final, path_route, request_of, response_of};
-pub use laws::{no_body_goes_down, nothing_follows_an_answer, worked_exchanges};
+pub use laws::{
+    no_body_goes_down, no_listed_trailer_goes_out, nothing_follows_an_answer, worked_exchanges,
+};
 pub use leaving::send;
 pub use maps::{
     fields_map, mark, pair_count, put_request, put_request_trailers, put_response,

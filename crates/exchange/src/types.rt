@@ -2,7 +2,7 @@
 
 use contexts::Contexts;
 use filter_chain::Chain;
-use gate_base::{ContextId, VmNo};
+use gate_base::{ContextId, Pairs, VmNo};
 use gate_io::Sent;
 use h1_head::Length;
 use h1_stream::MessageReader;
@@ -87,6 +87,10 @@ pub struct Exchange {
     pub refusal: Option<u16>,
     /// It was sent up as a HEAD request.
     pub is_head_up: bool,
+    /// The Connection fields of the request's head as it went up, and of the response's as it went down. No trailer goes out that
+    /// they list.
+    pub connection_up: Pairs,
+    pub connection_down: Pairs,
     /// The whole response of the server was read.
     pub is_read: bool,
     /// Its stages were made, and what was read of the request was put into them.

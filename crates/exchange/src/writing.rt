@@ -1,13 +1,14 @@
 // Heads and trailers on their way out, written from the maps.
-ghost use Rattle.std.specs.Prelude.{◌≡◌, ◌++◌, ◌∷◌, [], codes, IfOk, OnOk};
+ghost use Rattle.std.specs.Prelude.{◌≡◌, ◌++◌, ◌∷◌, [], codes, bytes_eq, IfOk, OnOk};
+ghost use Rattle.http_header.specs.Token.{lowercase};
 ghost use Rattle.http1_model.specs.ChunkWire.{body_end};
 ghost use Rattle.http1_model.specs.Framing.{no_body, framing_line, response_line, start_lines, head_wire, trailer_wire};
 ghost use Rattle.http1_model.specs.LocalReply.{date_line, close_line};
 ghost use Rattle.http1_model.specs.Wire.{version_text, field_line, field_lines, sent_fields, via_of, close_field, request_line};
 ghost use Rattle.h1_write.specs.Seen.{seen_framing};
-ghost use Rattle.exchange.specs.Heads.{sent_head, up_tail, down_tail, date_fields, close_fields};
+ghost use Rattle.exchange.specs.Heads.{sent_head, up_tail, down_tail, date_fields, close_fields, connection_fields, with_connection};
 
-use gate_base::{Octets, OutOfMemory};
+use gate_base::{Octets, OutOfMemory, Pairs};
 use h1_head::{pseudo_of, push_field, push_fields};
 use h1_write::Framing;
 use header_maps::{HeaderList, ListKind};
@@ -143,21 +144,74 @@ pub fn interim_bytes(alloc: Global, fields: &HeaderList) -> Result<Octets, OutOf
     Ok(out)
 }
 
-/// The bytes of trailers of a message that is framed so.
+/// Puts a copy of a field at the end.
+fn push_copy(alloc: Global, pairs: &mut Pairs, name: &[u8], value: &[u8]) -> Result<(), OutOfMemory>
+    ensures { OnOk result (pairs.new ≡ pairs.old ++ (name.now, value.now) ∷ []) }
+{
+    let name = Octets::from_slice(alloc, name)?;
+    let value = Octets::from_slice(alloc, value)?;
+    pairs.push((name, value))
+}
+
+/// Whether a name, in any case of letters, is that of Connection.
+fn is_connection(name: &[u8]) -> bool
+    ensures { result ≡ bytes_eq (lowercase name.now) (codes "connection") }
+{
+    name.eq_ignore_ascii_case(b"connection")
+}
+
+/// The Connection fields of a head as it goes out.
+pub(crate) fn connection_fields(alloc: Global, head: &HeaderList) -> Result<Pairs, OutOfMemory>
+    ensures { IfOk result (λ pairs. pairs ≡ connection_fields head.now) }
+{
+    let mut pairs = Pairs::new(alloc);
+    for (name, value) in head.as_slice() {
+        if is_connection(name.as_slice()) {
+            push_copy(alloc, &mut pairs, name.as_slice(), value.as_slice())?;
+        }
+    }
+    Ok(pairs)
+}
+
+/// The fields of trailers, and behind them the Connection fields of their head.
+fn with_connection(
+    alloc: Global,
+    connection: &[(Octets, Octets)],
+    trailers: &HeaderList,
+) -> Result<Pairs, OutOfMemory>
+    ensures { IfOk result (λ pairs. pairs ≡ with_connection connection.now trailers.now.pairs) }
+{
+    let mut pairs = trailers.pairs(alloc)?;
+    for (name, value) in connection {
+        push_copy(alloc, &mut pairs, name.as_slice(), value.as_slice())?;
+    }
+    Ok(pairs)
+}
+
+/// Puts the end of a chunked body with these trailers at the end.
+fn push_trailers(out: &mut Octets, fields: &[(Octets, Octets)]) -> Result<(), OutOfMemory>
+    ensures { OnOk result (out.new ≡ out.old ++ body_end (sent_fields fields.now)) }
+{
+    out.extend_from_slice(b"0\r\n")?;
+    push_fields(out, fields)?;
+    out.extend_from_slice(b"\r\n")
+}
+
+/// The bytes of trailers of a message that is framed so, behind a head with these Connection fields.
 pub(crate) fn trailer_bytes(
     alloc: Global,
-    fields: &HeaderList,
+    connection: &[(Octets, Octets)],
+    trailers: &HeaderList,
     framing: Framing,
 ) -> Result<Octets, OutOfMemory>
-    ensures { IfOk result (λ bytes. bytes ≡ trailer_wire (seen_framing framing) fields.now.pairs) }
+    ensures { IfOk result (λ bytes. bytes ≡ trailer_wire (seen_framing framing) (with_connection connection.now trailers.now.pairs)) }
 {
     let mut out = Octets::new(alloc);
     match framing {
         Framing::Nothing | Framing::Length(_) | Framing::UntilClose => Ok(out),
         Framing::Chunked => {
-            out.extend_from_slice(b"0\r\n")?;
-            push_fields(&mut out, fields.as_slice())?;
-            out.extend_from_slice(b"\r\n")?;
+            let fields = with_connection(alloc, connection, trailers)?;
+            push_trailers(&mut out, fields.as_slice())?;
             Ok(out)
         }
     }

@@ -13,14 +13,14 @@ use Rattle.h1_write.proofs.Requests.{request_read_back}
 use Rattle.h1_write.specs.Lines.{OutRequest, out_items, out_wire}
 use Rattle.h1_write.specs.Round.{Ending, last_bytes, last_trailers, ending_item, body_items}
 use Rattle.exchange_laws.specs.Laws.{GoesUpOnce, OneRequestGoesUp, IsQuiet, NothingElseGoesUp}
-use Rattle.exchange_laws.specs.Lives.{Deed, comes, responds, acts, resumes, closes, answers, dies, refuses, expires, turns, done_by, is_over, IsFair, out_item, items_by, Lives}
+use Rattle.exchange_laws.specs.Lives.{Deed, comes, responds, acts, resumes, closes, answers, dies, refuses, expires, turns, done_by, is_over, IsFair, items_out, items_by, Lives}
 use Rattle.exchange_laws.specs.Traffic.{Traffic, opens, byte, ups, item_traffic, traffic, IsFront}
 use Rattle.exchange_laws.proofs.Quiet.{by_bool, stays, responds_quiet, acts_quiet, resumes_quiet, closed_quiet, answer_quiet, dies_quiet, refused_quiet, expires_quiet}
 use Rattle.exchange_laws.proofs.Ups.{GoesUp, all_up, comes_over, comes_open}
 
 -- ---- one thing that happens
 
-nothing_mapped : (x : Exchange) (hub : Hub) (items : List Item) → map (out_item x hub) items ≡ [] → items ≡ []
+nothing_mapped : (x : Exchange) (hub : Hub) (items : List Item) → items_out x hub items ≡ [] → items ≡ []
 nothing_mapped x hub [] is = refl
 nothing_mapped x hub (item ∷ items) is = absurd (cc)
 
@@ -142,8 +142,8 @@ grows n framing (deed ∷ deeds) x y hub after came is framed live lives =
         let lives_on : Lives n p.0 p.1 deeds lives.0 y after = subst (λ (q : Exchange × Hub). Lives n q.0 q.1 deeds lives.0 y after) (comes_open n items x hub o.1) lives.3 in
         let still : is_over p.0 ≡ false = (λ i. first.ended i || first.answered i) ∙ live in
         let later : Grows n framing lives.0 p.1 y after = go p.0 p.1 lives.0 first.unfiltered (first.framed ∙ framed) still lives_on in
-        grows_by n framing (map (out_item x hub) items) lives.0 came hub p.1 y after
-        (first.sent ∙ ap (λ (f : Framing). ups n hub.sent ++ traffic f (map (out_item x hub) items)) framed) lives.2 later
+        grows_by n framing (items_out x hub items) lives.0 came hub p.1 y after
+        (first.sent ∙ ap (λ (f : Framing). ups n hub.sent ++ traffic f (items_out x hub items)) framed) lives.2 later
 
     by_deed : Later → (deed : Deed) → Lives n x hub (deed ∷ deeds) came y after → Grows n framing came hub y after
     by_deed go (comes items) lives = read go items lives

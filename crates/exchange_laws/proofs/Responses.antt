@@ -6,7 +6,7 @@ use Rattle.std.specs.Prelude.{if◌then◌else◌, Option, None, Some}
 use Rattle.exchange.specs.declared.types.Exchange.{Exchange}
 use Rattle.exchange.specs.declared.types.Hub.{Hub}
 use Rattle.exchange.specs.Answering.{cut_off, directly, puts_down, put_went_down, answered_by, with_answer, through, is_direct, shutting, answers_open, answer, stays_open}
-use Rattle.exchange.specs.Heads.{is_bare, is_by_close, is_final, passes_filters, shuts, status_in, lacks_body, sent_head, down_tail, may_stay}
+use Rattle.exchange.specs.Heads.{is_bare, is_by_close, is_final, passes_filters, shuts, status_in, lacks_body, sent_head, down_tail, may_stay, with_connection}
 use Rattle.exchange.specs.Leaving.{sending, sends, up, down, head_down, is_due, out_framing, written_framing, with_out}
 use Rattle.exchange.specs.Leaving as leaving
 use Rattle.exchange.specs.Maps.{response_map, response_trailers}
@@ -109,9 +109,9 @@ piece_adds n bytes end x hub =
     adds n hub.sent (sending n Down (piece_wire (written_framing x) bytes end)) (piece_wire (written_framing x) bytes end) (down_is_all n (piece_wire (written_framing x) bytes end))
 
 trailers_add : (n : ℕ) (x : Exchange) (hub : Hub)
-    → downs n (down n Trailers x hub).1.sent ≡ downs n hub.sent ++ trailer_wire (written_framing x) (response_trailers x.place hub.contexts).pairs
+    → downs n (down n Trailers x hub).1.sent ≡ downs n hub.sent ++ trailer_wire (written_framing x) (with_connection x.connection_down (response_trailers x.place hub.contexts).pairs)
 trailers_add n x hub =
-    let bytes : List ℕ = trailer_wire (written_framing x) (response_trailers x.place hub.contexts).pairs in
+    let bytes : List ℕ = trailer_wire (written_framing x) (with_connection x.connection_down (response_trailers x.place hub.contexts).pairs) in
     adds n hub.sent (sending n Down bytes) bytes (down_is_all n bytes)
 
 -- a response of these items behind its head
@@ -369,8 +369,8 @@ body_down n w (Trailers ∷ items) later x hub o is =
     let p : Exchange × Hub = down n Trailers (no_response x) hub in
     subst (λ (l : List Item). BodyDown n w hub later (puts_all true n (Trailers ∷ l) (x, hub)).0 (puts_all true n (Trailers ∷ l) (x, hub)).1) (sym (front_none items later is))
     (subst (λ (q : Exchange × Hub). BodyDown n w hub later q.0 q.1) (sym (puts_response_is n Trailers x hub o.response o.running))
-    (no_more_items n w hub later p (out.trailers (response_trailers x.place hub.contexts)) refl (o.stays refl)
-    (trailers_add n (no_response x) hub ∙ ap (λ (f : Framing). downs n hub.sent ++ trailer_wire f (response_trailers x.place hub.contexts).pairs) (o.framed refl)) (refl, refl)))
+    (no_more_items n w hub later p (out.trailers (record (response_trailers x.place hub.contexts) { pairs = with_connection x.connection_down (response_trailers x.place hub.contexts).pairs })) refl (o.stays refl)
+    (trailers_add n (no_response x) hub ∙ ap (λ (f : Framing). downs n hub.sent ++ trailer_wire f (with_connection x.connection_down (response_trailers x.place hub.contexts).pairs)) (o.framed refl)) (refl, refl)))
 
 -- ---- each thing that happens, but for what is read of the response
 

@@ -4,7 +4,7 @@ use Rattle.std.proofs.lemmas.List.{append-nil, append_assoc}
 use Rattle.std.specs.Prelude.{if◌then◌else◌}
 use Rattle.exchange.specs.declared.types.Exchange.{Exchange}
 use Rattle.exchange.specs.declared.types.Hub.{Hub}
-use Rattle.exchange.specs.Heads.{sent_head, up_tail}
+use Rattle.exchange.specs.Heads.{sent_head, up_tail, with_connection}
 use Rattle.exchange.specs.Leaving.{sending, goes_up, up}
 use Rattle.exchange.specs.Maps.{request_map, request_trailers}
 use Rattle.exchange.specs.Passing.{put_went, puts, puts_all, put_in, takes_nothing}
@@ -15,13 +15,13 @@ use Rattle.filter_chain.specs.Chains.{put}
 use Rattle.gate_io.specs.declared.event.Sent.TheVariants.{Connect}
 use Rattle.gate_io.specs.declared.event.Side.TheVariants.{Up}
 use Rattle.http1_model.specs.Framing.{head_wire, piece_wire, trailer_wire}
-use Rattle.exchange_laws.specs.Lives.{is_over, out_item}
+use Rattle.exchange_laws.specs.Lives.{is_over, out_item, items_out, all_out, connection_behind}
 use Rattle.exchange_laws.specs.Traffic.{opens, byte, ups, item_traffic, traffic}
 use Rattle.exchange_laws.proofs.Traffic.{here, up_is_all, adds}
 
 -- these items went up of an exchange, which is as before but for what comes back from the server
 pub record GoesUp (n : ℕ) (x : Exchange) (hub : Hub) (items : List Item) (y : Exchange) (after : Hub) : Type 0 where
-  pub sent : ups n after.sent ≡ ups n hub.sent ++ traffic (goes_up x) (map (out_item x hub) items)
+  pub sent : ups n after.sent ≡ ups n hub.sent ++ traffic (goes_up x) (items_out x hub items)
   pub unfiltered : y.request ≡ []
   pub framed : goes_up y ≡ goes_up x
   pub ended : y.has_ended ≡ x.has_ended
@@ -37,7 +37,7 @@ item_up n (Head end) x hub =
     adds n hub.sent (Connect n ∷ sending n Up bytes) (opens ∷ map byte bytes) (λ i. here n (opens ∷ []) i ++ up_is_all n bytes i)
 item_up n (Piece bytes end) x hub = adds n hub.sent (sending n Up (piece_wire (goes_up x) bytes end)) (map byte (piece_wire (goes_up x) bytes end)) (up_is_all n (piece_wire (goes_up x) bytes end))
 item_up n Trailers x hub =
-    let bytes : List ℕ = trailer_wire (goes_up x) (request_trailers x.place hub.contexts).pairs in
+    let bytes : List ℕ = trailer_wire (goes_up x) (with_connection x.connection_up (request_trailers x.place hub.contexts).pairs) in
     adds n hub.sent (sending n Up bytes) (map byte bytes) (up_is_all n bytes)
 
 open_takes : (x : Exchange) → x.has_ended ≡ false → x.is_answered ≡ false → takes_nothing false x ≡ false
@@ -51,13 +51,13 @@ puts_is n item x hub is live live_too =
     ∙ ap (λ b. if b then (no_stage x, hub) else up n item (no_stage x) hub) live)
 
 joined : (n : ℕ) (item : Item) (items : List Item) (x y : Exchange) (hub mid : Hub) → ups n mid.sent ≡ ups n hub.sent ++ item_traffic (goes_up x) (out_item x hub item)
-    → y.has_ended ≡ x.has_ended → y.is_answered ≡ x.is_answered → goes_up y ≡ goes_up x → map (out_item y mid) items ≡ map (out_item x hub) items
+    → y.has_ended ≡ x.has_ended → y.is_answered ≡ x.is_answered → goes_up y ≡ goes_up x → items_out y mid items ≡ all_out x.place x.asked.minor hub.contexts (connection_behind x.place hub.contexts x.connection_up item) items
     → (z : Exchange) (after : Hub) → GoesUp n y mid items z after → GoesUp n x hub (item ∷ items) z after
 joined n item items x y hub mid sent ended answered framed same z after later = record {
   sent =
       later.sent
       ∙ ((λ i. sent i ++ traffic (framed i) (same i))
-      ∙ append_assoc (ups n hub.sent) (item_traffic (goes_up x) (out_item x hub item)) (traffic (goes_up x) (map (out_item x hub) items)));
+      ∙ append_assoc (ups n hub.sent) (item_traffic (goes_up x) (out_item x hub item)) (traffic (goes_up x) (all_out x.place x.asked.minor hub.contexts (connection_behind x.place hub.contexts x.connection_up item) items)));
   unfiltered = later.unfiltered;
   framed = later.framed ∙ framed;
   ended = later.ended ∙ ended;

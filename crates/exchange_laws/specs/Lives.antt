@@ -1,5 +1,6 @@
 -- All that may happen to an exchange, one thing behind the other.
-use Rattle.std.specs.Prelude.{◌≡◌, ℕ, Bool, true, false, ◌||◌, List, [], ◌∷◌, ◌++◌, map}
+use Rattle.std.specs.Prelude.{◌≡◌, ℕ, Bool, true, false, ◌||◌, List, [], ◌∷◌, ◌++◌}
+use Rattle.contexts.specs.declared.parts.Contexts.{Contexts}
 use Rattle.filter_chain.specs.declared.item.Item.{Item}
 use Rattle.filter_chain.specs.declared.item.Item.TheVariants.{Head, Piece, Trailers}
 use Rattle.http1_model.specs.Fields.{Pair}
@@ -8,7 +9,7 @@ use Rattle.http1_model.specs.Framing as out
 use Rattle.exchange.specs.declared.types.Exchange.{Exchange}
 use Rattle.exchange.specs.declared.types.Hub.{Hub}
 use Rattle.exchange.specs.Answering.{answer}
-use Rattle.exchange.specs.Heads.{sent_head, up_tail}
+use Rattle.exchange.specs.Heads.{sent_head, up_tail, connection_fields, with_connection}
 use Rattle.exchange.specs.Leaving.{goes_up}
 use Rattle.exchange.specs.Maps.{request_map, request_trailers}
 use Rattle.exchange.specs.Passing as passing
@@ -65,15 +66,34 @@ IsFair n (refuses status) x hub = Unit {0}
 IsFair n expires x hub = Unit {0}
 IsFair n (turns y after) x hub = IsKin x y × (ups n after.sent ≡ ups n hub.sent)
 
--- the items that are read, as they are to go out: the head with the map of the request, `via` with the version received and `connection:
--- close`
+-- An item that is read, as it is to go out: the head with the map of the request, `via` with the version received and `connection: close`; the
+-- trailers with the Connection fields of the head as it went up, which keep what they list from going out.
+abbrev pub out_of : (place minor : ℕ) → Contexts → (connection : List Pair) → Item → OutItem
+out_of place minor contexts connection (Head end) = out.head (sent_head (request_map place contexts) (up_tail minor))
+out_of place minor contexts connection (Piece bytes end) = out.piece bytes end
+out_of place minor contexts connection Trailers =
+    out.trailers (record (request_trailers place contexts) { pairs = with_connection connection (request_trailers place contexts).pairs })
+
+-- the Connection fields of the head behind an item
+abbrev pub connection_behind : ℕ → Contexts → List Pair → Item → List Pair
+connection_behind place contexts connection (Head end) = connection_fields (request_map place contexts)
+connection_behind place contexts connection (Piece bytes end) = connection
+connection_behind place contexts connection Trailers = connection
+
+abbrev pub all_out : (place minor : ℕ) → Contexts → (connection : List Pair) → List Item → List OutItem
+all_out place minor contexts connection [] = []
+all_out place minor contexts connection (item ∷ items) =
+    out_of place minor contexts connection item ∷ all_out place minor contexts (connection_behind place contexts connection item) items
+
 abbrev pub out_item : Exchange → Hub → Item → OutItem
-out_item x hub (Head end) = out.head (sent_head (request_map x.place hub.contexts) (up_tail x.asked.minor))
-out_item x hub (Piece bytes end) = out.piece bytes end
-out_item x hub Trailers = out.trailers (request_trailers x.place hub.contexts)
+out_item x hub item = out_of x.place x.asked.minor hub.contexts x.connection_up item
+
+-- the items that are read together, as they are to go out
+abbrev pub items_out : Exchange → Hub → List Item → List OutItem
+items_out x hub items = all_out x.place x.asked.minor hub.contexts x.connection_up items
 
 abbrev pub items_by : Deed → Exchange → Hub → List OutItem
-items_by (comes items) x hub = map (out_item x hub) items
+items_by (comes items) x hub = items_out x hub items
 items_by (responds items) x hub = []
 items_by (acts response k value) x hub = []
 items_by (resumes vm context response) x hub = []

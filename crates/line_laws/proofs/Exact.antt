@@ -10,7 +10,7 @@ use Rattle.exchange.specs.Heads.{is_final, passes_filters, shuts, sent_head, up_
 use Rattle.exchange.specs.Leaving.{up}
 use Rattle.exchange.specs.Maps.{request_map}
 use Rattle.exchange.specs.Passing.{put_in, puts_all, refused}
-use Rattle.exchange_laws.specs.Lives.{Deed, comes, turns, is_over, out_item}
+use Rattle.exchange_laws.specs.Lives.{Deed, comes, turns, is_over, items_out}
 use Rattle.exchange_laws.specs.Responses.{IsMessage}
 use Rattle.exchange_laws.specs.Traffic.{ups}
 use Rattle.exchange_laws.proofs.Ups.{comes_over, comes_open, puts_is, no_stage}
@@ -41,7 +41,7 @@ front_none (items.Piece bytes end ∷ a) b none = front_none a b none
 front_none (items.Trailers ∷ a) b none = front_none a b none
 
 head_of : (h : Head) (x : Exchange) (hub : Hub) (a b : List Item) → begins_with_head a ≡ true → IsMessage (a ++ b) → request_map x.place hub.contexts ≡ h.fields → x.asked.minor ≡ h.minor
-    → AreOf h a (map (out_item x hub) a)
+    → AreOf h a (items_out x hub a)
 head_of h x hub [] b begins message map minor = tt
 head_of h x hub (items.Head end ∷ a) b begins message map minor =
     ((λ i. sent_head (map i) (up_tail (minor i))), body_of h x hub a (front_none a b (message_rest (items.Head end ∷ []) (a ++ b) refl message)))
@@ -73,7 +73,7 @@ module _ (plan : Plan) (n : ℕ) (past : List Sent) (now : Option Reads) (js ks 
   abbrev goes : Exchange × Hub
   goes = put_in false a n x hub
 
-  story_put : (sent : after.sent ≡ goes.1.sent) → (s : Story plan n past None js lines x hub) → AreOf s.head a (map (out_item x hub) a)
+  story_put : (sent : after.sent ≡ goes.1.sent) → (s : Story plan n past None js lines x hub) → AreOf s.head a (items_out x hub a)
       → (is_some goes.0.reader ≡ true) ⊎ ((ups n (past ++ after.sent) ≡ ups n s.start_hub.sent) × ((requests_in s.deeds ++ a ≡ []) ⊎ (is_over goes.0 ≡ true)))
       → Stream n now ks later goes.0 after.contexts s.head.fields (requests_in s.deeds ++ a) → Story plan n past now ks later goes.0 after
   story_put sent s are opened stream =
@@ -85,8 +85,8 @@ module _ (plan : Plan) (n : ℕ) (past : List Sent) (now : Option Reads) (js ks 
       let more : List Deed = map (behind_deed past) two in
       let lives_more : LivesBy false n x (behind past hub) more goes.0 (behind past after) = lives_behind past n two x goes.0 hub after lives_two in
       let all_got : requests_in (s.deeds ++ more) ≡ requests_in s.deeds ++ a = flat_map-append request_in s.deeds more ∙ ap (λ l. requests_in s.deeds ++ l) (append-nil a) in
-      let all_came : came_of n s.start s.start_hub (s.deeds ++ more) ≡ came_of n s.start s.start_hub s.deeds ++ map (out_item x hub) a
-      = came_join n s.deeds more s.start x s.start_hub (behind past hub) s.lives ∙ ap (λ l. came_of n s.start s.start_hub s.deeds ++ l) (append-nil (map (out_item x hub) a)) in
+      let all_came : came_of n s.start s.start_hub (s.deeds ++ more) ≡ came_of n s.start s.start_hub s.deeds ++ items_out x hub a
+      = came_join n s.deeds more s.start x s.start_hub (behind past hub) s.lives ∙ ap (λ l. came_of n s.start s.start_hub s.deeds ++ l) (append-nil (items_out x hub a)) in
       record {
         plain = plain;
         head = s.head;
@@ -98,7 +98,7 @@ module _ (plan : Plan) (n : ℕ) (past : List Sent) (now : Option Reads) (js ks 
         lives = lives_join false n s.deeds more s.start x goes.0 s.start_hub (behind past hub) (behind past after) s.lives lives_more;
         came =
             subst (λ l. AreOf s.head l (came_of n s.start s.start_hub (s.deeds ++ more))) (sym all_got)
-            (subst (λ l. AreOf s.head (requests_in s.deeds ++ a) l) (sym all_came) (of_join s.head (requests_in s.deeds) a (came_of n s.start s.start_hub s.deeds) (map (out_item x hub) a) s.came are));
+            (subst (λ l. AreOf s.head (requests_in s.deeds ++ a) l) (sym all_came) (of_join s.head (requests_in s.deeds) a (came_of n s.start s.start_hub s.deeds) (items_out x hub a) s.came are));
         minor = ap (λ q. q.minor) kept.asked ∙ s.minor;
         opened = subst (λ l. (is_some goes.0.reader ≡ true) ⊎ ((ups n (past ++ after.sent) ≡ ups n s.start_hub.sent) × ((l ≡ []) ⊎ (is_over goes.0 ≡ true)))) (sym all_got) opened;
         stream = subst (Stream n now ks later goes.0 after.contexts s.head.fields) (sym all_got) stream;
@@ -154,7 +154,7 @@ module _ (plan : Plan) (n : ℕ) (past : List Sent) (now : Option Reads) (js ks 
           let got : g ++ a ≡ g = ap (λ l. g ++ l) both.0 ∙ append-nil g in
           let same : goes ≡ (x, hub) = ap (λ l. put_in false l n x hub) both.0 ∙ none_comes n x hub in
           let ups_same : ups n (past ++ after.sent) ≡ ups n (past ++ hub.sent) = ap (λ l. ups n (past ++ l)) sent ∙ ap (λ (p : Exchange × Hub). ups n (past ++ p.1.sent)) same in
-          story_put sent s (subst (λ l. AreOf s.head l (map (out_item x hub) l)) (sym both.0) tt) (by_doomed ups_same got s.opened)
+          story_put sent s (subst (λ l. AreOf s.head l (items_out x hub l)) (sym both.0) tt) (by_doomed ups_same got s.opened)
           (doomed (subst IsMessage (sym got) message) both.1 (by_end is))
         where
           by_end : (is_over x ≡ true) ⊎ IsRefusing n js → (is_over goes.0 ≡ true) ⊎ IsRefusing n ks

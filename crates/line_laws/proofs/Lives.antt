@@ -3,7 +3,7 @@ use Rattle.std.proofs.Common.{◌≡◌, ℕ, true, false, List, [], ◌∷◌, 
 use Rattle.std.proofs.lemmas.List.{append_assoc}
 use Rattle.exchange.specs.declared.types.Exchange.{Exchange}
 use Rattle.exchange.specs.declared.types.Hub.{Hub}
-use Rattle.exchange_laws.specs.Lives.{Deed, comes, responds, acts, resumes, closes, answers, dies, refuses, expires, turns, done_by, IsFair, items_by, out_item, Lives}
+use Rattle.exchange_laws.specs.Lives.{Deed, comes, responds, acts, resumes, closes, answers, dies, refuses, expires, turns, done_by, IsFair, items_by, items_out, Lives}
 use Rattle.exchange_laws.specs.Traffic.{ups}
 use Rattle.exchange_laws.proofs.Traffic.{ups_join}
 use Rattle.filter_chain.specs.declared.item.Item.{Item}
@@ -98,7 +98,7 @@ none_left [] b is = (refl, is)
 none_left (x ∷ a) b is = absurd (cc)
 
 pub none_of : (d : Deed) (x : Exchange) (hub : Hub) → request_in d ≡ [] → items_by d x hub ≡ []
-none_of (comes items) x hub is = ap (map (out_item x hub)) is
+none_of (comes items) x hub is = ap (items_out x hub) is
 none_of (responds items) x hub is = refl
 none_of (acts response k value) x hub is = refl
 none_of (resumes vm context response) x hub is = refl
@@ -128,7 +128,7 @@ NoHead (head end ∷ items) = ⊥
 NoHead (Piece bytes end ∷ items) = NoHead items
 NoHead (Trailers ∷ items) = NoHead items
 
-pub body_of : (h : Head) (x : Exchange) (hub : Hub) (items : List Item) → NoHead items → AreOf h items (map (out_item x hub) items)
+pub body_of : (h : Head) (x : Exchange) (hub : Hub) (items : List Item) → NoHead items → AreOf h items (items_out x hub items)
 body_of h x hub [] none = tt
 body_of h x hub (head end ∷ items) none = absurd none
 body_of h x hub (Piece bytes end ∷ items) none = ((refl, refl), body_of h x hub items none)
