@@ -4,4 +4,5 @@ pub mod Measured
 pub mod Origin
 pub mod Reading
 pub mod Short
+pub mod Taken
 pub mod Unlisted

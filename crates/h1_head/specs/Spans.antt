@@ -1,5 +1,6 @@
 -- The fields of a head, as the spans of its text say them.
-use Rattle.std.specs.Prelude.{◌≡◌, ℕ, List, [], ◌∷◌, map}
+use Rattle.std.specs.Prelude.{◌≡◌, ℕ, List, [], ◌∷◌, map, true}
+use Rattle.header_maps.specs.Judged.{is_field_name, is_field_value}
 use Rattle.httparse.specs.declared.spans.HeaderSpan.{HeaderSpan}
 use Rattle.httparse.specs.Spans.{header_bytes}
 use Rattle.http1_model.specs.Fields.{Pair}
@@ -9,6 +10,11 @@ use Rattle.h1_head.specs.declared.fields.Lines.TheVariants as lines
 -- the names and values that the spans cover
 abbrev pub fields_at : List ℕ → List HeaderSpan → List Pair
 fields_at text spans = map (header_bytes text) spans
+
+-- a list may take the field without looking at it again
+pub record IsRead (field : Pair) : Type 0 where
+  pub name : is_field_name field.0 ≡ true
+  pub value : is_field_value field.1 ≡ true
 
 -- there are at least two
 pub record AreMany (values : List (List ℕ)) : Type 0 where

@@ -5,7 +5,7 @@ ghost use Rattle.http1_model.specs.Lines.{head_limit};
 ghost use Rattle.http_header.specs.Token.{lowercase};
 ghost use Rattle.httparse.specs.Spans.{IsHeaderWithin, header_bytes};
 ghost use Rattle.h1_head.specs.Lengths.{IsBetween, IsConnectionOf};
-ghost use Rattle.h1_head.specs.Spans.{AreLines};
+ghost use Rattle.h1_head.specs.Spans.{AreLines, IsRead};
 
 use crate::lengths::Lengths;
 use crate::members::{is_same_word, lists};
@@ -36,6 +36,7 @@ pub struct Fields<'t> {
     pub spans: &'t [HeaderSpan],
     pub ghost within: { All (IsHeaderWithin (length text.now)) spans.now },
     pub ghost short: { length text.now ≤ head_limit },
+    pub ghost read: { All (λ s. IsRead (header_bytes text.now s)) spans.now },
 }
 
 /// Whether a name, in any case of letters, is that of a field that never passes.
@@ -64,7 +65,9 @@ impl<'t> Fields<'t> {
 
     /// The name and the value that a field's spans cover.
     pub fn pair_at(&self, span: &HeaderSpan) -> (&'t [u8], &'t [u8])
-        requires { IsHeaderWithin (length self.now.text.now) span.now }
+        requires within { IsHeaderWithin (length self.now.text.now) span.now }
+        requires read { IsRead (header_bytes self.now.text.now span.now) }
+        ensures read { IsRead (result.0.now, result.1.now) }
         ensures pair { (result.0.now, result.1.now) ≡ header_bytes self.now.text.now span.now }
         ensures short { length result.1.now ≤ head_limit }
     {
@@ -173,12 +176,7 @@ impl<'t> Fields<'t> {
     }
 
     /// The list with the fields that pass put last, in order; `host` may pass, as in a response.
-    pub fn passing(
-        &self,
-        alloc: Global,
-        host_passes: bool,
-        list: HeaderList,
-    ) -> Result<HeaderList, HeaderEnd>
+    pub fn passing(&self, host_passes: bool, list: HeaderList) -> Result<HeaderList, HeaderEnd>
         ensures { IsListed (with_fields list (passing_in host_passes (fields_of self.now))) result }
     {
         let mut list = list;
@@ -186,7 +184,7 @@ impl<'t> Fields<'t> {
         for span in self.spans {
             let (name, value) = self.pair_at(span);
             if !self.is_dropped(host_passes, connection, name) {
-                list.add(alloc, name, value)?;
+                list.add_read(name, value)?;
             }
         }
         Ok(list)

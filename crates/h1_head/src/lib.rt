@@ -22,5 +22,6 @@ pub use lines::{Cut, head_cut, line_len, skip_empty_lines};
 pub use listed::without_listed;
 pub use read::read_head;
 pub use write::{
-    pseudo_of, push_field, push_fields, push_request_line, request_bytes, write_request,
+    is_left_out, pseudo_of, push_field, push_fields, push_request_line, request_bytes,
+    write_request,
 };

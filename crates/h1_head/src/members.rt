@@ -40,11 +40,12 @@ pub fn first_member(list: &[u8]) -> (&[u8], Option<&[u8]>)
     }
 }
 
-/// Whether two texts are equal but for the case of letters.
+/// Whether two texts are equal but for the case of letters. Their lengths are compared where it is called, since most names differ in them.
+#[inline(always)]
 pub fn is_same_word(a: &[u8], b: &[u8]) -> bool
     ensures { result ≡ bytes_eq (lowercase a.now) (lowercase b.now) }
 {
-    a.eq_ignore_ascii_case(b)
+    a.len() == b.len() && a.eq_ignore_ascii_case(b)
 }
 
 /// Whether a member of a value is this name, in any case of letters (RFC 9110 section 5.6.1).

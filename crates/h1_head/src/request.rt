@@ -1,7 +1,7 @@
 // From the text of a whole request head to what a gateway makes of it.
 ghost use Rattle.std.specs.List.{list_all};
 ghost use Rattle.std.specs.Option.{option_map};
-ghost use Rattle.std.specs.Prelude.{◌≡◌, ◌≤◌, ℕ, List, codes, length, take, IfOk, IfSome, IfNone, option_copied};
+ghost use Rattle.std.specs.Prelude.{◌≡◌, ◌≤◌, ℕ, List, codes, length, take, All, IfOk, IfSome, IfNone, option_copied};
 ghost use Rattle.header_maps.specs.Kept.{byte_limit};
 ghost use Rattle.http1_model.specs.Fields.{values_of};
 ghost use Rattle.http1_model.specs.Head.{host_of, IsTargeted, IsJudged, IsAnswer};
@@ -9,8 +9,9 @@ ghost use Rattle.http1_model.specs.Lines.{head_cut, head_limit, skipped, whole};
 ghost use Rattle.http1_model.specs.Listed.{request_list};
 ghost use Rattle.http1_model.specs.Target.{is_visible};
 ghost use Rattle.httparse.specs.Grammar.{RequestHead, ReadsRequest};
-ghost use Rattle.httparse.specs.Spans.{IsRequestWithin, IsRequestOf};
+ghost use Rattle.httparse.specs.Spans.{IsRequestWithin, IsRequestOf, header_bytes};
 ghost use Rattle.h1_head.specs.Held.{fields_of};
+ghost use Rattle.h1_head.specs.Spans.{IsRead};
 ghost use Rattle.h1_head.specs.Seen.{seen_answer, IsHost, IsListed};
 ghost use Rattle.h1_head.specs.Targets.{seen_target};
 
@@ -63,7 +64,7 @@ fn request_list(
     };
     let scheme = target.scheme.as_bytes();
     let list = HeaderList::request(alloc, method, scheme, authority, target.path.as_slice())?;
-    fields.passing(alloc, false, list)
+    fields.passing(false, list)
 }
 
 /// A head by what its target gives.
@@ -116,7 +117,9 @@ fn judged(
 
 /// The head that a text begins with, if it has one of at most so many fields as there are spans for.
 fn spans_of(text: &[u8], headers: &mut [HeaderSpan]) -> Option<RequestSpans>
+    requires { length text.now ≤ head_limit }
     ensures within { IfSome result (IsRequestWithin text.now headers.new) }
+    ensures read { IfSome result (λ r. All (λ s. IsRead (header_bytes text.now s)) (take r.headers headers.new)) }
     ensures some { IfSome result (IsRequestOf text.now headers.new) }
     ensures none { IfNone result ((head : RequestHead) (rest : List ℕ) → ReadsRequest text.now head rest
         → length head.fields ≤ length headers.old → ⊥) }

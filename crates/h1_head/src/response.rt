@@ -1,12 +1,13 @@
 // From the text of a whole response head to what a gateway makes of it.
-ghost use Rattle.std.specs.Prelude.{◌≡◌, ◌≤◌, ℕ, List, length, take, IfOk, IfSome, IfNone};
+ghost use Rattle.std.specs.Prelude.{◌≡◌, ◌≤◌, ℕ, List, length, take, All, IfOk, IfSome, IfNone};
 ghost use Rattle.http1_model.specs.Head.{response_judged, IsResponseAnswer};
 ghost use Rattle.http1_model.specs.Length.{is_without_body};
 ghost use Rattle.http1_model.specs.Lines.{head_cut, head_limit, skipped, whole};
 ghost use Rattle.http1_model.specs.Listed.{response_list};
 ghost use Rattle.httparse.specs.Grammar.{ResponseHead, ReadsResponse};
-ghost use Rattle.httparse.specs.Spans.{IsResponseWithin, IsResponseOf};
+ghost use Rattle.httparse.specs.Spans.{IsResponseWithin, IsResponseOf, header_bytes};
 ghost use Rattle.h1_head.specs.Held.{fields_of};
+ghost use Rattle.h1_head.specs.Spans.{IsRead};
 ghost use Rattle.h1_head.specs.Seen.{seen_answer, IsListed};
 
 use crate::fields::Fields;
@@ -26,7 +27,7 @@ fn response_list(alloc: Global, status: u16, fields: &Fields) -> Result<HeaderLi
         return Err(HeaderEnd::BadValue);
     }
     let list = HeaderList::response(alloc, status)?;
-    fields.passing(alloc, true, list)
+    fields.passing(true, list)
 }
 
 /// Whether a response has no body, whatever its fields tell (RFC 9112 section 6.3).
@@ -60,7 +61,9 @@ fn response_judged(
 
 /// The head that a text begins with, if it has one of at most so many fields as there are spans for.
 fn spans_of(text: &[u8], headers: &mut [HeaderSpan]) -> Option<ResponseSpans>
+    requires { length text.now ≤ head_limit }
     ensures within { IfSome result (IsResponseWithin text.now headers.new) }
+    ensures read { IfSome result (λ r. All (λ s. IsRead (header_bytes text.now s)) (take r.headers headers.new)) }
     ensures some { IfSome result (IsResponseOf text.now headers.new) }
     ensures none { IfNone result ((head : ResponseHead) (rest : List ℕ) → ReadsResponse text.now head rest
         → length head.fields ≤ length headers.old → ⊥) }

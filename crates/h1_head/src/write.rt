@@ -25,11 +25,12 @@ pub fn push_field(out: &mut Octets, name: &[u8], value: &[u8]) -> Result<(), Out
 }
 
 /// Whether a Connection field of these lists a name, in any case of letters.
-fn is_listed_in(fields: &[(Octets, Octets)], name: &[u8]) -> bool
-    ensures { result ≡ is_listed (lowercase name.now) fields.now }
+fn is_listed_in(fields: &HeaderList, name: &[u8]) -> bool
+    ensures { result ≡ is_listed (lowercase name.now) fields.now.pairs }
 {
-    for (field, value) in fields {
-        if is_same_word(field.as_slice(), b"connection") && lists(value.as_slice(), name) {
+    for at in 0..fields.len() {
+        let (field, value) = fields.pair(at);
+        if is_same_word(field, b"connection") && lists(value, name) {
             return true;
         }
     }
@@ -44,8 +45,8 @@ fn is_pseudo(name: &[u8]) -> bool
 }
 
 /// Whether a field of this name, in any case of letters, does not go out with these fields.
-fn is_left_out(fields: &[(Octets, Octets)], name: &[u8]) -> bool
-    ensures { result ≡ is_left_out fields.now (lowercase name.now) }
+pub fn is_left_out(fields: &HeaderList, name: &[u8]) -> bool
+    ensures { result ≡ is_left_out fields.now.pairs (lowercase name.now) }
 {
     is_pseudo(name)
         || is_hop_name(name)
@@ -61,13 +62,14 @@ pub fn pseudo_of<'l>(list: &'l HeaderList, name: &[u8]) -> &'l [u8]
 }
 
 /// Puts the lines of the fields that go out at the end, in order. Where memory is out, a front of the lines may stand there.
-pub fn push_fields(out: &mut Octets, fields: &[(Octets, Octets)]) -> Result<(), OutOfMemory>
-    ensures ok { OnOk result (out.new ≡ out.old ++ field_lines (sent_fields fields.now)) }
+pub fn push_fields(out: &mut Octets, fields: &HeaderList) -> Result<(), OutOfMemory>
+    ensures ok { OnOk result (out.new ≡ out.old ++ field_lines (sent_fields fields.now.pairs)) }
     ensures err { OnErr result (take (length out.old) out.new ≡ out.old) }
 {
-    for (name, value) in fields {
-        if !is_left_out(fields, name.as_slice()) {
-            push_field(out, name.as_slice(), value.as_slice())?;
+    for at in 0..fields.len() {
+        let (name, value) = fields.pair(at);
+        if !is_left_out(fields, name) {
+            push_field(out, name, value)?;
         }
     }
     Ok(())
@@ -104,7 +106,7 @@ pub fn request_bytes(alloc: Global, head: &Head) -> Result<Octets, OutOfMemory>
     let mut out = Octets::new(alloc);
     push_request_line(&mut out, head)?;
     push_field(&mut out, b"host", pseudo_of(&head.fields, b":authority"))?;
-    push_fields(&mut out, head.fields.as_slice())?;
+    push_fields(&mut out, &head.fields)?;
     push_via(&mut out, head.minor)?;
     push_field(&mut out, b"connection", b"close")?;
     out.extend_from_slice(b"\r\n")?;

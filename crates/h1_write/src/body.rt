@@ -6,6 +6,7 @@ ghost use Rattle.http1_model.specs.Wire.{sent_fields};
 
 use gate_base::{Octets, OutOfMemory};
 use h1_head::push_fields;
+use header_maps::HeaderList;
 use std::alloc::Global;
 
 /// How many bytes stand round the bytes of a piece, at most: 16 digits and two line ends, and the last chunk.
@@ -57,8 +58,8 @@ pub fn chunk_bytes(alloc: Global, bytes: &[u8], end: bool) -> Result<Octets, Out
 
 /// The bytes of the trailers of a chunked body: the last chunk, the fields that go out, and the empty line (RFC 9112
 /// section 7.1.2).
-pub fn trailer_bytes(alloc: Global, fields: &[(Octets, Octets)]) -> Result<Octets, OutOfMemory>
-    ensures { IfOk result (λ wire. wire ≡ body_end (sent_fields fields.now)) }
+pub fn trailer_bytes(alloc: Global, fields: &HeaderList) -> Result<Octets, OutOfMemory>
+    ensures { IfOk result (λ wire. wire ≡ body_end (sent_fields fields.now.pairs)) }
 {
     let mut out = Octets::new(alloc);
     out.extend_from_slice(b"0\r\n")?;

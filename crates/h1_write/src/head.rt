@@ -56,11 +56,12 @@ fn push_framing(out: &mut Octets, framing: Framing) -> Result<(), OutOfMemory>
 }
 
 /// Puts the lines of all these fields at the end, in order.
-fn push_tail(out: &mut Octets, fields: &[(Octets, Octets)]) -> Result<(), OutOfMemory>
-    ensures { OnOk result (out.new ≡ out.old ++ field_lines fields.now) }
+fn push_tail(out: &mut Octets, fields: &HeaderList) -> Result<(), OutOfMemory>
+    ensures { OnOk result (out.new ≡ out.old ++ field_lines fields.now.pairs) }
 {
-    for (name, value) in fields {
-        push_field(out, name.as_slice(), value.as_slice())?;
+    for at in 0..fields.len() {
+        let (name, value) = fields.pair(at);
+        push_field(out, name, value)?;
     }
     Ok(())
 }
@@ -72,9 +73,9 @@ pub fn head_bytes(alloc: Global, head: &Head, framing: Framing) -> Result<Octets
 {
     let mut out = Octets::new(alloc);
     push_start(&mut out, head)?;
-    push_fields(&mut out, head.fields.as_slice())?;
+    push_fields(&mut out, &head.fields)?;
     push_framing(&mut out, framing)?;
-    push_tail(&mut out, head.tail.as_slice())?;
+    push_tail(&mut out, &head.tail)?;
     out.extend_from_slice(b"\r\n")?;
     Ok(out)
 }

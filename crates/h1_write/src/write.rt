@@ -9,6 +9,7 @@ use crate::framing::Framing;
 use crate::head::head_bytes;
 use gate_base::{Octets, OutOfMemory};
 use h1_head::{Head, Item};
+use header_maps::HeaderList;
 use std::alloc::Global;
 
 /// Puts the bytes of a head at the end, all or none.
@@ -56,10 +57,10 @@ fn write_piece(
 fn write_trailers(
     alloc: Global,
     out: &mut Octets,
-    fields: &[(Octets, Octets)],
+    fields: &HeaderList,
     framing: Framing,
 ) -> Result<(), OutOfMemory>
-    ensures ok { OnOk result (out.new ≡ out.old ++ trailer_wire (seen_framing framing) fields.now) }
+    ensures ok { OnOk result (out.new ≡ out.old ++ trailer_wire (seen_framing framing) fields.now.pairs) }
     ensures err { OnErr result (out.new ≡ out.old) }
 {
     match framing {
@@ -87,6 +88,6 @@ pub fn write_item(
         Item::Head { head, .. } => write_head(alloc, out, head, framing),
         Item::Interim { head } => write_head(alloc, out, head, Framing::Nothing),
         Item::Piece { bytes, end } => write_piece(alloc, out, bytes.as_slice(), *end, framing),
-        Item::Trailers { fields } => write_trailers(alloc, out, fields.as_slice(), framing),
+        Item::Trailers { fields } => write_trailers(alloc, out, fields, framing),
     }
 }

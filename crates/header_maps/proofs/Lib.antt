@@ -3,6 +3,8 @@ pub mod Examples
 pub mod Found
 pub mod GivenBack
 pub mod Kept
+pub mod Looking
+pub mod Places
 pub mod Replacing
 pub mod Setting
 pub mod Shapes

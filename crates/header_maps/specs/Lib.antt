@@ -7,3 +7,4 @@ pub mod Kinds
 pub mod Laws
 pub mod Operations
 pub mod Pairs
+pub mod Places

@@ -8,6 +8,7 @@ ghost use Rattle.header_maps.specs.Operations.{in_order};
 
 use crate::kind::ListKind;
 use crate::pairs::{count_named, push_named, push_plain};
+use crate::texts::Texts;
 use gate_base::{Octets, OutOfMemory};
 use std::alloc::Global;
 
@@ -54,21 +55,21 @@ pub fn in_order(
     alloc: Global,
     kind: ListKind,
     given: &[(Octets, Octets)],
-) -> Result<Vec<(Octets, Octets)>, OutOfMemory>
-    ensures { IfOk result (λ items. items.items ≡ in_order kind given.now) }
+) -> Result<Texts, OutOfMemory>
+    ensures { IfOk result (λ items. items ≡ in_order kind given.now) }
 {
-    let mut items = Vec::new(alloc);
+    let mut items = Texts::new(alloc);
     match kind {
         ListKind::Request => {
-            push_named(alloc, &mut items, given, b":method")?;
-            push_named(alloc, &mut items, given, b":scheme")?;
-            push_named(alloc, &mut items, given, b":authority")?;
-            push_named(alloc, &mut items, given, b":path")?;
+            push_named(&mut items, given, b":method")?;
+            push_named(&mut items, given, b":scheme")?;
+            push_named(&mut items, given, b":authority")?;
+            push_named(&mut items, given, b":path")?;
         }
-        ListKind::Response => push_named(alloc, &mut items, given, b":status")?,
-        ListKind::Interim => push_named(alloc, &mut items, given, b":status")?,
+        ListKind::Response => push_named(&mut items, given, b":status")?,
+        ListKind::Interim => push_named(&mut items, given, b":status")?,
         ListKind::Plain => {}
     }
-    push_plain(alloc, &mut items, given)?;
+    push_plain(&mut items, given)?;
     Ok(items)
 }

@@ -8,8 +8,10 @@ mod kind;
 mod laws;
 mod list;
 mod pairs;
+mod texts;
 
 pub use end::HeaderEnd;
+pub use judged::is_same_word;
 pub use kind::ListKind;
 pub use laws::{
     added_is_found, judged_alike, removed_is_absent, replaced_in_place, set_gives_back,

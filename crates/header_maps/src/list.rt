@@ -3,7 +3,7 @@ ghost use Rattle.std.specs.Prelude.{◌≡◌, ◌≤◌, ◌<◌, ◌↔◌, []
 ghost use Rattle.std.specs.List.{list_all, position};
 ghost use Rattle.http_header.specs.Token.{lowercase};
 ghost use Rattle.header_maps.specs.Faults.{fault_of, add_fault, replace_fault, remove_fault, set_fault, request_fault, response_fault, has_each_once, are_names_for, are_values_for};
-ghost use Rattle.header_maps.specs.Judged.{is_field_name, status_text};
+ghost use Rattle.header_maps.specs.Judged.{is_field_name, is_field_value, status_text};
 ghost use Rattle.header_maps.specs.Kept.{byte_limit, is_short, IsHeaders};
 ghost use Rattle.header_maps.specs.Operations.{no_headers, request_headers, response_headers, get_of, first_of, added, removed, without, replaced, with_value, in_order, all_set, size_of};
 ghost use Rattle.header_maps.specs.Pairs.{lowered, is_named, plain_among, plain_count, joined_behind};
@@ -13,9 +13,9 @@ use crate::given::{are_names_for, are_values_for, in_order};
 use crate::judged::{is_authority, is_field_name, is_field_value, is_method, is_path, is_scheme};
 use crate::kind::ListKind;
 use crate::pairs::{
-    copied, count_plain, drop_from, first_value, joined_values, lowered, place_of, put_value,
-    size_of,
+    count_plain, drop_from, first_value, joined_values, pairs_of, place_of, put_value, size_of,
 };
+use crate::texts::Texts;
 use gate_base::{Octets, OutOfMemory, Pairs};
 use std::alloc::Global;
 use std::marker::Model;
@@ -23,12 +23,17 @@ use std::marker::Model;
 /// How many fields a list may have, pseudo-headers not counted.
 const FIELD_LIMIT: usize = 100;
 
+/// For how many bytes and pairs a list has room from the start, so that a browser's head takes two pieces of memory.
+const FIRST_BYTES: usize = 1024;
+
+const FIRST_PAIRS: usize = 24;
+
 /// The pseudo-headers and the fields of a message, in order. Names are in lower case; pseudo-headers stand first.
 /// Clauses see a `Headers`.
 #[derive(Debug, Drop)]
 pub struct HeaderList {
     kind: ListKind,
-    items: Vec<(Octets, Octets)>,
+    items: Texts,
 }
 
 impl Model for HeaderList {
@@ -37,9 +42,9 @@ impl Model for HeaderList {
 
     ghost Value = { Headers };
 
-    ghost view = { λ l. record { kind = l.kind; pairs = l.items.items } };
+    ghost view = { λ l. record { kind = l.kind; pairs = l.items } };
 
-    ghost invariant = { λ l. IsHeaders (record { kind = l.kind; pairs = l.items.items }) };
+    ghost invariant = { λ l. IsHeaders (record { kind = l.kind; pairs = l.items }) };
 }
 
 /// The three digits of a number from 100 to 599.
@@ -54,17 +59,6 @@ fn status_text(status: u16) -> [u8; 3]
     ]
 }
 
-/// A copy of pairs, as a list.
-fn pairs_of(alloc: Global, items: &[(Octets, Octets)]) -> Result<Pairs, OutOfMemory>
-    ensures { IfOk result (λ pairs. pairs ≡ items.now) }
-{
-    let mut pairs = Pairs::new(alloc);
-    for (name, value) in items {
-        pairs.push((name.copy(alloc)?, value.copy(alloc)?))?;
-    }
-    Ok(pairs)
-}
-
 impl HeaderList {
     /// No fields, and no pseudo-headers. It takes no memory.
     pub fn new(alloc: Global) -> Self
@@ -72,7 +66,7 @@ impl HeaderList {
     {
         HeaderList {
             kind: ListKind::Plain,
-            items: Vec::new(alloc),
+            items: Texts::new(alloc),
         }
     }
 
@@ -93,11 +87,11 @@ impl HeaderList {
         if !(is_method(method) && is_scheme(scheme) && is_authority(authority) && is_path(path)) {
             return Err(HeaderEnd::BadValue);
         }
-        let mut items = Vec::new(alloc);
-        items.push(lowered(alloc, b":method", method)?)?;
-        items.push(lowered(alloc, b":scheme", scheme)?)?;
-        items.push(lowered(alloc, b":authority", authority)?)?;
-        items.push(lowered(alloc, b":path", path)?)?;
+        let mut items = Texts::with_room(alloc, FIRST_BYTES, FIRST_PAIRS)?;
+        items.push(b":method", method)?;
+        items.push(b":scheme", scheme)?;
+        items.push(b":authority", authority)?;
+        items.push(b":path", path)?;
         Ok(HeaderList {
             kind: ListKind::Request,
             items,
@@ -119,8 +113,8 @@ impl HeaderList {
             ListKind::Response
         };
         let text = status_text(status);
-        let mut items = Vec::new(alloc);
-        items.push(lowered(alloc, b":status", &text)?)?;
+        let mut items = Texts::with_room(alloc, FIRST_BYTES, FIRST_PAIRS)?;
+        items.push(b":status", &text)?;
         Ok(HeaderList { kind, items })
     }
 
@@ -152,12 +146,13 @@ impl HeaderList {
         self.kind
     }
 
-    /// The pairs in order, pseudo-headers first.
-    pub fn as_slice(&self) -> &[(Octets, Octets)]
-        ensures pairs { result.now ≡ self.now.pairs }
+    /// The name and the value of a pair, from 0, pseudo-headers first.
+    pub fn pair(&self, at: usize) -> (&[u8], &[u8])
+        requires { at < length self.now.pairs }
+        ensures pair { (result.0.now, result.1.now) ≡ slice_index_or self.now.pairs at (result.0.now, result.1.now) }
         ensures keeps { IsHeaders self.now }
     {
-        self.items.as_slice()
+        self.items.pair(at)
     }
 
     /// How many pairs there are, pseudo-headers included: at most 104. It takes no memory.
@@ -188,14 +183,14 @@ impl HeaderList {
         ensures size { result ≡ size_of self.now.pairs }
         ensures bound { result < 2 ^ 32 }
     {
-        size_of(self.items.as_slice())
+        size_of(&self.items)
     }
 
     /// The value of the first field or pseudo-header of a name, in any case of letters. It takes no memory.
     pub fn first(&self, name: &[u8]) -> Option<&[u8]>
         ensures { option_copied result ≡ first_of self.now name.now }
     {
-        first_value(self.items.as_slice(), name)
+        first_value(&self.items, name)
     }
 
     /// The values of all fields of a name, in any case of letters, joined by one comma each; none where there is no field.
@@ -203,11 +198,11 @@ impl HeaderList {
         ensures value { IfOk result (λ value. value ≡ get_of self.now name.now) }
         ensures bound { IfOk result (λ value. IfSome value (λ bytes. length bytes < 2 ^ 32)) }
     {
-        joined_values(alloc, self.items.as_slice(), name)
+        joined_values(alloc, &self.items, name)
     }
 
     /// Puts a field last. A pseudo-header is not added.
-    pub fn add(&mut self, alloc: Global, name: &[u8], value: &[u8]) -> Result<(), HeaderEnd>
+    pub fn add(&mut self, _alloc: Global, name: &[u8], value: &[u8]) -> Result<(), HeaderEnd>
         requires { length value.now ≤ byte_limit }
         ensures cause { fault_of result ≡ add_fault self.old name.now value.now }
         ensures ok { OnOk result (self.new ≡ added self.old name.now value.now) }
@@ -219,10 +214,22 @@ impl HeaderList {
         if !is_field_value(value) {
             return Err(HeaderEnd::BadValue);
         }
+        self.add_read(name, value)
+    }
+
+    /// Puts a field last that was judged before: its name is one of a field, and its value too.
+    pub fn add_read(&mut self, name: &[u8], value: &[u8]) -> Result<(), HeaderEnd>
+        requires name { is_field_name name.now ≡ true }
+        requires value { is_field_value value.now ≡ true }
+        requires short { length value.now ≤ byte_limit }
+        ensures cause { fault_of result ≡ add_fault self.old name.now value.now }
+        ensures ok { OnOk result (self.new ≡ added self.old name.now value.now) }
+        ensures err { OnErr result (self.new ≡ self.old) }
+    {
         if self.field_count() >= FIELD_LIMIT {
             return Err(HeaderEnd::TooMany);
         }
-        self.items.push(lowered(alloc, name, value)?)?;
+        self.items.push_lowered(name, value)?;
         Ok(())
     }
 
@@ -239,11 +246,10 @@ impl HeaderList {
         if !self.kind.has_value(name, value) {
             return Err(HeaderEnd::BadValue);
         }
-        let Some(at) = place_of(self.items.as_slice(), name) else {
+        let Some(at) = place_of(&self.items, name) else {
             return self.add(alloc, name, value);
         };
-        let value = Octets::from_slice(alloc, value)?;
-        put_value(&mut self.items, at, name, value);
+        put_value(&mut self.items, at, name, value)?;
         Ok(())
     }
 
@@ -276,7 +282,7 @@ impl HeaderList {
     pub fn pairs(&self, alloc: Global) -> Result<Pairs, OutOfMemory>
         ensures { IfOk result (λ pairs. pairs ≡ self.now.pairs) }
     {
-        pairs_of(alloc, self.items.as_slice())
+        pairs_of(alloc, &self.items)
     }
 
     /// A copy.
@@ -285,7 +291,7 @@ impl HeaderList {
     {
         Ok(HeaderList {
             kind: self.kind,
-            items: copied(alloc, self.items.as_slice())?,
+            items: self.items.copy(alloc)?,
         })
     }
 }

@@ -164,7 +164,7 @@ parts_taken method target parts g = by_form g.scheme g.authority g.kept g.reads 
 
 -- ---- heads
 
-section_short : (text print : List ℕ) (p : Parts) (rest : List ℕ) → Prints print p → text ≡ print ++ rest → length text ≤ 65536
+pub section_short : (text print : List ℕ) (p : Parts) (rest : List ℕ) → Prints print p → text ≡ print ++ rest → length text ≤ 65536
     → length (print_section p.fields p.last) ≤ 65536
 section_short text print p rest prints is short =
     let section = print_section p.fields p.last in

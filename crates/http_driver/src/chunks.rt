@@ -2,16 +2,18 @@
 
 use gate_base::{Octets, OutOfMemory};
 use h1_chunks::{ChunkReader, ChunkStep};
+use header_maps::HeaderList;
 use rows::from_text;
 use std::alloc::Global;
 
 /// Puts fields at the end, each behind a blank.
-fn push_fields(out: &mut Octets, fields: &[(Octets, Octets)]) -> Result<(), OutOfMemory> {
-    for (name, value) in fields {
+fn push_fields(out: &mut Octets, fields: &HeaderList) -> Result<(), OutOfMemory> {
+    for at in 0..fields.len() {
+        let (name, value) = fields.pair(at);
         out.push(b' ')?;
-        out.extend_from_slice(name.as_slice())?;
+        out.extend_from_slice(name)?;
         out.push(b'=')?;
-        out.extend_from_slice(value.as_slice())?;
+        out.extend_from_slice(value)?;
     }
     Ok(())
 }
@@ -27,7 +29,7 @@ fn push_step(alloc: Global, out: &mut Octets, step: &ChunkStep) -> Result<usize,
         }
         ChunkStep::End { trailers, used } => {
             out.extend_from_slice(b"end")?;
-            push_fields(out, trailers.as_slice())?;
+            push_fields(out, trailers)?;
             Ok(*used)
         }
         ChunkStep::NotYet => {

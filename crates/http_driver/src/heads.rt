@@ -35,8 +35,9 @@ fn push_field(out: &mut Octets, name: &[u8], value: &[u8]) -> Result<(), OutOfMe
 /// The pseudo-headers of a head, and then each field behind a `;`.
 fn fields_of(alloc: Global, head: &Head) -> Result<Octets, OutOfMemory> {
     let mut out = Octets::new(alloc);
-    for (name, value) in head.fields.as_slice() {
-        push_field(&mut out, name.as_slice(), value.as_slice())?;
+    for at in 0..head.fields.len() {
+        let (name, value) = head.fields.pair(at);
+        push_field(&mut out, name, value)?;
     }
     Ok(out)
 }
@@ -198,5 +199,5 @@ pub fn listed(alloc: Global, words: &str) -> Result<Octets, OutOfMemory> {
         return Octets::from_slice(alloc, b"no fields");
     };
     let left = without_listed(&values, fields);
-    crate::lists::shown(alloc, left.as_slice())
+    crate::lists::shown(alloc, &left)
 }

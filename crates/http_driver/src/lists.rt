@@ -126,15 +126,21 @@ fn change(
 }
 
 /// What a list has, a name, `=`, a value and `;` for each pair.
-pub fn shown(alloc: Global, fields: &[(Octets, Octets)]) -> Result<Octets, OutOfMemory> {
+pub fn shown(alloc: Global, fields: &HeaderList) -> Result<Octets, OutOfMemory> {
     let mut text = Octets::new(alloc);
-    for (name, value) in fields {
-        text.extend_from_slice(name.as_slice())?;
-        text.push(b'=')?;
-        text.extend_from_slice(value.as_slice())?;
-        text.push(b';')?;
+    for at in 0..fields.len() {
+        let (name, value) = fields.pair(at);
+        push_shown(&mut text, name, value)?;
     }
     Ok(text)
+}
+
+/// Puts a pair at the end, a name, `=`, a value and `;`.
+fn push_shown(text: &mut Octets, name: &[u8], value: &[u8]) -> Result<(), OutOfMemory> {
+    text.extend_from_slice(name)?;
+    text.push(b'=')?;
+    text.extend_from_slice(value)?;
+    text.push(b';')
 }
 
 /// A word of an end.
@@ -156,7 +162,7 @@ pub fn changed(
     words: &str,
 ) -> Result<Octets, OutOfMemory> {
     match change(alloc, list, operation, words) {
-        Ok(()) => shown(alloc, list.as_slice()),
+        Ok(()) => shown(alloc, list),
         Err(end) => Octets::from_slice(alloc, word_of(end).as_bytes()),
     }
 }
@@ -194,13 +200,17 @@ fn about(alloc: Global, list: &HeaderList) -> Result<Octets, OutOfMemory> {
 /// What a copy of the list has.
 fn shown_copy(alloc: Global, list: &HeaderList) -> Result<Octets, OutOfMemory> {
     let copy = list.copy(alloc)?;
-    shown(alloc, copy.as_slice())
+    shown(alloc, &copy)
 }
 
 /// What its pairs alone are.
 fn shown_pairs(alloc: Global, list: &HeaderList) -> Result<Octets, OutOfMemory> {
+    let mut text = Octets::new(alloc);
     let pairs = list.pairs(alloc)?;
-    shown(alloc, pairs.as_slice())
+    for (name, value) in pairs.as_slice() {
+        push_shown(&mut text, name.as_slice(), value.as_slice())?;
+    }
+    Ok(text)
 }
 
 /// A copy of the list, and its pairs alone, which are as many.

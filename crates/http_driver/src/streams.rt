@@ -4,6 +4,7 @@ use crate::heads::kind_of;
 use gate_base::{Octets, OutOfMemory};
 use h1_head::{Item, Kind};
 use h1_stream::{MessageReader, Step};
+use header_maps::HeaderList;
 use rows::{from_text, number, word};
 use std::alloc::Global;
 
@@ -13,11 +14,12 @@ fn push_end(out: &mut Octets, end: bool) -> Result<(), OutOfMemory> {
 }
 
 /// Puts fields at the end, a blank behind each.
-fn push_fields(out: &mut Octets, fields: &[(Octets, Octets)]) -> Result<(), OutOfMemory> {
-    for (name, value) in fields {
-        out.extend_from_slice(name.as_slice())?;
+fn push_fields(out: &mut Octets, fields: &HeaderList) -> Result<(), OutOfMemory> {
+    for at in 0..fields.len() {
+        let (name, value) = fields.pair(at);
+        out.extend_from_slice(name)?;
         out.push(b'=')?;
-        out.extend_from_slice(value.as_slice())?;
+        out.extend_from_slice(value)?;
         out.push(b' ')?;
     }
     Ok(())
@@ -38,7 +40,7 @@ fn push_item(out: &mut Octets, item: &Item) -> Result<(), OutOfMemory> {
             out.push(b')')?;
             push_end(out, *end)
         }
-        Item::Trailers { fields } => push_fields(out, fields.as_slice()),
+        Item::Trailers { fields } => push_fields(out, fields),
     }
 }
 

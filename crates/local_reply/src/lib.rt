@@ -4,7 +4,6 @@
 mod date;
 mod fields;
 mod laws;
-mod members;
 mod reply;
 
 pub use date::moment_text;

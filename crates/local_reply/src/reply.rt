@@ -7,8 +7,9 @@ ghost use Rattle.http1_model.specs.LocalReply.{status_line, length_line, date_li
 ghost use Rattle.http1_model.specs.Wire.{sent_fields};
 
 use crate::date::moment_text;
-use crate::fields::{has_date, push_field, push_fields};
+use crate::fields::has_date;
 use gate_base::{Octets, OutOfMemory};
+use h1_head::{push_field, push_fields};
 use header_maps::HeaderList;
 use itoa::Buffer;
 use std::alloc::Global;
@@ -62,8 +63,8 @@ fn push_length(out: &mut Octets, status: u16, body: &[u8]) -> Result<(), OutOfMe
 }
 
 /// Puts the moment at the end, where no date goes out among the fields.
-fn push_date(out: &mut Octets, fields: &[(Octets, Octets)], now: u64) -> Result<(), OutOfMemory>
-    ensures { OnOk result (out.new ≡ out.old ++ date_line (sent_fields fields.now) now) }
+fn push_date(out: &mut Octets, fields: &HeaderList, now: u64) -> Result<(), OutOfMemory>
+    ensures { OnOk result (out.new ≡ out.old ++ date_line (sent_fields fields.now.pairs) now) }
 {
     if has_date(fields) {
         return Ok(());
@@ -111,9 +112,9 @@ pub fn local(
 {
     let mut out = Octets::new(alloc);
     push_status_line(&mut out, status)?;
-    push_fields(&mut out, fields.as_slice())?;
+    push_fields(&mut out, fields)?;
     push_length(&mut out, status, body)?;
-    push_date(&mut out, fields.as_slice(), now)?;
+    push_date(&mut out, fields, now)?;
     push_close(&mut out, closes)?;
     out.extend_from_slice(b"\r\n")?;
     out.extend_from_slice(sent_body(status, head_request, body))?;

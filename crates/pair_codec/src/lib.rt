@@ -9,4 +9,4 @@ mod writing;
 pub use end::PairsEnd;
 pub use laws::{pairs_are_read_back, worked_pairs};
 pub use reading::read_pairs;
-pub use writing::{write_pairs, write_slice};
+pub use writing::{write_list, write_pairs};

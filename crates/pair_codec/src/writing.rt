@@ -5,6 +5,7 @@ ghost use Rattle.header_maps.specs.Operations.{size_of};
 ghost use Rattle.pair_codec.specs.Serialised.{pairs_bytes, sizes_bytes, texts_bytes, text_bytes, is_sized, are_sized};
 
 use gate_base::{Octets, OutOfMemory, Pairs};
+use header_maps::HeaderList;
 use std::alloc::Global;
 
 /// Puts the sizes of a name and a value at the end.
@@ -57,24 +58,63 @@ fn bytes_of(alloc: Global, pairs: &[(Octets, Octets)]) -> Result<Octets, OutOfMe
     Ok(out)
 }
 
-/// The serialised form of pairs in a slice: a count, then two sizes a pair, then each name and value with a zero byte behind it.
-#[tactic(auto, using(crate::proofs::RoundTrip::size_is_length))]
-pub fn write_slice(alloc: Global, pairs: &[(Octets, Octets)]) -> Result<Octets, OutOfMemory>
-    requires { are_sized pairs.now ≡ true }
-    ensures bytes { IfOk result (λ bytes. bytes ≡ pairs_bytes pairs.now) }
-    ensures size { IfOk result (λ bytes. length bytes ≡ size_of pairs.now) }
+/// Puts the sizes of all names and values of a list at the end.
+fn put_list_sizes(out: &mut Octets, list: &HeaderList) -> Result<(), OutOfMemory>
+    requires { list_all is_sized list.now.pairs ≡ true }
+    ensures { OnOk result (out.new ≡ out.old ++ flat_map sizes_bytes list.now.pairs) }
 {
-    match bytes_of(alloc, pairs) {
+    for at in 0..list.len() {
+        let (name, value) = list.pair(at);
+        put_sizes(out, name, value)?;
+    }
+    Ok(())
+}
+
+/// Puts all names and values of a list at the end.
+fn put_list_texts(out: &mut Octets, list: &HeaderList) -> Result<(), OutOfMemory>
+    ensures { OnOk result (out.new ≡ out.old ++ flat_map texts_bytes list.now.pairs) }
+{
+    for at in 0..list.len() {
+        let (name, value) = list.pair(at);
+        put_text(out, name)?;
+        put_text(out, value)?;
+    }
+    Ok(())
+}
+
+/// The bytes of the pairs of a list.
+fn bytes_of_list(alloc: Global, list: &HeaderList) -> Result<Octets, OutOfMemory>
+    requires { are_sized list.now.pairs ≡ true }
+    ensures { IfOk result (λ bytes. bytes ≡ pairs_bytes list.now.pairs) }
+{
+    let mut out = Octets::from_slice(alloc, &(list.len() as u32).to_le_bytes())?;
+    put_list_sizes(&mut out, list)?;
+    put_list_texts(&mut out, list)?;
+    Ok(out)
+}
+
+/// The serialised form of the pairs of a header list.
+#[tactic(auto, using(crate::proofs::RoundTrip::size_is_length))]
+pub fn write_list(alloc: Global, list: &HeaderList) -> Result<Octets, OutOfMemory>
+    requires { are_sized list.now.pairs ≡ true }
+    ensures bytes { IfOk result (λ bytes. bytes ≡ pairs_bytes list.now.pairs) }
+    ensures size { IfOk result (λ bytes. length bytes ≡ size_of list.now.pairs) }
+{
+    match bytes_of_list(alloc, list) {
         Ok(bytes) => Ok(bytes),
         Err(end) => Err(end),
     }
 }
 
-/// The serialised form of pairs.
+/// The serialised form of pairs: a count, then two sizes a pair, then each name and value with a zero byte behind it.
+#[tactic(auto, using(crate::proofs::RoundTrip::size_is_length))]
 pub fn write_pairs(alloc: Global, pairs: &Pairs) -> Result<Octets, OutOfMemory>
     requires { are_sized pairs.now ≡ true }
     ensures bytes { IfOk result (λ bytes. bytes ≡ pairs_bytes pairs.now) }
     ensures size { IfOk result (λ bytes. length bytes ≡ size_of pairs.now) }
 {
-    write_slice(alloc, pairs.as_slice())
+    match bytes_of(alloc, pairs.as_slice()) {
+        Ok(bytes) => Ok(bytes),
+        Err(end) => Err(end),
+    }
 }

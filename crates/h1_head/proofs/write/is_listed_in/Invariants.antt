@@ -4,6 +4,6 @@ use Rattle.http1_model.specs.Fields.{is_listed}
 use Rattle.h1_head.proofs.write.is_listed_in.Given as goal
 
 -- what is left decides
-abbrev pub invariant-loop-field : goal.invariant-loop-field
-invariant-loop-field l =
-    is_listed (lowercase l.name) (drop l.field-index l.fields) ≡ is_listed (lowercase l.name) l.fields
+abbrev pub invariant-loop-at : goal.invariant-loop-at
+invariant-loop-at l =
+    is_listed (lowercase l.name) (drop l.at l.fields.pairs) ≡ is_listed (lowercase l.name) l.fields.pairs

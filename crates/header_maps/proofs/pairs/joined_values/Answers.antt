@@ -1,22 +1,20 @@
-use Rattle.std.proofs.Common.{◌≡◌, ◌<◌, ℕ, List, length, sym, subst, arith, ap, ◌∙◌, true, false, Some, bytes_eq}
+use Rattle.std.proofs.Common.{◌≡◌, ◌<◌, ℕ, List, length, sym, arith, ap, ◌∙◌, true, false, Some}
 use Rattle.http_header.specs.Token.{lowercase}
-use Rattle.header_maps.specs.Pairs.{joined_behind}
+use Rattle.header_maps.specs.Pairs.{Pair, joined_behind}
 use Rattle.header_maps.proofs.Setting.{joined_yes, joined_no}
 use Rattle.header_maps.proofs.pairs.joined_values.Goals as goal
 use Rattle.header_maps.proofs.pairs.joined_values.Goals.{then-is_same_word+in_ok-joined_with, else-is_same_word}
 
-pub loop-field-preserved : goal.loop-field-preserved
-loop-field-preserved c =
+pub loop-at-preserved : goal.loop-at-preserved
+loop-at-preserved c =
     let n = lowercase c.args.name.now in
-    let within : c.loop-field.field-index < length c.args.items.now = omega arith in
+    let d : Pair = (c.pair.result.0.now, c.pair.result.1.now) in
+    let within : c.loop-at.at < length c.args.items.now = omega (arith, c.len-at-end.ensures, c.loop-at-test.true) in
     elim c.if-is_same_word.branch [
       | then-is_same_word+in_ok-joined_with w ↦
-          let named = subst (λ (x : List ℕ). bytes_eq (lowercase x) (lowercase c.args.name.now) ≡ true) c.as_slice.ensures (sym w.if-is_same_word.ensures) in
-          let value = w.in_ok-joined_with.ensures ∙ ap (λ (x : List ℕ). joined_behind c.loop-field.joined x) w.as_slice-then-is_same_word.ensures in
-          w.joined-is ∙ ap (λ (x : List ℕ). Some x) value
-          ∙ joined_yes (lowercase c.args.name.now) c.args.items.now c.loop-field.field-index c.loop-field-item.result c.loop-field.joined within c.loop-field-item.is named c.loop-field.invariant
+          w.joined-is ∙ ap (λ (x : List ℕ). Some x) w.in_ok-joined_with.ensures
+          ∙ joined_yes (lowercase c.args.name.now) c.args.items.now c.loop-at.at d c.loop-at.joined within c.pair.ensures (sym w.if-is_same_word.ensures) c.loop-at.invariant
       | else-is_same_word w ↦
-          let named = subst (λ (x : List ℕ). bytes_eq (lowercase x) (lowercase c.args.name.now) ≡ false) c.as_slice.ensures (sym w.if-is_same_word.ensures) in
           w.joined-is
-          ∙ joined_no (lowercase c.args.name.now) c.args.items.now c.loop-field.field-index c.loop-field-item.result c.loop-field.joined within c.loop-field-item.is named c.loop-field.invariant
+          ∙ joined_no (lowercase c.args.name.now) c.args.items.now c.loop-at.at d c.loop-at.joined within c.pair.ensures (sym w.if-is_same_word.ensures) c.loop-at.invariant
     ]

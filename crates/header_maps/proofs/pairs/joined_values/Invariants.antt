@@ -4,5 +4,5 @@ use Rattle.header_maps.specs.Pairs.{values_of, joined}
 use Rattle.header_maps.proofs.pairs.joined_values.Given as goal
 
 -- the values of those looked at, joined
-abbrev pub invariant-loop-field : goal.invariant-loop-field
-invariant-loop-field l = l.joined ≡ joined (values_of (lowercase l.name) (take l.field-index l.items))
+abbrev pub invariant-loop-at : goal.invariant-loop-at
+invariant-loop-at l = l.joined ≡ joined (values_of (lowercase l.name) (take l.at l.items))

@@ -7,5 +7,5 @@ use Rattle.header_maps.proofs.pairs.push_named.Given as goal
 -- those put so far, and those of what is left
 abbrev pub invariant-loop-field : goal.invariant-loop-field
 invariant-loop-field l =
-    l.items.items ++ map lowered (filter (is_named (lowercase l.name)) (drop l.field-index l.given))
-    ≡ l.fn.items.items ++ map lowered (filter (is_named (lowercase l.name)) l.given)
+    l.items ++ map lowered (filter (is_named (lowercase l.name)) (drop l.field-index l.given))
+    ≡ l.fn.items ++ map lowered (filter (is_named (lowercase l.name)) l.given)

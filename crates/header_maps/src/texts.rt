@@ -1,0 +1,216 @@
+// Pairs of a name and a value, whose bytes stand in one buffer.
+ghost use Rattle.std.specs.Prelude.{◌≡◌, ◌<◌, ◌≤◌, ◌∷◌, ◌++◌, [], length, take, drop, slice_index_or, ◌↔◌, IsTrue, IfOk, OnOk, OnErr};
+ghost use Rattle.http_header.specs.Token.{lowercase};
+ghost use Rattle.header_maps.specs.Places.{pair_in, put_at, IsWithin};
+
+use gate_base::OutOfMemory;
+use std::alloc::Global;
+use std::marker::Model;
+
+/// Where a name and its value stand in a buffer.
+#[derive(Clone, Copy, Debug)]
+pub struct Place {
+    name: usize,
+    name_end: usize,
+    value: usize,
+    value_end: usize,
+}
+
+/// Pairs in order. All their bytes stand in one buffer, so that a list takes two pieces of memory, and not two for each pair. The bytes of a
+/// value that another one was put in place of stay there until the list is copied. Clauses see the list of the pairs.
+#[derive(Debug, Drop)]
+pub struct Texts {
+    bytes: Vec<u8>,
+    places: Vec<Place>,
+}
+
+impl Model for Texts {
+    ghost use Rattle.std.specs.Prelude.{List, length, All};
+    ghost use Rattle.header_maps.specs.Pairs.{Pair};
+    ghost use Rattle.header_maps.specs.Places.{pairs_in, IsWithin};
+
+    ghost Value = { List Pair };
+
+    ghost view = { λ t. pairs_in t.bytes.items t.places.items };
+
+    ghost invariant = { λ t. All (IsWithin (length t.bytes.items)) t.places.items };
+}
+
+/// Puts a copy of a text at the end, with its letters in lower case.
+fn put_lowered(bytes: &mut Vec<u8>, text: &[u8]) -> Result<(), OutOfMemory>
+    ensures ok { OnOk result (bytes.new.items ≡ bytes.old.items ++ lowercase text.now) }
+    ensures err { OnErr result (bytes.new.items ≡ bytes.old.items) }
+{
+    bytes.reserve(text.len())?;
+    for byte in text {
+        bytes.push_reserved(byte.to_ascii_lowercase());
+    }
+    Ok(())
+}
+
+/// Puts a copy of a value at the end. The name that is named with it stands in front of it, from `name` on.
+fn put_value(bytes: &mut Vec<u8>, name: usize, value: &[u8]) -> Result<Place, OutOfMemory>
+    requires { name ≤ length bytes.old.items }
+    ensures front { take (length bytes.old.items) bytes.new.items ≡ bytes.old.items }
+    ensures within { IfOk result (λ place. IsWithin (length bytes.new.items) place) }
+    ensures pair { IfOk result (λ place. pair_in bytes.new.items place ≡ (drop name bytes.old.items, value.now)) }
+{
+    let name_end = bytes.len();
+    bytes.extend_from_slice(value)?;
+    Ok(Place {
+        name,
+        name_end,
+        value: name_end,
+        value_end: bytes.len(),
+    })
+}
+
+/// Puts a copy of a name and a value at the end.
+fn put_pair(bytes: &mut Vec<u8>, name: &[u8], value: &[u8]) -> Result<Place, OutOfMemory>
+    ensures front { take (length bytes.old.items) bytes.new.items ≡ bytes.old.items }
+    ensures within { IfOk result (λ place. IsWithin (length bytes.new.items) place) }
+    ensures pair { IfOk result (λ place. pair_in bytes.new.items place ≡ (name.now, value.now)) }
+{
+    let start = bytes.len();
+    bytes.extend_from_slice(name)?;
+    put_value(bytes, start, value)
+}
+
+/// Puts a copy of a name, in lower case, and of a value at the end.
+fn put_lowered_pair(bytes: &mut Vec<u8>, name: &[u8], value: &[u8]) -> Result<Place, OutOfMemory>
+    ensures front { take (length bytes.old.items) bytes.new.items ≡ bytes.old.items }
+    ensures within { IfOk result (λ place. IsWithin (length bytes.new.items) place) }
+    ensures pair { IfOk result (λ place. pair_in bytes.new.items place ≡ (lowercase name.now, value.now)) }
+{
+    let start = bytes.len();
+    put_lowered(bytes, name)?;
+    put_value(bytes, start, value)
+}
+
+impl Texts {
+    ghost use Rattle.std.specs.List.{remove};
+
+    /// No pairs. It takes no memory.
+    pub fn new(alloc: Global) -> Self
+        ensures { result ≡ [] }
+    {
+        Texts {
+            bytes: Vec::new(alloc),
+            places: Vec::new(alloc),
+        }
+    }
+
+    /// No pairs, with room for so many, of so many bytes.
+    pub fn with_room(alloc: Global, bytes: usize, pairs: usize) -> Result<Self, OutOfMemory>
+        ensures { IfOk result (λ texts. texts ≡ []) }
+    {
+        let bytes = Vec::with_capacity(alloc, bytes)?;
+        Ok(Texts {
+            bytes,
+            places: Vec::with_capacity(alloc, pairs)?,
+        })
+    }
+
+    /// How many pairs there are.
+    pub fn len(&self) -> usize
+        ensures { result ≡ length self.now }
+    {
+        self.places.len()
+    }
+
+    /// Whether there is none.
+    pub fn is_empty(&self) -> bool
+        ensures { IsTrue result ↔ (self.now ≡ []) }
+    {
+        self.places.is_empty()
+    }
+
+    /// The name and the value of a pair.
+    pub fn pair(&self, at: usize) -> (&[u8], &[u8])
+        requires { at < length self.now }
+        ensures { (result.0.now, result.1.now) ≡ slice_index_or self.now at (result.0.now, result.1.now) }
+    {
+        let place = self.places[at];
+        let bytes = self.bytes.as_slice();
+        (
+            &bytes[place.name..place.name_end],
+            &bytes[place.value..place.value_end],
+        )
+    }
+
+    /// Puts a pair last, as it is.
+    pub fn push(&mut self, name: &[u8], value: &[u8]) -> Result<(), OutOfMemory>
+        ensures ok { OnOk result (self.new ≡ self.old ++ (name.now, value.now) ∷ []) }
+        ensures err { OnErr result (self.new ≡ self.old) }
+    {
+        let place = put_pair(&mut self.bytes, name, value)?;
+        self.places.push(place)?;
+        Ok(())
+    }
+
+    /// Puts a pair last, with its name in lower case.
+    pub fn push_lowered(&mut self, name: &[u8], value: &[u8]) -> Result<(), OutOfMemory>
+        ensures ok { OnOk result (self.new ≡ self.old ++ (lowercase name.now, value.now) ∷ []) }
+        ensures err { OnErr result (self.new ≡ self.old) }
+    {
+        let place = put_lowered_pair(&mut self.bytes, name, value)?;
+        self.places.push(place)?;
+        Ok(())
+    }
+
+    /// Takes a pair out.
+    pub fn remove(&mut self, at: usize)
+        requires { at < length self.old }
+        ensures { self.new ≡ remove self.old at }
+    {
+        self.places.remove(at);
+    }
+
+    /// Puts a value in place of that of a pair.
+    pub fn set_value(&mut self, at: usize, value: &[u8]) -> Result<(), OutOfMemory>
+        requires { at < length self.old }
+        ensures ok { OnOk result (self.new ≡ put_at self.old at value.now) }
+        ensures err { OnErr result (self.new ≡ self.old) }
+    {
+        let start = self.bytes.len();
+        self.bytes.extend_from_slice(value)?;
+        let place = self.places[at];
+        self.places[at] = Place {
+            name: place.name,
+            name_end: place.name_end,
+            value: start,
+            value_end: self.bytes.len(),
+        };
+        Ok(())
+    }
+
+    /// Whether the buffer has bytes of these pairs alone.
+    fn is_packed(&self) -> bool {
+        let mut size: usize = 0;
+        for place in self.places.as_slice() {
+            size = size
+                .wrapping_add(place.name_end.wrapping_sub(place.name))
+                .wrapping_add(place.value_end.wrapping_sub(place.value));
+        }
+        size == self.bytes.len()
+    }
+
+    /// A copy, whose buffer has bytes of these pairs alone.
+    pub fn copy(&self, alloc: Global) -> Result<Self, OutOfMemory>
+        ensures { IfOk result (λ texts. texts ≡ self.now) }
+    {
+        if self.is_packed() {
+            let bytes = Vec::from_slice(alloc, self.bytes.as_slice())?;
+            return Ok(Texts {
+                bytes,
+                places: Vec::from_slice(alloc, self.places.as_slice())?,
+            });
+        }
+        let mut copy = Texts::new(alloc);
+        for at in 0..self.len() {
+            let (name, value) = self.pair(at);
+            copy.push(name, value)?;
+        }
+        Ok(copy)
+    }
+}
