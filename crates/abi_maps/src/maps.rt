@@ -16,7 +16,7 @@ use abi_types::Guest;
 use contexts::{Contexts, Maps};
 use gate_base::{Octets, OutOfMemory, VmNo};
 use header_maps::HeaderList;
-use pair_codec::write_slice;
+use pair_codec::write_list;
 use std::alloc::Global;
 
 /// The map of a number, where it is there.
@@ -76,9 +76,10 @@ fn bytes_of(alloc: Global, list: &HeaderList) -> Result<Octets, OutOfMemory>
     ensures bytes { IfOk result (λ o. o ≡ pairs_bytes list.now.pairs) }
     ensures short { IfOk result (λ o. length o < 2 ^ 32) }
 {
+    let _kind = list.kind();
     let _size = list.byte_size();
     let _len = list.len();
-    write_slice(alloc, list.as_slice())
+    write_list(alloc, list)
 }
 
 /// The serialised form of a map.

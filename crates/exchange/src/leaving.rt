@@ -16,12 +16,12 @@ use crate::maps::{request_map, request_trailers, response_map, response_trailers
 use crate::types::{Exchange, Hub};
 use crate::writing::{connection_fields, request_bytes, response_bytes, trailer_bytes};
 use filter_chain::Item;
-use gate_base::{LineNo, Octets, OutOfMemory, Pairs};
+use gate_base::{LineNo, Octets, OutOfMemory};
 use gate_io::{Sent, Side};
 use h1_head::Item as Part;
 use h1_stream::MessageReader;
 use h1_write::{Framing, write_item};
-use header_maps::HeaderList;
+use header_maps::{HeaderList, Texts};
 use queue::Queue;
 use std::alloc::Global;
 
@@ -78,8 +78,8 @@ fn request_up(
 }
 
 /// The Connection fields of the request's head as it goes up.
-fn connection_up(alloc: Global, x: &Exchange, hub: &Hub) -> Result<Pairs, OutOfMemory>
-    ensures { IfOk result (λ pairs. pairs ≡ connection_fields (request_map x.now.place hub.now.contexts)) }
+fn connection_up(alloc: Global, x: &Exchange, hub: &Hub) -> Result<Texts, OutOfMemory>
+    ensures { IfOk result (λ texts. texts ≡ connection_fields (request_map x.now.place hub.now.contexts)) }
 {
     let none = HeaderList::new(alloc);
     connection_fields(alloc, request_map(&hub.contexts, x.place, &none))
@@ -110,7 +110,7 @@ fn trailers_up(alloc: Global, x: &Exchange, hub: &Hub) -> Result<Octets, OutOfMe
 {
     let none = HeaderList::new(alloc);
     let map = request_trailers(&hub.contexts, x.place, &none);
-    trailer_bytes(alloc, x.connection_up.as_slice(), map, goes_up(x))
+    trailer_bytes(alloc, &x.connection_up, map, goes_up(x))
 }
 
 /// An item leaves the chain of the request.
@@ -155,8 +155,8 @@ fn response_down(alloc: Global, x: &Exchange, hub: &Hub, stays: bool) -> Result<
 }
 
 /// The Connection fields of the response's head as it goes down.
-fn connection_down(alloc: Global, x: &Exchange, hub: &Hub) -> Result<Pairs, OutOfMemory>
-    ensures { IfOk result (λ pairs. pairs ≡ connection_fields (response_map x.now.place hub.now.contexts)) }
+fn connection_down(alloc: Global, x: &Exchange, hub: &Hub) -> Result<Texts, OutOfMemory>
+    ensures { IfOk result (λ texts. texts ≡ connection_fields (response_map x.now.place hub.now.contexts)) }
 {
     let none = HeaderList::new(alloc);
     connection_fields(alloc, response_map(&hub.contexts, x.place, &none))
@@ -188,7 +188,7 @@ fn trailers_down(alloc: Global, x: &Exchange, hub: &Hub) -> Result<Octets, OutOf
 {
     let none = HeaderList::new(alloc);
     let map = response_trailers(&hub.contexts, x.place, &none);
-    trailer_bytes(alloc, x.connection_down.as_slice(), map, written_framing(x))
+    trailer_bytes(alloc, &x.connection_down, map, written_framing(x))
 }
 
 /// An item leaves the chain of the response.

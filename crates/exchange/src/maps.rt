@@ -4,7 +4,7 @@ ghost use Rattle.header_maps.specs.Operations.{no_headers};
 ghost use Rattle.exchange.specs.Maps.{request_map, response_map, request_trailers, response_trailers, put_request, put_response, put_request_trailers, put_response_trailers, mark, with_field, with_fields, answer_map, pair_count};
 
 use contexts::Contexts;
-use gate_base::{Octets, OutOfMemory};
+use gate_base::OutOfMemory;
 use header_maps::{HeaderEnd, HeaderList};
 use std::alloc::{AllocError, Global};
 
@@ -147,15 +147,12 @@ fn put_field(
 }
 
 /// Puts fields behind the others.
-fn put_fields(
-    alloc: Global,
-    map: &mut HeaderList,
-    fields: &[(Octets, Octets)],
-) -> Result<(), OutOfMemory>
-    ensures { OnOk result (map.new ≡ with_fields map.old fields.now) }
+fn put_fields(alloc: Global, map: &mut HeaderList, fields: &HeaderList) -> Result<(), OutOfMemory>
+    ensures { OnOk result (map.new ≡ with_fields map.old fields.now.pairs) }
 {
-    for (name, value) in fields {
-        put_field(alloc, map, name.as_slice(), value.as_slice())?;
+    for at in 0..fields.len() {
+        let (name, value) = fields.pair(at);
+        put_field(alloc, map, name, value)?;
     }
     Ok(())
 }
@@ -165,7 +162,7 @@ pub fn fields_map(alloc: Global, fields: &HeaderList) -> Result<HeaderList, OutO
     ensures { IfOk result (λ map. map ≡ with_fields no_headers fields.now.pairs) }
 {
     let mut map = HeaderList::new(alloc);
-    put_fields(alloc, &mut map, fields.as_slice())?;
+    put_fields(alloc, &mut map, fields)?;
     Ok(map)
 }
 
@@ -182,7 +179,7 @@ pub(crate) fn answer_map(
     match HeaderList::response(alloc, status) {
         Ok(map) => {
             let mut map = map;
-            put_fields(alloc, &mut map, fields.as_slice())?;
+            put_fields(alloc, &mut map, fields)?;
             Ok(map)
         }
         Err(_) => Err(AllocError),

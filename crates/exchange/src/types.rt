@@ -2,10 +2,11 @@
 
 use contexts::Contexts;
 use filter_chain::Chain;
-use gate_base::{ContextId, Pairs, VmNo};
+use gate_base::{ContextId, VmNo};
 use gate_io::Sent;
 use h1_head::Length;
 use h1_stream::MessageReader;
+use header_maps::Texts;
 use queue::Queue;
 
 /// What all lines of a worker have in common: the moment of the event, in nanoseconds since 1970; the contexts of all VMs, with the maps of
@@ -89,8 +90,8 @@ pub struct Exchange {
     pub is_head_up: bool,
     /// The Connection fields of the request's head as it went up, and of the response's as it went down. No trailer goes out that
     /// they list.
-    pub connection_up: Pairs,
-    pub connection_down: Pairs,
+    pub connection_up: Texts,
+    pub connection_down: Texts,
     /// The whole response of the server was read.
     pub is_read: bool,
     /// Its stages were made, and what was read of the request was put into them.

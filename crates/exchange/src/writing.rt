@@ -8,10 +8,10 @@ ghost use Rattle.http1_model.specs.Wire.{version_text, field_line, field_lines, 
 ghost use Rattle.h1_write.specs.Seen.{seen_framing};
 ghost use Rattle.exchange.specs.Heads.{sent_head, up_tail, down_tail, date_fields, close_fields, connection_fields, with_connection};
 
-use gate_base::{Octets, OutOfMemory, Pairs};
+use gate_base::{Octets, OutOfMemory};
 use h1_head::{pseudo_of, push_field, push_fields};
 use h1_write::Framing;
-use header_maps::{HeaderList, ListKind};
+use header_maps::{HeaderList, ListKind, Texts};
 use itoa::Buffer;
 use local_reply::{has_date, moment_text};
 use std::alloc::Global;
@@ -84,7 +84,7 @@ pub(crate) fn request_bytes(
 {
     let mut out = Octets::new(alloc);
     push_start(&mut out, fields)?;
-    push_fields(&mut out, fields.as_slice())?;
+    push_fields(&mut out, fields.texts())?;
     push_framing(&mut out, framing)?;
     push_field(&mut out, b"via", via_value(minor))?;
     push_field(&mut out, b"connection", b"close")?;
@@ -96,7 +96,7 @@ pub(crate) fn request_bytes(
 fn push_date(out: &mut Octets, fields: &HeaderList, now: u64) -> Result<(), OutOfMemory>
     ensures { OnOk result (out.new ≡ out.old ++ field_lines (date_fields (sent_fields fields.now.pairs) now)) }
 {
-    if has_date(fields.as_slice()) {
+    if has_date(fields) {
         return Ok(());
     }
     push_field(out, b"date", &moment_text(now))
@@ -125,7 +125,7 @@ pub(crate) fn response_bytes(
 {
     let mut out = Octets::new(alloc);
     push_start(&mut out, fields)?;
-    push_fields(&mut out, fields.as_slice())?;
+    push_fields(&mut out, fields.texts())?;
     push_framing(&mut out, framing)?;
     push_date(&mut out, fields, now)?;
     push_close(&mut out, stays)?;
@@ -139,18 +139,9 @@ pub fn interim_bytes(alloc: Global, fields: &HeaderList) -> Result<Octets, OutOf
 {
     let mut out = Octets::new(alloc);
     push_start(&mut out, fields)?;
-    push_fields(&mut out, fields.as_slice())?;
+    push_fields(&mut out, fields.texts())?;
     out.extend_from_slice(b"\r\n")?;
     Ok(out)
-}
-
-/// Puts a copy of a field at the end.
-fn push_copy(alloc: Global, pairs: &mut Pairs, name: &[u8], value: &[u8]) -> Result<(), OutOfMemory>
-    ensures { OnOk result (pairs.new ≡ pairs.old ++ (name.now, value.now) ∷ []) }
-{
-    let name = Octets::from_slice(alloc, name)?;
-    let value = Octets::from_slice(alloc, value)?;
-    pairs.push((name, value))
 }
 
 /// Whether a name, in any case of letters, is that of Connection.
@@ -161,35 +152,37 @@ fn is_connection(name: &[u8]) -> bool
 }
 
 /// The Connection fields of a head as it goes out.
-pub(crate) fn connection_fields(alloc: Global, head: &HeaderList) -> Result<Pairs, OutOfMemory>
-    ensures { IfOk result (λ pairs. pairs ≡ connection_fields head.now) }
+pub(crate) fn connection_fields(alloc: Global, head: &HeaderList) -> Result<Texts, OutOfMemory>
+    ensures { IfOk result (λ texts. texts ≡ connection_fields head.now) }
 {
-    let mut pairs = Pairs::new(alloc);
-    for (name, value) in head.as_slice() {
-        if is_connection(name.as_slice()) {
-            push_copy(alloc, &mut pairs, name.as_slice(), value.as_slice())?;
+    let mut texts = Texts::new(alloc);
+    for at in 0..head.len() {
+        let (name, value) = head.pair(at);
+        if is_connection(name) {
+            texts.push(name, value)?;
         }
     }
-    Ok(pairs)
+    Ok(texts)
 }
 
 /// The fields of trailers, and behind them the Connection fields of their head.
 fn with_connection(
     alloc: Global,
-    connection: &[(Octets, Octets)],
+    connection: &Texts,
     trailers: &HeaderList,
-) -> Result<Pairs, OutOfMemory>
-    ensures { IfOk result (λ pairs. pairs ≡ with_connection connection.now trailers.now.pairs) }
+) -> Result<Texts, OutOfMemory>
+    ensures { IfOk result (λ texts. texts ≡ with_connection connection.now trailers.now.pairs) }
 {
-    let mut pairs = trailers.pairs(alloc)?;
-    for (name, value) in connection {
-        push_copy(alloc, &mut pairs, name.as_slice(), value.as_slice())?;
+    let mut texts = trailers.texts().copy(alloc)?;
+    for at in 0..connection.len() {
+        let (name, value) = connection.pair(at);
+        texts.push(name, value)?;
     }
-    Ok(pairs)
+    Ok(texts)
 }
 
 /// Puts the end of a chunked body with these trailers at the end.
-fn push_trailers(out: &mut Octets, fields: &[(Octets, Octets)]) -> Result<(), OutOfMemory>
+fn push_trailers(out: &mut Octets, fields: &Texts) -> Result<(), OutOfMemory>
     ensures { OnOk result (out.new ≡ out.old ++ body_end (sent_fields fields.now)) }
 {
     out.extend_from_slice(b"0\r\n")?;
@@ -200,7 +193,7 @@ fn push_trailers(out: &mut Octets, fields: &[(Octets, Octets)]) -> Result<(), Ou
 /// The bytes of trailers of a message that is framed so, behind a head with these Connection fields.
 pub(crate) fn trailer_bytes(
     alloc: Global,
-    connection: &[(Octets, Octets)],
+    connection: &Texts,
     trailers: &HeaderList,
     framing: Framing,
 ) -> Result<Octets, OutOfMemory>
@@ -211,7 +204,7 @@ pub(crate) fn trailer_bytes(
         Framing::Nothing | Framing::Length(_) | Framing::UntilClose => Ok(out),
         Framing::Chunked => {
             let fields = with_connection(alloc, connection, trailers)?;
-            push_trailers(&mut out, fields.as_slice())?;
+            push_trailers(&mut out, &fields)?;
             Ok(out)
         }
     }

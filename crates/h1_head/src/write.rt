@@ -10,7 +10,7 @@ use crate::fields::is_hop_name;
 use crate::head::Head;
 use crate::members::{is_same_word, lists};
 use gate_base::{Octets, OutOfMemory};
-use header_maps::HeaderList;
+use header_maps::{HeaderList, Texts};
 use std::alloc::Global;
 
 /// Puts a field line at the end (RFC 9112 section 5). Where memory is out, a front of the line may stand there.
@@ -25,8 +25,8 @@ pub fn push_field(out: &mut Octets, name: &[u8], value: &[u8]) -> Result<(), Out
 }
 
 /// Whether a Connection field of these lists a name, in any case of letters.
-fn is_listed_in(fields: &HeaderList, name: &[u8]) -> bool
-    ensures { result ≡ is_listed (lowercase name.now) fields.now.pairs }
+fn is_listed_in(fields: &Texts, name: &[u8]) -> bool
+    ensures { result ≡ is_listed (lowercase name.now) fields.now }
 {
     for at in 0..fields.len() {
         let (field, value) = fields.pair(at);
@@ -45,8 +45,8 @@ fn is_pseudo(name: &[u8]) -> bool
 }
 
 /// Whether a field of this name, in any case of letters, does not go out with these fields.
-pub fn is_left_out(fields: &HeaderList, name: &[u8]) -> bool
-    ensures { result ≡ is_left_out fields.now.pairs (lowercase name.now) }
+pub fn is_left_out(fields: &Texts, name: &[u8]) -> bool
+    ensures { result ≡ is_left_out fields.now (lowercase name.now) }
 {
     is_pseudo(name)
         || is_hop_name(name)
@@ -62,8 +62,8 @@ pub fn pseudo_of<'l>(list: &'l HeaderList, name: &[u8]) -> &'l [u8]
 }
 
 /// Puts the lines of the fields that go out at the end, in order. Where memory is out, a front of the lines may stand there.
-pub fn push_fields(out: &mut Octets, fields: &HeaderList) -> Result<(), OutOfMemory>
-    ensures ok { OnOk result (out.new ≡ out.old ++ field_lines (sent_fields fields.now.pairs)) }
+pub fn push_fields(out: &mut Octets, fields: &Texts) -> Result<(), OutOfMemory>
+    ensures ok { OnOk result (out.new ≡ out.old ++ field_lines (sent_fields fields.now)) }
     ensures err { OnErr result (take (length out.old) out.new ≡ out.old) }
 {
     for at in 0..fields.len() {
@@ -106,7 +106,7 @@ pub fn request_bytes(alloc: Global, head: &Head) -> Result<Octets, OutOfMemory>
     let mut out = Octets::new(alloc);
     push_request_line(&mut out, head)?;
     push_field(&mut out, b"host", pseudo_of(&head.fields, b":authority"))?;
-    push_fields(&mut out, &head.fields)?;
+    push_fields(&mut out, head.fields.texts())?;
     push_via(&mut out, head.minor)?;
     push_field(&mut out, b"connection", b"close")?;
     out.extend_from_slice(b"\r\n")?;

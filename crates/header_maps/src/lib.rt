@@ -18,3 +18,4 @@ pub use laws::{
     set_keeps_given, status_read_back, worked_examples,
 };
 pub use list::HeaderList;
+pub use texts::Texts;

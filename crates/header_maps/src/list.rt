@@ -155,6 +155,13 @@ impl HeaderList {
         self.items.pair(at)
     }
 
+    /// The pairs, pseudo-headers first.
+    pub fn texts(&self) -> &Texts
+        ensures { result.now ≡ self.now.pairs }
+    {
+        &self.items
+    }
+
     /// How many pairs there are, pseudo-headers included: at most 104. It takes no memory.
     pub fn len(&self) -> usize
         ensures count { result ≡ length self.now.pairs }

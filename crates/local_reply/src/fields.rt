@@ -12,7 +12,7 @@ pub fn has_date(fields: &HeaderList) -> bool
 {
     for at in 0..fields.len() {
         let (name, _) = fields.pair(at);
-        if !is_left_out(fields, name) && is_same_word(name, b"date") {
+        if !is_left_out(fields.texts(), name) && is_same_word(name, b"date") {
             return true;
         }
     }

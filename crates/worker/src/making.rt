@@ -15,9 +15,10 @@ use contexts::{Context, ContextEnd, Contexts, Exchange as Marked, Tick};
 use course::Death;
 use exchange::{Exchange, Filter, path_route, request_of, response_of};
 use filter_chain::{Chain, Held, Stage, Waiting};
-use gate_base::{ContextId, LineNo, OutOfMemory, Pairs, VmNo};
+use gate_base::{ContextId, LineNo, OutOfMemory, VmNo};
 use gate_config::{PluginEntry, PluginNos, RouteEntry};
 use h1_head::Head;
+use header_maps::Texts;
 use queue::Queue;
 use std::alloc::{AllocError, Global};
 
@@ -336,8 +337,8 @@ fn new_exchange(
         due: due_at(now, rules.config.deadline_ms),
         refusal: refusal_of(route, dead, filters.as_slice()),
         is_head_up: false,
-        connection_up: Pairs::new(alloc),
-        connection_down: Pairs::new(alloc),
+        connection_up: Texts::new(alloc),
+        connection_down: Texts::new(alloc),
         is_read: false,
         is_entered: false,
         is_headed: false,

@@ -6,4 +6,4 @@ use Rattle.h1_head.proofs.write.is_listed_in.Given as goal
 -- what is left decides
 abbrev pub invariant-loop-at : goal.invariant-loop-at
 invariant-loop-at l =
-    is_listed (lowercase l.name) (drop l.at l.fields.pairs) ≡ is_listed (lowercase l.name) l.fields.pairs
+    is_listed (lowercase l.name) (drop l.at l.fields) ≡ is_listed (lowercase l.name) l.fields
