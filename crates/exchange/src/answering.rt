@@ -22,7 +22,7 @@ use local_reply::local;
 use std::alloc::Global;
 
 /// No stage is left, and what they held is dropped.
-fn drop_stages(alloc: Global, x: &mut Exchange, hub: &mut Hub)
+pub fn drop_stages(alloc: Global, x: &mut Exchange, hub: &mut Hub)
     ensures exchange { x.new ≡ record x.old { request = []; response = [] } }
     ensures hub { hub.new ≡ none_held x.old hub.old }
 {

@@ -10,7 +10,7 @@ mod passing;
 mod types;
 mod writing;
 
-pub use answering::answer;
+pub use answering::{answer, drop_stages};
 pub use heads::{is_bare, is_due, is_final, path_route, request_of, response_of};
 pub use laws::{
     no_body_goes_down, no_listed_trailer_goes_out, nothing_follows_an_answer, worked_exchanges,

@@ -164,7 +164,7 @@ left_by ss response n (item ∷ items) x hub alien =
 
 -- ---- answers
 
-drops : (ss : List Stage) (x : Exchange) (hub : Hub) → IsAlien ss x → Holds ss hub.contexts (none_held x hub).contexts
+pub drops : (ss : List Stage) (x : Exchange) (hub : Hub) → IsAlien ss x → Holds ss hub.contexts (none_held x hub).contexts
 drops ss x hub alien =
     next ss hub.contexts (cleared hub.contexts x.request) (cleared (cleared hub.contexts x.request) x.response) (clears ss hub.contexts x.request alien.request)
     (clears ss (cleared hub.contexts x.request) x.response alien.response)

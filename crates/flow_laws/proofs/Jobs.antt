@@ -10,6 +10,7 @@ use Rattle.course.specs.Called.{Called}
 use Rattle.course.specs.Course.{Course, ends, runs_then, then_do, Met, Reaches}
 use Rattle.course.specs.declared.host.CallEnd.{CallEnd}
 use Rattle.exchange.specs.declared.types.Exchange.{Exchange}
+use Rattle.exchange.specs.Answering.{none_held}
 use Rattle.exchange.specs.Passing.{chain_of}
 use Rattle.filter_chain.specs.declared.stage.Stage.{Stage}
 use Rattle.store_model.specs.Program.{Program}
@@ -22,10 +23,11 @@ use Rattle.worker.specs.Moves.{ended_in, ended_back, ended_at}
 use Rattle.worker.specs.Rooms.{place_in, with_contexts, is_dead, answered_with, valued}
 use Rattle.worker.specs.Steps.{Both, both, Answered, answered, goes_on_with, nothing_more, called_in, noticed, ends_with, ends_at, is_due_tick, next_tick, has_vm, with_tick, ticked_at}
 use Rattle.worker.specs.Turn.{emptied, facing}
-use Rattle.flow_laws.specs.Besides.{IsWhole}
+use Rattle.flow_laws.specs.Besides.{OthersAreAlien, IsWhole}
 use Rattle.flow_laws.specs.Elsewhere.{IsBeside, behind_effects}
 use Rattle.flow_laws.specs.Jobs.{JobsLeave, TellsAreRuns}
 use Rattle.flow_laws.specs.Rooms.{IsOn, Leaves, Meanwhile, nothing}
+use Rattle.flow_laws.proofs.Apart.{Holds, next, by_vms, drops}
 use Rattle.flow_laws.proofs.Besides.{stays, on_other}
 use Rattle.flow_laws.proofs.Elsewhere.{Beside, beside}
 use Rattle.flow_laws.proofs.Holding.{hold_all, hold_then, hold_by_vms, there_by_vms, hold_kept, there_kept, kept_many}
@@ -101,21 +103,25 @@ ended_vms : (place : ℕ) (h : Contexts) → (ended place h).vms ≡ h.vms
 ended_vms place h =
     by_bool (λ (k : Contexts). k.vms ≡ h.vms) (has_ended (exchange_at (slice_set h.exchanges place _) place) && not (is_referred place h.vms)) _ _ (λ e. refl) (λ e. refl)
 
-ending_leaves : (place : ℕ) (response : Bool) (n : ℕ) (x : Exchange) (room : Room) (on : IsOn n room x) → IsWhole response x room → (place ≡ on.place → ⊥) → Leaves response n x room x (ends_at place room)
-ending_leaves place response n x room on whole apart = by_line (slice_get room.lines place) refl
+ending_leaves : (place : ℕ) (response : Bool) (n : ℕ) (x : Exchange) (room : Room) (on : IsOn n room x) → OthersAreAlien (chain_of response x) on.place room
+    → IsWhole response x room → (place ≡ on.place → ⊥) → Leaves response n x room x (ends_at place room)
+ending_leaves place response n x room on alien whole apart = by_line (slice_get room.lines place) refl
   where
-    by_exchange : (line : Line) → slice_get room.lines place ≡ Some line → (e : Option Exchange) → Leaves response n x room x (ends_with room (ended_back place room.lines (ended_in line e)))
-    by_exchange line at None = record {
+    by_exchange : (line : Line) → slice_get room.lines place ≡ Some line → (e : Option Exchange) → line.exchange ≡ e → Leaves response n x room x (ends_with room (ended_back place room.lines (ended_in line e)))
+    by_exchange line at None some = record {
       on = on_other n room x on place line line room.hub at refl apart;
       chain = refl;
       holds = hold_all room.hub.contexts (chain_of response x);
       there = whole;
     }
-    by_exchange line at (Some y) =
+    by_exchange line at (Some y) some =
         let after : Room = ends_with room (ended_back place room.lines (ended_in line (Some y))) in
         let there_on : IsOn n (record room { lines = slice_set room.lines place (record line { exchange = None }); hub = room.hub }) x
         = on_other n room x on place line (record line { exchange = None }) room.hub at refl apart in
-        let vms : after.hub.contexts.vms ≡ room.hub.contexts.vms = ended_vms y.place room.hub.contexts in
+        let mid : Contexts = (none_held y room.hub).contexts in
+        let held : Holds (chain_of response x) room.hub.contexts after.hub.contexts
+        = next (chain_of response x) room.hub.contexts mid after.hub.contexts (drops (chain_of response x) y room.hub (alien place line y at some apart))
+        (by_vms (chain_of response x) mid after.hub.contexts (ended_vms y.place mid)) in
         record {
           on = record {
             place = there_on.place;
@@ -126,13 +132,13 @@ ending_leaves place response n x room on whole apart = by_line (slice_get room.l
             exchange = there_on.exchange;
           };
           chain = refl;
-          holds = hold_by_vms room.hub.contexts after.hub.contexts (chain_of response x) vms;
-          there = there_by_vms room.hub.contexts after.hub.contexts (chain_of response x) vms whole;
+          holds = held.holds;
+          there = held.there whole;
         }
 
     by_line : (l : Option Line) → slice_get room.lines place ≡ l → Leaves response n x room x (ends_with room (ended_at place l room.lines))
     by_line None at = alike response n x room (ends_with room (None, room.lines)) on whole refl refl
-    by_line (Some line) at = by_exchange line at line.exchange
+    by_line (Some line) at = by_exchange line at line.exchange refl
 
 pub jobs_leave : JobsLeave
 jobs_leave = record {

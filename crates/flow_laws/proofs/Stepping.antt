@@ -208,7 +208,8 @@ module _ {H : Type 0} (calling : Calling H) (plan : Plan) (response : Bool) (n c
   beside_comes x b m ms _ on whole (works_on may) reaches = work_comes x b.host b.room b.room.jobs m ms on whole may reaches
   beside_comes x b m ms _ on whole (frees at) reaches =
       ended_as x x b.room (free_one at b.room) b.host m ms (quiet_steps.frees_one response n at x b.room on whole) reaches
-  beside_comes x b m ms _ on whole (ends_other place there away) reaches = ended_as x x b.room (ends_at place b.room) b.host m ms (jobs_leave.ending place response n x b.room there whole away) reaches
+  beside_comes x b m ms _ on whole (ends_other place there alien away) reaches =
+      ended_as x x b.room (ends_at place b.room) b.host m ms (jobs_leave.ending place response n x b.room there alien whole away) reaches
   beside_comes x b m ms _ on whole begins reaches = ended_as x x b.room (first_begun b.room.agenda b.room) b.host m ms (quiet_steps.begins response n x b.room on whole) reaches
   beside_comes x b m ms _ on whole stops reaches = ended_as x x b.room b.room b.host m ms (stays response n x b.room on whole) reaches
 

@@ -12,7 +12,8 @@ use Rattle.worker.specs.declared.types.Own.TheVariants as owns
 use Rattle.worker.specs.Plan.{Plan}
 use Rattle.worker.specs.Steps.{Both, noticed, ends_at, ticked, tells}
 use Rattle.worker.specs.Turn.{emptied, facing}
-use Rattle.flow_laws.specs.Besides.{IsWhole}
+use Rattle.exchange.specs.Passing.{chain_of}
+use Rattle.flow_laws.specs.Besides.{OthersAreAlien, IsWhole}
 use Rattle.flow_laws.specs.Elsewhere.{IsBeside}
 use Rattle.flow_laws.specs.Rooms.{IsOn, Leaves, Meanwhile}
 use Rattle.flow_laws.specs.Steps.{Calling}
@@ -26,8 +27,8 @@ pub record JobsLeave : Type 0 where
   pub noticing : (vm left : ℕ) (reply : Reply) (response : Bool) (n : ℕ) (x : Exchange) (room : Room) → IsOn n room x → IsWhole response x room
       → Leaves response n x room x (noticed vm left reply room)
   pub ticking : (vm root : ℕ) (response : Bool) (n : ℕ) (x : Exchange) (room : Room) → IsOn n room x → IsWhole response x room → Leaves response n x room x (ticked vm root room).1
-  pub ending : (place : ℕ) (response : Bool) (n : ℕ) (x : Exchange) (room : Room) (on : IsOn n room x) → IsWhole response x room → (place ≡ on.place → ⊥)
-      → Leaves response n x room x (ends_at place room)
+  pub ending : (place : ℕ) (response : Bool) (n : ℕ) (x : Exchange) (room : Room) (on : IsOn n room x) → OthersAreAlien (chain_of response x) on.place room
+      → IsWhole response x room → (place ≡ on.place → ⊥) → Leaves response n x room x (ends_at place room)
 
 -- A CALLBACK WHOSE ANSWER SAYS NOTHING, such as that of a tick: it is what the law takes a worker to do besides.
 abbrev pub TellsAreRuns : Type 0 → Type 0

@@ -107,7 +107,7 @@ pub data MayBeside {H : Type 0} (calling : Calling H) (response : Bool) (n count
       → MayBeside calling response n count x b ms (next.Move place)
   works : MayWork calling response n count x b.host ms b.room b.room.jobs → MayBeside calling response n count x b ms next.Work
   frees : (at : ℕ) → MayBeside calling response n count x b ms (next.Free at)
-  ends_other : (place : ℕ) (on : IsOn n b.room x) → (place ≡ on.place → ⊥) → MayBeside calling response n count x b ms (next.End place)
+  ends_other : (place : ℕ) (on : IsOn n b.room x) → OthersAreAlien (chain_of response x) on.place b.room → (place ≡ on.place → ⊥) → MayBeside calling response n count x b ms (next.End place)
   begins : MayBeside calling response n count x b ms next.Begin
   stops : MayBeside calling response n count x b ms next.Rest
 

@@ -13,3 +13,4 @@ pub mod Parts
 pub mod Passage
 pub mod Waiting
 pub mod Backlog
+mod Ended

@@ -14,3 +14,4 @@ pub mod Parts
 pub mod Passage
 pub mod Waiting
 pub mod Backlog
+pub mod Ended

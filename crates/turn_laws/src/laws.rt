@@ -1,6 +1,7 @@
 // What holds of turns, whatever the machines. The functions have nothing to do: their contracts are the laws.
 ghost use Rattle.turn_laws.specs.Laws.{TurnsAreFunctionsOver, MoreStepsChangeNothingOver};
 ghost use Rattle.turn_laws.specs.Begins.{ExchangesBeginNew};
+ghost use Rattle.turn_laws.specs.Ended.{NothingIsHeldBehindAnEnd};
 ghost use Rattle.turn_laws.specs.Noted.{NotesAreFair, NotesAreFairDown};
 ghost use Rattle.turn_laws.specs.Texts.{RequestTexts, ResponseTexts};
 ghost use Rattle.turn_laws.specs.Uploads.{PostExample, UploadExample, RecodingExample, UnroutedExample};
@@ -95,6 +96,11 @@ pub fn worked_closing()
 /// An exchange begins with the map, the framing and the version of the head that was judged, and with nothing sent.
 pub fn exchanges_begin_new()
     ensures { ExchangesBeginNew }
+{}
+
+/// Nothing that the stages of an exchange held is there behind its end, whatever ended it.
+pub fn nothing_is_held_behind_an_end()
+    ensures { NothingIsHeldBehindAnEnd }
 {}
 
 /// What a worker changes of an exchange by itself is among what the laws of exchanges allow to happen to one.

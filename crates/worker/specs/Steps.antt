@@ -17,6 +17,7 @@ use Rattle.course.specs.declared.host.Death.TheVariants as deaths
 use Rattle.exchange.specs.declared.types.Exchange.{Exchange}
 use Rattle.exchange.specs.declared.types.Filter.{Filter}
 use Rattle.exchange.specs.declared.types.Hub.{Hub}
+use Rattle.exchange.specs.Answering.{none_held}
 use Rattle.exchange.specs.Heads.{is_bare, request_of, response_of, length_in, path_of, route_in, sent_head, is_final}
 use Rattle.exchange.specs.Leaving.{sending as sending_to, sends, is_due}
 use Rattle.exchange.specs.Maps.{put_response, put_request_trailers, put_response_trailers, with_fields}
@@ -635,7 +636,8 @@ happens (whats.Room number side) room = room
 happens whats.Clock room = room
 happens whats.Stop room = room
 
--- ---- THE END OF AN EXCHANGE: the connection up is closed; its contexts are done with; and then comes the line
+-- ---- THE END OF AN EXCHANGE: the connection up is closed; what its stages still hold is dropped; its contexts are done with; and then comes the
+-- line
 
 abbrev pub done_jobs : List Filter → List Job
 done_jobs [] = []
@@ -649,7 +651,7 @@ abbrev pub ends_exchange : Option (ℕ × Exchange) → Room → Room
 ends_exchange None room = room
 ends_exchange (Some (number, x)) room =
     in_front (done_jobs x.filters ++ jobs.Close number x.stays ∷ [])
-    (with_contexts (ended x.place room.hub.contexts) (sending (close_up number x.reader) room))
+    (with_contexts (ended x.place (none_held x room.hub).contexts) (sending (close_up number x.reader) room))
 
 abbrev pub ends_with : Room → Option (ℕ × Exchange) × List Line → Room
 ends_with room (x, lines) = ends_exchange x (record room { lines = lines })

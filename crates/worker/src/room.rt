@@ -13,7 +13,7 @@ use crate::lines::Lines;
 use crate::types::{Asked, Change, ContextAt, Job, Next, Own, Reads};
 use contexts::{Contexts, Effect, What};
 use course::{CallEnd, Death};
-use exchange::{Exchange, Filter, Hub};
+use exchange::{Exchange, Filter, Hub, drop_stages};
 use gate_base::{Cause, ContextId, Level, LineNo, Members, Octets, OutOfMemory, VmNo};
 use gate_io::{Sent, SentList, Side};
 use h1_stream::MessageReader;
@@ -551,7 +551,9 @@ impl Room {
     ) -> Result<(), OutOfMemory>
         ensures { OnOk result (self.new ≡ ends_exchange (Some (number, x)) self.old) }
     {
+        let mut x = x;
         self.close_up(number, &x.reader)?;
+        drop_stages(alloc, &mut x, &mut self.hub);
         self.hub.contexts.end_exchange(x.place);
         let jobs = self.jobs_behind(alloc, number, &x)?;
         self.put_in_front(alloc, jobs)
