@@ -7,3 +7,4 @@ pub mod Turns
 pub mod More
 pub mod Alone
 pub mod TurnLaws
+pub mod Firsts

@@ -1,5 +1,5 @@
 -- Places in the lists of a worker.
-use Rattle.std.proofs.Common.{◌≡◌, ◌≤◌, ℕ, ◌==◌, ◌+◌, suc, List, [], ◌∷◌, length, map, ◌++◌, Bool, true, false, refl, ap, sym, ◌∙◌, arith, Option, Some, None}
+use Rattle.std.proofs.Common.{◌≡◌, ◌≤◌, ◌<◌, get_or, zero, ℕ, ◌==◌, ◌+◌, suc, List, [], ◌∷◌, length, map, ◌++◌, Bool, true, false, refl, ap, sym, ◌∙◌, arith, Option, Some, None}
 use Rattle.std.proofs.lemmas.List.{append-nil}
 use Rattle.std.specs.Prelude.{not, ◌||◌, cond, IsSome, nat_lt, option_map, Result, Ok, Err, OnOk, is_ok}
 use Rattle.contexts.specs.declared.parts.Context.{Context}
@@ -21,6 +21,16 @@ place_within number (line ∷ lines) = by (place_within number lines) (not (nat_
     by : place_for number lines ≤ length lines → (b : Bool) → cond b (1 + place_for number lines) 0 ≤ suc (length lines)
     by later true = omega arith
     by later false = omega arith
+
+or_true : (b : Bool) → (b || true) ≡ true
+or_true true = refl
+or_true false = refl
+
+-- an id that stands at a place is among them
+pub contains_at : (ids : List ℕ) (at id d : ℕ) → at < length ids → (get_or ids at d == id) ≡ true → contains id ids ≡ true
+contains_at [] at id d low is = absurd (omega arith)
+contains_at (x ∷ xs) zero id d low is = ap (λ (b : Bool). b || contains id xs) is
+contains_at (x ∷ xs) (suc at) id d low is = ap (λ (b : Bool). (x == id) || b) (contains_at xs at id d (omega arith) is) ∙ or_true (x == id)
 
 -- a root that has a tick is there
 pub tick_known : (root : ℕ) (cs : List Context) → IsSome (tick_in cs root) → contains root (map context_no cs) ≡ true

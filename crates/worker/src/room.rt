@@ -103,20 +103,24 @@ fn death_of(alloc: Global, h: &Contexts, vm: VmNo, death: Death) -> Result<Octet
     }
 }
 
-/// Whether a list has an id.
-fn has_id(ids: &[ContextId], id: ContextId) -> bool
+/// Whether a list has an id, which is looked for at a place first.
+#[tactic(auto, using(crate::proofs::Places::contains_at))]
+fn has_id(ids: &[ContextId], at: usize, id: ContextId) -> bool
     ensures { result ≡ contains id ids.now }
 {
+    if at < ids.len() && ids[at] == id {
+        return true;
+    }
     ids.iter().any(|m| *m == id)
 }
 
-/// Whether a context of a VM waits.
-fn is_waiting(h: &Contexts, vm: VmNo, context: ContextId) -> bool
+/// Whether a context of a VM waits, which is looked for at a place first.
+fn is_waiting(h: &Contexts, vm: VmNo, at: usize, context: ContextId) -> bool
     ensures { result ≡ contains context (vm_in h.now vm).waiting }
 {
     match h.vms.as_slice().get(vm.get() as usize) {
         None => false,
-        Some(v) => has_id(v.waiting.as_slice(), context),
+        Some(v) => has_id(v.waiting.as_slice(), at, context),
     }
 }
 
@@ -196,21 +200,28 @@ impl Room {
         self.dead.as_slice().iter().any(|d| *d == vm)
     }
 
-    /// Whether a context waits no more.
-    fn is_released(&self, of: ContextAt) -> bool
+    /// Whether a context waits no more. It is looked for at a place among those of its VM first.
+    fn is_released(&self, of: ContextAt, at: usize) -> bool
         ensures { result ≡ is_released self.now of }
     {
-        self.is_dead(of.vm) || !is_waiting(&self.hub.contexts, of.vm, of.context)
+        self.is_dead(of.vm) || !is_waiting(&self.hub.contexts, of.vm, at, of.context)
     }
 
-    /// The first context that waits no more.
+    /// The first context that waits no more. Those of a VM stand here as they stand among its own, so that one walk through both finds it.
     fn released(&self) -> Option<usize>
         ensures { result ≡ position (is_released self.now) self.now.waits }
     {
-        self.waits
-            .as_slice()
-            .iter()
-            .position(|of| self.is_released(*of))
+        let mut places = [0; 16];
+        let waits = self.waits.as_slice();
+        for at in 0..waits.len() {
+            let of = waits[at];
+            let vm = of.vm.get() as usize;
+            if self.is_released(of, places[vm]) {
+                return Some(at);
+            }
+            places[vm] = places[vm].saturating_add(1);
+        }
+        None
     }
 
     /// What is next where the chains are at rest and nothing is in hand.
