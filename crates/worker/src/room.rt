@@ -558,15 +558,15 @@ impl Room {
         &mut self,
         alloc: Global,
         number: LineNo,
-        x: Exchange,
+        x: &Exchange,
     ) -> Result<(), OutOfMemory>
-        ensures { OnOk result (self.new ≡ ends_exchange (Some (number, x)) self.old) }
+        ensures { OnOk result (self.new ≡ ends_exchange (Some (number, x.now)) self.old) }
     {
         let mut x = x;
         self.close_up(number, &x.reader)?;
         drop_stages(alloc, &mut x, &mut self.hub);
         self.hub.contexts.end_exchange(x.place);
-        let jobs = self.jobs_behind(alloc, number, &x)?;
+        let jobs = self.jobs_behind(alloc, number, x)?;
         self.put_in_front(alloc, jobs)
     }
 
@@ -576,7 +576,11 @@ impl Room {
     {
         match self.lines.end(place) {
             None => Ok(()),
-            Some((number, x)) => self.end_exchange(alloc, number, x),
+            Some((number, x)) => {
+                let ended = self.end_exchange(alloc, number, &x);
+                drop(x);
+                ended
+            }
         }
     }
 
