@@ -558,13 +558,12 @@ impl Room {
         &mut self,
         alloc: Global,
         number: LineNo,
-        x: &Exchange,
+        x: &mut Exchange,
     ) -> Result<(), OutOfMemory>
-        ensures { OnOk result (self.new ≡ ends_exchange (Some (number, x.now)) self.old) }
+        ensures { OnOk result (self.new ≡ ends_exchange (Some (number, x.old)) self.old) }
     {
-        let mut x = x;
         self.close_up(number, &x.reader)?;
-        drop_stages(alloc, &mut x, &mut self.hub);
+        drop_stages(alloc, x, &mut self.hub);
         self.hub.contexts.end_exchange(x.place);
         let jobs = self.jobs_behind(alloc, number, x)?;
         self.put_in_front(alloc, jobs)
@@ -576,8 +575,8 @@ impl Room {
     {
         match self.lines.end(place) {
             None => Ok(()),
-            Some((number, x)) => {
-                let ended = self.end_exchange(alloc, number, &x);
+            Some((number, mut x)) => {
+                let ended = self.end_exchange(alloc, number, &mut x);
                 drop(x);
                 ended
             }
