@@ -11,7 +11,8 @@ use Rattle.exchange.specs.declared.types.Hub.{Hub}
 use Rattle.exchange.specs.Heads.{path_of, route_in}
 use Rattle.exchange.specs.Leaving.{sending as sending_to}
 use Rattle.exchange.specs.Maps.{put_response, with_fields}
-use Rattle.exchange_laws.specs.Lives.{IsKin}
+use Rattle.exchange.specs.Leaving.{goes_up}
+use Rattle.exchange_laws.specs.Lives.{IsKin, is_over}
 use Rattle.exchange_laws.specs.Traffic.{ups}
 use Rattle.exchange_laws.proofs.Traffic.{adds_none}
 use Rattle.filter_chain.specs.declared.item.Item.{Item}
@@ -28,17 +29,18 @@ use Rattle.worker.specs.declared.types.Line.{Line}
 use Rattle.worker.specs.declared.types.Reads.{Reads}
 use Rattle.worker.specs.Plan.{Plan}
 use Rattle.worker.specs.Rooms.{moves, sending, with_contexts}
-use Rattle.worker.specs.Steps.{change_line, change_exchange, on_line, on_lines, exchange_on, exchange_for, free_place, with_exchange, begun, read_on, with_reader, noted, is_last, jobs_of, puts_items, refuses, begins_for, begins_with_head, reading_ends, with_item, joins, takes, keeps_response, in_contexts, head_item, interim_of, put_trailers, hands_part, stops, after_heard, in_front}
+use Rattle.worker.specs.Steps.{change_line, change_exchange, on_line, on_lines, exchange_of_line, exchange_on, exchange_for, free_place, with_exchange, begun, read_on, with_reader, noted, is_last, jobs_of, puts_items, refuses, begins_for, begins_with_head, reading_ends, with_item, joins, takes, keeps_response, in_contexts, head_item, interim_of, put_trailers, hands_part, stops, after_heard, in_front}
 use Rattle.line_laws.specs.Living.{request_in}
 use Rattle.line_laws.proofs.Finding.{IsOnce}
 use Rattle.line_laws.proofs.Kept.{Staid, by_bool}
+use Rattle.line_laws.proofs.Upward.{Still, still_keeps, keeps_then}
 use Rattle.line_laws.proofs.Looks.{is_n, look, IsPlain, lives_join}
 use Rattle.line_laws.proofs.Rooms.{AllParts}
 use Rattle.line_laws.proofs.Story.{Tail, Rests, LineOk, Known, LivesUp}
 use Rattle.line_laws.proofs.OnLines.{Numbered, on_once, on_other, on_same, on_rests, jobs_of_line, line_tail}
 use Rattle.line_laws.proofs.Sides.{Notes, note_up, ExNotes, LineNotes, line_aside, NotDown, line_beside, goes_known, ended_known, ahead_on, ahead_end, numbered_change, numbered_read, still_change}
 
-lives_then : (n : ℕ) (x y z : Exchange) (hub mid after : Hub) → LivesUp n x hub y mid → LivesUp n y mid z after → LivesUp n x hub z after
+pub lives_then : (n : ℕ) (x y z : Exchange) (hub mid after : Hub) → LivesUp n x hub y mid → LivesUp n y mid z after → LivesUp n x hub z after
 lives_then n x y z hub mid after a b = record {
   deeds = a.deeds ++ b.deeds;
   plain = b.plain;
@@ -54,6 +56,10 @@ notes_then n x y z hub mid after a b = record {
   asked = b.asked ∙ a.asked;
   staid = λ s. b.staid (a.staid s);
   filters = b.filters ∙ a.filters;
+  entered = b.entered ∙ a.entered;
+  framed = b.framed ∙ a.framed;
+  over = λ o. b.over (a.over o);
+  keeps = keeps_then n (x, hub) (y, mid) (z, after) a.keeps b.keeps;
   plain = λ p. let l : LivesUp n x hub y mid = a.plain p in lives_then n x y z hub mid after l (b.plain l.plain);
 }
 
@@ -104,20 +110,20 @@ beyond_hub n a b once l same g j r = record {
 }
 
 -- what is done to the exchange of a line
-pub record IsNote (n : ℕ) (f : Line → Line) (hub : Hub) : Type 0 where
+pub record IsNote (n : ℕ) (f : Line → Line) (hub : Hub) (o : Option Exchange) : Type 0 where
   pub change : Exchange → Exchange
   pub is : f ≡ change_line change
-  pub notes : (x : Exchange) → Notes n x hub (change x) hub
+  pub notes : (x : Exchange) → o ≡ Some x → Notes n x hub (change x) hub
 
-noted_line : (n : ℕ) (g : Exchange → Exchange) (hub : Hub) (o : Option Line) → ((x : Exchange) → Notes n x hub (g x) hub) → LineNotes n o hub (option_map (change_line g) o) hub
+noted_line : (n : ℕ) (g : Exchange → Exchange) (hub : Hub) (o : Option Line) → ((x : Exchange) → exchange_of_line o ≡ Some x → Notes n x hub (g x) hub) → LineNotes n o hub (option_map (change_line g) o) hub
 noted_line n g hub None notes = refl
 noted_line n g hub (Some l) notes = by_exchange l.exchange refl
   where
     by_exchange : (o : Option Exchange) → l.exchange ≡ o → ((change_exchange g l o).requests ≡ l.requests) × ExNotes n l.exchange hub (change_exchange g l o).exchange hub
     by_exchange None at = (refl, (line_aside n (Some l) hub hub refl).1)
-    by_exchange (Some x) at = (refl, subst (λ (o : Option Exchange). ExNotes n o hub (Some (g x)) hub) (sym at) (notes x))
+    by_exchange (Some x) at = (refl, subst (λ (o : Option Exchange). ExNotes n o hub (Some (g x)) hub) (sym at) (notes x at))
 
-pub beyond_line : (n m : ℕ) (f : Line → Line) (a : Room) → IsOnce (is_n n) a.lines → Numbered f → ((l : Line) → moves l ≡ false → moves (f l) ≡ false) → ((m == n) ≡ true → IsNote n f a.hub) → Beyond n a (on_lines f m a)
+pub beyond_line : (n m : ℕ) (f : Line → Line) (a : Room) → IsOnce (is_n n) a.lines → Numbered f → ((l : Line) → moves l ≡ false → moves (f l) ≡ false) → ((m == n) ≡ true → IsNote n f a.hub (exchange_of_line (look n a.lines))) → Beyond n a (on_lines f m a)
 beyond_line n m f a once numbered still note = record {
   once = on_once n m f a.lines numbered once;
   notes = by_test (m == n) refl;
@@ -130,11 +136,15 @@ beyond_line n m f a once numbered still note = record {
     by_test : (b : Bool) → (m == n) ≡ b → LineNotes n (look n a.lines) a.hub (look n (on_line f m a.lines)) a.hub
     by_test false is = subst (λ (o : Option Line). LineNotes n (look n a.lines) a.hub o a.hub) (sym (on_other n m f a.lines numbered is)) (line_aside n (look n a.lines) a.hub a.hub refl)
     by_test true is =
-        let c : IsNote n f a.hub = note is in
+        let c : IsNote n f a.hub (exchange_of_line (look n a.lines)) = note is in
         subst (λ (o : Option Line). LineNotes n (look n a.lines) a.hub o a.hub) (sym (on_same n m f a.lines numbered once is ∙ (λ i. option_map (c.is i) (look n a.lines))))
         (noted_line n c.change a.hub (look n a.lines) c.notes)
 
 -- ---- what a reader says
+
+-- a server that is read has a reader
+abbrev pub HasReader : ℕ → Reads → Room → Type 0
+HasReader n r a = (r.line == n) ≡ true → r.up ≡ true → (x : Exchange) → exchange_of_line (look n a.lines) ≡ Some x → is_some x.reader ≡ true
 
 module _ (plan : Plan) (n : ℕ) (r : Reads) (other : NotDown n r) where
   is_up : (r.line == n) ≡ true → r.up ≡ true
@@ -144,16 +154,40 @@ module _ (plan : Plan) (n : ℕ) (r : Reads) (other : NotDown n r) where
       by_up true up = up
       by_up false up = absurd (other is up)
 
-  simple : (x y : Exchange) (hub : Hub) → y.asked ≡ x.asked → (Staid x → Staid y) → y.filters ≡ x.filters → (IsPlain x → IsPlain y × IsKin x y) → (is_some x.reader ≡ true → is_some y.reader ≡ true) → Notes n x hub y hub
-  simple x y hub asked staid filters plain opened = record { same = refl; asked = asked; staid = staid; filters = filters; plain = λ p. note_up n x y hub hub (plain p).0 (plain p).1 refl opened }
+  simple : (x y : Exchange) (hub : Hub) → y.asked ≡ x.asked → (Staid x → Staid y) → y.filters ≡ x.filters → Still n (x, hub) (y, hub) → (is_over x ≡ true → is_over y ≡ true) → (IsPlain x → IsPlain y × IsKin x y)
+      → (is_some x.reader ≡ true → is_some y.reader ≡ true) → Notes n x hub y hub
+  simple x y hub asked staid filters still ends plain reads = record {
+    same = refl;
+    asked = asked;
+    staid = staid;
+    filters = filters;
+    entered = still.entered;
+    framed = still.framed;
+    over = ends;
+    keeps = still_keeps n (x, hub) (y, hub) still;
+    plain = λ p. note_up n x y hub hub (plain p).0 (plain p).1 refl reads;
+  }
 
-  reader_beyond : (new : Reading) (a : Room) → IsOnce (is_n n) a.lines → Beyond n a (on_lines (read_on r.up new) r.line a)
-  reader_beyond new a once =
+  as_before : (x y : Exchange) (hub : Hub) → y.asked.minor ≡ x.asked.minor → goes_up y ≡ goes_up x → is_some y.reader ≡ is_some x.reader → y.has_ended ≡ x.has_ended → y.is_answered ≡ x.is_answered → y.request ≡ x.request → y.is_entered ≡ x.is_entered
+      → Still n (x, hub) (y, hub)
+  as_before x y hub minor framed reader ended answered request entered = record {
+    minor = minor;
+    framed = framed;
+    reader = reader;
+    live = λ e. ((λ i. sym ended i || sym answered i) ∙ e, request);
+    entered = entered;
+    answered = λ a e. request ∙ a (sym answered ∙ e);
+    sends = refl;
+  }
+
+  reader_beyond : (new : Reading) (a : Room) → IsOnce (is_n n) a.lines → HasReader n r a → Beyond n a (on_lines (read_on r.up new) r.line a)
+  reader_beyond new a once has =
       beyond_line n r.line (read_on r.up new) a once (numbered_read r.up new) (λ l is. moved r.up l is)
       (λ is. record {
         change = with_reader new;
         is = (λ i. read_on (is_up is i) new);
-        notes = λ x. simple x (with_reader new x) a.hub refl (λ s. s) refl (λ p. (p, record { unfiltered = p.1; framed = refl; stays_over = λ o. o })) (λ o. refl);
+        notes = λ x on.
+            simple x (with_reader new x) a.hub refl (λ s. s) refl (as_before x (with_reader new x) a.hub refl refl (sym (has is (is_up is) x on)) refl refl refl refl) (λ o. o) (λ p. (p, record { unfiltered = p.1; framed = refl; stays_over = λ o. o })) (λ o. refl);
       })
     where
       moved : (up : Bool) (l : Line) → moves l ≡ false → moves (read_on up new l) ≡ false
@@ -166,7 +200,7 @@ module _ (plan : Plan) (n : ℕ) (r : Reads) (other : NotDown n r) where
       (λ is. record {
         change = noted true item;
         is = (λ i. change_line (noted (is_up is i) item));
-        notes = λ x. simple x (noted true item x) a.hub refl (λ s. s) refl (λ p. (p, record { unfiltered = p.1; framed = refl; stays_over = λ o. o })) (λ o. o);
+        notes = λ x on. simple x (noted true item x) a.hub refl (λ s. s) refl (as_before x (noted true item x) a.hub refl refl refl refl refl refl refl) (λ o. o) (λ p. (p, record { unfiltered = p.1; framed = refl; stays_over = λ o. o })) (λ o. o);
       })
     where
       alike : (up : Bool) (x : Exchange) → ((noted up item x).has_ended ≡ x.has_ended) × ((noted up item x).request ≡ x.request) × ((noted up item x).response ≡ x.response)
@@ -179,7 +213,7 @@ module _ (plan : Plan) (n : ℕ) (r : Reads) (other : NotDown n r) where
       (λ is. record {
         change = keeps_response h;
         is = refl;
-        notes = λ x. simple x (keeps_response h x) a.hub refl (λ s. s) refl (λ p. (p, record { unfiltered = p.1; framed = refl; stays_over = λ o. o })) (λ o. o);
+        notes = λ x on. simple x (keeps_response h x) a.hub refl (λ s. s) refl (as_before x (keeps_response h x) a.hub refl refl refl refl refl refl refl) (λ o. o) (λ p. (p, record { unfiltered = p.1; framed = refl; stays_over = λ o. o })) (λ o. o);
       })
 
   contexts_beyond : (change : ℕ → Contexts → Contexts) (o : Option Exchange) (a : Room) → IsOnce (is_n n) a.lines → Beyond n a (in_contexts change o a)
@@ -195,7 +229,7 @@ module _ (plan : Plan) (n : ℕ) (r : Reads) (other : NotDown n r) where
       (beyond_line n r.line (with_exchange x) b once (λ l. refl) (λ l is. refl) (λ is. absurd (other is down)))
 
   module _ (past : List Sent) (a : Room) (once : IsOnce (is_n n) a.lines) (parts : AllParts a.agenda) (idle : a.jobs ≡ []) (quiet : a.reading ≡ None) (at_rest : Rests a.lines)
-      (ok : LineOk plan n past (Some r) [] a.lines (look n a.lines) a.hub) where
+      (ok : LineOk plan n past (Some r) [] a.lines (look n a.lines) a.hub) (has : HasReader n r a) where
     -- the reading goes on
     on_known : (s : Room) (q : Reads) → q.line ≡ r.line → q.up ≡ r.up → Beyond n a s → Known plan n past (record s { reading = Some q })
     on_known s q line up b =
@@ -253,7 +287,7 @@ module _ (plan : Plan) (n : ℕ) (r : Reads) (other : NotDown n r) where
         let none : jobs_of r None s ++ s.jobs ≡ [] = (λ i. no_jobs (nothing e) i ++ (b.jobs ∙ idle) i) in
         ended_known plan n past (in_front (jobs.Close r.line false ∷ []) (reading_ends r None s)) b.once (subst AllParts (sym b.agenda) parts) none refl
         (subst (λ l. LineOk plan n past None (jobs.Close r.line false ∷ l) s.lines (look n s.lines) s.hub) (sym none)
-        (line_beside plan n past r other None (jobs.Close r.line false ∷ []) (record { batch = refl; puts = refl; unclosed = (apart (first_false r.up _ e), tt); reads = λ x. tt }) a.lines s.lines
+        (line_beside plan n past r other None (jobs.Close r.line false ∷ []) (record { batch = refl; puts = refl; none = tt; unclosed = (apart (first_false r.up _ e), tt); reads = λ x. tt }) a.lines s.lines
         (look n a.lines) (look n s.lines) a.hub s.hub b.notes ok)))
       where
         first_false : (u v : Bool) → (u || v) ≡ false → u ≡ false
@@ -277,5 +311,5 @@ module _ (plan : Plan) (n : ℕ) (r : Reads) (other : NotDown n r) where
     stops_known (refusal status) s nothing b = ends_known s r (Some status) refl refl b
 
     pub heard_beyond : (h : Heard) → ((new : Reading) → (r.up || is_some (exchange_on r.line (on_lines (read_on r.up new) r.line a)) ≡ false) → r.batch ≡ []) → Known plan n past (after_heard plan r h a)
-    heard_beyond (hands p new) nothing = hands_known p _ (reader_beyond new a once)
-    heard_beyond (halts why new) nothing = stops_known why _ (nothing new) (reader_beyond new a once)
+    heard_beyond (hands p new) nothing = hands_known p _ (reader_beyond new a once has)
+    heard_beyond (halts why new) nothing = stops_known why _ (nothing new) (reader_beyond new a once has)

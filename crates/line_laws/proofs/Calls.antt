@@ -16,10 +16,10 @@ use Rattle.exchange.specs.declared.types.Filter.{Filter}
 use Rattle.exchange.specs.declared.types.Hub.{Hub}
 use Rattle.exchange.specs.Answering.{cut_off, directly, with_held}
 use Rattle.exchange.specs.Heads.{is_final}
-use Rattle.exchange.specs.Leaving.{sending as sending_to}
+use Rattle.exchange.specs.Leaving.{goes_up, sending as sending_to}
 use Rattle.exchange.specs.Passing as passing
 use Rattle.exchange.specs.Passing.{chain_of, with_chain, passed_on}
-use Rattle.exchange_laws.specs.Lives.{answers, expires, turns, IsKin}
+use Rattle.exchange_laws.specs.Lives.{answers, expires, turns, is_over, IsKin}
 use Rattle.exchange_laws.specs.Own.{AreOn, SendsOn}
 use Rattle.exchange_laws.specs.Responses.{IsKinDown}
 use Rattle.exchange_laws.specs.Traffic.{Traffic, ups}
@@ -46,13 +46,14 @@ use Rattle.worker.specs.declared.types.Own.{Own}
 use Rattle.worker.specs.declared.types.Own.TheVariants.{Nobody, Stage}
 use Rattle.worker.specs.Moves.{asks_at, asks_line, asks_in, asks_exchange, asks_chain, asks_as, asks_response}
 use Rattle.worker.specs.Plan.{Plan}
-use Rattle.worker.specs.Rooms.{all_lines, with_lines, place_in, with_contexts, died, is_dead}
-use Rattle.worker.specs.Steps.{Both, both, Answered, answered, Then, goes_on_with, nothing_more, called_in, called_live, calls_live, in_front, unless_zero, has_vm, done_with, deletes, acts_on, is_drawn_out, may_root, root_jobs, rooting, with_filter, may_stream, with_stream, streaming, creating_filter, filter_at, creating, is_live, new_stage, entered, entering, ticked_at, ticked, is_due_tick, is_late, expires_all, noticed, moved, move_at, tells, made_one, made_with, roots, streams, ticks, tells_ready, takes_notice, notices, works, callback_of, number_of, vm_length, plugin_length}
+use Rattle.worker.specs.Rooms.{marking, all_lines, with_lines, place_in, with_contexts, died, is_dead}
+use Rattle.worker.specs.Steps.{Both, both, Answered, answered, Then, goes_on_with, nothing_more, called_in, called_live, calls_live, in_front, unless_zero, has_vm, done_with, deletes, acts_on, is_drawn_out, may_root, root_jobs, rooting, with_filter, may_stream, with_stream, streaming, creating_filter, filter_at, creating, is_live, new_stage, entered, ticked_at, ticked, is_due_tick, is_late, expires_all, noticed, moved, move_at, tells, made_one, made_with, roots, streams, ticks, tells_ready, takes_notice, notices, works, callback_of, number_of, vm_length, plugin_length}
 use Rattle.line_laws.specs.Logs.{Calling, WriteLogs}
 use Rattle.line_laws.proofs.Finding.{IsOnce}
-use Rattle.line_laws.proofs.Kept.{Kept, Staid, by_bool, kept_itself, passed_on_kept}
-use Rattle.line_laws.proofs.Looks.{is_n, Beside, beside_itself, sends_beside, IsPlain, LivesOn, Quietly, aside, equal_by, Still, still_aside, still_then, LineGoes, set_still, Does, does_deed, note_still, looks_aside, Exs}
-use Rattle.line_laws.proofs.Rooms.{AllFree, Once, Calm, calm_then, calm_of, calm_beside, calm_itself, same_sent, calm_number, calm_all, died_calm, answered_calm, logs_then, CalmThen, Calmly, in_front_calm, nothing_calm, unless_zero_calm, done_calm, deletes_calm, acts_on_calm}
+use Rattle.line_laws.proofs.Kept.{Kept, Staid, over_told, by_bool, kept_itself, passed_on_kept}
+use Rattle.line_laws.proofs.Upward.{Keeps, keeps_then, Still as UpStill, still_itself as up_still_itself, still_then as up_still_then, still_keeps, aside_still, answer_still, directly_still, response_still, asked_keeps}
+use Rattle.line_laws.proofs.Looks.{is_n, Beside, beside_itself, sends_beside, IsPlain, LivesOn, Quietly, aside, equal_by, Still, still_aside, still_then, LineGoes, set_still, does_deed, note_still, looks_aside, Exs}
+use Rattle.line_laws.proofs.Rooms.{AllFree, Once, Calm, calm_then, calm_of, calm_beside, calm_itself, same_sent, calm_all, died_calm, answered_calm, logs_then, CalmThen, Calmly, in_front_calm, nothing_calm, unless_zero_calm, done_calm, deletes_calm, acts_on_calm}
 
 -- ---- a note of an exchange without filters
 
@@ -100,24 +101,14 @@ no_stages dead filters is = ap (λ (l : List Filter). map (new_stage false) (fil
 no_stages_back : (dead : List ℕ) (filters : List Filter) → filters ≡ [] → ◌≡◌ {A = List chain_stage.Stage} (reverse (map (new_stage true) (filter (is_live dead) filters))) []
 no_stages_back dead filters is = ap (λ (l : List Filter). reverse (map (new_stage true) (filter (is_live dead) l))) is
 
-pub enters_quietly : (n : ℕ) (dead : List ℕ) (x : Exchange) (hub : Hub) → Quietly n x hub (entered dead x) hub
-enters_quietly n dead x hub =
-    by_bool (λ (y : Exchange). Quietly n x hub y hub) (x.has_ended || x.is_answered) x _ (λ e. aside n x hub hub (beside_itself n hub))
-    (λ e. record {
-      more = [];
-      grows = sym (append-nil (ups n hub.sent));
-      asked = refl;
-      place = refl;
-      staid = λ s. s;
-      filtered = λ d. d;
-      plain = λ p.
-          let y : Exchange = record x { request = map (new_stage false) (filter (is_live dead) x.filters); response = reverse (map (new_stage true) (filter (is_live dead) x.filters)); is_entered = true } in
-          let q : IsPlain y = (p.0, no_stages dead x.filters p.0, no_stages_back dead x.filters p.0) in
-          note_lives n x y hub hub q (alike_kin x y q refl).0 (alike_kin x y q refl).1 (beside_itself n hub) (λ d. d) (λ a d. (a, d, refl)) (λ o. o);
-    })
-
-pub does_enter : (dead : List ℕ) → Does (entering dead)
-does_enter dead = record { on = λ n x hub. enters_quietly n dead x hub; off = λ n m x hub other. beside_itself n hub }
+-- without filters none are made
+pub enters_plain : (n : ℕ) (dead : List ℕ) (x : Exchange) (hub : Hub) → IsPlain x → LivesOn n x hub (entered dead x) hub
+enters_plain n dead x hub p =
+    by_bool (λ (y : Exchange). LivesOn n x hub y hub) (x.has_ended || x.is_answered) x _ (λ e. (aside n x hub hub (beside_itself n hub)).plain p)
+    (λ e.
+    let y : Exchange = record x { request = map (new_stage false) (filter (is_live dead) x.filters); response = reverse (map (new_stage true) (filter (is_live dead) x.filters)); is_entered = true } in
+    let q : IsPlain y = (p.0, no_stages dead x.filters p.0, no_stages_back dead x.filters p.0) in
+    note_lives n x y hub hub q (alike_kin x y q refl).0 (alike_kin x y q refl).1 (beside_itself n hub) (λ d. d) (λ a d. (a, d, refl)) (λ o. o))
 
 -- the context of a filter is made
 emptied_filters : (k : ℕ) (f : Filter) (fs : List Filter) → slice_set fs k f ≡ [] → fs ≡ []
@@ -133,6 +124,10 @@ with_filter_quietly n k f x hub = record {
   place = refl;
   staid = λ s. s;
   filtered = emptied_filters k f x.filters;
+  entered = refl;
+  framed = refl;
+  over = λ o. o;
+  keeps = still_keeps n (x, hub) (with_filter k f x, hub) (record { minor = refl; framed = refl; reader = refl; live = λ e. (e, refl); entered = refl; answered = λ a. a; sends = refl });
   plain = λ p.
       let q : IsPlain (with_filter k f x) = (ap (λ (l : List Filter). slice_set l k f) p.0, p.1, p.2) in
       note_lives n x (with_filter k f x) hub hub q (alike_kin x (with_filter k f x) q refl).0 (alike_kin x (with_filter k f x) q refl).1 (beside_itself n hub) (λ d. d) (λ a d. (a, d, refl)) (λ o. o);
@@ -199,6 +194,37 @@ asks_plain n x hub p =
         let y : Exchange = with_chain true [] x in let q : IsPlain y = (p.0, p.1, refl) in
         note_lives n x y hub (with_held hub.contexts hub) q (alike_kin x y q refl).0 (alike_kin x y q refl).1 (beside_itself n hub) (λ d. d) (λ a d. (a, d, refl)) (λ o. o)
 
+chain_notes : (response : Bool) (t : List chain_stage.Stage) (x : Exchange) → ((with_chain response t x).is_entered ≡ x.is_entered) × (goes_up (with_chain response t x) ≡ goes_up x) × (is_over (with_chain response t x) ≡ is_over x)
+chain_notes false t x = (refl, refl, refl)
+chain_notes true t x = (refl, refl, refl)
+
+-- too much waits
+over_still : (response : Bool) (n : ℕ) (x : Exchange) (hub : Hub) → UpStill n (x, hub) (passed_on response n passed.Over x hub)
+over_still false n x hub = answer_still n true 413 [] [] x hub
+over_still true n x hub = directly_still n 500 [] [] x hub
+
+asks_as_still : (response : Bool) (n : ℕ) (a : Asking) (x : Exchange) (hub : Hub) → UpStill n (x, hub) ((asks_as response n a x hub).1, (asks_as response n a x hub).2)
+asks_as_still response n Nothing x hub = up_still_itself n (x, hub)
+asks_as_still response n (Over k) x hub =
+    let p : Exchange × Hub = passed_on response n passed.Over x hub in
+    up_still_then n (x, hub) p (p.0, (marking p).1) (over_still response n x hub) (aside_still n p.0 p.1 (marking p).1 refl)
+asks_as_still response n (Asks ask) x hub = up_still_itself n (x, hub)
+
+asks_keeps : (n : ℕ) (x : Exchange) (hub : Hub) → Keeps n (x, hub) ((asks_exchange n x hub).1, (asks_exchange n x hub).2)
+asks_keeps n x hub = by_side (asks_response x)
+  where
+    Goal : Bool → Type 0
+    Goal response =
+        Keeps n (x, hub) ((asks_chain response n x hub (asked hub.contexts (chain_of response x))).1, (asks_chain response n x hub (asked hub.contexts (chain_of response x))).2)
+
+    by_side : (response : Bool) → Goal response
+    by_side true =
+        let t = asked hub.contexts x.response in
+        still_keeps n (x, hub) _ (up_still_then n (x, hub) (with_chain true t.1 x, with_held t.2 hub) _ (response_still n t.1 x hub (with_held t.2 hub) refl) (asks_as_still true n t.0 (with_chain true t.1 x) (with_held t.2 hub)))
+    by_side false =
+        let t = asked hub.contexts x.request in
+        keeps_then n (x, hub) (with_chain false t.1 x, with_held t.2 hub) _ (asked_keeps n x hub) (still_keeps n (with_chain false t.1 x, with_held t.2 hub) _ (asks_as_still false n t.0 (with_chain false t.1 x) (with_held t.2 hub)))
+
 asks_quietly : (n : ℕ) (x : Exchange) (hub : Hub) → Quietly n x hub (asks_exchange n x hub).1 (asks_exchange n x hub).2
 asks_quietly n x hub =
     let t = asked hub.contexts (chain_of (asks_response x) x) in
@@ -206,6 +232,7 @@ asks_quietly n x hub =
     let c = chained (asks_response x) t.1 x in
     let k : Kept z (asks_exchange n x hub).1 = asks_as_kept (asks_response x) n t.0 z (with_held t.2 hub) in
     let s : SendsOn n hub (asks_exchange n x hub).2 = asks_on n n x hub in
+    let alike = chain_notes (asks_response x) t.1 x in
     record {
       more = ups n s.more;
       grows = ap (ups n) s.adds ∙ ups_join n hub.sent s.more;
@@ -213,6 +240,10 @@ asks_quietly n x hub =
       place = k.place ∙ c.1;
       staid = λ d. k.staid (c.2 d);
       filtered = λ e. sym c.3 ∙ (sym k.filters ∙ e);
+      entered = k.entered ∙ alike.0;
+      framed = k.framed ∙ alike.1;
+      over = λ o. over_told z (asks_exchange n x hub).1 k.told (alike.2 ∙ o);
+      keeps = asks_keeps n x hub;
       plain = asks_plain n x hub;
     }
 
@@ -236,7 +267,7 @@ asks_still : (n k : ℕ) (o : Option Line) (lines : List Line) (hub : Hub) → I
 asks_still n k None lines hub once there = still_aside n lines hub hub once (beside_itself n hub)
 asks_still n k (Some l) lines hub once there = set_still n lines k l (asks_line l hub).1 hub (asks_line l hub).2 once there (asks_goes n l hub)
 
--- the jobs that bring the line no item: those of no line, and stages and contexts that are made
+-- the jobs that bring the line no item: those of no line, and contexts that are made
 abbrev pub IsCalm : Job → Type 0
 IsCalm (jobs.Begin vm) = Unit {0}
 IsCalm (jobs.Root vm plugin first) = Unit {0}
@@ -246,7 +277,7 @@ IsCalm (jobs.Tick vm root) = Unit {0}
 IsCalm jobs.Expire = Unit {0}
 IsCalm (jobs.Happen what) = ⊥
 IsCalm (jobs.Create number k) = Unit {0}
-IsCalm (jobs.Enter number) = Unit {0}
+IsCalm (jobs.Enter number) = ⊥
 IsCalm (jobs.Put number response items) = ⊥
 IsCalm (jobs.Refuse number status) = ⊥
 IsCalm (jobs.Done c) = Unit {0}
@@ -401,7 +432,7 @@ module _ {H : Type 0} (calling : Calling H) (logs : WriteLogs calling) (n : ℕ)
   works_calm plan jobs.Expire host room is once = expire_calm room once
   works_calm plan (jobs.Happen what) host room is once = absurd is
   works_calm plan (jobs.Create number k) host room is once = streams_calm number k host room once
-  works_calm plan (jobs.Enter number) host room is once = calm_number n (entering room.dead) number room once (does_enter room.dead)
+  works_calm plan (jobs.Enter number) host room is once = absurd is
   works_calm plan (jobs.Put number response items) host room is once = absurd is
   works_calm plan (jobs.Refuse number status) host room is once = absurd is
   works_calm plan (jobs.Done c) host room is once = calls_live_calm c.vm callbacks.Done c.context 0 0 (done_with c) host room once (done_calm n c)

@@ -1,12 +1,11 @@
 -- What is known of a room stays so where nothing is read, and nothing of the line is put in hand.
 use Rattle.std.proofs.Common.{◌≡◌, ◌⊎◌, inl, inr, ℕ, true, List, [], ◌∷◌, ◌++◌, map, refl, ap, ◌∙◌, sym, subst}
-use Rattle.std.proofs.lemmas.List.{append_assoc}
 use Rattle.std.specs.Prelude.{Option, None, Some}
 use Rattle.exchange.specs.declared.types.Exchange.{Exchange}
 use Rattle.exchange.specs.declared.types.Hub.{Hub}
 use Rattle.exchange.specs.Maps.{request_map}
 use Rattle.exchange_laws.specs.Lives.{is_over}
-use Rattle.exchange_laws.specs.Traffic.{Traffic, ups}
+use Rattle.exchange_laws.specs.Traffic.{ups}
 use Rattle.exchange_laws.proofs.Traffic.{ups_join}
 use Rattle.filter_chain.specs.declared.item.Item.{Item}
 use Rattle.gate_io.specs.declared.event.Sent.{Sent}
@@ -21,7 +20,8 @@ use Rattle.worker.specs.Plan.{Plan}
 use Rattle.line_laws.specs.Requests.{OneByOne}
 use Rattle.line_laws.proofs.Looks.{look, Beside, IsPlain, LivesOn, Quietly, Exs, Looks}
 use Rattle.line_laws.proofs.Rooms.{IsFree, AllFree, AllParts, Calm}
-use Rattle.line_laws.proofs.Story.{put_of, puts_of, HasClose, NoClose, Tail, Stands, Rests, Phase, IsFreshJobs, IsRefusing, pending, Proper, Matches, Stream, fresh, going, doomed, Other, Tale, plainly, filtered, Idle, Busy, Free, ExOk, LineOk, Known, lives_up, over_told, story_on}
+use Rattle.line_laws.proofs.Story.{put_of, puts_of, HasClose, NoClose, Tail, Stands, Rests, Phase, IsFreshJobs, IsRefusing, NoEnter, OneEnter, pending, Alike, Becomes, passage_on, Proper, Matches, Stream, fresh, going, doomed, Other, Tale, plainly, filtered, Idle, Busy, Free, ExOk, LineOk, Known, lives_up, story_on}
+use Rattle.line_laws.proofs.Kept.{over_told}
 
 -- ---- jobs in front
 
@@ -66,6 +66,27 @@ pub free_refusing : (n : ℕ) (front later : List Job) → IsRefusing n later �
 free_refusing n [] later is = is
 free_refusing n (job ∷ front) later is = one_refusing n job (front ++ later) (free_refusing n front later is)
 
+one_none : (n : ℕ) (job : Job) (later : List Job) → IsFree job → NoEnter n later → NoEnter n (job ∷ later)
+one_none n (jobs.Enter m) later is none = absurd is
+one_none n job later is none = none
+
+pub free_none : (n : ℕ) (front later : List Job) → AllFree front → NoEnter n later → NoEnter n (front ++ later)
+free_none n [] later free none = none
+free_none n (job ∷ front) later free none = one_none n job (front ++ later) free.0 (free_none n front later free.1 none)
+
+one_once : (n : ℕ) (job : Job) (later : List Job) → IsFree job → OneEnter n later → OneEnter n (job ∷ later)
+one_once n (jobs.Enter m) later is once = absurd is
+one_once n job later is once = once
+
+pub free_once : (n : ℕ) (front later : List Job) → AllFree front → OneEnter n later → OneEnter n (front ++ later)
+free_once n [] later free once = once
+free_once n (job ∷ front) later free once = one_once n job (front ++ later) free.0 (free_once n front later free.1 once)
+
+pub none_once : (n : ℕ) (js : List Job) → NoEnter n js → OneEnter n js
+none_once n [] none = tt
+none_once n (jobs.Enter m ∷ later) none = ((λ e. none.1), none_once n later none.1)
+none_once n (job ∷ later) none = none_once n later none
+
 pub tail_stands : (js : List Job) → Tail js → Stands js
 tail_stands [] tail = tt
 tail_stands (jobs.Happen w ∷ later) tail = absurd tail
@@ -94,6 +115,8 @@ pub record Shift (n : ℕ) (js ks : List Job) : Type 0 where
   pub has : HasClose n js → HasClose n ks
   pub no : NoClose n js → NoClose n ks
   pub refusing : IsRefusing n js → IsRefusing n ks
+  pub none : NoEnter n js → NoEnter n ks
+  pub once : OneEnter n js → OneEnter n ks
 
 pub shift_free : (n : ℕ) (js front ks : List Job) → AllFree front → Shift n js ks → Shift n js (front ++ ks)
 shift_free n js front ks free s = record {
@@ -101,7 +124,15 @@ shift_free n js front ks free s = record {
   has = λ h. free_has n front ks free (s.has h);
   no = λ h. free_no n front ks free (s.no h);
   refusing = λ h. free_refusing n front ks (s.refusing h);
+  none = λ h. free_none n front ks free (s.none h);
+  once = λ h. free_once n front ks free (s.once h);
 }
+
+pub shift_alike : (n : ℕ) (js ks : List Job) → Shift n js ks → Alike n None js None ks
+shift_alike n js ks s = record { pend = ap (λ l. l ++ []) s.puts; refusing = s.refusing; none = s.none; once = s.once; first = λ e. e }
+
+pub quietly_becomes : (n : ℕ) (x y : Exchange) (hub after : Hub) → Quietly n x hub y after → Becomes n x hub y after
+quietly_becomes n x y hub after q = record { asked = q.asked; entered = q.entered; framed = q.framed; over = q.over; keeps = q.keeps }
 
 -- what becomes of a head that is on its way
 abbrev pub FreshOn : ℕ → List Job → List Line → Hub → List Job → List Line → Hub → Type 0
@@ -125,17 +156,17 @@ pub idle_on : (plan : Plan) (n : ℕ) (past : List Sent) (hub after : Hub) → B
 idle_on plan n past hub after b idle =
     subst (OneByOne plan) (ups_join n past hub.sent ∙ (ap (λ t. ups n past ++ t) (sym b.up) ∙ sym (ups_join n past after.sent))) idle
 
-pub other_on : (plan : Plan) (n : ℕ) (past : List Sent) (x y : Exchange) (hub after : Hub) (more : List Traffic) → (y.filters ≡ [] → x.filters ≡ []) → ups n after.sent ≡ ups n hub.sent ++ more
-    → Other plan n past x hub → Other plan n past y after
-other_on plan n past x y hub after more filters grows o = record {
+pub other_on : (plan : Plan) (n : ℕ) (past : List Sent) (reading now : Option Reads) (js ks : List Job) (x y : Exchange) (hub after : Hub) → (y.filters ≡ [] → x.filters ≡ []) → Alike n reading js now ks → Becomes n x hub y after
+    → Other plan n past reading js x hub → Other plan n past now ks y after
+other_on plan n past reading now js ks x y hub after filters a b o = record {
   filters = λ e. o.filters (filters e);
-  is_filtered = o.is_filtered;
+  head = o.head;
   start = o.start;
+  begun = o.begun;
+  some = o.some;
+  base = o.base;
   before = o.before;
-  part = o.part ++ more;
-  adds =
-      ups_join n past after.sent ∙ (ap (λ t. ups n past ++ t) grows ∙ (sym (append_assoc (ups n past) (ups n hub.sent) more) ∙ (ap (λ t. t ++ more) (sym (ups_join n past hub.sent) ∙ o.adds)
-      ∙ append_assoc o.start o.part more)));
+  passage = passage_on n past reading now js ks x y hub after o.head o.start o.base a b o.passage;
 }
 
 module _ (plan : Plan) (n : ℕ) (past : List Sent) (js ks : List Job) (s : Shift n js ks) where
@@ -145,8 +176,10 @@ module _ (plan : Plan) (n : ℕ) (past : List Sent) (js ks : List Job) (s : Shif
   tale_calm lines later x y hub after q on (plainly t) =
       let l : LivesOn n x hub y after = q.plain t.plain in
       plainly (story_on plan n past None None js ks lines later x y hub after t (lives_up n x y hub after l) (ap (λ a. a.minor) q.asked)
+      (passage_on n past None None js ks x y hub after t.head t.start (ups n t.start_hub.sent) (shift_alike n js ks s) (quietly_becomes n x y hub after q) t.passage)
       (stream_calm n js ks lines later x y hub after t.head.fields _ s q.asked (over_told x y l.told) (on t.head.fields t.plain) t.stream))
-  tale_calm lines later x y hub after q on (filtered o) = filtered (other_on plan n past x y hub after q.more q.filtered q.grows o)
+  tale_calm lines later x y hub after q on (filtered o) =
+      filtered (other_on plan n past None None js ks x y hub after q.filtered (shift_alike n js ks s) (quietly_becomes n x y hub after q) o)
 
   busy_calm : (lines later : List Line) (due : Due) (x y : Exchange) (hub after : Hub) → Quietly n x hub y after
       → ((fields : Headers) → IsPlain x → IsFreshJobs n js → Rests lines → request_map x.place hub.contexts ≡ fields → Proper (pending n None js) x.asked.whole → Stream n None ks later y after.contexts fields [])

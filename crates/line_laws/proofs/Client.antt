@@ -1,5 +1,5 @@
 -- A reading of the client of the line of the number.
-use Rattle.std.proofs.Common.{◌≡◌, ◌⊎◌, inl, inr, ℕ, ◌==◌, Bool, true, false, ◌||◌, ◌&&◌, List, [], ◌∷◌, ◌++◌, length, refl, ap, ◌∙◌, sym, subst}
+use Rattle.std.proofs.Common.{◌≡◌, ◌⊎◌, inl, inr, ℕ, zero, suc, ◌==◌, Bool, true, false, ◌||◌, ◌&&◌, List, [], ◌∷◌, ◌++◌, length, refl, ap, ◌∙◌, sym, subst}
 use Rattle.std.proofs.lemmas.List.{append-nil, append_assoc}
 use Rattle.std.specs.Prelude.{Option, None, Some, is_some, option_map, if◌then◌else◌}
 use Rattle.contexts.specs.declared.parts.Contexts.{Contexts}
@@ -10,7 +10,7 @@ use Rattle.exchange.specs.Heads.{path_of, route_in, is_bare, length_in}
 use Rattle.exchange.specs.Maps.{request_map, with_fields}
 use Rattle.exchange_laws.specs.Lives.{turns, is_over}
 use Rattle.exchange_laws.specs.Responses.{IsMessage}
-use Rattle.exchange_laws.specs.Traffic.{ups}
+use Rattle.exchange_laws.specs.Traffic.{Traffic, ups}
 use Rattle.filter_chain.specs.declared.item.Item.{Item}
 use Rattle.filter_chain.specs.declared.item.Item.TheVariants as items
 use Rattle.gate_io.specs.declared.event.Sent.{Sent}
@@ -29,17 +29,20 @@ use Rattle.worker.specs.Plan.{Plan}
 use Rattle.worker.specs.Rooms.{with_contexts}
 use Rattle.worker.specs.Steps.{change_line, change_exchange, on_lines, exchange_on, exchange_of_line, exchange_for, free_place, with_exchange, begun, read_on, noted, is_last, jobs_of, puts_items, refuses, creates, begins_for, begins_exchange, begins_with_head, reading_ends, with_item, joins, takes, in_contexts, head_item, put_trailers, hands_part, stops, in_front}
 use Rattle.line_laws.specs.Living.{requests_in}
+use Rattle.line_laws.specs.Requests.{IsBegun}
 use Rattle.line_laws.proofs.Earlier.{behind}
 use Rattle.line_laws.proofs.Finding.{IsOnce}
-use Rattle.line_laws.proofs.Items.{proper_more, head_proper, message_rest, none_begins, OfBody}
+use Rattle.line_laws.proofs.Items.{message_front, proper_more, head_proper, message_rest, none_begins, OfBody}
 use Rattle.line_laws.proofs.Kept.{Staid, by_bool}
 use Rattle.line_laws.proofs.Looks.{is_n, look, line_in_is, IsPlain, equal_is}
 use Rattle.line_laws.proofs.Maps.{trailers_map, opened_map}
 use Rattle.line_laws.proofs.Reader.{InBody, HeadNext, BodyNext, head_next, body_next, waits_in}
 use Rattle.line_laws.proofs.Rooms.{AllParts}
-use Rattle.line_laws.proofs.Story.{puts_of, HasClose, NoClose, Tail, Rests, pending, Proper, Matches, Stream, fresh, going, doomed, Tale, plainly, filtered, Idle, Busy, Free, ExOk, LineOk, Known, LivesUp, story_on}
+use Rattle.line_laws.proofs.Story.{puts_of, batch_of, HasClose, NoClose, NoEnter, OneEnter, Tail, Rests, pending, Proper, Flow, flows, ceases, Passage, Matches, Stream, fresh, going, doomed, Tale, plainly, filtered, Idle, Busy, Free, ExOk, LineOk, Known, LivesUp, story_on}
 use Rattle.line_laws.proofs.OnLines.{on_once, on_same, on_rests, jobs_of_line, line_tail, line_unclosed}
-use Rattle.line_laws.proofs.Sides.{note_up, goes_known, ended_known, numbered_change, numbered_read, still_change}
+use Rattle.line_laws.proofs.Calmed.{none_once}
+use Rattle.line_laws.proofs.Upward.{still_up}
+use Rattle.line_laws.proofs.Sides.{puts_unentered, note_up, goes_known, ended_known, numbered_change, numbered_read, still_change}
 
 -- the client of a line is read, of which this was read
 abbrev pub client : ℕ → List Item → Reads
@@ -64,6 +67,26 @@ refuses_none n m (Some status) = refl
 put_is : (n : ℕ) (b : List Item) (status : Option ℕ) → puts_of n (puts_items n false b ++ refuses n status) ≡ b
 put_is n [] status = refuses_none n n status
 put_is n (i ∷ b) status = (λ j. (if itself n j then i ∷ b else []) ++ refuses_none n n status j) ∙ append-nil (i ∷ b)
+
+batch_alone : (n : ℕ) (b : List Item) → batch_of n (Some (client n b)) ≡ b
+batch_alone n b = ap (λ c. if c && true then b else []) (itself n)
+
+begins_more : (b : List Item) (item : Item) → OfBody item → begins_with_head (b ++ item ∷ []) ≡ true → begins_with_head b ≡ true
+begins_more [] (items.Head end) of is = absurd of
+begins_more [] (items.Piece bytes end) of is = is
+begins_more [] items.Trailers of is = is
+begins_more (items.Head end ∷ b) item of is = refl
+begins_more (items.Piece bytes end ∷ b) item of is = is
+begins_more (items.Trailers ∷ b) item of is = is
+
+-- contexts that are made are no stages, and put nothing
+creates_puts : (n m k : ℕ) (later : List Job) → puts_of n (creates m k ++ later) ≡ puts_of n later
+creates_puts n m zero later = refl
+creates_puts n m (suc k) later = ap (puts_of n) (append_assoc (creates m k) (jobs.Create m k ∷ []) later) ∙ creates_puts n m k (jobs.Create m k ∷ later)
+
+creates_once : (n m k : ℕ) (later : List Job) → OneEnter n later → OneEnter n (creates m k ++ later)
+creates_once n m zero later once = once
+creates_once n m (suc k) later once = subst (OneEnter n) (sym (append_assoc (creates m k) (jobs.Create m k ∷ []) later)) (creates_once n m k (jobs.Create m k ∷ later) once)
 
 module _ (plan : Plan) (n : ℕ) (past : List Sent) where
   -- ---- the reading ends, and an exchange is there
@@ -108,12 +131,75 @@ module _ (plan : Plan) (n : ℕ) (past : List Sent) where
       doomed message (append-nil (puts_of n (jobs_of (client n b) status s)) ∙ (ap (puts_of n) jobs_are ∙ refuses_none n n status)) (inl is)
   ends_stream b s status y fields got there plain (doomed message none (inr is)) = absurd is
 
+  ends_passage : (b : List Item) (s : Room) (status : Option ℕ) (y : Exchange) (h : Head) (first : Exchange) (base : List Traffic) → exchange_on n s ≡ Some y → Passage n past (Some (client n b)) [] y s.hub h first base
+      → Passage n past None (jobs_of (client n b) status s) y s.hub h first base
+  ends_passage b s status y h first base there p = by_flow p.flow
+    where
+      done : (js : List Job) → jobs_of (client n b) status s ≡ js → Flow n None js y p.got → OneEnter n js → (y.is_entered ≡ true → NoEnter n js) → Passage n past None (jobs_of (client n b) status s) y s.hub h first base
+      done js are flow once none = record {
+        went = p.went;
+        adds = p.adds;
+        got = p.got;
+        up = p.up;
+        minor = p.minor;
+        framed = p.framed;
+        flow = subst (λ l. Flow n None l y p.got) (sym are) flow;
+        enters = record { once = subst (OneEnter n) (sym are) once; none = λ e. subst (NoEnter n) (sym are) (none e); first = λ e. absurd (cc) };
+      }
+
+      by_head : (c : Bool) → begins_with_head b ≡ c → jobs_of (client n b) status s ≡ (if c then begins_for (client n b) status (exchange_on n s) else puts_items n false b ++ refuses n status)
+      by_head true is = ap (λ c. if c && true then begins_for (client n b) status (exchange_on n s) else puts_items n false b ++ refuses n status) is
+      by_head false is = ap (λ c. if c && true then begins_for (client n b) status (exchange_on n s) else puts_items n false b ++ refuses n status) is
+
+      more : (c : Bool) → begins_with_head b ≡ c → Proper (p.got ++ b) y.asked.whole → Passage n past None (jobs_of (client n b) status s) y s.hub h first base
+      more false is proper =
+          done (puts_items n false b ++ refuses n status) (by_head false is)
+          (flows (subst (λ l. Proper (p.got ++ l) y.asked.whole) (sym (append-nil (puts_of n (puts_items n false b ++ refuses n status)) ∙ put_is n b status)) proper))
+          (none_once n (puts_items n false b ++ refuses n status) (puts_unentered n n false b status)) (λ e. puts_unentered n n false b status)
+      more true is proper = by_refusal y.refusal refl
+        where
+          jobs_are : jobs_of (client n b) status s ≡ begins_exchange (client n b) status y y.refusal
+          jobs_are = by_head true is ∙ ap (begins_for (client n b) status) there
+
+          behind_creates : List Job
+          behind_creates = jobs.Enter n ∷ (puts_items n false b ++ refuses n status)
+
+          by_refusal : (q : Option ℕ) → y.refusal ≡ q → Passage n past None (jobs_of (client n b) status s) y s.hub h first base
+          by_refusal (Some number) q =
+              done (jobs.Refuse n number ∷ []) (jobs_are ∙ ap (begins_exchange (client n b) status y) q) (ceases (message_front p.got b proper.1) refl (inr (inl (itself n)))) tt (λ e. tt)
+          by_refusal None q =
+              done (creates n (length y.filters) ++ (jobs.Enter n ∷ (puts_items n false b ++ refuses n status))) (jobs_are ∙ ap (begins_exchange (client n b) status y) q)
+              (flows (subst (λ l. Proper (p.got ++ l) y.asked.whole)
+              (sym (append-nil (puts_of n (creates n (length y.filters) ++ (jobs.Enter n ∷ (puts_items n false b ++ refuses n status)))) ∙ (creates_puts n n (length y.filters) (jobs.Enter n ∷ (puts_items n false b ++ refuses n status)) ∙ put_is n b status))) proper))
+              (creates_once n n (length y.filters) (jobs.Enter n ∷ (puts_items n false b ++ refuses n status))
+              ((λ e. puts_unentered n n false b status), none_once n (puts_items n false b ++ refuses n status) (puts_unentered n n false b status)))
+              (λ e.
+              let free : y.is_entered ≡ false = p.enters.first (ap begins_with_head (batch_alone n b) ∙ is) in
+              let never : ◌≡◌ {A = Bool} true false = sym e ∙ free in absurd (cc))
+
+      by_flow : Flow n (Some (client n b)) [] y p.got → Passage n past None (jobs_of (client n b) status s) y s.hub h first base
+      by_flow (flows proper) = more (begins_with_head b) refl (subst (λ l. Proper (p.got ++ l) y.asked.whole) (batch_is n b) proper)
+      by_flow (ceases message none (inl is)) =
+          let empty : b ≡ [] = sym (batch_is n b) ∙ none in
+          done (refuses n status) (by_head false (ap begins_with_head empty) ∙ ap (λ (l : List Item). puts_items n false l ++ refuses n status) empty)
+          (ceases message (append-nil (puts_of n (refuses n status)) ∙ refuses_none n n status) (inl is)) (none_once n (refuses n status) (puts_unentered n n false [] status)) (λ e. puts_unentered n n false [] status)
+      by_flow (ceases message none (inr is)) = absurd is
+
   ends_tale : (b : List Item) (s : Room) (status : Option ℕ) (y : Exchange) → exchange_on n s ≡ Some y → Tale plan n past (Some (client n b)) [] s.lines y s.hub
       → Tale plan n past None (jobs_of (client n b) status s) s.lines y s.hub
   ends_tale b s status y there (plainly t) =
       plainly (story_on plan n past (Some (client n b)) None [] (jobs_of (client n b) status s) s.lines s.lines y y s.hub s.hub t (same_up n y s.hub t.plain) refl
-      (ends_stream b s status y t.head.fields (requests_in t.deeds) there t.plain t.stream))
-  ends_tale b s status y there (filtered o) = filtered (record { filters = o.filters; is_filtered = o.is_filtered; start = o.start; before = o.before; part = o.part; adds = o.adds })
+      (ends_passage b s status y t.head t.start (ups n t.start_hub.sent) there t.passage) (ends_stream b s status y t.head.fields (requests_in t.deeds) there t.plain t.stream))
+  ends_tale b s status y there (filtered o) = filtered (record {
+    filters = o.filters;
+    head = o.head;
+    start = o.start;
+    begun = o.begun;
+    some = o.some;
+    base = o.base;
+    before = o.before;
+    passage = ends_passage b s status y o.head o.start o.base there o.passage;
+  })
 
   -- a room in which a line with an exchange is read
   record Busied (b : List Item) (s : Room) (m : Line) (y : Exchange) : Type 0 where
@@ -171,24 +257,74 @@ module _ (plan : Plan) (n : ℕ) (past : List Sent) where
   more_stream b item lines later x c d fields got of unread unended same still (doomed message none (inl is)) = absurd (cc)
   more_stream b item lines later x c d fields got of unread unended same still (doomed message none (inr is)) = absurd is
 
+  more_passage : (b : List Item) (item : Item) (x : Exchange) (hub after : Hub) (h : Head) (first : Exchange) (base : List Traffic) → OfBody item → x.asked.whole ≡ false → is_over x ≡ false → after.sent ≡ hub.sent
+      → Passage n past (Some (client n b)) [] x hub h first base → Passage n past (Some (client n (b ++ item ∷ []))) [] (noted false item x) after h first base
+  more_passage b item x hub after h first base of unread unended sent p = record {
+    went = p.went;
+    adds = ap (λ l. ups n (past ++ l)) sent ∙ p.adds;
+    got = p.got;
+    up = still_up n (x, hub) (noted false item x, hub) [] p.went _ (record { minor = refl; framed = refl; reader = refl; live = λ e. (e, refl); entered = refl; answered = λ a. a; sends = refl }) p.up;
+    minor = p.minor;
+    framed = p.framed;
+    flow = by_flow p.flow;
+    enters = record { once = tt; none = λ e. tt; first = λ e. p.enters.first (ap begins_with_head (batch_alone n b) ∙ begins_more b item of (ap begins_with_head (sym (batch_alone n (b ++ item ∷ []))) ∙ e)) };
+  }
+    where
+      by_flow : Flow n (Some (client n b)) [] x p.got → Flow n (Some (client n (b ++ item ∷ []))) [] (noted false item x) p.got
+      by_flow (flows proper) =
+          flows
+          (subst (λ l. Proper (p.got ++ l) (is_last item)) (sym (batch_is n (b ++ item ∷ [])))
+          (subst (λ l. Proper l (is_last item)) (append_assoc p.got b (item ∷ []))
+          (proper_more (p.got ++ b) item (subst (λ w. Proper (p.got ++ b) w) unread (subst (λ l. Proper (p.got ++ l) x.asked.whole) (batch_is n b) proper)) of)))
+      by_flow (ceases message none (inl is)) = let never : ◌≡◌ {A = Bool} true false = sym is ∙ unended in absurd (cc)
+      by_flow (ceases message none (inr is)) = absurd is
+
   more_tale : (b : List Item) (item : Item) (lines later : List Line) (x : Exchange) (hub after : Hub) → OfBody item → x.asked.whole ≡ false → is_over x ≡ false
       → (request_map x.place after.contexts ≡ request_map x.place hub.contexts) → after.sent ≡ hub.sent → (Rests lines → Rests later)
       → Tale plan n past (Some (client n b)) [] lines x hub → Tale plan n past (Some (client n (b ++ item ∷ []))) [] later (noted false item x) after
   more_tale b item lines later x hub after of unread unended same sent still (plainly t) =
       plainly (story_on plan n past (Some (client n b)) (Some (client n (b ++ item ∷ []))) [] [] lines later x (noted false item x) hub after t
       (note_up n x (noted false item x) hub after t.plain (record { unfiltered = t.plain.1; framed = refl; stays_over = λ o. o }) (ap (ups n) sent) (λ o. o)) refl
-      (more_stream b item lines later x hub.contexts after.contexts t.head.fields (requests_in t.deeds) of unread unended same still t.stream))
+      (more_passage b item x hub after t.head t.start (ups n t.start_hub.sent) of unread unended sent t.passage) (more_stream b item lines later x hub.contexts after.contexts t.head.fields (requests_in t.deeds) of unread unended same still t.stream))
   more_tale b item lines later x hub after of unread unended same sent still (filtered o) =
-      filtered (record { filters = o.filters; is_filtered = o.is_filtered; start = o.start; before = o.before; part = o.part; adds = ap (λ t. ups n (past ++ t)) sent ∙ o.adds })
+      filtered (record {
+        filters = o.filters;
+        head = o.head;
+        start = o.start;
+        begun = o.begun;
+        some = o.some;
+        base = o.base;
+        before = o.before;
+        passage = more_passage b item x hub after o.head o.start o.base of unread unended sent o.passage;
+      })
 
   -- ---- a new exchange
 
-  new_tale : (h : Head) (place now : ℕ) (dead : List ℕ) (route : Option ℕ) (used : ℕ) (text : List ℕ) (lines : List Line) (hub : Hub) → SpellsStep text (found h used) → request_map place hub.contexts ≡ h.fields
-      → Rests lines → Idle plan n past hub → Tale plan n past (Some (client n (head_item h ∷ []))) [] lines (noted false (head_item h) (exchange_for plan place now dead h route)) hub
-  new_tale h place now dead route used text lines hub spells map rests idle = by_filters x.filters refl
+  new_tale : (h : Head) (place now : ℕ) (dead : List ℕ) (used : ℕ) (text : List ℕ) (lines : List Line) (hub : Hub) → SpellsStep text (found h used) → hub.moment ≡ now → request_map place hub.contexts ≡ h.fields
+      → Rests lines → Idle plan n past hub → Tale plan n past (Some (client n (head_item h ∷ []))) [] lines (noted false (head_item h) (exchange_for plan place now dead h (route_in plan.routes (path_of h.fields)))) hub
+  new_tale h place now dead used text lines hub spells moment map rests idle = by_filters x.filters refl
     where
       x : Exchange
-      x = exchange_for plan place now dead h route
+      x = exchange_for plan place now dead h (route_in plan.routes (path_of h.fields))
+
+      begun_so : IsBegun plan h (exchange_for plan place now dead h (route_in plan.routes (path_of h.fields)))
+      begun_so = record { place = place; now = now; dead = dead; is = refl; judged = record { text = text; used = used; spells = spells } }
+
+      proper : Proper (head_item h ∷ []) (is_bare (length_in h.length))
+      proper = head_proper (is_bare (length_in h.length))
+
+      passage : (base : List Traffic) → base ≡ ups n (past ++ hub.sent) → Passage n past (Some (client n (head_item h ∷ []))) [] (noted false (head_item h) (exchange_for plan place now dead h (route_in plan.routes (path_of h.fields)))) hub h
+          (exchange_for plan place now dead h (route_in plan.routes (path_of h.fields))) base
+      passage base is = record {
+        went = [];
+        adds = sym is ∙ sym (append-nil base);
+        got = [];
+        up = record { left = []; outs = []; are = tt; is = refl; opened = refl; through = λ e. refl; idle = λ e. tt; sound = tt; left_sound = tt; unentered = λ e f. refl; answered = λ e. refl };
+        minor = refl;
+        framed = refl;
+        flow = flows (subst (λ l. Proper l (is_bare (length_in h.length))) (sym (batch_is n (head_item h ∷ []))) proper);
+        enters = record { once = tt; none = λ e. tt; first = λ e. refl };
+      }
 
       y : Exchange
       y = noted false (head_item h) x
@@ -202,23 +338,26 @@ module _ (plan : Plan) (n : ℕ) (past : List Sent) where
         head = h;
         start = x;
         start_hub = behind past hub;
-        began = record { place = place; now = now; dead = dead; route = route; is = refl; map = map; judged = record { text = text; used = used; spells = spells } };
+        began = record { begun = begun_so; moment = moment; map = map };
         before = idle;
         deeds = turns y (behind past hub) ∷ [];
         lives = (((record { unfiltered = refl; framed = refl; stays_over = λ o. o }, refl), (λ e. absurd (cc))), (refl, refl));
         came = tt;
         minor = refl;
         opened = inr (refl, inl refl);
+        passage = passage (ups n (past ++ hub.sent)) refl;
         stream = fresh refl (itself n, refl) rests map
             (subst (λ l. Proper l (is_bare (length_in h.length))) (sym (batch_is n (head_item h ∷ []))) (head_proper (is_bare (length_in h.length))));
       })
       by_filters (f ∷ fs) are = filtered (record {
         filters = cons_some f fs are;
-        is_filtered = record { place = place; now = now; dead = dead; head = h; route = route; some = cons_some f fs are };
-        start = ups n (past ++ hub.sent);
+        head = h;
+        start = x;
+        begun = begun_so;
+        some = cons_some f fs are;
+        base = ups n (past ++ hub.sent);
         before = idle;
-        part = [];
-        adds = sym (append-nil (ups n (past ++ hub.sent)));
+        passage = passage (ups n (past ++ hub.sent)) refl;
       })
 
   due_matches : (h : Head) → Matches (is_bare (length_in h.length)) (due_after h)
@@ -323,8 +462,8 @@ module _ (plan : Plan) (n : ℕ) (past : List Sent) where
 
           read_tale : Tale plan n past (Some (client n b)) [] a.lines x a.hub → Tale plan n past (Some (client n b)) [] (read new).lines x a.hub
           read_tale (plainly t) =
-              plainly (story_on plan n past (Some (client n b)) (Some (client n b)) [] [] a.lines (read new).lines x x a.hub a.hub t (same_up n x a.hub t.plain) refl (read_stream t.head.fields (requests_in t.deeds) t.stream))
-          read_tale (filtered o) = filtered (record { filters = o.filters; is_filtered = o.is_filtered; start = o.start; before = o.before; part = o.part; adds = o.adds })
+              plainly (story_on plan n past (Some (client n b)) (Some (client n b)) [] [] a.lines (read new).lines x x a.hub a.hub t (same_up n x a.hub t.plain) refl t.passage (read_stream t.head.fields (requests_in t.deeds) t.stream))
+          read_tale (filtered o) = filtered o
 
       -- no further part
       pub stop_said : (why : Stop) (new : Reading) → Halts l.requests why new → Known plan n past (stops (client n b) why (read new))
@@ -371,7 +510,7 @@ module _ (plan : Plan) (n : ℕ) (past : List Sent) where
             asked = asked_new;
             staid = λ e. absurd (cc);
             matches = subst (λ d. Matches (is_bare (length_in h.length)) d) (sym due_new) (due_matches h);
-            tale = new_tale h place a.hub.moment a.dead route used l.requests.unread t.lines s.hub spells (opened_map n h.fields a.hub.contexts) t_rests idle_line;
+            tale = new_tale h place a.hub.moment a.dead used l.requests.unread t.lines s.hub spells refl (opened_map n h.fields a.hub.contexts) t_rests idle_line;
           }) refl refl
 
       head_said : (p : Part) (used : ℕ) (new : Reading) → new.asked ≡ None → HeadNext None l.requests.unread p used new.due → Known plan n past (hands_part plan (client n []) p (read new))

@@ -131,7 +131,7 @@ module _ (plan : Plan) (n : ℕ) (past : List Sent) where
   -- ---- what came is no request, or an exchange is refused
 
   refuse_turn : (m status : ℕ) (later : List Job) → (m == n) ≡ false → Turn n (jobs.Refuse m status ∷ later) None later
-  refuse_turn m status later other = record { pend = refl; has = λ h. h; no = λ h. h; refusing = not_this; unfresh = λ f. f }
+  refuse_turn m status later other = record { pend = refl; has = λ h. h; no = λ h. h; refusing = not_this; none = λ h. h; once = λ h. h; unread = refl; unfresh = λ f. f }
     where
       not_this : ((m == n) ≡ true) ⊎ IsRefusing n later → IsRefusing n later
       not_this (inl e) = let never : ◌≡◌ {A = Bool} true false = sym e ∙ other in absurd (cc)
@@ -159,8 +159,8 @@ module _ (plan : Plan) (n : ℕ) (past : List Sent) where
   -- ---- behind an exchange
 
   close_turn : (m : ℕ) (stays : Bool) (later : List Job) (now : Option Reads) → (m == n) ≡ false → batch_of n now ≡ [] → Turn n (jobs.Close m stays ∷ later) now later
-  close_turn m true later now other none = record { pend = ap (λ l. puts_of n later ++ l) none; has = λ h. h; no = λ h. h.1; refusing = λ h. h; unfresh = λ f. f }
-  close_turn m false later now other none = record { pend = ap (λ l. puts_of n later ++ l) none; has = by_has; no = λ h. h.1; refusing = λ h. h; unfresh = λ f. f }
+  close_turn m true later now other none = record { pend = ap (λ l. puts_of n later ++ l) none; has = λ h. h; no = λ h. h.1; refusing = λ h. h; none = λ h. h; once = λ h. h; unread = none; unfresh = λ f. f }
+  close_turn m false later now other none = record { pend = ap (λ l. puts_of n later ++ l) none; has = by_has; no = λ h. h.1; refusing = λ h. h; none = λ h. h; once = λ h. h; unread = none; unfresh = λ f. f }
     where
       by_has : ((m == n) ≡ true) ⊎ HasClose n later → HasClose n later
       by_has (inl e) = let never : ◌≡◌ {A = Bool} true false = sym e ∙ other in absurd (cc)

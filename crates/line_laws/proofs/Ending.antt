@@ -1,11 +1,11 @@
 -- What an exchange sent up, and a step in which it ends.
 use Rattle.std.proofs.Common.{◌≡◌, ◌⊎◌, inl, inr, ℕ, ◌==◌, Bool, true, false, List, [], ◌∷◌, ◌++◌, map, refl, ap, ◌∙◌, sym, subst}
-use Rattle.std.proofs.lemmas.List.{append-nil, append_assoc}
+use Rattle.std.proofs.lemmas.List.{append-nil, append_assoc, append_cancel_left}
 use Rattle.std.specs.Prelude.{Option, None, Some, is_some, slice_get, slice_set, position, if◌then◌else◌}
 use Rattle.exchange.specs.declared.types.Exchange.{Exchange}
 use Rattle.exchange.specs.declared.types.Filter.{Filter}
 use Rattle.exchange.specs.declared.types.Hub.{Hub}
-use Rattle.exchange.specs.Heads.{sent_head, up_tail, up_framing, request_of}
+use Rattle.exchange.specs.Heads.{path_of, route_in, sent_head, up_tail, up_framing, request_of}
 use Rattle.exchange.specs.Leaving.{goes_up}
 use Rattle.exchange_laws.specs.Laws.{GoesUpOnce}
 use Rattle.exchange_laws.specs.Lives.{is_over}
@@ -33,7 +33,7 @@ use Rattle.worker.specs.Plan.{Plan}
 use Rattle.worker.specs.Rooms as rooms
 use Rattle.worker.specs.Steps.{done_jobs, close_up, ends_with, ends_at, exchange_for}
 use Rattle.line_laws.specs.Living.{requests_in}
-use Rattle.line_laws.specs.Requests.{is_whole, AreOf, IsSentOf, of_one, of_filtered, OneByOne, another}
+use Rattle.line_laws.specs.Requests.{is_whole, AreOf, IsSentOf, IsExact, close_behind, OneByOne}
 use Rattle.line_laws.proofs.Earlier.{behind}
 use Rattle.line_laws.proofs.Finding.{Seeks, missing, first, seeks, IsOnce, set_other, only_found, set_once, set_there}
 use Rattle.line_laws.proofs.Items.{message_front}
@@ -41,8 +41,9 @@ use Rattle.line_laws.proofs.Lives.{came_of, lives_with}
 use Rattle.line_laws.proofs.Looks.{is_n, look, equal_by, equal_is, other_is, other_by}
 use Rattle.line_laws.proofs.Readable.{readable}
 use Rattle.line_laws.proofs.Rooms.{AllFree}
-use Rattle.line_laws.proofs.Story.{puts_of, HasClose, Tail, Matches, pending, Stream, fresh, going, doomed, Story, Tale, plainly, filtered, Busy, ExOk, LineOk, Known}
-use Rattle.line_laws.proofs.Calmed.{free_puts, free_has, free_no, free_tail}
+use Rattle.line_laws.proofs.Story.{puts_of, HasClose, Tail, Matches, pending, Stream, fresh, going, doomed, Story, Passage, Tale, plainly, filtered, Busy, ExOk, LineOk, Known}
+use Rattle.line_laws.proofs.Calmed.{free_puts, free_has, free_no, free_tail, free_none, none_once}
+use Rattle.line_laws.proofs.Parts.{goes_of, closes_so, one_part}
 use Rattle.line_laws.proofs.Sides.{ended_known}
 use Rattle.line_laws.proofs.Turned.{line_turn}
 use Rattle.line_laws.proofs.Closing.{line_as_is}
@@ -165,14 +166,26 @@ module _ (plan : Plan) (n : ℕ) (past : List Sent) (reading : Option Reads) (js
   went =
       let outs : List OutItem = came_of n s.start s.start_hub s.deeds in
       let q : OfRequest s.head (goes_up s.start) (requests_in s.deeds) outs = request_of_items s.head (goes_up s.start) (requests_in s.deeds) outs is_message s.came in
-      let of : Exchange = exchange_for plan s.began.place s.began.now s.began.dead s.head s.began.route in
-      let framed : goes_up s.start ≡ up_framing of.filters_requests (request_of s.head) = ap goes_up s.began.is in
+      let of : Exchange = exchange_for plan s.began.begun.place s.began.begun.now s.began.begun.dead s.head (route_in plan.routes (path_of s.head.fields)) in
+      let framed : goes_up s.start ≡ up_framing of.filters_requests (request_of s.head) = ap goes_up s.began.begun.is in
       record {
         request = q.request;
         sent_of = record { filtered = of.filters_requests; head = q.head; framing = q.framed ∙ framed };
-        goes = one_request n s.start x s.start_hub (behind past hub) s.deeds outs q.request (ap (λ (y : Exchange). y.request) s.began.is) (lives_with n s.deeds s.start x s.start_hub (behind past hub) s.lives) q.framed q.front;
+        goes = one_request n s.start x s.start_hub (behind past hub) s.deeds outs q.request (ap (λ (y : Exchange). y.request) s.began.begun.is) (lives_with n s.deeds s.start x s.start_hub (behind past hub) s.lives) q.framed q.front;
         full = q.full;
       }
+
+  -- what it sent is that, however it is counted
+  pub same_went : went.goes.went ≡ s.passage.went
+  same_went = append_cancel_left (ups n s.start_hub.sent) went.goes.went s.passage.went (sym went.goes.adds ∙ s.passage.adds)
+
+  pub exact_of : IsExact s.head s.passage.went
+  exact_of = record {
+    request = went.request;
+    sent_of = went.sent_of;
+    reads_back = λ ended other room suits. went.goes.read_back ended (readable s.head went.request s.began.begun.judged went.sent_of other room) suits;
+    front = subst (λ (t : List Traffic). IsFront t (opens ∷ map byte (out_wire went.request))) same_went went.goes.front;
+  }
 
 -- ---- the end
 
@@ -202,32 +215,24 @@ module _ (plan : Plan) (n : ℕ) (past : List Sent) where
       all : ups n (past ++ sent) ≡ ups n (past ++ hub.sent) ++ ups n (close_up m x.reader)
       all = ap (λ l. ups n (past ++ l)) is ∙ (ap (ups n) (sym (append_assoc past hub.sent (close_up m x.reader))) ∙ ups_join n (past ++ hub.sent) (close_up m x.reader))
 
+      closing : (h : Head) (start : Exchange) (base : List Traffic) (p : Passage n past None [] x hub h start base) → ups n (close_up m x.reader) ≡ close_behind p.went
+      closing h start base p =
+          closes_so n past None [] x hub h start base p x.reader refl (ups n (close_up m x.reader)) (λ none. ap (λ (o : Option Reading). ups n (close_up m o)) none) (λ some. by_reader x.reader some)
+        where
+          by_reader : (o : Option Reading) → is_some o ≡ true → ups n (close_up m o) ≡ closes ∷ []
+          by_reader None some = absurd (cc)
+          by_reader (Some r) some = close_same n m r here
+
+      total : (h : Head) (start : Exchange) (base : List Traffic) (p : Passage n past None [] x hub h start base) → ups n (past ++ sent) ≡ base ++ (p.went ++ close_behind p.went)
+      total h start base p = all ∙ ((λ i. p.adds i ++ closing h start base p i) ∙ append_assoc base p.went (close_behind p.went))
+
       by_tale : Tale plan n past None [] lines x hub → OneByOne plan (ups n (past ++ sent))
       by_tale (filtered o) =
-          subst (OneByOne plan) (sym (all ∙ (ap (λ t. t ++ ups n (close_up m x.reader)) o.adds ∙ append_assoc o.start o.part (ups n (close_up m x.reader))))) (another o.start (o.part ++ ups n (close_up m x.reader)) o.before (of_filtered o.is_filtered))
-      by_tale (plainly s) = by_reader x.reader refl s.opened
-        where
-          w : Went plan n past None [] lines x hub s
-          w = went plan n past None [] lines x hub s
-
-          before : List Traffic
-          before = ups n s.start_hub.sent
-
-          by_reader : (o : Option Reading) → x.reader ≡ o → (is_some x.reader ≡ true) ⊎ ((ups n (past ++ hub.sent) ≡ ups n s.start_hub.sent) × ((requests_in s.deeds ≡ []) ⊎ (is_over x ≡ true))) → OneByOne plan (ups n (past ++ sent))
-          by_reader (Some r) reader opened =
-              let closing : ups n (close_up m x.reader) ≡ closes ∷ [] = ap (λ (o : Option Reading). ups n (close_up m o)) reader ∙ close_same n m r here in
-              let total : ups n (past ++ sent) ≡ ups n s.start_hub.sent ++ (w.goes.went ++ closes ∷ [])
-              = all ∙ ((λ i. w.goes.adds i ++ closing i) ∙ append_assoc (ups n s.start_hub.sent) w.goes.went (closes ∷ [])) in
-              subst (OneByOne plan) (sym total)
-              (another (ups n s.start_hub.sent) (w.goes.went ++ closes ∷ []) s.before
-              (of_one (record { head = s.head; judged = s.began.judged; request = w.request; sent_of = w.sent_of; reads_back = λ ended other room suits. w.goes.read_back ended (readable s.head w.request s.began.judged w.sent_of other room) suits; went = w.goes.went; front = w.goes.front; is = inr refl })))
-          by_reader None reader (inl opened) = let never : ◌≡◌ {A = Bool} false true = ap is_some (sym reader) ∙ opened in absurd (cc)
-          by_reader None reader (inr (same, over)) =
-              let closing : ups n (close_up m x.reader) ≡ [] = ap (λ (o : Option Reading). ups n (close_up m o)) reader in
-              let total : ups n (past ++ sent) ≡ ups n s.start_hub.sent ++ [] = all ∙ (λ i. same i ++ closing i) in
-              subst (OneByOne plan) (sym total)
-              (another (ups n s.start_hub.sent) [] s.before
-              (of_one (record { head = s.head; judged = s.began.judged; request = w.request; sent_of = w.sent_of; reads_back = λ ended other room suits. w.goes.read_back ended (readable s.head w.request s.began.judged w.sent_of other room) suits; went = []; front = (opens ∷ map byte (out_wire w.request), refl); is = inl refl })))
+          one_part plan o.base (ups n (past ++ sent)) (record { head = o.head; first = o.start; went = o.passage.went }) o.before
+          (record { begun = o.begun; goes = goes_of n past None [] x hub o.head o.start o.base o.passage; exact = λ e. absurd (o.some e) }) (total o.head o.start o.base o.passage)
+      by_tale (plainly s) =
+          one_part plan (ups n s.start_hub.sent) (ups n (past ++ sent)) (record { head = s.head; first = s.start; went = s.passage.went }) s.before
+          (record { begun = s.began.begun; goes = goes_of n past None [] x hub s.head s.start (ups n s.start_hub.sent) s.passage; exact = λ e. exact_of plan n past None [] lines x hub s }) (total s.head s.start (ups n s.start_hub.sent) s.passage)
 
   pub end_known : (place : ℕ) (room : Room) → Known plan n past room → room.jobs ≡ [] → room.reading ≡ None → position rooms.is_over room.lines ≡ Some place → Known plan n past (ends_at place room)
   end_known place room k jobless quiet at = by_seek (seeks rooms.is_over room.lines)
@@ -282,6 +287,9 @@ module _ (plan : Plan) (n : ℕ) (past : List Sent) where
                     has = λ h. absurd h;
                     no = λ h. free_no n (done_jobs x.filters) (jobs.Close l.number x.stays ∷ []) (done_free x.filters) (other, tt);
                     refusing = λ h. absurd h;
+                    none = λ h. free_none n (done_jobs x.filters) (jobs.Close l.number x.stays ∷ []) (done_free x.filters) tt;
+                    once = λ h. none_once n (done_jobs x.filters ++ jobs.Close l.number x.stays ∷ []) (free_none n (done_jobs x.filters) (jobs.Close l.number x.stays ∷ []) (done_free x.filters) tt);
+                    unread = refl;
                     unfresh = λ h. h;
                   }) room.lines (slice_set room.lines place (record l { exchange = None })) (look n room.lines) (look n room.lines) room.hub
                   (ends_with room (Some (l.number, x), slice_set room.lines place (record l { exchange = None }))).hub

@@ -6,13 +6,13 @@ use Rattle.std.specs.Prelude.{Option, None, is_some, if◌then◌else◌}
 use Rattle.exchange.specs.declared.types.Exchange.{Exchange}
 use Rattle.exchange.specs.declared.types.Hub.{Hub}
 use Rattle.exchange.specs.Answering.{answer, answers_open, directly, through, shutting, is_direct, cut_off, answered_by}
-use Rattle.exchange.specs.Heads.{is_final, passes_filters, shuts, sent_head, up_tail}
+use Rattle.exchange.specs.Heads.{connection_fields, is_final, passes_filters, shuts, sent_head, up_tail}
 use Rattle.exchange.specs.Leaving.{up}
 use Rattle.exchange.specs.Maps.{request_map}
 use Rattle.exchange.specs.Passing.{put_in, puts_all, refused}
 use Rattle.exchange_laws.specs.Lives.{Deed, comes, turns, is_over, items_out}
 use Rattle.exchange_laws.specs.Responses.{IsMessage}
-use Rattle.exchange_laws.specs.Traffic.{ups}
+use Rattle.exchange_laws.specs.Traffic.{Traffic, ups}
 use Rattle.exchange_laws.proofs.Ups.{comes_over, comes_open, puts_is, no_stage}
 use Rattle.filter_chain.specs.declared.item.Item.{Item}
 use Rattle.filter_chain.specs.declared.item.Item.TheVariants as items
@@ -26,11 +26,13 @@ use Rattle.worker.specs.Steps.{begins_with_head}
 use Rattle.line_laws.specs.Living.{request_in, requests_in, LivesBy}
 use Rattle.line_laws.specs.Requests.{AreOf}
 use Rattle.line_laws.proofs.Earlier.{behind}
-use Rattle.line_laws.proofs.Items.{message_rest, begins_join}
-use Rattle.line_laws.proofs.Kept.{Kept, by_bool, puts_all_kept, put_in_kept, through_rest}
+use Rattle.line_laws.proofs.Items.{message_rest, message_sound, begins_join}
+use Rattle.line_laws.proofs.Kept.{Kept, by_bool, over_told, puts_all_kept, put_in_kept, through_rest}
 use Rattle.line_laws.proofs.Lives.{behind_deed, lives_behind, came_of, came_join, of_join, NoHead, body_of}
 use Rattle.line_laws.proofs.Looks.{IsPlain, lives_join, plain_kept}
-use Rattle.line_laws.proofs.Story.{IsFreshJobs, IsRefusing, pending, Proper, Stream, fresh, going, doomed, Story, over_told}
+use Rattle.line_laws.proofs.Phases.{Phase, fresh as fresh_phase, run, IsSound, run_join, sound_run}
+use Rattle.line_laws.proofs.Upward.{Up, Onward, put_in_goes}
+use Rattle.line_laws.proofs.Story.{IsFreshJobs, IsRefusing, NoEnter, OneEnter, batch_of, pending, Proper, Flow, flows, ceases, Passage, grows_past, Stream, fresh, going, doomed, Story}
 
 -- ---- items as they go out
 
@@ -44,7 +46,7 @@ head_of : (h : Head) (x : Exchange) (hub : Hub) (a b : List Item) → begins_wit
     → AreOf h a (items_out x hub a)
 head_of h x hub [] b begins message map minor = tt
 head_of h x hub (items.Head end ∷ a) b begins message map minor =
-    ((λ i. sent_head (map i) (up_tail (minor i))), body_of h x hub a (front_none a b (message_rest (items.Head end ∷ []) (a ++ b) refl message)))
+    ((λ i. sent_head (map i) (up_tail (minor i))), body_of h x.place x.asked.minor hub.contexts (connection_fields (request_map x.place hub.contexts)) a (front_none a b (message_rest (items.Head end ∷ []) (a ++ b) refl message)))
 head_of h x hub (items.Piece bytes end ∷ a) b begins message map minor = absurd (cc)
 head_of h x hub (items.Trailers ∷ a) b begins message map minor = absurd (cc)
 
@@ -67,6 +69,53 @@ opens_with n (items.Trailers ∷ a) x hub begins none live = absurd (cc)
 none_comes : (n : ℕ) (x : Exchange) (hub : Hub) → put_in false [] n x hub ≡ (x, hub)
 none_comes n x hub = by_bool (λ (p : Exchange × Hub). p ≡ (x, hub)) x.is_answered (x, hub) (x, hub) (λ e. refl) (λ e. refl)
 
+-- ---- what goes up with items that come to the chain
+
+none_left : {A : Type 0} (b c : List A) → b ++ c ≡ [] → (b ≡ []) × (c ≡ [])
+none_left [] c is = (refl, is)
+none_left (i ∷ b) c is = absurd (cc)
+
+pub puts_passage : (n : ℕ) (past : List Sent) (now : Option Reads) (js ks : List Job) (x : Exchange) (hub : Hub) (a : List Item) (after : Hub) (h : Head) (first : Exchange) (base : List Traffic) → after.sent ≡ (put_in false a n x hub).1.sent
+    → pending n None js ≡ a ++ pending n now ks → (IsRefusing n js → IsRefusing n ks) → (NoEnter n js → NoEnter n ks) → (OneEnter n js → OneEnter n ks) → Passage n past None js x hub h first base
+    → (begins_with_head (batch_of n now) ≡ true → x.is_entered ≡ false) → Passage n past now ks (put_in false a n x hub).0 after h first base
+puts_passage n past now js ks x hub a after h first base sent pend refusing none once p batch =
+    record {
+      went = p.went ++ o.more;
+      adds = grows_past n past hub after base p.went o.more (ap (ups n) sent ∙ o.grows) p.adds;
+      got = p.got ++ a;
+      up = subst (λ (i : Phase). Up (put_in false a n x hub).0 [] (p.went ++ o.more) i) (sym (run_join fresh_phase p.got a)) o.goes;
+      minor = ap (λ q. q.minor) kept.asked ∙ p.minor;
+      framed = kept.framed ∙ p.framed;
+      flow = by_flow p.flow;
+      enters = record { once = once p.enters.once; none = λ e. none (p.enters.none (sym kept.entered ∙ e)); first = λ e. kept.entered ∙ batch e };
+    }
+  where
+    kept : Kept x (put_in false a n x hub).0
+    kept = put_in_kept false a n x hub
+
+    sound_of : Flow n None js x p.got → IsSound (run (run fresh_phase p.got) a)
+    sound_of (flows proper) =
+        subst IsSound (run_join fresh_phase p.got a)
+        (sound_run (run fresh_phase (p.got ++ a)) (pending n now ks) (subst IsSound (run_join fresh_phase (p.got ++ a) (pending n now ks))
+        (subst (λ (l : List Item). IsSound (run fresh_phase l)) (sym (append_assoc p.got a (pending n now ks))) (subst (λ (l : List Item). IsSound (run fresh_phase (p.got ++ l))) pend (message_sound (p.got ++ pending n None js) proper.1)))))
+    sound_of (ceases message gone is) =
+        let both = none_left a (pending n now ks) (sym pend ∙ gone) in subst (λ (l : List Item). IsSound (run (run fresh_phase p.got) l)) (sym both.0) p.up.sound
+
+    o : Onward n hub (put_in false a n x hub) p.went (run (run fresh_phase p.got) a)
+    o = put_in_goes n a x hub p.went (run fresh_phase p.got) p.up (sound_of p.flow)
+
+    by_flow : Flow n None js x p.got → Flow n now ks (put_in false a n x hub).0 (p.got ++ a)
+    by_flow (flows proper) =
+        flows (subst (λ l. Proper l (put_in false a n x hub).0.asked.whole) (sym (append_assoc p.got a (pending n now ks)))
+        (subst (λ l. Proper (p.got ++ l) (put_in false a n x hub).0.asked.whole) pend (subst (λ w. Proper (p.got ++ pending n None js) w) (sym (ap (λ q. q.whole) kept.asked)) proper)))
+    by_flow (ceases message gone is) =
+        let both = none_left a (pending n now ks) (sym pend ∙ gone) in
+        ceases (subst IsMessage (sym (ap (λ l. p.got ++ l) both.0 ∙ append-nil p.got)) message) both.1 (by_end is)
+      where
+        by_end : (is_over x ≡ true) ⊎ IsRefusing n js → (is_over (put_in false a n x hub).0 ≡ true) ⊎ IsRefusing n ks
+        by_end (inl over) = inl (over_told x (put_in false a n x hub).0 kept.told over)
+        by_end (inr is) = inr (refusing is)
+
 -- ---- the story with items that come to the chain
 
 module _ (plan : Plan) (n : ℕ) (past : List Sent) (now : Option Reads) (js ks : List Job) (lines later : List Line) (x : Exchange) (hub : Hub) (a : List Item) (after : Hub) where
@@ -75,8 +124,9 @@ module _ (plan : Plan) (n : ℕ) (past : List Sent) (now : Option Reads) (js ks 
 
   story_put : (sent : after.sent ≡ goes.1.sent) → (s : Story plan n past None js lines x hub) → AreOf s.head a (items_out x hub a)
       → (is_some goes.0.reader ≡ true) ⊎ ((ups n (past ++ after.sent) ≡ ups n s.start_hub.sent) × ((requests_in s.deeds ++ a ≡ []) ⊎ (is_over goes.0 ≡ true)))
+      → Passage n past now ks goes.0 after s.head s.start (ups n s.start_hub.sent)
       → Stream n now ks later goes.0 after.contexts s.head.fields (requests_in s.deeds ++ a) → Story plan n past now ks later goes.0 after
-  story_put sent s are opened stream =
+  story_put sent s are opened passage stream =
       let kept : Kept x goes.0 = put_in_kept false a n x hub in
       let plain : IsPlain goes.0 = plain_kept x goes.0 kept s.plain in
       let two : List Deed = comes a ∷ turns goes.0 after ∷ [] in
@@ -100,15 +150,22 @@ module _ (plan : Plan) (n : ℕ) (past : List Sent) (now : Option Reads) (js ks 
             subst (λ l. AreOf s.head l (came_of n s.start s.start_hub (s.deeds ++ more))) (sym all_got)
             (subst (λ l. AreOf s.head (requests_in s.deeds ++ a) l) (sym all_came) (of_join s.head (requests_in s.deeds) a (came_of n s.start s.start_hub s.deeds) (items_out x hub a) s.came are));
         minor = ap (λ q. q.minor) kept.asked ∙ s.minor;
+        passage = passage;
         opened = subst (λ l. (is_some goes.0.reader ≡ true) ⊎ ((ups n (past ++ after.sent) ≡ ups n s.start_hub.sent) × ((l ≡ []) ⊎ (is_over goes.0 ≡ true)))) (sym all_got) opened;
         stream = subst (Stream n now ks later goes.0 after.contexts s.head.fields) (sym all_got) stream;
       }
 
   -- what is put in is what was pending first
-  pub puts_story : after.sent ≡ goes.1.sent → pending n None js ≡ a ++ pending n now ks → (IsFreshJobs n js → begins_with_head a ≡ true) → (IsRefusing n js → IsRefusing n ks) → Story plan n past None js lines x hub
-      → Story plan n past now ks later goes.0 after
-  puts_story sent first begins_so refusing s = by_stream s.stream
+  pub puts_story : after.sent ≡ goes.1.sent → pending n None js ≡ a ++ pending n now ks → (IsFreshJobs n js → begins_with_head a ≡ true) → (IsRefusing n js → IsRefusing n ks) → (NoEnter n js → NoEnter n ks) → (OneEnter n js → OneEnter n ks) → now ≡ None
+      → Story plan n past None js lines x hub → Story plan n past now ks later goes.0 after
+  puts_story sent first begins_so refusing none once quiet s = by_stream s.stream
     where
+      no_batch : begins_with_head (batch_of n now) ≡ true → x.is_entered ≡ false
+      no_batch e = let never : ◌≡◌ {A = Bool} false true = ap (λ r. begins_with_head (batch_of n r)) (sym quiet) ∙ e in absurd (cc)
+
+      passage : Passage n past now ks goes.0 after s.head s.start (ups n s.start_hub.sent)
+      passage = puts_passage n past now js ks x hub a after s.head s.start (ups n s.start_hub.sent) sent first refusing none once s.passage no_batch
+
       kept : Kept x goes.0
       kept = put_in_kept false a n x hub
 
@@ -139,13 +196,13 @@ module _ (plan : Plan) (n : ℕ) (past : List Sent) (now : Option Reads) (js ks 
           let all : Proper (a ++ pending n now ks) x.asked.whole = subst (λ l. Proper l x.asked.whole) first proper in
           let begins : begins_with_head a ≡ true = begins_so is in
           let got : requests_in s.deeds ++ a ≡ a = ap (λ l. l ++ a) none in
-          story_put sent s (head_of s.head x hub a (pending n now ks) begins all.1 map s.minor) (by_over (is_over x) refl begins s.opened)
+          story_put sent s (head_of s.head x hub a (pending n now ks) begins all.1 map s.minor) (by_over (is_over x) refl begins s.opened) passage
           (going (ap begins_with_head got ∙ begins)
           (subst (λ l. Proper (l ++ pending n now ks) goes.0.asked.whole) (sym got) (subst (λ w. Proper (a ++ pending n now ks) w) (sym same_whole) all)))
       by_stream (going begins proper) =
           let g : List Item = requests_in s.deeds in
           let all : Proper (g ++ (a ++ pending n now ks)) x.asked.whole = subst (λ l. Proper (g ++ l) x.asked.whole) first proper in
-          story_put sent s (body_of s.head x hub a (front_none a (pending n now ks) (message_rest g (a ++ pending n now ks) begins all.1))) (by_opened begins s.opened)
+          story_put sent s (body_of s.head x.place x.asked.minor hub.contexts x.connection_up a (front_none a (pending n now ks) (message_rest g (a ++ pending n now ks) begins all.1))) (by_opened begins s.opened) passage
           (going (begins_join g a begins)
           (subst (λ l. Proper l goes.0.asked.whole) (sym (append_assoc g a (pending n now ks))) (subst (λ w. Proper (g ++ (a ++ pending n now ks)) w) (sym same_whole) all)))
       by_stream (doomed message none is) =
@@ -154,7 +211,7 @@ module _ (plan : Plan) (n : ℕ) (past : List Sent) (now : Option Reads) (js ks 
           let got : g ++ a ≡ g = ap (λ l. g ++ l) both.0 ∙ append-nil g in
           let same : goes ≡ (x, hub) = ap (λ l. put_in false l n x hub) both.0 ∙ none_comes n x hub in
           let ups_same : ups n (past ++ after.sent) ≡ ups n (past ++ hub.sent) = ap (λ l. ups n (past ++ l)) sent ∙ ap (λ (p : Exchange × Hub). ups n (past ++ p.1.sent)) same in
-          story_put sent s (subst (λ l. AreOf s.head l (items_out x hub l)) (sym both.0) tt) (by_doomed ups_same got s.opened)
+          story_put sent s (subst (λ l. AreOf s.head l (items_out x hub l)) (sym both.0) tt) (by_doomed ups_same got s.opened) passage
           (doomed (subst IsMessage (sym got) message) both.1 (by_end is))
         where
           by_end : (is_over x ≡ true) ⊎ IsRefusing n js → (is_over goes.0 ≡ true) ⊎ IsRefusing n ks

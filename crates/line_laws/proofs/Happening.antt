@@ -22,6 +22,7 @@ use Rattle.worker.specs.Rooms.{moves, place_in, on_number, sending}
 use Rattle.worker.specs.Steps.{change_line, change_exchange, on_line, on_lines, exchange_of_line, exchange_on, line_in, line_reading, drops_line, reads_side, most_lines, new_line, place_for, opens, further, further_back, with_further, further_on, is_open, is_answered_in, is_read_in, comes, lost_exchange, lost, loses_down, is_missed, loses_up, happens}
 use Rattle.line_laws.proofs.Finding.{Seeks, missing, first, seeks, IsOnce, insert_other, insert_found, insert_once}
 use Rattle.line_laws.proofs.Kept.{by_bool}
+use Rattle.line_laws.proofs.Upward.{still_keeps}
 use Rattle.line_laws.proofs.Looks.{is_n, look, line_in_is, equal_by, does_deed}
 use Rattle.line_laws.proofs.OnLines.{Numbered, on_once, on_other, on_same, on_rests}
 use Rattle.line_laws.proofs.Rooms.{AllParts, calm_number}
@@ -59,6 +60,10 @@ text_same stops bytes r =
     by_bool (λ (q : Reading). (q.asked ≡ r.asked) × (q.due ≡ r.due)) r.ended r (if stops then finished r else fed bytes r) (λ e. (refl, refl))
     (λ e. by_bool (λ (q : Reading). (q.asked ≡ r.asked) × (q.due ≡ r.due)) stops (finished r) (fed bytes r) (λ d. (refl, refl)) (λ d. (refl, refl)))
 
+further_is : (stops : Bool) (bytes : List ℕ) (o : Option Reading) → is_some (further_back stops bytes o) ≡ is_some o
+further_is stops bytes None = refl
+further_is stops bytes (Some r) = refl
+
 further_some : (stops : Bool) (bytes : List ℕ) (o : Option Reading) → is_some o ≡ true → is_some (further_back stops bytes o) ≡ true
 further_some stops bytes None is = is
 further_some stops bytes (Some r) is = refl
@@ -89,6 +94,10 @@ further_notes n stops bytes x hub = record {
   asked = refl;
   staid = λ s. s;
   filters = refl;
+  entered = refl;
+  framed = refl;
+  over = λ o. o;
+  keeps = still_keeps n (x, hub) (with_further stops bytes x, hub) (record { minor = refl; framed = refl; reader = further_is stops bytes x.reader; live = λ e. (e, refl); entered = refl; answered = λ a. a; sends = refl });
   plain = λ p. note_up n x (with_further stops bytes x) hub hub p (record { unfiltered = p.1; framed = refl; stays_over = λ o. o }) refl (further_some stops bytes x.reader);
 }
 
@@ -98,6 +107,10 @@ lost_notes n x hub = record {
   asked = refl;
   staid = λ s e. absurd (cc);
   filters = refl;
+  entered = refl;
+  framed = refl;
+  over = λ o. refl;
+  keeps = still_keeps n (x, hub) (lost_exchange x, hub) (record { minor = refl; framed = refl; reader = refl; live = λ e. absurd (cc); entered = refl; answered = λ a. a; sends = refl });
   plain = λ p. note_up n x (lost_exchange x) hub hub p (record { unfiltered = p.1; framed = refl; stays_over = λ o. refl }) refl (λ o. o);
 }
 
@@ -122,7 +135,7 @@ line_turns n m f lines hub once numbered each = by_test (m == n) refl
 
 module _ (plan : Plan) (n : ℕ) (past : List Sent) (w : What) (mid : Room) (pop : Popped plan n past (jobs.Happen w) mid) (last : mid.jobs ≡ []) (unended : find rooms.is_over mid.lines ≡ None) where
   turn_to : (now : Option Reads) → batch_of n now ≡ [] → Turn n (jobs.Happen w ∷ mid.jobs) now mid.jobs
-  turn_to now none = record { pend = ap (λ l. puts_of n mid.jobs ++ l) none; has = λ h. h; no = λ h. h; refusing = λ h. h; unfresh = λ f. f }
+  turn_to now none = record { pend = ap (λ l. puts_of n mid.jobs ++ l) none; has = λ h. h; no = λ h. h; refusing = λ h. h; none = λ h. h; once = λ h. h; unread = none; unfresh = λ f. f }
 
   -- nothing is read
   ends_so : (later : Room) → IsOnce (is_n n) later.lines → later.agenda ≡ mid.agenda → later.jobs ≡ mid.jobs → later.reading ≡ mid.reading → LineTurns n (look n mid.lines) mid.hub (look n later.lines) later.hub → Known plan n past later
@@ -242,7 +255,7 @@ module _ (plan : Plan) (n : ℕ) (past : List Sent) (w : What) (mid : Room) (pop
   loses_up_known : (m : ℕ) (o : Option Exchange) → Known plan n past (loses_up m o mid)
   loses_up_known m o =
       by_bool (Known plan n past) (is_missed o) (on_number (refused 502) m mid) mid
-      (λ e. known_calm plan n past (jobs.Happen w ∷ mid.jobs) mid (on_number (refused 502) m mid) pop.parts pop.tail pop.quiet pop.line (record { puts = refl; has = λ h. h; no = λ h. h; refusing = λ h. h })
+      (λ e. known_calm plan n past (jobs.Happen w ∷ mid.jobs) mid (on_number (refused 502) m mid) pop.parts pop.tail pop.quiet pop.line (record { puts = refl; has = λ h. h; no = λ h. h; refusing = λ h. h; none = λ h. h; once = λ h. h })
       (calm_number n (refused 502) m mid pop.once (does_deed (refused 502) (refuses 502) tt (λ k x hub. refl))) (λ l k x y fields at some behind there p place asked f rests map proper. absurd f)) (λ e. nothing_so)
 
   pub happens_known : (v : What) → Known plan n past (happens v mid)

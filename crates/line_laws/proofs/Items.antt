@@ -5,6 +5,7 @@ use Rattle.filter_chain.specs.declared.item.Item.{Item}
 use Rattle.filter_chain.specs.declared.item.Item.TheVariants.{Head, Piece, Trailers}
 use Rattle.worker.specs.Steps.{begins_with_head, is_last}
 use Rattle.line_laws.proofs.Lives.{NoHead}
+use Rattle.line_laws.proofs.Phases.{Phase, fresh, inside, whole as all, run, IsSound}
 use Rattle.line_laws.proofs.Story.{is_whole, Proper}
 
 or_false : (b : Bool) → (b || false) ≡ b
@@ -111,3 +112,22 @@ message_front (Head true ∷ a) b message = none_front a b message
     none_front (i ∷ a) b is = absurd (cc)
 message_front (Piece bytes end ∷ a) b message = absurd message
 message_front (Trailers ∷ a) b message = absurd message
+
+-- the phase of a message is sound
+rest_sound : (a : List Item) → a ≡ [] → (p : Phase) → IsSound p → IsSound (run p a)
+rest_sound [] is p sound = sound
+rest_sound (i ∷ a) is p sound = absurd (cc)
+
+body_sound : (a : List Item) → IsBody a → IsSound (run inside a)
+body_sound [] body = tt
+body_sound (Head end ∷ a) body = absurd body
+body_sound (Piece bytes false ∷ a) body = body_sound a body
+body_sound (Piece bytes true ∷ a) body = rest_sound a body all tt
+body_sound (Trailers ∷ a) body = rest_sound a body all tt
+
+pub message_sound : (a : List Item) → IsMessage a → IsSound (run fresh a)
+message_sound [] message = tt
+message_sound (Head false ∷ a) message = body_sound a message
+message_sound (Head true ∷ a) message = rest_sound a message all tt
+message_sound (Piece bytes end ∷ a) message = absurd message
+message_sound (Trailers ∷ a) message = absurd message

@@ -7,9 +7,10 @@ use Rattle.exchange.specs.declared.types.Hub.{Hub}
 use Rattle.exchange.specs.declared.types.Request.{Request}
 use Rattle.exchange.specs.Answering.{cut_off, directly, passed_down, put_went_down, puts_down, answered_by, with_answer, through, is_direct, shutting, answers_open, answer, with_held}
 use Rattle.exchange.specs.Heads.{is_bare, is_final, passes_filters, shuts, may_stay}
-use Rattle.exchange.specs.Leaving.{up, down, leaves, left, is_due}
+use Rattle.exchange.specs.Leaving.{goes_up, up, down, leaves, left, is_due}
 use Rattle.exchange.specs.Passing as passing
 use Rattle.exchange.specs.Passing.{passed_on, went, put_went, puts, puts_all, put_in, goes_on, gives_way, resumes_at, stage_of, chain_of, with_chain, pauses, opens_at, opens, opens_all, fails_closed, takes_nothing}
+use Rattle.exchange_laws.specs.Lives.{is_over}
 use Rattle.filter_chain.specs.Chains.{put, continued, let_through, reached}
 use Rattle.filter_chain.specs.declared.item.Item.{Item}
 use Rattle.filter_chain.specs.declared.item.Item.TheVariants.{Head, Piece, Trailers}
@@ -45,12 +46,14 @@ pub record Kept (x y : Exchange) : Type 0 where
   pub told : y.is_answered ≡ false → y.has_ended ≡ false → (x.is_answered ≡ false) × (x.has_ended ≡ false) × (y.told ≡ x.told)
   pub fits : Fits x → Fits y
   pub opened : is_some x.reader ≡ true → is_some y.reader ≡ true
+  pub entered : y.is_entered ≡ x.is_entered
+  pub framed : goes_up y ≡ goes_up x
 
 abbrev K : Exchange → Exchange × Hub → Type 0
 K x p = Kept x p.0
 
 pub kept_itself : (x : Exchange) → Kept x x
-kept_itself x = record { filters = refl; place = refl; asked = refl; request = λ e. e; response = λ e. e; staid = λ s. s; told = λ a e. (a, e, refl); fits = λ f. f; opened = λ o. o }
+kept_itself x = record { filters = refl; place = refl; asked = refl; request = λ e. e; response = λ e. e; staid = λ s. s; told = λ a e. (a, e, refl); fits = λ f. f; entered = refl; framed = refl; opened = λ o. o }
 
 pub kept_then : (x y z : Exchange) → Kept x y → Kept y z → Kept x z
 kept_then x y z a b = record {
@@ -62,6 +65,8 @@ kept_then x y z a b = record {
   staid = λ s. b.staid (a.staid s);
   told = λ o e. let later = b.told o e in let first = a.told later.0 later.1 in (first.0, first.1, later.2 ∙ first.2);
   fits = λ f. b.fits (a.fits f);
+  entered = b.entered ∙ a.entered;
+  framed = b.framed ∙ a.framed;
   opened = λ o. b.opened (a.opened o);
 }
 
@@ -79,7 +84,7 @@ may_is_whole q is = and_right (not q.old_client && not q.close) q.whole is
 -- ---- what leaves
 
 up_kept : (n : ℕ) (item : Item) (x : Exchange) (hub : Hub) → K x (up n item x hub)
-up_kept n (Head end) x hub = record { filters = refl; place = refl; asked = refl; request = λ e. e; response = λ e. e; staid = λ s. s; told = λ a e. (a, e, refl); fits = λ f. refl; opened = λ o. refl }
+up_kept n (Head end) x hub = record { filters = refl; place = refl; asked = refl; request = λ e. e; response = λ e. e; staid = λ s. s; told = λ a e. (a, e, refl); fits = λ f. refl; entered = refl; framed = refl; opened = λ o. refl }
 up_kept n (Piece bytes end) x hub = kept_itself x
 up_kept n Trailers x hub = kept_itself x
 
@@ -93,10 +98,12 @@ down_kept n (Head end) x hub runs = record {
   staid = λ s e. may_is_whole x.asked (and_left (may_stay x.asked) (not x.closes) (and_left (may_stay x.asked && not x.closes) _ e));
   told = λ a e. (a, runs, refl);
   fits = λ f. f;
+  entered = refl;
+  framed = refl;
   opened = λ o. o;
 }
-down_kept n (Piece bytes end) x hub runs = record { filters = refl; place = refl; asked = refl; request = λ e. e; response = λ e. e; staid = λ s. s; told = λ a e. (a, runs, refl); fits = λ f. f; opened = λ o. o }
-down_kept n Trailers x hub runs = record { filters = refl; place = refl; asked = refl; request = λ e. e; response = λ e. e; staid = λ s. s; told = λ a e. (a, runs, refl); fits = λ f. f; opened = λ o. o }
+down_kept n (Piece bytes end) x hub runs = record { filters = refl; place = refl; asked = refl; request = λ e. e; response = λ e. e; staid = λ s. s; told = λ a e. (a, runs, refl); fits = λ f. f; entered = refl; framed = refl; opened = λ o. o }
+down_kept n Trailers x hub runs = record { filters = refl; place = refl; asked = refl; request = λ e. e; response = λ e. e; staid = λ s. s; told = λ a e. (a, runs, refl); fits = λ f. f; entered = refl; framed = refl; opened = λ o. o }
 
 leaves_kept : (response : Bool) (n : ℕ) (item : Item) (p : Exchange × Hub) → K p.0 (leaves response n item p)
 leaves_kept false n item p = by_bool (K p.0) p.0.has_ended p (up n item p.0 p.1) (λ e. kept_itself p.0) (λ e. up_kept n item p.0 p.1)
@@ -111,7 +118,7 @@ left_kept response n (item ∷ items) p =
 -- ---- answers
 
 cut_off_kept : (x : Exchange) (hub : Hub) → K x (cut_off x hub)
-cut_off_kept x hub = record { filters = refl; place = refl; asked = refl; request = λ e. refl; response = λ e. refl; staid = λ s e. absurd (cc); told = λ a e. absurd (cc); fits = λ f. f; opened = λ o. o }
+cut_off_kept x hub = record { filters = refl; place = refl; asked = refl; request = λ e. refl; response = λ e. refl; staid = λ s e. absurd (cc); told = λ a e. absurd (cc); fits = λ f. f; entered = refl; framed = refl; opened = λ o. o }
 
 directly_kept : (n status : ℕ) (fields : List Pair) (body : List ℕ) (x : Exchange) (hub : Hub) → K x (directly n status fields body x hub)
 directly_kept n status fields body x hub =
@@ -125,13 +132,15 @@ directly_kept n status fields body x hub =
       staid = λ s e. may_is_whole x.asked (and_left (may_stay x.asked) (not x.closes) e);
       told = λ a e. absurd (cc);
       fits = λ f. f;
+      entered = refl;
+      framed = refl;
       opened = λ o. o;
     })
 
 -- a chain that became another
 chain_kept : (response : Bool) (t : List Stage) (x : Exchange) → (chain_of response x ≡ [] → t ≡ []) → Kept x (with_chain response t x)
-chain_kept false t x is = record { filters = refl; place = refl; asked = refl; request = is; response = λ e. e; staid = λ s. s; told = λ a e. (a, e, refl); fits = λ f. f; opened = λ o. o }
-chain_kept true t x is = record { filters = refl; place = refl; asked = refl; request = λ e. e; response = is; staid = λ s. s; told = λ a e. (a, e, refl); fits = λ f. f; opened = λ o. o }
+chain_kept false t x is = record { filters = refl; place = refl; asked = refl; request = is; response = λ e. e; staid = λ s. s; told = λ a e. (a, e, refl); fits = λ f. f; entered = refl; framed = refl; opened = λ o. o }
+chain_kept true t x is = record { filters = refl; place = refl; asked = refl; request = λ e. e; response = is; staid = λ s. s; told = λ a e. (a, e, refl); fits = λ f. f; entered = refl; framed = refl; opened = λ o. o }
 
 passed_down_kept : (n : ℕ) (p : Passed) (x : Exchange) (hub : Hub) → K x (passed_down n p x hub)
 passed_down_kept n passed.Over x hub = directly_kept n 500 [] [] x hub
@@ -167,6 +176,8 @@ answered_kept status body x = record {
   staid = λ s. s;
   told = λ a e. absurd (cc);
   fits = λ f. f;
+  entered = refl;
+  framed = refl;
   opened = λ o. o;
 }
 
@@ -184,7 +195,7 @@ through_kept n status fields body x hub =
     kept_then x (answered_by status body x) (through n status fields body x hub).0 (answered_kept status body x) (through_rest n status fields body x hub)
 
 shut_kept : (c : Bool) (x : Exchange) → Kept x (shutting c x)
-shut_kept c x = record { filters = refl; place = refl; asked = refl; request = λ e. e; response = λ e. e; staid = λ s. s; told = λ a e. (a, e, refl); fits = λ f. f; opened = λ o. o }
+shut_kept c x = record { filters = refl; place = refl; asked = refl; request = λ e. e; response = λ e. e; staid = λ s. s; told = λ a e. (a, e, refl); fits = λ f. f; entered = refl; framed = refl; opened = λ o. o }
 
 pub answer_kept : (n : ℕ) (shut : Bool) (status : ℕ) (fields : List Pair) (body : List ℕ) (x : Exchange) (hub : Hub) → K x (answer n shut status fields body x hub)
 answer_kept n shut status fields body x hub =
@@ -275,3 +286,20 @@ refused_kept status n x hub =
 
 pub expires_kept : (n : ℕ) (x : Exchange) (hub : Hub) → K x (passing.expires n x hub)
 expires_kept n x hub = by_bool (K x) (is_due hub.moment x) (answer n false 504 [] [] x hub) (x, hub) (λ e. answer_kept n false 504 [] [] x hub) (λ e. kept_itself x)
+
+-- ---- what is over stays so
+
+parts : (a b : Bool) → (a || b) ≡ false → (a ≡ false) × (b ≡ false)
+parts true b is = absurd (cc)
+parts false b is = (refl, is)
+
+pub over_told : (x y : Exchange) → (y.is_answered ≡ false → y.has_ended ≡ false → (x.is_answered ≡ false) × (x.has_ended ≡ false) × (y.told ≡ x.told)) → is_over x ≡ true → is_over y ≡ true
+over_told x y told over = by_test (is_over y) refl
+  where
+    by_test : (b : Bool) → is_over y ≡ b → is_over y ≡ true
+    by_test true is = is
+    by_test false is =
+        let p = parts y.has_ended y.is_answered is in
+        let t = told p.1 p.0 in
+        let unended : is_over x ≡ false = λ i. t.1 i || t.0 i in
+        absurd (cc)

@@ -1,3 +1,5 @@
+pub mod Phases
+pub mod Upward
 pub mod Earlier
 pub mod Kept
 pub mod Finding
@@ -16,6 +18,7 @@ pub mod Beyond
 pub mod Client
 pub mod Reading
 pub mod Exact
+pub mod Parts
 pub mod Turned
 pub mod Working
 pub mod Closing
@@ -24,6 +27,7 @@ pub mod Ending
 pub mod Joining
 pub mod Stepping
 pub mod Turning
+pub mod Wholly
 pub mod Worked
 pub mod Machines
 pub mod Readable

@@ -1,14 +1,16 @@
 -- The deeds of an exchange, joined, behind what was sent before, and with the items that came.
 use Rattle.std.proofs.Common.{◌≡◌, ℕ, true, false, List, [], ◌∷◌, ◌++◌, map, refl, ap, ◌∙◌, sym, subst}
 use Rattle.std.proofs.lemmas.List.{append_assoc}
+use Rattle.contexts.specs.declared.parts.Contexts.{Contexts}
 use Rattle.exchange.specs.declared.types.Exchange.{Exchange}
 use Rattle.exchange.specs.declared.types.Hub.{Hub}
-use Rattle.exchange_laws.specs.Lives.{Deed, comes, responds, acts, resumes, closes, answers, dies, refuses, expires, turns, done_by, IsFair, items_by, items_out, Lives}
+use Rattle.exchange_laws.specs.Lives.{Deed, comes, responds, acts, resumes, closes, answers, dies, refuses, expires, turns, done_by, IsFair, items_by, items_out, all_out, Lives}
 use Rattle.exchange_laws.specs.Traffic.{ups}
 use Rattle.exchange_laws.proofs.Traffic.{ups_join}
 use Rattle.filter_chain.specs.declared.item.Item.{Item}
 use Rattle.filter_chain.specs.declared.item.Item.TheVariants.{Head as head, Piece, Trailers}
 use Rattle.gate_io.specs.declared.event.Sent.{Sent}
+use Rattle.http1_model.specs.Fields.{Pair}
 use Rattle.http1_model.specs.Framing.{OutItem}
 use Rattle.http1_model.specs.Head.{Head}
 use Rattle.line_laws.specs.Living.{request_in, requests_in, LivesBy}
@@ -128,8 +130,8 @@ NoHead (head end ∷ items) = ⊥
 NoHead (Piece bytes end ∷ items) = NoHead items
 NoHead (Trailers ∷ items) = NoHead items
 
-pub body_of : (h : Head) (x : Exchange) (hub : Hub) (items : List Item) → NoHead items → AreOf h items (items_out x hub items)
-body_of h x hub [] none = tt
-body_of h x hub (head end ∷ items) none = absurd none
-body_of h x hub (Piece bytes end ∷ items) none = ((refl, refl), body_of h x hub items none)
-body_of h x hub (Trailers ∷ items) none = (tt, body_of h x hub items none)
+pub body_of : (h : Head) (place minor : ℕ) (contexts : Contexts) (connection : List Pair) (items : List Item) → NoHead items → AreOf h items (all_out place minor contexts connection items)
+body_of h place minor contexts connection [] none = tt
+body_of h place minor contexts connection (head end ∷ items) none = absurd none
+body_of h place minor contexts connection (Piece bytes end ∷ items) none = ((refl, refl), body_of h place minor contexts connection items none)
+body_of h place minor contexts connection (Trailers ∷ items) none = (tt, body_of h place minor contexts connection items none)

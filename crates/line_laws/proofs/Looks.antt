@@ -7,13 +7,15 @@ use Rattle.std.specs.Prelude.{Option, None, Some, is_some, slice_get, slice_set,
 use Rattle.exchange.specs.declared.types.Exchange.{Exchange}
 use Rattle.exchange.specs.declared.types.Hub.{Hub}
 use Rattle.exchange_laws.specs.Ends.{IsOwn}
-use Rattle.exchange_laws.specs.Lives.{Deed, comes, responds, acts, resumes, closes, answers, dies, refuses, expires, turns, done_by, IsKin}
+use Rattle.exchange.specs.Leaving.{goes_up}
+use Rattle.exchange_laws.specs.Lives.{Deed, comes, responds, acts, resumes, closes, answers, dies, refuses, expires, turns, done_by, is_over, IsKin}
 use Rattle.exchange_laws.specs.Own.{IsOn, AreOn, SendsOn}
 use Rattle.exchange_laws.specs.Responses.{IsKinDown, downs, down_of, response_in, responses_in}
 use Rattle.exchange_laws.specs.Traffic.{Traffic, opens, byte, ups, up_of}
 use Rattle.exchange_laws.proofs.Ends.{nothing_follows_end}
 use Rattle.exchange_laws.proofs.Own.{own_line}
 use Rattle.exchange_laws.proofs.Traffic.{ups_join}
+use Rattle.filter_chain.specs.declared.item.Item.{Item}
 use Rattle.gate_io.specs.declared.event.Sent.{Sent}
 use Rattle.gate_io.specs.declared.event.Sent.TheVariants as to
 use Rattle.gate_io.specs.declared.event.Side.TheVariants.{Down, Up}
@@ -22,7 +24,9 @@ use Rattle.worker.specs.Rooms.{Changes, marking, in_exchange, in_line, at_some, 
 use Rattle.worker.specs.Steps.{change_line, change_exchange, line_at, line_at_place, in_place, line_in}
 use Rattle.line_laws.specs.Living.{request_in, requests_in, IsFairly, LivesBy}
 use Rattle.line_laws.proofs.Finding.{Seeks, missing, first, seeks, IsOnce, set_other, only_found, set_once, set_there}
-use Rattle.line_laws.proofs.Kept.{Kept, Staid, put_in_kept, acts_kept, resumes_kept, closed_kept, answer_kept, dies_kept, refused_kept, expires_kept}
+use Rattle.line_laws.proofs.Kept.{Kept, Staid, over_told, put_in_kept, acts_kept, resumes_kept, closed_kept, answer_kept, dies_kept, refused_kept, expires_kept}
+use Rattle.line_laws.proofs.Phases.{Phase, run, IsSound}
+use Rattle.line_laws.proofs.Upward.{Keeps, keeps_then, still_keeps, aside_still, Onward, own_goes}
 
 -- ---- lines by their numbers
 
@@ -140,6 +144,10 @@ pub record Quietly (n : ℕ) (x : Exchange) (hub : Hub) (y : Exchange) (after : 
   pub place : y.place ≡ x.place
   pub staid : Staid x → Staid y
   pub filtered : y.filters ≡ [] → x.filters ≡ []
+  pub entered : y.is_entered ≡ x.is_entered
+  pub framed : goes_up y ≡ goes_up x
+  pub over : is_over x ≡ true → is_over y ≡ true
+  pub keeps : Keeps n (x, hub) (y, after)
   pub plain : IsPlain x → LivesOn n x hub y after
 
 itself_kin : (x : Exchange) → IsPlain x → IsKin x x
@@ -170,6 +178,10 @@ aside n x hub after b = record {
   place = refl;
   staid = λ s. s;
   filtered = λ e. e;
+  entered = refl;
+  framed = refl;
+  over = λ o. o;
+  keeps = still_keeps n (x, hub) (x, after) (aside_still n x hub after b.up);
   plain = λ p. record {
     deeds = turns x after ∷ [];
     plain = p;
@@ -196,6 +208,10 @@ quietly_then n x y z hub mid after a b = record {
   place = b.place ∙ a.place;
   staid = λ s. b.staid (a.staid s);
   filtered = λ e. a.filtered (b.filtered e);
+  entered = b.entered ∙ a.entered;
+  framed = b.framed ∙ a.framed;
+  over = λ o. b.over (a.over o);
+  keeps = keeps_then n (x, hub) (y, mid) (z, after) a.keeps b.keeps;
   plain = λ p. let former : LivesOn n x hub y mid = a.plain p in let later : LivesOn n y mid z after = b.plain former.plain in record {
     deeds = former.deeds ++ later.deeds;
     plain = later.plain;
@@ -268,6 +284,11 @@ quiet_deed n deed x hub is =
       place = k.place;
       staid = k.staid;
       filtered = λ e. sym k.filters ∙ e;
+      entered = k.entered;
+      framed = k.framed;
+      over = over_told x (done_by n deed x hub).0 k.told;
+      keeps = λ t i u.
+          subst (λ (j : Phase). Onward n hub (done_by n deed x hub) t j) (ap (run i) b.no_request) (own_goes n deed x hub t i b.own u (subst (λ (l : List Item). IsSound (run i l)) (sym b.no_request) u.sound));
       plain = λ p. record {
         deeds = deed ∷ [];
         plain = plain_kept x (done_by n deed x hub).0 k p;

@@ -13,7 +13,7 @@ use Rattle.worker.specs.Steps.{on_line, line_at, line_at_place, creates, refuses
 use Rattle.line_laws.proofs.Finding.{Seeks, missing, first, seeks, IsOnce, set_other, only_found, set_once, set_there}
 use Rattle.line_laws.proofs.Kept.{by_bool}
 use Rattle.line_laws.proofs.Looks.{is_n, look, equal_by}
-use Rattle.line_laws.proofs.Story.{put_of, puts_of, NoClose, Tail, Rests}
+use Rattle.line_laws.proofs.Story.{put_of, puts_of, NoClose, NoEnter, Tail, Rests}
 
 -- what leaves a line its number
 abbrev pub Numbered : (Line → Line) → Type 0
@@ -127,6 +127,15 @@ line_unclosed n m (job ∷ later) are = one job are.0 (line_unclosed n m later a
     one : (job : Job) → OfLine m job → NoClose n later → NoClose n (job ∷ later)
     one (jobs.Close k stays) is open_so = absurd is
     one job is open_so = open_so
+
+-- those of another line make no stages of it
+pub line_unentered : (n m : ℕ) (js : List Job) → (m == n) ≡ false → AllOfLine m js → NoEnter n js
+line_unentered n m [] other are = tt
+line_unentered n m (job ∷ later) other are = one job are.0 (line_unentered n m later other are.1)
+  where
+    one : (job : Job) → OfLine m job → NoEnter n later → NoEnter n (job ∷ later)
+    one (jobs.Enter k) is none = (ap (λ (a : ℕ). a == n) is ∙ other, none)
+    one job is none = none
 
 -- those of another line put nothing
 pub line_puts : (n m : ℕ) (js : List Job) → (m == n) ≡ false → AllOfLine m js → puts_of n js ≡ []

@@ -1,19 +1,12 @@
 -- The law of what goes up, of the machines that the product has.
-use Rattle.std.proofs.Common.{refl, subst}
+use Rattle.std.proofs.Common.{List}
+use Rattle.store_model.specs.Made.{Made}
 use Rattle.vm_host.specs.Slots as slots
 use Rattle.vm_host.specs.declared.slots.Vms.{Vms}
-use Rattle.worker.specs.Making.{contexts_of}
-use Rattle.worker.specs.Steps.{both}
-use Rattle.worker.specs.declared.room.Room.{Room}
 use Rattle.line_laws.specs.Laws.{RequestsOfTheProductGoUp}
-use Rattle.line_laws.specs.Turns.{Turns, WorkersBeginSo}
 use Rattle.line_laws.proofs.Machines.{machines_write_logs}
-use Rattle.line_laws.proofs.Turning.{all_go_up_one_by_one}
+use Rattle.line_laws.proofs.Wholly.{workers_go_up}
 
-workers_begin_so : WorkersBeginSo
-workers_begin_so config seed = refl
-
-pub requests_of_the_product_go_up : RequestsOfTheProductGoUp
-requests_of_the_product_go_up plan config seed host turns to n turned =
-    all_go_up_one_by_one Vms slots.calling plan (contexts_of config seed) host turns to n machines_write_logs
-    (subst (λ (room : Room). Turns slots.calling plan (both host room) turns to) (workers_begin_so config seed) turned)
+pub requests_of_the_product_go_up : (S : Type 0) (performs : S → List Made → S → Type 0) → RequestsOfTheProductGoUp S performs
+requests_of_the_product_go_up S performs config who seed host sent to n worked =
+    workers_go_up Vms S performs slots.calling slots.exported_in slots.registering_in config who seed host sent to n machines_write_logs worked

@@ -13,7 +13,7 @@ use Rattle.worker.specs.declared.room.Room.{Room}
 use Rattle.worker.specs.declared.types.Line.{Line}
 use Rattle.worker.specs.declared.types.Reads.{Reads}
 use Rattle.worker.specs.Plan.{Plan}
-use Rattle.worker.specs.Steps.{Both, on_line, on_lines, exchange_on, exchange_of_line, read_on, reading_on, line_reading, reads_in, reads_next, after_heard}
+use Rattle.worker.specs.Steps.{Both, on_line, on_lines, exchange_on, exchange_of_line, exchange_reading, line_in, read_on, reading_on, line_reading, reads_in, reads_next, after_heard}
 use Rattle.line_laws.proofs.Looks.{look, line_in_is, equal_by, equal_is}
 use Rattle.line_laws.proofs.OnLines.{on_same}
 use Rattle.line_laws.proofs.Story.{Tail, Rests, HasClose, pending, LineOk, ExOk, Known}
@@ -24,6 +24,10 @@ use Rattle.line_laws.proofs.Client.{client, batch_is, part_said, stop_said, firs
 or_first : (u v : Bool) → (u || v) ≡ false → (u ≡ false) × (v ≡ false)
 or_first true v is = absurd (cc)
 or_first false v is = (refl, is)
+
+reads_up : (o : Option Line) (x : Exchange) (reading : Reading) → exchange_of_line o ≡ Some x → line_reading true o ≡ Some reading → is_some x.reader ≡ true
+reads_up None x reading on is = absurd (cc)
+reads_up (Some l) x reading on is = ap is_some (ap exchange_reading (sym on) ∙ is)
 
 module _ (plan : Plan) (past : List Sent) (room : Room) where
   abbrev still : Room
@@ -67,19 +71,22 @@ module _ (plan : Plan) (past : List Sent) (room : Room) where
 
     -- another side
     others_known : (r : Reads) → room.reading ≡ Some r → Known plan n past room → Known plan r.line past room → NotDown n r → Goal (reads_in plan r (reading_on r room) host room)
-    others_known r is k km other = by_reading (reading_on r room)
+    others_known r is k km other = by_reading (reading_on r room) refl
       where
         ok : LineOk plan n past (Some r) [] room.lines (look n room.lines) room.hub
         ok = known_line n r is k
 
-        by_reading : (o : Option Reading) → Goal (reads_in plan r o host room)
-        by_reading None =
+        by_reading : (o : Option Reading) → reading_on r room ≡ o → Goal (reads_in plan r o host room)
+        by_reading None reads =
             ended_known plan n past still k.once k.parts (subst Tail (sym (k.alone r is).0) tt) refl
             (subst (λ l. LineOk plan n past None l room.lines (look n room.lines) room.hub) (sym (k.alone r is).0)
-            (line_beside plan n past r other None [] (record { batch = refl; puts = refl; unclosed = tt; reads = λ x. tt }) room.lines room.lines (look n room.lines) (look n room.lines) room.hub room.hub
+            (line_beside plan n past r other None [] (record { batch = refl; puts = refl; unclosed = tt; none = tt; reads = λ x. tt }) room.lines room.lines (look n room.lines) (look n room.lines) room.hub room.hub
             (line_aside n (look n room.lines) room.hub room.hub refl) ok))
-        by_reading (Some reading) = λ h says.
-            heard_beyond plan n r other past still k.once k.parts (k.alone r is).0 refl (k.alone r is).1 ok h (λ new gone. nothing_read r is km new gone)
+        by_reading (Some reading) reads = λ h says.
+            heard_beyond plan n r other past still k.once k.parts (k.alone r is).0 refl (k.alone r is).1 ok
+            (λ here up x on.
+            reads_up (look n room.lines) x reading on
+            (ap (line_reading true) (sym (line_in_is n room.lines) ∙ ap (λ (m : ℕ). line_in m room.lines) (sym (equal_by r.line n here))) ∙ (ap (λ u. line_reading u (line_in r.line room.lines)) (sym up) ∙ reads))) h (λ new gone. nothing_read r is km new gone)
 
     -- the client's
     client_known : (b : List Item) → room.reading ≡ Some (client n b) → Known plan n past room → Goal (reads_in plan (client n b) (reading_on (client n b) room) host room)

@@ -6,6 +6,7 @@ use Rattle.std.specs.Prelude.{Option, None, Some, is_some, nat_lt, if◌then◌e
 use Rattle.contexts.specs.declared.parts.Contexts.{Contexts}
 use Rattle.exchange.specs.declared.types.Exchange.{Exchange}
 use Rattle.exchange.specs.declared.types.Hub.{Hub}
+use Rattle.exchange.specs.Leaving.{goes_up}
 use Rattle.exchange_laws.specs.Lives.{turns, IsKin, is_over}
 use Rattle.exchange_laws.specs.Traffic.{ups}
 use Rattle.exchange_laws.proofs.Traffic.{ups_join}
@@ -26,9 +27,10 @@ use Rattle.line_laws.proofs.Finding.{IsOnce}
 use Rattle.line_laws.proofs.Kept.{Staid}
 use Rattle.line_laws.proofs.Looks.{is_n, look, IsPlain}
 use Rattle.line_laws.proofs.Rooms.{AllParts}
-use Rattle.line_laws.proofs.Story.{puts_of, HasClose, NoClose, Tail, Stands, Rests, Phase, Matches, batch_of, pending, Proper, Stream, fresh, going, doomed, Tale, plainly, filtered, Idle, ExOk, LineOk, Known, LivesUp, story_on, ReadsOk}
-use Rattle.line_laws.proofs.Calmed.{other_on, tail_stands, tail_phase}
-use Rattle.line_laws.proofs.OnLines.{Numbered, jobs_of_line, line_unclosed, line_puts}
+use Rattle.line_laws.proofs.Story.{puts_of, HasClose, NoClose, NoEnter, Alike, Becomes, passage_on, Tail, Stands, Rests, Phase, Matches, batch_of, pending, Proper, Stream, fresh, going, doomed, Tale, plainly, filtered, Idle, ExOk, LineOk, Known, LivesUp, story_on, ReadsOk}
+use Rattle.line_laws.proofs.Calmed.{other_on, none_once, tail_stands, tail_phase}
+use Rattle.line_laws.proofs.OnLines.{Numbered, jobs_of_line, line_unclosed, line_unentered, line_puts}
+use Rattle.line_laws.proofs.Upward.{Keeps, still_keeps, aside_still}
 
 -- ---- what is noted of the exchange of the line
 
@@ -37,7 +39,14 @@ pub record Notes (n : ℕ) (x : Exchange) (hub : Hub) (y : Exchange) (after : Hu
   pub asked : y.asked ≡ x.asked
   pub staid : Staid x → Staid y
   pub filters : y.filters ≡ x.filters
+  pub entered : y.is_entered ≡ x.is_entered
+  pub framed : goes_up y ≡ goes_up x
+  pub over : is_over x ≡ true → is_over y ≡ true
+  pub keeps : Keeps n (x, hub) (y, after)
   pub plain : IsPlain x → LivesUp n x hub y after
+
+pub notes_become : (n : ℕ) (x y : Exchange) (hub after : Hub) → Notes n x hub y after → Becomes n x hub y after
+notes_become n x y hub after q = record { asked = q.asked; entered = q.entered; framed = q.framed; over = q.over; keeps = q.keeps }
 
 pub note_up : (n : ℕ) (x y : Exchange) (hub after : Hub) → IsPlain y → IsKin x y → ups n after.sent ≡ ups n hub.sent → (is_some x.reader ≡ true → is_some y.reader ≡ true) → LivesUp n x hub y after
 note_up n x y hub after p kin same opened = record {
@@ -55,6 +64,10 @@ notes_itself n x hub after same = record {
   asked = refl;
   staid = λ s. s;
   filters = refl;
+  entered = refl;
+  framed = refl;
+  over = λ o. o;
+  keeps = still_keeps n (x, hub) (x, after) (aside_still n x hub after same);
   plain = λ p. note_up n x x hub after p (record { unfiltered = p.1; framed = refl; stays_over = λ o. o }) same (λ o. o);
 }
 
@@ -100,6 +113,7 @@ pub record Ahead (n : ℕ) (now : Option Reads) (ks : List Job) : Type 0 where
   pub batch : batch_of n now ≡ []
   pub puts : puts_of n ks ≡ []
   pub unclosed : NoClose n ks
+  pub none : NoEnter n ks
   pub reads : (x : Exchange) → ReadsOk n now x
 
 module _ (plan : Plan) (n : ℕ) (past : List Sent) (r : Reads) (other : NotDown n r) (now : Option Reads) (ks : List Job) (a : Ahead n now ks) where
@@ -108,6 +122,15 @@ module _ (plan : Plan) (n : ℕ) (past : List Sent) (r : Reads) (other : NotDown
 
   behind_none : pending n (Some r) [] ≡ []
   behind_none = no_batch n r other
+
+  ahead_alike : Alike n (Some r) [] now ks
+  ahead_alike = record {
+    pend = ahead_none ∙ sym behind_none;
+    refusing = λ e. absurd e;
+    none = λ e. a.none;
+    once = λ e. none_once n ks a.none;
+    first = λ e. let never : ◌≡◌ {A = Bool} false true = ap begins_with_head (sym a.batch) ∙ e in absurd (cc);
+  }
 
   stream_beside : (lines later : List Line) (x y : Exchange) (c d : Contexts) (fields : Headers) (got : List Item) → y.asked ≡ x.asked → (is_over x ≡ true → is_over y ≡ true)
       → Stream n (Some r) [] lines x c fields got → Stream n now ks later y d fields got
@@ -121,8 +144,9 @@ module _ (plan : Plan) (n : ℕ) (past : List Sent) (r : Reads) (other : NotDown
   tale_beside lines later x y hub after q (plainly t) =
       let l : LivesUp n x hub y after = q.plain t.plain in
       plainly (story_on plan n past (Some r) now [] ks lines later x y hub after t l (ap (λ q. q.minor) q.asked)
+      (passage_on n past (Some r) now [] ks x y hub after t.head t.start (ups n t.start_hub.sent) ahead_alike (notes_become n x y hub after q) t.passage)
       (stream_beside lines later x y hub.contexts after.contexts t.head.fields _ q.asked l.over t.stream))
-  tale_beside lines later x y hub after q (filtered o) = filtered (other_on plan n past x y hub after [] (λ e. sym q.filters ∙ e) (q.same ∙ sym (append-nil (ups n hub.sent))) o)
+  tale_beside lines later x y hub after q (filtered o) = filtered (other_on plan n past (Some r) now [] ks x y hub after (λ e. sym q.filters ∙ e) ahead_alike (notes_become n x y hub after q) o)
 
   exchange_beside : (lines later : List Line) (due : Due) (o p : Option Exchange) (hub after : Hub) → ExNotes n o hub p after → ExOk plan n past (Some r) [] lines due o hub → ExOk plan n past now ks later due p after
   exchange_beside lines later due None None hub after q ok = record { none = ahead_none; due_or = by_due ok.due_or; idle = idle_same plan n past hub after q ok.idle }
@@ -203,14 +227,38 @@ beside_puts n r status s other = by_test (r.line == n) r.up refl refl
     by_test true true is up = up_puts n r status s up
     by_test false b is up = line_puts n r.line (jobs_of r status s) is (jobs_of_line r status s)
 
+refuses_unentered : (n m : ℕ) (status : Option ℕ) → NoEnter n (refuses m status)
+refuses_unentered n m None = tt
+refuses_unentered n m (Some status) = tt
+
+pub puts_unentered : (n m : ℕ) (response : Bool) (batch : List Item) (status : Option ℕ) → NoEnter n (puts_items m response batch ++ refuses m status)
+puts_unentered n m response [] status = refuses_unentered n m status
+puts_unentered n m response (i ∷ batch) status = refuses_unentered n m status
+
+up_unentered : (n : ℕ) (r : Reads) (status : Option ℕ) (s : Room) → r.up ≡ true → NoEnter n (jobs_of r status s)
+up_unentered n r status s up =
+    subst (NoEnter n)
+    (sym (ap (λ u. if begins_with_head r.batch && not u then begins_for r status (exchange_on r.line s) else puts_items r.line u r.batch ++ refuses r.line status) up
+    ∙ ap (λ b. if b then begins_for r status (exchange_on r.line s) else puts_items r.line true r.batch ++ refuses r.line status) (and_none (begins_with_head r.batch))))
+    (puts_unentered n r.line true r.batch status)
+
+beside_none : (n : ℕ) (r : Reads) (status : Option ℕ) (s : Room) → NotDown n r → NoEnter n (jobs_of r status s)
+beside_none n r status s other = by_test (r.line == n) r.up refl refl
+  where
+    by_test : (a b : Bool) → (r.line == n) ≡ a → r.up ≡ b → NoEnter n (jobs_of r status s)
+    by_test true false is up = absurd (other is up)
+    by_test true true is up = up_unentered n r status s up
+    by_test false b is up = line_unentered n r.line (jobs_of r status s) is (jobs_of_line r status s)
+
 pub ahead_on : (n : ℕ) (r : Reads) → NotDown n r → Ahead n (Some r) []
-ahead_on n r other = record { batch = no_batch n r other; puts = refl; unclosed = tt; reads = λ x is up. absurd (other is up) }
+ahead_on n r other = record { batch = no_batch n r other; puts = refl; unclosed = tt; none = tt; reads = λ x is up. absurd (other is up) }
 
 pub ahead_end : (n : ℕ) (r : Reads) (status : Option ℕ) (s : Room) → NotDown n r → Ahead n None (jobs_of r status s ++ [])
 ahead_end n r status s other = record {
   batch = refl;
   puts = ap (puts_of n) (append-nil (jobs_of r status s)) ∙ beside_puts n r status s other;
   unclosed = subst (NoClose n) (sym (append-nil (jobs_of r status s))) (line_unclosed n r.line (jobs_of r status s) (jobs_of_line r status s));
+  none = subst (NoEnter n) (sym (append-nil (jobs_of r status s))) (beside_none n r status s other);
   reads = λ x. tt;
 }
 

@@ -22,8 +22,8 @@ use Rattle.line_laws.proofs.Finding.{Seeks, missing, first, seeks}
 use Rattle.line_laws.proofs.Looks.{look, still_aside, beside_itself}
 use Rattle.line_laws.proofs.Rooms.{IsPart, AllParts, Calm}
 use Rattle.line_laws.proofs.Calls.{move_calm}
-use Rattle.line_laws.proofs.Story.{put_of, NoClose, Tail, Stands, Phase, Rests, LineOk, Known}
-use Rattle.line_laws.proofs.Calmed.{known_calm, stands_pop}
+use Rattle.line_laws.proofs.Story.{put_of, NoClose, NoEnter, Tail, Stands, Phase, Rests, LineOk, Known}
+use Rattle.line_laws.proofs.Calmed.{known_calm, none_once, stands_pop}
 use Rattle.line_laws.proofs.Turned.{line_turn}
 use Rattle.line_laws.proofs.Working.{Popped, IsSimple, simple_works, enter_works, request_works, response_works}
 use Rattle.line_laws.proofs.Closing.{line_as_is, refuse_works, close_works}
@@ -61,6 +61,10 @@ part_unclosed : (n : ℕ) (job : Job) → IsPart job → NoClose n (job ∷ [])
 part_unclosed n (jobs.Close m stays) is = absurd is
 part_unclosed n job is = tt
 
+part_unentered : (n : ℕ) (job : Job) → IsPart job → NoEnter n (job ∷ [])
+part_unentered n (jobs.Enter m) is = absurd is
+part_unentered n job is = tt
+
 part_stands : (job : Job) → IsPart job → Stands (job ∷ [])
 part_stands (jobs.Happen w) is = refl
 part_stands (jobs.Close m stays) is = absurd is
@@ -79,7 +83,7 @@ module _ {H : Type 0} (calling : Calling H) (logs : WriteLogs calling) (plan : P
     calm_keeps (ends b) quiet tail moving calm =
         known_calm plan n past room.jobs room b.room (all n).parts tail quiet
         (subst (λ (r : Option Reads). LineOk plan n past r room.jobs room.lines (look n room.lines) room.hub) quiet (all n).line)
-        (record { puts = refl; has = λ h. h; no = λ h. h; refusing = λ h. h }) calm (λ l k x y fields at some behind_it there p place asked f at_rest map proper. absurd (moving at_rest))
+        (record { puts = refl; has = λ h. h; no = λ h. h; refusing = λ h. h; none = λ h. h; once = λ h. h }) calm (λ l k x y fields at some behind_it there p place asked f at_rest map proper. absurd (moving at_rest))
     calm_keeps (asks vm call k) quiet tail moving calm = λ r. calm_keeps (k r) quiet tail moving (calm r)
     calm_keeps (measures vm call k) quiet tail moving calm = λ r. calm_keeps (k r) quiet tail moving (calm r)
     calm_keeps (hears t k) quiet tail moving calm = λ h says. calm_keeps (k h) quiet tail moving (calm h says)
@@ -115,7 +119,7 @@ module _ {H : Type 0} (calling : Calling H) (logs : WriteLogs calling) (plan : P
         by_job jobs.Expire p f s = simple jobs.Expire tt p
         by_job (jobs.Happen w) p f s = happens_known plan n past w (record room { jobs = later }) p s f.0 w
         by_job (jobs.Create number k) p f s = simple (jobs.Create number k) tt p
-        by_job (jobs.Enter number) p f s = enter_works calling logs plan n past number host (record room { jobs = later }) p
+        by_job (jobs.Enter number) p f s = enter_works plan n past number (record room { jobs = later }) p
         by_job (jobs.Put number false items) p f s = request_works plan n past number items (record room { jobs = later }) p
         by_job (jobs.Put number true items) p f s = response_works plan n past number items (record room { jobs = later }) p
         by_job (jobs.Refuse number status) p f s = refuse_works plan n past number status (record room { jobs = later }) p
@@ -137,7 +141,7 @@ module _ {H : Type 0} (calling : Calling H) (logs : WriteLogs calling) (plan : P
         by_wait None = all n
         by_wait (Some c) =
             known_calm plan n past [] (record room { jobs = [] }) (record room { jobs = last_jobs c ++ room.jobs; waits = remove room.waits at }) (all n).parts tt quiet (idle_ok quiet jobless)
-            (record { puts = refl; has = λ h. h; no = λ h. h; refusing = λ h. h })
+            (record { puts = refl; has = λ h. h; no = λ h. h; refusing = λ h. h; none = λ h. h; once = λ h. h })
             (record {
               still = still_aside n room.lines room.hub room.hub (all n).once (beside_itself n room.hub);
               reading = refl;
@@ -158,7 +162,7 @@ module _ {H : Type 0} (calling : Calling H) (logs : WriteLogs calling) (plan : P
           phase = part_phase room.lines job over at_rest;
           line = subst (λ (r : Option Reads). LineOk plan n past r (job ∷ []) room.lines (look n room.lines) room.hub) (sym quiet)
               (line_turn plan n past [] None (job ∷ [])
-              (record { pend = (λ i. (part_puts n job parts.0 i ++ []) ++ []); has = λ h. absurd h; no = λ h. part_unclosed n job parts.0; refusing = λ h. absurd h; unfresh = λ h. h })
+              (record { pend = (λ i. (part_puts n job parts.0 i ++ []) ++ []); has = λ h. absurd h; no = λ h. part_unclosed n job parts.0; refusing = λ h. absurd h; none = λ h. part_unentered n job parts.0; once = λ h. none_once n (job ∷ []) (part_unentered n job parts.0); unread = refl; unfresh = λ h. h })
               room.lines room.lines (look n room.lines) (look n room.lines) room.hub room.hub (line_as_is n (look n room.lines) room.hub room.hub refl) (λ y e. tt) (idle_ok quiet jobless));
         }
 

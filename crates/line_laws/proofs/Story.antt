@@ -1,18 +1,20 @@
 -- What is known of the line of a number between two steps.
-use Rattle.std.proofs.Common.{◌≡◌, ◌⊎◌, inl, inr, ℕ, ◌==◌, Bool, true, false, not, ◌||◌, ◌&&◌, List, [], ◌∷◌, ◌++◌, map, refl, ap, ◌∙◌, sym, subst}
+use Rattle.std.proofs.Common.{◌≡◌, ◌⊎◌, inl, inr, ℕ, ◌==◌, Bool, true, false, not, ◌&&◌, List, [], ◌∷◌, ◌++◌, map, refl, ap, ◌∙◌, sym, subst}
 use Rattle.std.proofs.lemmas.Grind.{flat_map-append}
-use Rattle.std.proofs.lemmas.List.{append-nil}
+use Rattle.std.proofs.lemmas.List.{append-nil, append_assoc}
 use Rattle.std.specs.List.{flat_map}
 use Rattle.std.specs.Prelude.{Option, None, Some, is_some, find, if◌then◌else◌}
 use Rattle.contexts.specs.declared.parts.Contexts.{Contexts}
 use Rattle.exchange.specs.declared.types.Exchange.{Exchange}
 use Rattle.exchange.specs.declared.types.Hub.{Hub}
+use Rattle.exchange.specs.Leaving.{goes_up}
 use Rattle.exchange.specs.Maps.{request_map}
 use Rattle.exchange_laws.specs.Laws.{IsQuiet}
 use Rattle.exchange_laws.specs.Lives.{Deed, done_by, is_over}
 use Rattle.exchange_laws.specs.Responses.{IsMessage}
 use Rattle.exchange_laws.specs.Traffic.{Traffic, ups}
 use Rattle.exchange_laws.proofs.Lives.{nothing_else}
+use Rattle.exchange_laws.proofs.Traffic.{ups_join}
 use Rattle.filter_chain.specs.declared.item.Item.{Item}
 use Rattle.gate_io.specs.declared.event.Sent.{Sent}
 use Rattle.header_maps.specs.Headers.{Headers}
@@ -29,14 +31,16 @@ use Rattle.worker.specs.Rooms.{moves}
 use Rattle.worker.specs.Steps.{begins_with_head}
 use Rattle.line_laws.specs.Living.{requests_in, request_in, LivesBy}
 pub use Rattle.line_laws.specs.Requests.{is_whole}
-use Rattle.line_laws.specs.Requests.{Began, IsFiltered, OneByOne, AreOf}
+use Rattle.line_laws.specs.Requests.{IsBegun, Began, OneByOne, AreOf}
 use Rattle.line_laws.proofs.Earlier.{behind}
 use Rattle.line_laws.proofs.Finding.{IsOnce}
-use Rattle.line_laws.proofs.Kept.{Staid}
+use Rattle.line_laws.proofs.Kept.{Staid, over_told}
 use Rattle.line_laws.proofs.Lives.{behind_deed, lives_behind, requests_behind, came_of, came_join, none_came, none_of, none_left}
 use Rattle.line_laws.proofs.Looks.{is_n, look, IsPlain, LivesOn, lives_join}
+use Rattle.line_laws.proofs.Phases.{run, fresh as fresh_phase}
 use Rattle.line_laws.proofs.Reader.{InBody}
 use Rattle.line_laws.proofs.Rooms.{AllParts}
+use Rattle.line_laws.proofs.Upward.{Up, Onward, Keeps}
 
 -- ---- jobs
 
@@ -98,6 +102,17 @@ IsRefusing n [] = ⊥
 IsRefusing n (jobs.Refuse m status ∷ later) = ((m == n) ≡ true) ⊎ IsRefusing n later
 IsRefusing n (job ∷ later) = IsRefusing n later
 
+-- stages of the line's exchange are not made any more; or once at most
+abbrev pub NoEnter : ℕ → List Job → Type 0
+NoEnter n [] = Unit {0}
+NoEnter n (jobs.Enter m ∷ later) = ((m == n) ≡ false) × NoEnter n later
+NoEnter n (job ∷ later) = NoEnter n later
+
+abbrev pub OneEnter : ℕ → List Job → Type 0
+OneEnter n [] = Unit {0}
+OneEnter n (jobs.Enter m ∷ later) = ((m == n) ≡ true → NoEnter n later) × OneEnter n later
+OneEnter n (job ∷ later) = OneEnter n later
+
 -- ---- items that were read, and have not come to the chain
 
 abbrev pub batch_of : ℕ → Option Reads → List Item
@@ -120,6 +135,75 @@ abbrev pub ReadsOk : ℕ → Option Reads → Exchange → Type 0
 ReadsOk n None x = Unit {0}
 ReadsOk n (Some r) x = (r.line == n) ≡ true → r.up ≡ false → (x.asked.whole ≡ false) × (is_over x ≡ false)
 
+-- ---- what an exchange sent up, whatever filters it has
+
+-- the request: it comes on, or nothing of it comes any more
+pub data Flow (n : ℕ) (reading : Option Reads) (js : List Job) (x : Exchange) (got : List Item) : Type 0 where
+  flows : Proper (got ++ pending n reading js) x.asked.whole → Flow n reading js x got
+  ceases : IsMessage got → pending n reading js ≡ [] → (is_over x ≡ true) ⊎ IsRefusing n js → Flow n reading js x got
+
+-- stages are made once, before anything of the request comes to them
+pub record Enters (n : ℕ) (reading : Option Reads) (js : List Job) (x : Exchange) : Type 0 where
+  pub once : OneEnter n js
+  pub none : x.is_entered ≡ true → NoEnter n js
+  pub first : begins_with_head (batch_of n reading) ≡ true → x.is_entered ≡ false
+
+-- behind what was sent before it began, of an exchange that was the first when it began
+pub record Passage (n : ℕ) (past : List Sent) (reading : Option Reads) (js : List Job) (x : Exchange) (hub : Hub) (h : Head) (first : Exchange) (base : List Traffic) : Type 0 where
+  pub went : List Traffic
+  pub adds : ups n (past ++ hub.sent) ≡ base ++ went
+  pub got : List Item
+  pub up : Up x [] went (run fresh_phase got)
+  pub minor : x.asked.minor ≡ h.minor
+  pub framed : goes_up x ≡ goes_up first
+  pub flow : Flow n reading js x got
+  pub enters : Enters n reading js x
+
+-- what is in hand and what is read, where that is the same for the line
+pub record Alike (n : ℕ) (reading : Option Reads) (js : List Job) (now : Option Reads) (ks : List Job) : Type 0 where
+  pub pend : pending n now ks ≡ pending n reading js
+  pub refusing : IsRefusing n js → IsRefusing n ks
+  pub none : NoEnter n js → NoEnter n ks
+  pub once : OneEnter n js → OneEnter n ks
+  pub first : begins_with_head (batch_of n now) ≡ true → begins_with_head (batch_of n reading) ≡ true
+
+pub alike_itself : (n : ℕ) (reading : Option Reads) (js : List Job) → Alike n reading js reading js
+alike_itself n reading js = record { pend = refl; refusing = λ e. e; none = λ e. e; once = λ e. e; first = λ e. e }
+
+-- it becomes the other
+pub record Becomes (n : ℕ) (x : Exchange) (hub : Hub) (y : Exchange) (after : Hub) : Type 0 where
+  pub asked : y.asked ≡ x.asked
+  pub entered : y.is_entered ≡ x.is_entered
+  pub framed : goes_up y ≡ goes_up x
+  pub over : is_over x ≡ true → is_over y ≡ true
+  pub keeps : Keeps n (x, hub) (y, after)
+
+-- what goes up is counted behind what was sent before
+pub grows_past : (n : ℕ) (past : List Sent) (hub after : Hub) (base went more : List Traffic) → ups n after.sent ≡ ups n hub.sent ++ more → ups n (past ++ hub.sent) ≡ base ++ went → ups n (past ++ after.sent) ≡ base ++ (went ++ more)
+grows_past n past hub after base went more grows adds =
+    ups_join n past after.sent
+    ∙ (ap (λ t. ups n past ++ t) grows ∙ (sym (append_assoc (ups n past) (ups n hub.sent) more) ∙ (ap (λ t. t ++ more) (sym (ups_join n past hub.sent) ∙ adds) ∙ append_assoc base went more)))
+
+pub passage_on : (n : ℕ) (past : List Sent) (reading now : Option Reads) (js ks : List Job) (x y : Exchange) (hub after : Hub) (h : Head) (first : Exchange) (base : List Traffic) → Alike n reading js now ks → Becomes n x hub y after
+    → Passage n past reading js x hub h first base → Passage n past now ks y after h first base
+passage_on n past reading now js ks x y hub after h first base a b p =
+    let o : Onward n hub (y, after) p.went (run fresh_phase p.got) = b.keeps p.went (run fresh_phase p.got) p.up in
+    record {
+      went = p.went ++ o.more;
+      adds = grows_past n past hub after base p.went o.more o.grows p.adds;
+      got = p.got;
+      up = o.goes;
+      minor = ap (λ q. q.minor) b.asked ∙ p.minor;
+      framed = b.framed ∙ p.framed;
+      flow = by_flow p.flow;
+      enters = record { once = a.once p.enters.once; none = λ e. a.none (p.enters.none (sym b.entered ∙ e)); first = λ e. b.entered ∙ p.enters.first (a.first e) };
+    }
+  where
+    by_flow : Flow n reading js x p.got → Flow n now ks y p.got
+    by_flow (flows proper) = flows (subst (λ l. Proper (p.got ++ l) y.asked.whole) (sym a.pend) (subst (λ w. Proper (p.got ++ pending n reading js) w) (sym (ap (λ q. q.whole) b.asked)) proper))
+    by_flow (ceases message none (inl over)) = ceases message (a.pend ∙ none) (inl (b.over over))
+    by_flow (ceases message none (inr is)) = ceases message (a.pend ∙ none) (inr (a.refusing is))
+
 -- ---- the request of an exchange without filters: its head is on its way, with the map of the head; or has come; or nothing of it comes any more
 pub data Stream (n : ℕ) (reading : Option Reads) (js : List Job) (lines : List Line) (x : Exchange) (contexts : Contexts) (fields : Headers) (got : List Item) : Type 0 where
   fresh : got ≡ [] → IsFresh n reading js → Rests lines → request_map x.place contexts ≡ fields → Proper (pending n reading js) x.asked.whole
@@ -140,20 +224,23 @@ pub record Story (plan : Plan) (n : ℕ) (past : List Sent) (reading : Option Re
   pub minor : x.asked.minor ≡ head.minor
   -- it opened a connection, or sent nothing up
   pub opened : (is_some x.reader ≡ true) ⊎ ((ups n (past ++ hub.sent) ≡ ups n start_hub.sent) × ((requests_in deeds ≡ []) ⊎ (is_over x ≡ true)))
+  pub passage : Passage n past reading js x hub head start (ups n start_hub.sent)
   pub stream : Stream n reading js lines x hub.contexts head.fields (requests_in deeds)
 
 -- of an exchange with filters
-pub record Other (plan : Plan) (n : ℕ) (past : List Sent) (x : Exchange) (hub : Hub) : Type 0 where
+pub record Other (plan : Plan) (n : ℕ) (past : List Sent) (reading : Option Reads) (js : List Job) (x : Exchange) (hub : Hub) : Type 0 where
   pub filters : x.filters ≡ [] → ⊥
-  pub is_filtered : IsFiltered plan
-  pub start : List Traffic
-  pub before : OneByOne plan start
-  pub part : List Traffic
-  pub adds : ups n (past ++ hub.sent) ≡ start ++ part
+  pub head : Head
+  pub start : Exchange
+  pub begun : IsBegun plan head start
+  pub some : start.filters ≡ [] → ⊥
+  pub base : List Traffic
+  pub before : OneByOne plan base
+  pub passage : Passage n past reading js x hub head start base
 
 pub data Tale (plan : Plan) (n : ℕ) (past : List Sent) (reading : Option Reads) (js : List Job) (lines : List Line) (x : Exchange) (hub : Hub) : Type 0 where
   plainly : Story plan n past reading js lines x hub → Tale plan n past reading js lines x hub
-  filtered : Other plan n past x hub → Tale plan n past reading js lines x hub
+  filtered : Other plan n past reading js x hub → Tale plan n past reading js lines x hub
 
 -- ---- the line
 
@@ -199,21 +286,6 @@ pub record LivesUp (n : ℕ) (x : Exchange) (hub : Hub) (y : Exchange) (after : 
   pub over : is_over x ≡ true → is_over y ≡ true
   pub opened : is_some x.reader ≡ true → is_some y.reader ≡ true
 
-parts : (a b : Bool) → (a || b) ≡ false → (a ≡ false) × (b ≡ false)
-parts true b is = absurd (cc)
-parts false b is = (refl, is)
-
-pub over_told : (x y : Exchange) → (y.is_answered ≡ false → y.has_ended ≡ false → (x.is_answered ≡ false) × (x.has_ended ≡ false) × (y.told ≡ x.told)) → is_over x ≡ true → is_over y ≡ true
-over_told x y told over = by_test (is_over y) refl
-  where
-    by_test : (b : Bool) → is_over y ≡ b → is_over y ≡ true
-    by_test true is = is
-    by_test false is =
-        let p = parts y.has_ended y.is_answered is in
-        let t = told p.1 p.0 in
-        let unended : is_over x ≡ false = λ i. t.1 i || t.0 i in
-        absurd (cc)
-
 pub lives_up : (n : ℕ) (x y : Exchange) (hub after : Hub) → LivesOn n x hub y after → LivesUp n x hub y after
 lives_up n x y hub after l = record { deeds = l.deeds; plain = l.plain; lives = l.lives false; no_request = l.no_request; over = over_told x y l.told; opened = l.opened }
 
@@ -225,9 +297,9 @@ quiet_ups n (d ∷ deeds) x y hub after none lives is =
     quiet_ups n deeds (done_by n d x hub).0 y (done_by n d x hub).1 after q.kin.unfiltered lives.1 both.1 ∙ q.sends
 
 pub story_on : (plan : Plan) (n : ℕ) (past : List Sent) (reading now : Option Reads) (js ks : List Job) (lines later : List Line) (x y : Exchange) (hub after : Hub)
-    → (s : Story plan n past reading js lines x hub) → LivesUp n x hub y after → y.asked.minor ≡ x.asked.minor → Stream n now ks later y after.contexts s.head.fields (requests_in s.deeds)
-    → Story plan n past now ks later y after
-story_on plan n past reading now js ks lines later x y hub after s l minor stream =
+    → (s : Story plan n past reading js lines x hub) → LivesUp n x hub y after → y.asked.minor ≡ x.asked.minor → Passage n past now ks y after s.head s.start (ups n s.start_hub.sent)
+    → Stream n now ks later y after.contexts s.head.fields (requests_in s.deeds) → Story plan n past now ks later y after
+story_on plan n past reading now js ks lines later x y hub after s l minor passage stream =
     let more : List Deed = map (behind_deed past) l.deeds in
     let lives_more : LivesBy false n x (behind past hub) more y (behind past after) = lives_behind past n l.deeds x y hub after l.lives in
     let none : requests_in more ≡ [] = requests_behind past l.deeds ∙ l.no_request in
@@ -247,6 +319,7 @@ story_on plan n past reading now js ks lines later x y hub after s l minor strea
       lives = lives_join false n s.deeds more s.start x y s.start_hub (behind past hub) (behind past after) s.lives lives_more;
       came = same_came all_got all_came s.came;
       minor = minor ∙ s.minor;
+      passage = passage;
       opened = by_opened (quiet_ups n more x y (behind past hub) (behind past after) s.plain.1 lives_more none) all_got s.opened;
       stream = subst (Stream n now ks later y after.contexts s.head.fields) (sym all_got) stream;
     }

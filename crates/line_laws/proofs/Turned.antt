@@ -9,8 +9,6 @@ use Rattle.exchange_laws.specs.Ends.{IsOwn}
 use Rattle.exchange_laws.specs.Lives.{Deed, turns, done_by, IsFair, is_over}
 use Rattle.exchange_laws.specs.Own.{SendsOn}
 use Rattle.exchange_laws.specs.Traffic.{ups}
-use Rattle.exchange_laws.proofs.Own.{own_line}
-use Rattle.exchange_laws.proofs.Traffic.{ups_join}
 use Rattle.filter_chain.specs.declared.item.Item.{Item}
 use Rattle.gate_io.specs.declared.event.Sent.{Sent}
 use Rattle.header_maps.specs.Headers.{Headers}
@@ -20,14 +18,16 @@ use Rattle.worker.specs.declared.types.Line.{Line}
 use Rattle.worker.specs.declared.types.Reads.{Reads}
 use Rattle.worker.specs.Plan.{Plan}
 use Rattle.worker.specs.Rooms.{Changes, marking, in_line, in_exchange, with_result, put_back, at_some, at_place, place_in}
-use Rattle.worker.specs.Steps.{exchange_of_line}
+use Rattle.worker.specs.Steps.{exchange_of_line, begins_with_head}
 use Rattle.line_laws.specs.Living.{request_in}
 use Rattle.line_laws.proofs.Finding.{Seeks, missing, first, seeks, IsOnce, only_found, set_once, set_there}
-use Rattle.line_laws.proofs.Kept.{Kept}
+use Rattle.line_laws.proofs.Kept.{Kept, over_told}
 use Rattle.line_laws.proofs.Looks.{is_n, look, Beside, IsPlain, plain_kept, kept_by, equal_by, Still, still_aside, set_still, sends_beside, beside_itself, beside_then, LineGoes, looks_aside}
-use Rattle.line_laws.proofs.Story.{HasClose, NoClose, IsFreshJobs, IsRefusing, pending, Proper, Matches, ReadsOk, Stream, fresh, going, doomed, Other, Tale, plainly, filtered, ExOk, LineOk, LivesUp, story_on, over_told}
+use Rattle.line_laws.proofs.Phases.{Phase, run, IsSound}
+use Rattle.line_laws.proofs.Upward.{Onward, own_goes}
+use Rattle.line_laws.proofs.Story.{HasClose, NoClose, NoEnter, OneEnter, batch_of, IsFreshJobs, IsRefusing, pending, Alike, Becomes, passage_on, Proper, Matches, ReadsOk, Stream, fresh, going, doomed, Tale, plainly, filtered, ExOk, LineOk, LivesUp, story_on}
 use Rattle.line_laws.proofs.Calmed.{other_on}
-use Rattle.line_laws.proofs.Sides.{Notes, ExNotes, idle_same}
+use Rattle.line_laws.proofs.Sides.{Notes, notes_become, ExNotes, idle_same}
 
 -- the line before and behind, where its text is due what it was
 abbrev pub LineTurns : ℕ → Option Line → Hub → Option Line → Hub → Type 0
@@ -42,6 +42,9 @@ pub record Turn (n : ℕ) (js : List Job) (now : Option Reads) (ks : List Job) :
   pub has : HasClose n js → HasClose n ks
   pub no : NoClose n js → NoClose n ks
   pub refusing : IsRefusing n js → IsRefusing n ks
+  pub none : NoEnter n js → NoEnter n ks
+  pub once : OneEnter n js → OneEnter n ks
+  pub unread : batch_of n now ≡ []
   pub unfresh : IsFreshJobs n js → ⊥
 
 module _ (plan : Plan) (n : ℕ) (past : List Sent) (js : List Job) (now : Option Reads) (ks : List Job) (t : Turn n js now ks) where
@@ -53,12 +56,22 @@ module _ (plan : Plan) (n : ℕ) (past : List Sent) (js : List Job) (now : Optio
   stream_turn lines later x y c d fields got same over (doomed message none (inl is)) = doomed message (t.pend ∙ none) (inl (over is))
   stream_turn lines later x y c d fields got same over (doomed message none (inr is)) = doomed message (t.pend ∙ none) (inr (t.refusing is))
 
+  turn_alike : Alike n None js now ks
+  turn_alike = record {
+    pend = t.pend;
+    refusing = t.refusing;
+    none = t.none;
+    once = t.once;
+    first = λ e. let never : ◌≡◌ {A = Bool} false true = ap begins_with_head (sym t.unread) ∙ e in absurd (cc);
+  }
+
   tale_turn : (lines later : List Line) (x y : Exchange) (hub after : Hub) → Notes n x hub y after → Tale plan n past None js lines x hub → Tale plan n past now ks later y after
   tale_turn lines later x y hub after q (plainly s) =
       let l : LivesUp n x hub y after = q.plain s.plain in
       plainly (story_on plan n past None now js ks lines later x y hub after s l (ap (λ a. a.minor) q.asked)
+      (passage_on n past None now js ks x y hub after s.head s.start (ups n s.start_hub.sent) turn_alike (notes_become n x y hub after q) s.passage)
       (stream_turn lines later x y hub.contexts after.contexts s.head.fields _ q.asked l.over s.stream))
-  tale_turn lines later x y hub after q (filtered o) = filtered (other_on plan n past x y hub after [] (λ e. sym q.filters ∙ e) (q.same ∙ sym (append-nil (ups n hub.sent))) o)
+  tale_turn lines later x y hub after q (filtered o) = filtered (other_on plan n past None now js ks x y hub after (λ e. sym q.filters ∙ e) turn_alike (notes_become n x y hub after q) o)
 
   exchange_turn : (lines later : List Line) (due : Due) (o p : Option Exchange) (hub after : Hub) → ExNotes n o hub p after → ((y : Exchange) → p ≡ Some y → ReadsOk n now y) → ExOk plan n past None js lines due o hub
       → ExOk plan n past now ks later due p after
@@ -173,9 +186,17 @@ own_up n deed x hub after own fair none sent p =
       opened = k.opened;
     }
 
--- what else is known of any exchange
-pub own_other : (plan : Plan) (n : ℕ) (past : List Sent) (deed : Deed) (x : Exchange) (hub after : Hub) → IsOwn deed → after.sent ≡ (done_by n deed x hub).1.sent → Other plan n past x hub
-    → Other plan n past (done_by n deed x hub).0 after
-own_other plan n past deed x hub after own sent o =
-    let s : SendsOn n hub (done_by n deed x hub).1 = own_line n deed x hub own in
-    other_on plan n past x (done_by n deed x hub).0 hub after (ups n s.more) (λ e. sym (kept_by n deed x hub own).filters ∙ e) (ap (ups n) sent ∙ (ap (ups n) s.adds ∙ ups_join n hub.sent s.more)) o
+-- what it is then
+pub own_becomes : (n : ℕ) (deed : Deed) (x : Exchange) (hub after : Hub) → IsOwn deed → request_in deed ≡ [] → after.sent ≡ (done_by n deed x hub).1.sent → Becomes n x hub (done_by n deed x hub).0 after
+own_becomes n deed x hub after own none sent =
+    let k : Kept x (done_by n deed x hub).0 = kept_by n deed x hub own in
+    record {
+      asked = k.asked;
+      entered = k.entered;
+      framed = k.framed;
+      over = over_told x (done_by n deed x hub).0 k.told;
+      keeps = λ t i u.
+          let o : Onward n hub (done_by n deed x hub) t i
+          = subst (λ (j : Phase). Onward n hub (done_by n deed x hub) t j) (ap (run i) none) (own_goes n deed x hub t i own u (subst (λ (l : List Item). IsSound (run i l)) (sym none) u.sound)) in
+          record { more = o.more; grows = ap (ups n) sent ∙ o.grows; goes = o.goes };
+    }

@@ -13,7 +13,7 @@ use Rattle.course.proofs.Holds.{AllEnds, all_then, all_reached}
 use Rattle.exchange.specs.declared.types.Exchange.{Exchange}
 use Rattle.exchange.specs.declared.types.Hub.{Hub}
 use Rattle.exchange_laws.specs.Lives.{turns, is_over}
-use Rattle.exchange_laws.specs.Traffic.{opens, byte, traffic, ups}
+use Rattle.exchange_laws.specs.Traffic.{Traffic, opens, byte, traffic, ups, IsFront}
 use Rattle.exchange_laws.proofs.Traffic.{ups_join}
 use Rattle.gate_io.specs.declared.event.Event.{Event}
 use Rattle.gate_io.specs.declared.event.Sent.{Sent}
@@ -22,6 +22,7 @@ use Rattle.gate_io.specs.Events.{is_stop}
 use Rattle.h1_write.specs.Lines.{out_items, out_wire}
 use Rattle.http1_model.specs.Framing.{OutItem, head_wire}
 use Rattle.http1_model.specs.Framing as out
+use Rattle.http1_model.specs.Head.{Head}
 use Rattle.http1_model.specs.Messages.{Due}
 use Rattle.outbox.specs.Joined.{joined}
 use Rattle.worker.specs.declared.room.Room.{Room}
@@ -36,10 +37,10 @@ use Rattle.worker.specs.Turn.{Outcome, turn, turn_by, facing, agenda_of, starts,
 use Rattle.line_laws.specs.Laws.{ExchangesLive, RequestsGoUpOneByOne}
 use Rattle.line_laws.specs.Logs.{Calling, WriteLogs}
 use Rattle.line_laws.specs.Living.{requests_in, request_in, LivesBy}
-use Rattle.line_laws.specs.Requests.{AreOf, OneByOne, nothing, is_whole, IsSoFar, IsOpen, without, with_some, GoesUpBy, HasLived}
+use Rattle.line_laws.specs.Requests.{AreOf, OneByOne, is_whole, IsExact, IsSoFar, IsOpen, GoesUpBy, HasLived}
 use Rattle.line_laws.specs.Turns.{Done, Turns, new_room, sent_in}
 use Rattle.line_laws.proofs.Earlier.{behind}
-use Rattle.line_laws.proofs.Ending.{Went, went, is_message}
+use Rattle.line_laws.proofs.Ending.{Went, went, is_message, same_went, exact_of}
 use Rattle.line_laws.proofs.Joining.{ups_joined}
 use Rattle.line_laws.proofs.Kept.{by_bool}
 use Rattle.line_laws.proofs.Lives.{came_of, came_join, lives_with}
@@ -47,7 +48,8 @@ use Rattle.line_laws.proofs.Looks.{look, line_in_is, lives_join}
 use Rattle.line_laws.proofs.Readable.{readable}
 use Rattle.line_laws.proofs.Rooms.{AllParts}
 use Rattle.line_laws.proofs.Stepping.{settling_keeps}
-use Rattle.line_laws.proofs.Story.{IsFresh, IsRefusing, pending, Stream, fresh, going, doomed, Story, Tale, plainly, filtered, Idle, ExOk, LineOk, Known}
+use Rattle.line_laws.proofs.Parts.{goes_of, no_parts}
+use Rattle.line_laws.proofs.Story.{IsFresh, IsRefusing, pending, Stream, fresh, going, doomed, Passage, Story, Tale, plainly, filtered, Idle, ExOk, LineOk, Known}
 
 -- ---- the parts of a turn
 
@@ -89,6 +91,10 @@ agenda_parts plan what room =
 -- ---- what was sent is counted otherwise
 
 module _ (plan : Plan) (n : ℕ) (past now : List Sent) (hub after : Hub) (same : ups n (now ++ after.sent) ≡ ups n (past ++ hub.sent)) (alike : after.contexts ≡ hub.contexts) where
+  passage_past : (reading : Option Reads) (js : List Job) (x : Exchange) (h : Head) (first : Exchange) (base : List Traffic) → Passage n past reading js x hub h first base → Passage n now reading js x after h first base
+  passage_past reading js x h first base p =
+      record { went = p.went; adds = same ∙ p.adds; got = p.got; up = p.up; minor = p.minor; framed = p.framed; flow = p.flow; enters = p.enters }
+
   story_past : (reading : Option Reads) (js : List Job) (lines : List Line) (x : Exchange) → Story plan n past reading js lines x hub → Story plan n now reading js lines x after
   story_past reading js lines x s =
       let one : LivesBy false n x (behind past hub) (turns x (behind now after) ∷ []) x (behind now after)
@@ -107,6 +113,7 @@ module _ (plan : Plan) (n : ℕ) (past now : List Sent) (hub after : Hub) (same 
         lives = lives_join false n s.deeds (turns x (behind now after) ∷ []) s.start x x s.start_hub (behind past hub) (behind now after) s.lives one;
         came = subst (λ l. AreOf s.head l (came_of n s.start s.start_hub (s.deeds ++ turns x (behind now after) ∷ []))) (sym got) (subst (λ l. AreOf s.head (requests_in s.deeds) l) (sym outs) s.came);
         minor = s.minor;
+        passage = passage_past reading js x s.head s.start (ups n s.start_hub.sent) s.passage;
         opened = by_opened got s.opened;
         stream = subst (Stream n reading js lines x after.contexts s.head.fields) (sym got) (subst (λ (c : Contexts). Stream n reading js lines x c s.head.fields (requests_in s.deeds)) (sym alike) s.stream);
       }
@@ -122,7 +129,16 @@ module _ (plan : Plan) (n : ℕ) (past now : List Sent) (hub after : Hub) (same 
 
   tale_past : (reading : Option Reads) (js : List Job) (lines : List Line) (x : Exchange) → Tale plan n past reading js lines x hub → Tale plan n now reading js lines x after
   tale_past reading js lines x (plainly s) = plainly (story_past reading js lines x s)
-  tale_past reading js lines x (filtered o) = filtered (record { filters = o.filters; is_filtered = o.is_filtered; start = o.start; before = o.before; part = o.part; adds = same ∙ o.adds })
+  tale_past reading js lines x (filtered o) = filtered (record {
+    filters = o.filters;
+    head = o.head;
+    start = o.start;
+    begun = o.begun;
+    some = o.some;
+    base = o.base;
+    before = o.before;
+    passage = passage_past reading js x o.head o.start o.base o.passage;
+  })
 
   exchange_past : (reading : Option Reads) (js : List Job) (lines : List Line) (due : Due) (o : Option Exchange) → ExOk plan n past reading js lines due o hub → ExOk plan n now reading js lines due o after
   exchange_past reading js lines due None ok = record { none = ok.none; due_or = ok.due_or; idle = idle_past ok.idle }
@@ -206,32 +222,29 @@ new_known plan contexts n = record {
   stands = tt;
   alone = λ r is. absurd (cc);
   phase = tt;
-  line = (refl, nothing);
+  line = (refl, no_parts plan);
 }
 
 -- ---- what went up
 
-so_far : (plan : Plan) (n : ℕ) (past : List Sent) (room : Room) (x : Exchange) → (s : Story plan n past room.reading room.jobs room.lines x room.hub) → IsSoFar plan room x (ups n (past ++ room.hub.sent))
+so_far : (plan : Plan) (n : ℕ) (past : List Sent) (room : Room) (x : Exchange) → (s : Story plan n past room.reading room.jobs room.lines x room.hub) → IsSoFar room x s.head s.passage.went
 so_far plan n past room x s =
     let w : Went plan n past room.reading room.jobs room.lines x room.hub s = went plan n past room.reading room.jobs room.lines x room.hub s in
+    let e : IsExact s.head s.passage.went = exact_of plan n past room.reading room.jobs room.lines x room.hub s in
+    let same : w.goes.went ≡ s.passage.went = same_went plan n past room.reading room.jobs room.lines x room.hub s in
     record {
-      before = ups n s.start_hub.sent;
-      one_by_one = s.before;
-      head = s.head;
-      judged = s.began.judged;
       request = w.request;
       sent_of = w.sent_of;
-      reads_back = λ ended other room suits. w.goes.read_back ended (readable s.head w.request s.began.judged w.sent_of other room) suits;
+      reads_back = λ ended other room suits. w.goes.read_back ended (readable s.head w.request s.began.begun.judged w.sent_of other room) suits;
       items = requests_in s.deeds;
       message = is_message plan n past room.reading room.jobs room.lines x room.hub s;
       came = came_of n s.start s.start_hub s.deeds;
       of = s.came;
-      went = w.goes.went;
-      adds = w.goes.adds;
-      front = w.goes.front;
-      all = w.goes.all;
+      front = subst (λ (t : List Traffic). IsFront t (opens ∷ map byte (out_wire w.request))) same w.goes.front;
+      all = λ live. sym same ∙ w.goes.all live;
       read_whole = λ live quiet jobless. by_stream live quiet jobless s.stream;
-      whole = λ live whole. by_full w live (w.full whole);
+      whole = λ live whole.
+          subst (λ (t : List Traffic). (t ≡ opens ∷ map byte (out_wire w.request)) ⊎ (t ≡ opens ∷ map byte (head_wire w.request.framing w.request.head))) same (by_full w live (w.full whole));
     }
   where
     none_left : room.reading ≡ None → room.jobs ≡ [] → pending n room.reading room.jobs ≡ []
@@ -258,8 +271,28 @@ goes_up_by plan n past room k =
     by_exchange due (Some x) ok = by_tale ok.tale
       where
         by_tale : Tale plan n past room.reading room.jobs room.lines x room.hub → IsOpen plan room x (ups n (past ++ room.hub.sent))
-        by_tale (plainly s) = without s.plain.0 (so_far plan n past room x s)
-        by_tale (filtered o) = with_some o.filters (record { is_filtered = o.is_filtered; before = o.start; one_by_one = o.before; part = o.part; adds = o.adds })
+        by_tale (plainly s) = record {
+          before = ups n s.start_hub.sent;
+          one_by_one = s.before;
+          head = s.head;
+          first = s.start;
+          begun = s.began.begun;
+          went = s.passage.went;
+          adds = s.passage.adds;
+          goes = goes_of n past room.reading room.jobs x room.hub s.head s.start (ups n s.start_hub.sent) s.passage;
+          exact = λ e. so_far plan n past room x s;
+        }
+        by_tale (filtered o) = record {
+          before = o.base;
+          one_by_one = o.before;
+          head = o.head;
+          first = o.start;
+          begun = o.begun;
+          went = o.passage.went;
+          adds = o.passage.adds;
+          goes = goes_of n past room.reading room.jobs x room.hub o.head o.start o.base o.passage;
+          exact = λ e. absurd (o.filters e);
+        }
 
     by_line : (o : Option Line) → LineOk plan n past room.reading room.jobs room.lines o room.hub → GoesUpBy plan room (exchange_of_line o) (ups n (past ++ room.hub.sent))
     by_line None ok = ok.1
@@ -274,6 +307,7 @@ lived plan n past room x k on none = by_line (look n room.lines) k.line (sym (ap
       start = s.start;
       start_hub = s.start_hub;
       began = s.began;
+      before = s.before;
       deeds = s.deeds;
       came = came_of n s.start s.start_hub s.deeds;
       lives = lives_with n s.deeds s.start x s.start_hub (behind past room.hub) s.lives;

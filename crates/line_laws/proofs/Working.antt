@@ -9,7 +9,9 @@ use Rattle.exchange.specs.declared.types.Exchange.{Exchange}
 use Rattle.exchange.specs.declared.types.Hub.{Hub}
 use Rattle.exchange.specs.Maps.{request_map}
 use Rattle.exchange.specs.Passing.{put_in, refused}
-use Rattle.exchange_laws.specs.Lives.{comes, responds, refuses}
+use Rattle.exchange.specs.Leaving.{goes_up}
+use Rattle.exchange_laws.specs.Lives.{comes, responds, refuses, is_over}
+use Rattle.exchange_laws.specs.Traffic.{ups}
 use Rattle.exchange_laws.specs.Own.{SendsOn}
 use Rattle.exchange_laws.proofs.Own.{own_line}
 use Rattle.filter_chain.specs.Chains.{ready}
@@ -26,17 +28,20 @@ use Rattle.worker.specs.Steps.{Both, exchange_of_line, entered, entering, works,
 use Rattle.line_laws.specs.Logs.{Calling, WriteLogs}
 use Rattle.line_laws.specs.Living.{requests_in}
 use Rattle.line_laws.proofs.Finding.{Seeks, missing, first, seeks, IsOnce, set_other, only_found}
-use Rattle.line_laws.proofs.Kept.{Kept, put_in_kept, refused_kept}
-use Rattle.line_laws.proofs.Looks.{is_n, look, beside_itself, IsPlain, LivesOn, equal_by, Still, still_aside}
+use Rattle.line_laws.proofs.Kept.{Kept, by_bool, put_in_kept, refused_kept}
+use Rattle.line_laws.proofs.Looks.{is_n, look, beside_itself, aside, IsPlain, LivesOn, equal_by, Still, still_aside}
 use Rattle.line_laws.proofs.Maps.{mark_map}
 use Rattle.line_laws.proofs.OnLines.{none_passes}
-use Rattle.line_laws.proofs.Rooms.{AllParts, Calm, calm_of, calm_number}
-use Rattle.line_laws.proofs.Calls.{IsCalm, works_calm, enters_quietly, does_enter}
-use Rattle.line_laws.proofs.Story.{puts_of, Tail, Rests, IsFreshJobs, IsRefusing, pending, Proper, Matches, Stream, fresh, going, doomed, Tale, plainly, filtered, Busy, ExOk, LineOk, Known, LivesUp, story_on}
-use Rattle.line_laws.proofs.Calmed.{Shift, FreshOn, known_calm, stream_calm}
+use Rattle.line_laws.proofs.Rooms.{AllParts, Calm, calm_of, same_sent}
+use Rattle.line_laws.proofs.Calls.{IsCalm, works_calm, enters_plain}
+use Rattle.line_laws.proofs.Story.{puts_of, Tail, Rests, IsFreshJobs, IsRefusing, NoEnter, Flow, flows, ceases, Passage, Becomes, grows_past, passage_on, lives_up, pending, Proper, Matches, Stream, fresh, going, doomed, Tale, plainly, filtered, Busy, ExOk, LineOk, Known, LivesUp, story_on}
+use Rattle.line_laws.proofs.Calmed.{Shift, shift_alike, FreshOn, known_calm, other_on, stream_calm}
+use Rattle.line_laws.proofs.Beyond.{lives_then}
+use Rattle.line_laws.proofs.Phases.{run, fresh as fresh_phase}
+use Rattle.line_laws.proofs.Upward.{Onward, made_goes}
 use Rattle.line_laws.proofs.Sides.{ended_known}
-use Rattle.line_laws.proofs.Exact.{puts_story, refused_over}
-use Rattle.line_laws.proofs.Turned.{Exact, same, changed, exact, on_another, own_up, own_other}
+use Rattle.line_laws.proofs.Exact.{puts_story, puts_passage, refused_over}
+use Rattle.line_laws.proofs.Turned.{Exact, same, changed, exact, on_another, own_up, own_becomes}
 
 -- ---- jobs that bring the line no item
 
@@ -54,7 +59,8 @@ shift_pop n (jobs.Happen w) later is = absurd is
 shift_pop n (jobs.Put m response items) later is = absurd is
 shift_pop n (jobs.Refuse m status) later is = absurd is
 shift_pop n (jobs.Close m stays) later is = absurd is
-shift_pop n job later is = record { puts = refl; has = λ h. h; no = λ h. h; refusing = λ h. h }
+shift_pop n (jobs.Enter m) later is = absurd is
+shift_pop n job later is = record { puts = refl; has = λ h. h; no = λ h. h; refusing = λ h. h; none = λ h. h; once = λ h. h }
 
 not_fresh : (n : ℕ) (job : Job) (later : List Job) → IsSimple job → IsFreshJobs n (job ∷ later) → ⊥
 not_fresh n (jobs.Enter m) later is f = is
@@ -91,6 +97,19 @@ module _ {H : Type 0} (calling : Calling H) (logs : WriteLogs calling) (plan : P
 fresh_next : (n m : ℕ) (later : List Job) → IsFreshJobs n (jobs.Enter m ∷ later) → IsFreshJobs n later
 fresh_next n m (jobs.Put k false items ∷ later) f = (f.1, f.2)
 fresh_next n m later f = absurd f
+
+none_both : {A : Type 0} (b c : List A) → b ++ c ≡ [] → (b ≡ []) × (c ≡ [])
+none_both [] c is = (refl, is)
+none_both (i ∷ b) c is = absurd (cc)
+
+fresh_puts : (n : ℕ) (later : List Job) → IsFreshJobs n later → puts_of n later ≡ [] → ⊥
+fresh_puts n (jobs.Put k false items ∷ later) f none =
+    let gone : items ≡ [] = (λ i. if sym f.0 i then items else []) ∙ (none_both (if k == n then items else []) (puts_of n later) none).0 in
+    let never : ◌≡◌ {A = Bool} false true = ap begins_with_head (sym gone) ∙ f.1 in absurd (cc)
+fresh_puts n (jobs.Enter k ∷ jobs.Put j false items ∷ later) f none =
+    let gone : items ≡ [] = (λ i. if sym f.1 i then items else []) ∙ (none_both (if j == n then items else []) (puts_of n later) none).0 in
+    let never : ◌≡◌ {A = Bool} false true = ap begins_with_head (sym gone) ∙ f.2 in absurd (cc)
+fresh_puts n later f none = absurd f
 
 fresh_line : (n m : ℕ) (later : List Job) → IsFreshJobs n (jobs.Enter m ∷ later) → (m == n) ≡ true
 fresh_line n m (jobs.Put k false items ∷ later) f = f.0
@@ -142,26 +161,12 @@ enter_rests n m dead lines hub l x once here at some p rests = by_seek (seeks (i
         some_q = ap (λ (j : Line). j.exchange) is_it ∙ some
 
         on : LivesOn n x hub (entered dead x) hub
-        on = (enters_quietly n dead x hub).plain p
+        on = enters_plain n dead x hub p
 
         still : moves (in_line (entering dead) q hub).0 ≡ false
         still = ap (λ (o : Option Exchange). moves (in_exchange (entering dead) q o hub).0) some_q ∙ plain_rests (in_exchange (entering dead) q (Some x) hub).0 (entered dead x) refl on.plain
 
-module _ {H : Type 0} (calling : Calling H) (logs : WriteLogs calling) (plan : Plan) (n : ℕ) (past : List Sent) where
-  pub enter_works : (m : ℕ) (host : H) (mid : Room) → Popped plan n past (jobs.Enter m) mid → Known plan n past (on_number (entering mid.dead) m mid)
-  enter_works m host mid pop =
-      let later : Room = on_number (entering mid.dead) m mid in
-      let calm : Calm n mid later = calm_number n (entering mid.dead) m mid pop.once (does_enter mid.dead) in
-      known_calm plan n past (jobs.Enter m ∷ mid.jobs) mid later pop.parts pop.tail pop.quiet pop.line (shift_pop n (jobs.Enter m) mid.jobs tt) calm
-      (λ l k x y fields at some behind there p place asked f rests map proper.
-      fresh refl (fresh_next n m mid.jobs f) (enter_rests n m mid.dead mid.lines mid.hub l x pop.once (fresh_line n m mid.jobs f) at some p rests)
-      ((λ i. request_map (place i) later.hub.contexts) ∙ (enter_maps mid.dead m x.place mid.lines mid.hub ∙ map)) (subst (λ w. Proper (pending n None mid.jobs) w) (sym (ap (λ q. q.whole) asked)) proper))
-
 -- ---- what was read comes to a chain; or is refused
-
-none_both : {A : Type 0} (b c : List A) → b ++ c ≡ [] → (b ≡ []) × (c ≡ [])
-none_both [] c is = (refl, is)
-none_both (i ∷ b) c is = absurd (cc)
 
 -- a line without an exchange
 pub no_exchange : (plan : Plan) (n : ℕ) (past : List Sent) (js : List Job) (lines : List Line) (hub : Hub) (o : Option Line) → exchange_of_line o ≡ None → LineOk plan n past None js lines o hub → pending n None js ≡ []
@@ -204,6 +209,118 @@ module _ (plan : Plan) (n : ℕ) (past : List Sent) where
       known_calm plan n past (job ∷ mid.jobs) mid later pop.parts pop.tail pop.quiet pop.line s (calm_of n mid later (on_another n m change mid.lines mid.hub pop.once other own) refl refl refl)
       (λ l k x y fields at some behind there q place asked f rests map proper. absurd (unfresh f))
 
+  -- STAGES ARE MADE
+  pub enter_works : (m : ℕ) (mid : Room) → Popped plan n past (jobs.Enter m) mid → Known plan n past (on_number (entering mid.dead) m mid)
+  enter_works m mid pop = by_test (m == n) refl
+    where
+      p : List Line × Hub
+      p = at_place (entering mid.dead) mid.lines (place_in m mid.lines) mid.hub
+
+      by_test : (b : Bool) → (m == n) ≡ b → Known plan n past (on_number (entering mid.dead) m mid)
+      by_test false other =
+          elsewhere (jobs.Enter m) m (entering mid.dead) mid pop (record { puts = refl; has = λ h. h; no = λ h. h; refusing = λ h. h; none = λ h. h.1; once = λ h. h.1 })
+          (λ f. let never : ◌≡◌ {A = Bool} true false = sym (fresh_line n m mid.jobs f) ∙ other in absurd (cc)) other (λ x k. record { more = []; adds = sym (append-nil k.sent); own = tt })
+      by_test true here = by_exact (exact n m (entering mid.dead) mid.lines mid.hub pop.once here)
+        where
+          by_exact : Exact n (entering mid.dead) mid.lines mid.hub (at_place (entering mid.dead) mid.lines (place_in m mid.lines) mid.hub) → Known plan n past (on_number (entering mid.dead) m mid)
+          by_exact (same lines hub none) =
+              unchanged (jobs.Enter m) mid (at_place (entering mid.dead) mid.lines (place_in m mid.lines) mid.hub) pop (record { puts = refl; has = λ h. h; no = λ h. h; refusing = λ h. h; none = λ h. h.1; once = λ h. h.1 })
+              (λ f e. no_fresh f e) none lines hub
+            where
+              no_fresh : IsFreshJobs n (jobs.Enter m ∷ mid.jobs) → exchange_of_line (look n mid.lines) ≡ None → ⊥
+              no_fresh f e =
+                  let gone : pending n None (jobs.Enter m ∷ mid.jobs) ≡ [] = no_exchange plan n past (jobs.Enter m ∷ mid.jobs) mid.lines mid.hub (look n mid.lines) e pop.line in
+                  fresh_puts n mid.jobs (fresh_next n m mid.jobs f) (sym (append-nil (puts_of n mid.jobs)) ∙ gone)
+          by_exact (changed l x at some once then_at hub) =
+              became (jobs.Enter m) mid (at_place (entering mid.dead) mid.lines (place_in m mid.lines) mid.hub) l x (entered mid.dead x) pop at some once then_at
+              (λ b. record {
+                staid = λ e. subst (λ (q : _). q ≡ true) (ap (λ (q : _). q.whole) (sym asked)) (b.staid (stays_same e));
+                matches = subst (λ w. Matches w l.requests.due) (ap (λ (q : _). q.whole) (sym asked)) b.matches;
+                unclosed = b.unclosed;
+                reads = tt;
+                tale = by_tale b.tale;
+              })
+            where
+              y : Exchange
+              y = entered mid.dead x
+
+              later : List Line
+              later = (at_place (entering mid.dead) mid.lines (place_in m mid.lines) mid.hub).0
+
+              after : Hub
+              after = (at_place (entering mid.dead) mid.lines (place_in m mid.lines) mid.hub).1
+
+              asked : (entered mid.dead x).asked ≡ x.asked
+              asked = by_bool (λ (z : Exchange). z.asked ≡ x.asked) (x.has_ended || x.is_answered) x _ (λ e. refl) (λ e. refl)
+
+              stays_same : (entered mid.dead x).stays ≡ true → x.stays ≡ true
+              stays_same = by_bool (λ (z : Exchange). z.stays ≡ true → x.stays ≡ true) (x.has_ended || x.is_answered) x _ (λ e d. d) (λ e d. d)
+
+              framed : goes_up (entered mid.dead x) ≡ goes_up x
+              framed = by_bool (λ (z : Exchange). goes_up z ≡ goes_up x) (x.has_ended || x.is_answered) x _ (λ e. refl) (λ e. refl)
+
+              filters : (entered mid.dead x).filters ≡ x.filters
+              filters = by_bool (λ (z : Exchange). z.filters ≡ x.filters) (x.has_ended || x.is_answered) x _ (λ e. refl) (λ e. refl)
+
+              place : (entered mid.dead x).place ≡ x.place
+              place = by_bool (λ (z : Exchange). z.place ≡ x.place) (x.has_ended || x.is_answered) x _ (λ e. refl) (λ e. refl)
+
+              over : is_over (entered mid.dead x) ≡ is_over x
+              over = by_bool (λ (z : Exchange). is_over z ≡ is_over x) (x.has_ended || x.is_answered) x _ (λ e. refl) (λ e. refl)
+
+              sent : after.sent ≡ mid.hub.sent
+              sent = ap (λ (k : Hub). k.sent) hub
+
+              enters_on : (h : _) (start : Exchange) (base : _) → Passage n past None (jobs.Enter m ∷ mid.jobs) x mid.hub h start base → Passage n past None mid.jobs (entered mid.dead x) after h start base
+              enters_on h start base q =
+                  let free : x.is_entered ≡ false = unentered (x.is_entered) refl q.enters.none in
+                  let o : Onward n mid.hub (entered mid.dead x, mid.hub) q.went (run fresh_phase q.got) = made_goes n mid.dead x mid.hub free q.went (run fresh_phase q.got) q.up in
+                  record {
+                    went = q.went ++ o.more;
+                    adds = grows_past n past mid.hub after base q.went o.more (ap (ups n) sent ∙ o.grows) q.adds;
+                    got = q.got;
+                    up = o.goes;
+                    minor = ap (λ (a : _). a.minor) asked ∙ q.minor;
+                    framed = framed ∙ q.framed;
+                    flow = by_flow q.flow;
+                    enters = record { once = q.enters.once.1; none = λ e. q.enters.once.0 here; first = λ e. absurd (cc) };
+                  }
+                where
+                  unentered : (b : Bool) → x.is_entered ≡ b → (x.is_entered ≡ true → NoEnter n (jobs.Enter m ∷ mid.jobs)) → x.is_entered ≡ false
+                  unentered false is none = is
+                  unentered true is none = let never : ◌≡◌ {A = Bool} true false = sym here ∙ (none is).0 in absurd (cc)
+
+                  by_flow : Flow n None (jobs.Enter m ∷ mid.jobs) x q.got → Flow n None mid.jobs (entered mid.dead x) q.got
+                  by_flow (flows proper) = flows (subst (λ w. Proper (q.got ++ pending n None mid.jobs) w) (sym (ap (λ (a : _). a.whole) asked)) proper)
+                  by_flow (ceases message none (inl is)) = ceases message none (inl (over ∙ is))
+                  by_flow (ceases message none (inr is)) = ceases message none (inr is)
+
+              by_stream : (fields : Headers) (got : List Item) → IsPlain x → Stream n None (jobs.Enter m ∷ mid.jobs) mid.lines x mid.hub.contexts fields got → Stream n None mid.jobs later (entered mid.dead x) after.contexts fields got
+              by_stream fields got plain (fresh none is rests map proper) =
+                  fresh none (fresh_next n m mid.jobs is) (enter_rests n m mid.dead mid.lines mid.hub l x pop.once here at some plain rests)
+                  ((λ i. request_map (place i) after.contexts) ∙ (enter_maps mid.dead m x.place mid.lines mid.hub ∙ map)) (subst (λ w. Proper (pending n None mid.jobs) w) (sym (ap (λ (a : _). a.whole) asked)) proper)
+              by_stream fields got plain (going begins proper) = going begins (subst (λ w. Proper (got ++ pending n None mid.jobs) w) (sym (ap (λ (a : _). a.whole) asked)) proper)
+              by_stream fields got plain (doomed message none (inl is)) = doomed message none (inl (over ∙ is))
+              by_stream fields got plain (doomed message none (inr is)) = doomed message none (inr is)
+
+              by_tale : Tale plan n past None (jobs.Enter m ∷ mid.jobs) mid.lines x mid.hub → Tale plan n past None mid.jobs later (entered mid.dead x) after
+              by_tale (plainly s) =
+                  let on : LivesOn n x mid.hub (entered mid.dead x) mid.hub = enters_plain n mid.dead x mid.hub s.plain in
+                  let last : LivesOn n (entered mid.dead x) mid.hub (entered mid.dead x) after = (aside n (entered mid.dead x) mid.hub after (same_sent n mid.hub after sent)).plain on.plain in
+                  let l : LivesUp n x mid.hub (entered mid.dead x) after = lives_then n x (entered mid.dead x) (entered mid.dead x) mid.hub mid.hub after (lives_up n x (entered mid.dead x) mid.hub mid.hub on) (lives_up n (entered mid.dead x) (entered mid.dead x) mid.hub after last) in
+                  plainly (story_on plan n past None None (jobs.Enter m ∷ mid.jobs) mid.jobs mid.lines later x (entered mid.dead x) mid.hub after s l (ap (λ (a : _). a.minor) asked)
+                  (enters_on s.head s.start (ups n s.start_hub.sent) s.passage) (by_stream s.head.fields (requests_in s.deeds) s.plain s.stream))
+              by_tale (filtered o) = filtered (record {
+                filters = λ e. o.filters (sym filters ∙ e);
+                head = o.head;
+                start = o.start;
+                begun = o.begun;
+                some = o.some;
+                base = o.base;
+                before = o.before;
+                passage = enters_on o.head o.start o.base o.passage;
+              })
+
   -- WHAT WAS READ OF A REQUEST
   pub request_works : (m : ℕ) (a : List Item) (mid : Room) → Popped plan n past (jobs.Put m false a) mid → Known plan n past (on_number (put_in false a) m mid)
   request_works m a mid pop = by_test (m == n) refl
@@ -214,7 +331,7 @@ module _ (plan : Plan) (n : ℕ) (past : List Sent) where
       by_test : (b : Bool) → (m == n) ≡ b → Known plan n past (on_number (put_in false a) m mid)
       by_test false other =
           elsewhere (jobs.Put m false a) m (put_in false a) mid pop
-          (record { puts = (λ i. (if sym other i then a else []) ++ puts_of n mid.jobs); has = λ h. h; no = λ h. h; refusing = λ h. h })
+          (record { puts = (λ i. (if sym other i then a else []) ++ puts_of n mid.jobs); has = λ h. h; no = λ h. h; refusing = λ h. h; none = λ h. h; once = λ h. h })
           (λ f. let never : ◌≡◌ {A = Bool} true false = sym f.0 ∙ other in absurd (cc)) other (λ x k. own_line m (comes a) x k tt)
       by_test true here = by_exact (exact n m (put_in false a) mid.lines mid.hub pop.once here)
         where
@@ -223,7 +340,7 @@ module _ (plan : Plan) (n : ℕ) (past : List Sent) where
               let gone : pending n None (jobs.Put m false a ∷ mid.jobs) ≡ [] = no_exchange plan n past (jobs.Put m false a ∷ mid.jobs) mid.lines mid.hub (look n mid.lines) none pop.line in
               let empty : puts_of n (jobs.Put m false a ∷ mid.jobs) ≡ [] = sym (append-nil (puts_of n (jobs.Put m false a ∷ mid.jobs))) ∙ gone in
               let rest_empty : puts_of n mid.jobs ≡ [] = (none_both (if m == n then a else []) (puts_of n mid.jobs) empty).1 in
-              unchanged (jobs.Put m false a) mid (at_place (put_in false a) mid.lines (place_in m mid.lines) mid.hub) pop (record { puts = rest_empty ∙ sym empty; has = λ h. h; no = λ h. h; refusing = λ h. h })
+              unchanged (jobs.Put m false a) mid (at_place (put_in false a) mid.lines (place_in m mid.lines) mid.hub) pop (record { puts = rest_empty ∙ sym empty; has = λ h. h; no = λ h. h; refusing = λ h. h; none = λ h. h; once = λ h. h })
               (λ f e. let gone_b : begins_with_head a ≡ false = ap begins_with_head ((λ i. if sym here i then a else []) ∙ (none_both (if m == n then a else []) (puts_of n mid.jobs) empty).0) in absurd (cc)) none lines hub
           by_exact (changed l x at some once then_at hub) =
               became (jobs.Put m false a) mid (at_place (put_in false a) mid.lines (place_in m mid.lines) mid.hub) l x (put_in false a n x mid.hub).0 pop at some once then_at
@@ -248,15 +365,24 @@ module _ (plan : Plan) (n : ℕ) (past : List Sent) where
                   → Tale plan n past None mid.jobs (at_place (put_in false a) mid.lines (place_in m mid.lines) mid.hub).0 (put_in false a n x mid.hub).0 (at_place (put_in false a) mid.lines (place_in m mid.lines) mid.hub).1
               by_tale (plainly s) =
                   plainly (puts_story plan n past None (jobs.Put m false a ∷ mid.jobs) mid.jobs mid.lines (at_place (put_in false a) mid.lines (place_in m mid.lines) mid.hub).0 x mid.hub a
-                  (at_place (put_in false a) mid.lines (place_in m mid.lines) mid.hub).1 sent pend (λ f. f.1) (λ h. h) s)
-              by_tale (filtered o) = filtered (own_other plan n past (comes a) x mid.hub (at_place (put_in false a) mid.lines (place_in m mid.lines) mid.hub).1 tt sent o)
+                  (at_place (put_in false a) mid.lines (place_in m mid.lines) mid.hub).1 sent pend (λ f. f.1) (λ h. h) (λ h. h) (λ h. h) refl s)
+              by_tale (filtered o) = filtered (record {
+                filters = λ e. o.filters (sym (put_in_kept false a n x mid.hub).filters ∙ e);
+                head = o.head;
+                start = o.start;
+                begun = o.begun;
+                some = o.some;
+                base = o.base;
+                before = o.before;
+                passage = puts_passage n past None (jobs.Put m false a ∷ mid.jobs) mid.jobs x mid.hub a (at_place (put_in false a) mid.lines (place_in m mid.lines) mid.hub).1 o.head o.start o.base sent pend (λ h. h) (λ h. h) (λ h. h) o.passage (λ e. absurd (cc));
+              })
 
   -- what was read of a response
   pub response_works : (m : ℕ) (a : List Item) (mid : Room) → Popped plan n past (jobs.Put m true a) mid → Known plan n past (on_number (put_in true a) m mid)
   response_works m a mid pop = by_test (m == n) refl
     where
       shift : Shift n (jobs.Put m true a ∷ mid.jobs) mid.jobs
-      shift = record { puts = refl; has = λ h. h; no = λ h. h; refusing = λ h. h }
+      shift = record { puts = refl; has = λ h. h; no = λ h. h; refusing = λ h. h; none = λ h. h; once = λ h. h }
 
       by_test : (b : Bool) → (m == n) ≡ b → Known plan n past (on_number (put_in true a) m mid)
       by_test false other = elsewhere (jobs.Put m true a) m (put_in true a) mid pop shift (λ f. f) other (λ x k. own_line m (responds a) x k tt)
@@ -287,8 +413,12 @@ module _ (plan : Plan) (n : ℕ) (past : List Sent) where
                   let after : Hub = (at_place (put_in true a) mid.lines (place_in m mid.lines) mid.hub).1 in
                   let l : LivesUp n x mid.hub (put_in true a n x mid.hub).0 after = own_up n (responds a) x mid.hub after tt tt refl sent s.plain in
                   plainly (story_on plan n past None None (jobs.Put m true a ∷ mid.jobs) mid.jobs mid.lines later x (put_in true a n x mid.hub).0 mid.hub after s l (ap (λ q. q.minor) kept.asked)
+                  (passage_on n past None None (jobs.Put m true a ∷ mid.jobs) mid.jobs x (put_in true a n x mid.hub).0 mid.hub after s.head s.start (ups n s.start_hub.sent) (shift_alike n (jobs.Put m true a ∷ mid.jobs) mid.jobs shift)
+                  (own_becomes n (responds a) x mid.hub after tt refl sent) s.passage)
                   (stream_calm n (jobs.Put m true a ∷ mid.jobs) mid.jobs mid.lines later x (put_in true a n x mid.hub).0 mid.hub after s.head.fields (requests_in s.deeds) shift kept.asked l.over (λ f rests map proper. absurd f) s.stream))
-              by_tale (filtered o) = filtered (own_other plan n past (responds a) x mid.hub (at_place (put_in true a) mid.lines (place_in m mid.lines) mid.hub).1 tt sent o)
+              by_tale (filtered o) =
+                  filtered (other_on plan n past None None (jobs.Put m true a ∷ mid.jobs) mid.jobs x (put_in true a n x mid.hub).0 mid.hub (at_place (put_in true a) mid.lines (place_in m mid.lines) mid.hub).1 (λ e. sym kept.filters ∙ e)
+                  (shift_alike n (jobs.Put m true a ∷ mid.jobs) mid.jobs shift) (own_becomes n (responds a) x mid.hub (at_place (put_in true a) mid.lines (place_in m mid.lines) mid.hub).1 tt refl sent) o)
 
   -- the exchange on it is refused
   pub refused_works : (m status : ℕ) (mid : Room) → Popped plan n past (jobs.Refuse m status) mid → Known plan n past (on_number (refused status) m mid)
@@ -296,7 +426,7 @@ module _ (plan : Plan) (n : ℕ) (past : List Sent) where
     where
       by_test : (b : Bool) → (m == n) ≡ b → Known plan n past (on_number (refused status) m mid)
       by_test false other =
-          elsewhere (jobs.Refuse m status) m (refused status) mid pop (record { puts = refl; has = λ h. h; no = λ h. h; refusing = not_this }) (λ f. f) other (λ x k. own_line m (refuses status) x k tt)
+          elsewhere (jobs.Refuse m status) m (refused status) mid pop (record { puts = refl; has = λ h. h; no = λ h. h; refusing = not_this; none = λ h. h; once = λ h. h }) (λ f. f) other (λ x k. own_line m (refuses status) x k tt)
         where
           not_this : ((m == n) ≡ true) ⊎ IsRefusing n mid.jobs → IsRefusing n mid.jobs
           not_this (inl e) = let never : ◌≡◌ {A = Bool} true false = sym e ∙ other in absurd (cc)
@@ -340,6 +470,27 @@ module _ (plan : Plan) (n : ℕ) (past : List Sent) where
               sent : (at_place (refused status) mid.lines (place_in m mid.lines) mid.hub).1.sent ≡ (refused status n x mid.hub).1.sent
               sent = ap (λ (k : Hub). k.sent) hub
 
+              -- what refuses it is in hand no more, and it is over
+              refuses_on : (h : _) (start : Exchange) (base : _) → Passage n past None (jobs.Refuse m status ∷ mid.jobs) x mid.hub h start base
+                  → Passage n past None mid.jobs (refused status n x mid.hub).0 (at_place (refused status) mid.lines (place_in m mid.lines) mid.hub).1 h start base
+              refuses_on h start base q =
+                  let b : Becomes n x mid.hub (refused status n x mid.hub).0 (at_place (refused status) mid.lines (place_in m mid.lines) mid.hub).1 = own_becomes n (refuses status) x mid.hub _ tt refl sent in
+                  let o : Onward n mid.hub ((refused status n x mid.hub).0, (at_place (refused status) mid.lines (place_in m mid.lines) mid.hub).1) q.went (run fresh_phase q.got) = b.keeps q.went (run fresh_phase q.got) q.up in
+                  record {
+                    went = q.went ++ o.more;
+                    adds = grows_past n past mid.hub (at_place (refused status) mid.lines (place_in m mid.lines) mid.hub).1 base q.went o.more o.grows q.adds;
+                    got = q.got;
+                    up = o.goes;
+                    minor = ap (λ (a : _). a.minor) b.asked ∙ q.minor;
+                    framed = b.framed ∙ q.framed;
+                    flow = by_flow q.flow;
+                    enters = record { once = q.enters.once; none = λ e. q.enters.none (sym b.entered ∙ e); first = λ e. absurd (cc) };
+                  }
+                where
+                  by_flow : Flow n None (jobs.Refuse m status ∷ mid.jobs) x q.got → Flow n None mid.jobs (refused status n x mid.hub).0 q.got
+                  by_flow (flows proper) = flows (subst (λ w. Proper (q.got ++ pending n None mid.jobs) w) (sym (ap (λ (a : _). a.whole) kept.asked)) proper)
+                  by_flow (ceases message none is) = ceases message none (inl (refused_over status n x mid.hub))
+
               by_stream : (later : List Line) (d : Contexts) (fields : Headers) (got : List Item) → Stream n None (jobs.Refuse m status ∷ mid.jobs) mid.lines x mid.hub.contexts fields got → Stream n None mid.jobs later (refused status n x mid.hub).0 d fields got
               by_stream later d fields got (fresh none is rests map proper) = absurd is
               by_stream later d fields got (going begins proper) = going begins (subst (λ w. Proper (got ++ pending n None mid.jobs) w) (sym (ap (λ q. q.whole) kept.asked)) proper)
@@ -351,5 +502,14 @@ module _ (plan : Plan) (n : ℕ) (past : List Sent) where
                   let later : List Line = (at_place (refused status) mid.lines (place_in m mid.lines) mid.hub).0 in
                   let after : Hub = (at_place (refused status) mid.lines (place_in m mid.lines) mid.hub).1 in
                   plainly (story_on plan n past None None (jobs.Refuse m status ∷ mid.jobs) mid.jobs mid.lines later x (refused status n x mid.hub).0 mid.hub after s
-                  (own_up n (refuses status) x mid.hub after tt tt refl sent s.plain) (ap (λ q. q.minor) kept.asked) (by_stream later after.contexts s.head.fields (requests_in s.deeds) s.stream))
-              by_tale (filtered o) = filtered (own_other plan n past (refuses status) x mid.hub (at_place (refused status) mid.lines (place_in m mid.lines) mid.hub).1 tt sent o)
+                  (own_up n (refuses status) x mid.hub after tt tt refl sent s.plain) (ap (λ q. q.minor) kept.asked) (refuses_on s.head s.start (ups n s.start_hub.sent) s.passage) (by_stream later after.contexts s.head.fields (requests_in s.deeds) s.stream))
+              by_tale (filtered o) = filtered (record {
+                filters = λ e. o.filters (sym kept.filters ∙ e);
+                head = o.head;
+                start = o.start;
+                begun = o.begun;
+                some = o.some;
+                base = o.base;
+                before = o.before;
+                passage = refuses_on o.head o.start o.base o.passage;
+              })

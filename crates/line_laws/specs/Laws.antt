@@ -1,17 +1,21 @@
 -- What holds of every line, over all turns of a worker.
-use Rattle.std.specs.Prelude.{◌≡◌, ℕ, ◌++◌, List, [], Some}
+use Rattle.std.specs.Prelude.{◌≡◌, ℕ, Bool, ◌++◌, List, [], Some}
 use Rattle.contexts.specs.declared.parts.Contexts.{Contexts}
+use Rattle.course.specs.declared.host.Callback.{Callback}
 use Rattle.exchange.specs.declared.types.Exchange.{Exchange}
 use Rattle.exchange_laws.specs.Traffic.{ups}
 use Rattle.gate_config.specs.declared.config.Config.{Config}
+use Rattle.gate_io.specs.declared.event.Sent.{Sent}
+use Rattle.store_model.specs.Made.{Made}
 use Rattle.vm_host.specs.Slots as slots
 use Rattle.vm_host.specs.declared.slots.Vms.{Vms}
-use Rattle.worker.specs.Making.{first_room}
+use Rattle.worker.specs.Making.{new_worker}
 use Rattle.worker.specs.Plan.{Plan}
+use Rattle.worker.specs.State.{Standing, rules_of}
 use Rattle.worker.specs.Steps.{Both, both, exchange_on}
 use Rattle.line_laws.specs.Logs.{Calling, WriteLogs}
 use Rattle.line_laws.specs.Requests.{HasLived, GoesUpBy}
-use Rattle.line_laws.specs.Turns.{Done, Turns, new_room, sent_in}
+use Rattle.line_laws.specs.Turns.{Done, Turns, Worked, new_room, sent_in}
 
 -- STEPS ARE DEEDS: whatever turns a new worker has had, whatever its machines do but that they send nothing but logs, whatever its stores reply and its
 -- readers hand on, the exchange without filters that is on a line has lived by fair deeds since it began.
@@ -21,15 +25,25 @@ ExchangesLive H =
     → Turns calling plan (both host (new_room contexts)) turns to → exchange_on n to.room ≡ Some x → x.filters ≡ []
     → HasLived plan n x (record to.room.hub { sent = sent_in turns ++ to.room.hub.sent })
 
--- REQUESTS GO UP ONE BY ONE: all that goes up on a line over the turns of a new worker is parts, one behind the other; where no route of the plan has
--- filters, each is a front of one connection and the bytes of one request of a judged head. That the head came on this line is not said.
+-- REQUESTS GO UP ONE BY ONE: all that goes up on a line over the turns of a new worker is what its exchanges sent, one behind the other: each nothing, or
+-- one connection with the head of one request and the items of its body as far as they went, and then the close; of one without filters the bytes of the
+-- request of a judged head, exactly.
 abbrev pub RequestsGoUpOneByOne : (H : Type 0) → Type 0
 RequestsGoUpOneByOne H =
     (calling : Calling H) (plan : Plan) (contexts : Contexts) (host : H) (turns : List (Done H)) (to : Both H) (n : ℕ) → WriteLogs calling
     → Turns calling plan (both host (new_room contexts)) turns to → GoesUpBy plan to.room (exchange_on n to.room) (ups n (sent_in turns))
 
--- THE SAME OF THE PRODUCT: a worker of any configuration, with the machines of its VMs, whatever these are.
-abbrev pub RequestsOfTheProductGoUp : Type 0
-RequestsOfTheProductGoUp =
-    (plan : Plan) (config : Config) (seed : List ℕ) (host : Vms) (turns : List (Done Vms)) (to : Both Vms) (n : ℕ)
-    → Turns slots.calling plan (both host (first_room config seed)) turns to → GoesUpBy plan to.room (exchange_on n to.room) (ups n (sent_in turns))
+-- THE SAME OF A WORKER AND ITS CODE: from a worker that was made of a configuration, as `Worker::new` makes it, by whole turns as its code takes them, over
+-- shared stores of any kind.
+abbrev pub WorkersGoUpOneByOne : (H S : Type 0) → (performs : S → List Made → S → Type 0) → Type 0
+WorkersGoUpOneByOne H S performs =
+    (calling : Calling H) (exported : H → ℕ → Callback → Bool) (registering : H → ℕ → Bool) (config : Config) (who : ℕ) (seed : List ℕ) (host : H)
+    (sent : List Sent) (to : Standing H) (n : ℕ) → WriteLogs calling → Worked calling performs (new_worker exported registering config who seed host) sent to
+    → GoesUpBy (rules_of to.setting) to.state.room (exchange_on n to.state.room) (ups n sent)
+
+-- THE SAME OF THE PRODUCT: with the machines of its VMs, whatever these are.
+abbrev pub RequestsOfTheProductGoUp : (S : Type 0) → (performs : S → List Made → S → Type 0) → Type 0
+RequestsOfTheProductGoUp S performs =
+    (config : Config) (who : ℕ) (seed : List ℕ) (host : Vms) (sent : List Sent) (to : Standing Vms) (n : ℕ)
+    → Worked slots.calling performs (new_worker slots.exported_in slots.registering_in config who seed host) sent to
+    → GoesUpBy (rules_of to.setting) to.state.room (exchange_on n to.state.room) (ups n sent)

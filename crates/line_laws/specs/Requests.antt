@@ -1,18 +1,21 @@
 -- What goes up on a line, exchange by exchange.
+use Rattle.std.specs.List.{flat_map}
 use Rattle.std.specs.Prelude.{◌≡◌, ◌≤◌, ◌⊎◌, ℕ, Bool, true, false, ◌||◌, List, [], ◌∷◌, ◌++◌, map, length, Option, None, Some}
 use Rattle.exchange.specs.declared.types.Exchange.{Exchange}
 use Rattle.exchange.specs.declared.types.Hub.{Hub}
-use Rattle.exchange.specs.Heads.{request_of, sent_head, up_framing, up_tail}
+use Rattle.exchange.specs.Heads.{path_of, request_of, route_in, sent_head, up_framing, up_tail}
+use Rattle.exchange.specs.Leaving.{goes_up}
 use Rattle.exchange.specs.Maps.{request_map}
 use Rattle.exchange_laws.specs.Lives.{Deed, Lives, is_over}
 use Rattle.exchange_laws.specs.Responses.{IsMessage}
-use Rattle.exchange_laws.specs.Traffic.{Traffic, opens, byte, closes, traffic, IsFront}
+use Rattle.exchange_laws.specs.Traffic.{Traffic, opens, byte, closes, ups, traffic, IsFront}
 use Rattle.filter_chain.specs.declared.item.Item.{Item}
 use Rattle.filter_chain.specs.declared.item.Item.TheVariants.{Head as head, Piece, Trailers}
 use Rattle.h1_write.specs.Lines.{OutRequest, out_wire, in_items}
 use Rattle.h1_write.specs.Requests.{request_fields}
-use Rattle.h1_write.specs.Round.{Suits, stop_behind, IsReadAs}
-use Rattle.http1_model.specs.Framing.{OutItem, head_wire}
+use Rattle.h1_write.specs.Round.{Suits, body_items, stop_behind, IsReadAs}
+use Rattle.header_maps.specs.Headers.{Headers}
+use Rattle.http1_model.specs.Framing.{OutItem, head_wire, items_wire}
 use Rattle.http1_model.specs.Framing as out
 use Rattle.http1_model.specs.Head.{Head, SpellsStep, found}
 use Rattle.http1_model.specs.Lines.{head_limit, line_limit}
@@ -49,46 +52,80 @@ ReadsBack h q =
     (ended : Bool) → (h.form ≡ Some absolute → ⊥) → HasRoom q → Suits q.framing q.pieces q.ending ended []
     → IsReadAs (out_wire q) ended None head_is_due (in_items q) (stop_behind ended None)
 
--- an exchange that began with the head of a request: as new, with the map of that head's fields at its place
-pub record Began (plan : Plan) (h : Head) (x : Exchange) (hub : Hub) : Type 0 where
-  -- its place among the exchanges of the contexts, the moment, the VMs that are dead, and its route
+-- an exchange as it begins: with a head that was judged, at a place among the exchanges of the contexts, at a moment, with the VMs that are dead then,
+-- on the route that takes the path
+pub record IsBegun (plan : Plan) (h : Head) (x : Exchange) : Type 0 where
   pub place : ℕ
   pub now : ℕ
   pub dead : List ℕ
-  pub route : Option ℕ
-  pub is : x ≡ exchange_for plan place now dead h route
-  pub map : request_map place hub.contexts ≡ h.fields
+  pub is : x ≡ exchange_for plan place now dead h (route_in plan.routes (path_of h.fields))
   pub judged : IsJudged h
 
--- an exchange of the plan whose route has filters, of which not all are of VMs that died
-pub record IsFiltered (plan : Plan) : Type 0 where
-  pub place : ℕ
-  pub now : ℕ
-  pub dead : List ℕ
-  pub head : Head
-  pub route : Option ℕ
-  pub some : (exchange_for plan place now dead head route).filters ≡ [] → ⊥
+-- and what all lines have in common then: that moment, with the map of that head's fields at its place
+pub record Began (plan : Plan) (h : Head) (x : Exchange) (hub : Hub) : Type 0 where
+  pub begun : IsBegun plan h x
+  pub moment : hub.moment ≡ begun.now
+  pub map : request_map begun.place hub.contexts ≡ h.fields
 
--- WHAT AN EXCHANGE THAT HAS ENDED SENT UP. Without filters: nothing; or a front of one connection and the bytes of one request, that of a head that
--- was judged, and then the connection is closed.
-pub record IsOfOne (part : List Traffic) : Type 0 where
-  pub head : Head
-  pub judged : IsJudged head
+-- ---- what an exchange sent up
+
+-- A REQUEST ON ITS WAY UP: framed as the exchange frames it, with `via` and `connection: close` behind the fields of its head, whatever filters made of
+-- these
+pub record IsMadeOf (h : Head) (first : Exchange) (q : OutRequest) : Type 0 where
+  pub fields : Headers
+  pub head : q.head ≡ sent_head fields (up_tail h.minor)
+  pub framing : q.framing ≡ goes_up first
+
+-- ONE CONNECTION AND ONE MESSAGE: the whole head of one request, and the items of its body as far as they went
+pub record IsOneRequest (h : Head) (first : Exchange) (t : List Traffic) : Type 0 where
   pub request : OutRequest
-  pub sent_of : IsSentOf head request
-  pub reads_back : ReadsBack head request
+  pub made : IsMadeOf h first request
+  pub items : List OutItem
+  pub front : IsFront items (body_items request.pieces request.ending)
+  pub is : t ≡ opens ∷ map byte (items_wire request.framing (out.head request.head ∷ items))
+
+-- what an exchange sent up: nothing, or that
+pub data GoesUp (h : Head) (first : Exchange) (t : List Traffic) : Type 0 where
+  sends_nothing : t ≡ [] → GoesUp h first t
+  sends_request : IsOneRequest h first t → GoesUp h first t
+
+-- of one without filters: a front of one connection and the bytes of one request, that of its head, exactly
+pub record IsExact (h : Head) (t : List Traffic) : Type 0 where
+  pub request : OutRequest
+  pub sent_of : IsSentOf h request
+  pub reads_back : ReadsBack h request
+  pub front : IsFront t (opens ∷ map byte (out_wire request))
+
+-- ---- exchange by exchange
+
+-- an exchange that has ended, as it began, with its head; and what it sent up
+pub record Part : Type 0 where
+  pub head : Head
+  pub first : Exchange
   pub went : List Traffic
-  pub front : IsFront went (opens ∷ map byte (out_wire request))
-  pub is : (part ≡ []) ⊎ (part ≡ went ++ closes ∷ [])
 
-pub data IsPart (plan : Plan) (part : List Traffic) : Type 0 where
-  of_one : IsOfOne part → IsPart plan part
-  of_filtered : IsFiltered plan → IsPart plan part
+pub record IsPart (plan : Plan) (p : Part) : Type 0 where
+  pub begun : IsBegun plan p.head p.first
+  pub goes : GoesUp p.head p.first p.went
+  pub exact : p.first.filters ≡ [] → IsExact p.head p.went
 
--- one exchange behind the other
-pub data OneByOne (plan : Plan) : List Traffic → Type 0 where
-  nothing : OneByOne plan []
-  another : (before part : List Traffic) → OneByOne plan before → IsPart plan part → OneByOne plan (before ++ part)
+-- its connection is closed, where one was opened
+abbrev pub close_behind : List Traffic → List Traffic
+close_behind [] = []
+close_behind (one ∷ went) = closes ∷ []
+
+abbrev pub traffic_of : Part → List Traffic
+traffic_of p = p.went ++ close_behind p.went
+
+abbrev pub AreParts : Plan → List Part → Type 0
+AreParts plan [] = Unit {0}
+AreParts plan (p ∷ parts) = IsPart plan p × AreParts plan parts
+
+-- ONE EXCHANGE BEHIND THE OTHER, each with what it sent up and the close of its connection
+pub record OneByOne (plan : Plan) (total : List Traffic) : Type 0 where
+  pub parts : List Part
+  pub are : AreParts plan parts
+  pub is : total ≡ flat_map traffic_of parts
 
 -- ---- the items of a request, and the same on their way out
 
@@ -109,23 +146,16 @@ abbrev pub is_whole : List Item → Bool
 is_whole [] = false
 is_whole (item ∷ items) = is_last item || is_whole items
 
--- WHAT AN EXCHANGE THAT IS OPEN HAS SENT UP, of all that went up on its line: behind what the exchanges before it sent, a front of one connection and
--- the bytes of one request, that of a head that was judged
-pub record IsSoFar (plan : Plan) (room : Room) (x : Exchange) (total : List Traffic) : Type 0 where
-  pub before : List Traffic
-  pub one_by_one : OneByOne plan before
-  pub head : Head
-  pub judged : IsJudged head
+-- WHAT AN EXCHANGE WITHOUT FILTERS HAS SENT UP while it is open: a front of one connection and the bytes of one request, that of its head, exactly
+pub record IsSoFar (room : Room) (x : Exchange) (h : Head) (went : List Traffic) : Type 0 where
   pub request : OutRequest
-  pub sent_of : IsSentOf head request
-  pub reads_back : ReadsBack head request
+  pub sent_of : IsSentOf h request
+  pub reads_back : ReadsBack h request
   -- what was read of it and came to its chain, and the same as it goes out
   pub items : List Item
   pub message : IsMessage items
   pub came : List OutItem
-  pub of : AreOf head items came
-  pub went : List Traffic
-  pub adds : total ≡ before ++ went
+  pub of : AreOf h items came
   pub front : IsFront went (opens ∷ map byte (out_wire request))
   -- where it was neither answered nor has ended: all of that; and so the whole request, or its head where that has no body, once it was read whole and
   -- nothing is in hand
@@ -134,30 +164,31 @@ pub record IsSoFar (plan : Plan) (room : Room) (x : Exchange) (total : List Traf
   pub whole : is_over x ≡ false → is_whole items ≡ true
       → (went ≡ opens ∷ map byte (out_wire request)) ⊎ (went ≡ opens ∷ map byte (head_wire request.framing request.head))
 
--- of one with filters, what the exchanges before it sent
-pub record IsBehind (plan : Plan) (total : List Traffic) : Type 0 where
-  pub is_filtered : IsFiltered plan
+-- WHAT WENT UP ON A LINE WITH AN EXCHANGE: behind what the exchanges before it sent, what it sent itself
+pub record IsOpen (plan : Plan) (room : Room) (x : Exchange) (total : List Traffic) : Type 0 where
   pub before : List Traffic
   pub one_by_one : OneByOne plan before
-  pub part : List Traffic
-  pub adds : total ≡ before ++ part
-
-pub data IsOpen (plan : Plan) (room : Room) (x : Exchange) (total : List Traffic) : Type 0 where
-  without : x.filters ≡ [] → IsSoFar plan room x total → IsOpen plan room x total
-  with_some : (x.filters ≡ [] → ⊥) → IsBehind plan total → IsOpen plan room x total
+  pub head : Head
+  pub first : Exchange
+  pub begun : IsBegun plan head first
+  pub went : List Traffic
+  pub adds : total ≡ before ++ went
+  pub goes : GoesUp head first went
+  pub exact : x.filters ≡ [] → IsSoFar room x head went
 
 -- what went up on a line, by the exchange that is on it now
 abbrev pub GoesUpBy : Plan → Room → Option Exchange → List Traffic → Type 0
 GoesUpBy plan room None total = OneByOne plan total
 GoesUpBy plan room (Some x) total = IsOpen plan room x total
 
--- THE LIFE OF AN EXCHANGE of a line, from its begin on: it began with the head of a request that was judged, and these fair deeds happened to it, of the
--- worker, of its filters and of the machines, with these items of its request on the way
+-- THE LIFE OF AN EXCHANGE of a line, from its begin on: behind what the exchanges before it sent up, it began with the head of a request that was judged,
+-- and these fair deeds happened to it, of the worker, of its filters and of the machines, with these items of its request on the way
 pub record HasLived (plan : Plan) (n : ℕ) (x : Exchange) (after : Hub) : Type 0 where
   pub head : Head
   pub start : Exchange
   pub start_hub : Hub
   pub began : Began plan head start start_hub
+  pub before : OneByOne plan (ups n start_hub.sent)
   pub deeds : List Deed
   pub came : List OutItem
   pub lives : Lives n start start_hub deeds came x after

@@ -1,15 +1,19 @@
 -- Turns of a worker, one behind the other.
-use Rattle.std.specs.Prelude.{◌≡◌, ℕ, false, List, [], ◌∷◌, None}
+use Rattle.std.specs.Prelude.{◌≡◌, ℕ, Bool, false, List, [], ◌∷◌, ◌++◌, Option, None}
 use Rattle.std.specs.List.{flat_map}
 use Rattle.contexts.specs.declared.parts.Contexts.{Contexts}
 use Rattle.course.specs.Course.{ends, Met, Reaches}
 use Rattle.gate_io.specs.declared.event.Event.{Event}
 use Rattle.gate_io.specs.declared.event.Sent.{Sent}
+use Rattle.gate_io.specs.declared.passed.Passed.{Passed}
 use Rattle.gate_config.specs.declared.config.Config.{Config}
 use Rattle.worker.specs.Making.{contexts_of, first_room}
 use Rattle.worker.specs.Plan.{Plan}
+use Rattle.store_model.specs.Made.{Made}
+use Rattle.worker.specs.State.{Standing}
 use Rattle.worker.specs.Steps.{Both}
 use Rattle.worker.specs.Turn.{Outcome, turn}
+use Rattle.worker.specs.Turned.{Whole}
 use Rattle.worker.specs.declared.room.Room.{Room}
 use Rattle.line_laws.specs.Logs.{Calling}
 
@@ -44,3 +48,10 @@ Turns calling plan from (t ∷ turns) to = Reaches (turn calling plan from t.eve
 -- all that they send
 abbrev pub sent_in : {H : Type 0} → List (Done H) → List Sent
 sent_in turns = flat_map (λ (t : Done _). t.end.sent) turns
+
+-- WHOLE TURNS OF A WORKER, one behind the other, as its code takes them: from this standing on they send this, and lead to that standing, which has the same
+-- setting
+pub data Worked {H S : Type 0} (calling : Calling H) (performs : S → List Made → S → Type 0) : Standing H → List Sent → Standing H → Type 0 where
+  no_turn : (from : Standing H) → Worked calling performs from [] from
+  a_turn : (stop : Bool) (s t : S) (old new : Option (List Passed)) (from mid to : Standing H) (sent : List Sent) → (w : Whole calling performs stop s old from mid t new) → mid.setting ≡ from.setting
+      → Worked calling performs mid sent to → Worked calling performs from (w.sent ++ sent) to

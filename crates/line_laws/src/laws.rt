@@ -1,9 +1,11 @@
 // What holds of lines over turns. The functions have nothing to do: their contracts are the laws.
 ghost use Rattle.line_laws.specs.Examples.{LineExamples};
-ghost use Rattle.line_laws.specs.Laws.{ExchangesLive, RequestsGoUpOneByOne, RequestsOfTheProductGoUp};
+ghost use Rattle.line_laws.specs.Laws.{ExchangesLive, RequestsGoUpOneByOne, RequestsOfTheProductGoUp, WorkersGoUpOneByOne};
 ghost use Rattle.line_laws.specs.Logs.{WriteLogs};
 ghost use Rattle.line_laws.specs.Turns.{WorkersBeginSo};
 ghost use Rattle.vm_host.specs.Slots.{calling};
+
+use store_model::Shared;
 
 /// A worker of any configuration begins as the laws of lines say.
 pub fn workers_begin_so()
@@ -16,11 +18,18 @@ pub fn exchanges_live<H>()
     ensures { ExchangesLive H }
 {}
 
-/// Where no route of the plan has filters: over the turns of a new worker, as they are defined, all that goes up on a line is fronts of connections, one
-/// behind the other, each with a front of one head that was judged and pieces behind it; where these suit the framing, a reader takes it as one request.
-/// In a plan where some route has filters it says only how what goes up ends while a request waits that was read whole.
+/// Over the turns of a new worker, as they are defined: all that goes up on a line is what its exchanges sent, one behind the other. Of each, whatever
+/// filters it has, nothing goes up, or one connection is opened with the whole head of one request and the items of its body as far as they went, framed
+/// as the exchange frames it, and then that connection is closed; so no close comes without a connection. Of one without filters it is the request of
+/// the head that was judged, exactly, which a reader takes as one request where its pieces suit the framing; and while it is open and was neither answered
+/// nor has ended, all of it that was read.
 pub fn requests_go_up_one_by_one<H>()
     ensures { RequestsGoUpOneByOne H }
+{}
+
+/// So it is of a worker that was made of a configuration, as `Worker::new` makes it, by the whole turns that its code takes, over shared stores.
+pub fn workers_go_up_one_by_one<H, S: Shared>()
+    ensures { WorkersGoUpOneByOne H S S.performs }
 {}
 
 /// The machines of VMs send nothing but logs by themselves, whatever their modules do.
@@ -28,9 +37,9 @@ pub fn machines_write_logs()
     ensures { WriteLogs calling }
 {}
 
-/// So it is of a worker of any configuration and the machines of its VMs, whatever their modules do, where no route has filters.
-pub fn requests_of_the_product_go_up()
-    ensures { RequestsOfTheProductGoUp }
+/// And of one with the machines of its VMs, whatever their modules do.
+pub fn requests_of_the_product_go_up<S: Shared>()
+    ensures { RequestsOfTheProductGoUp S S.performs }
 {}
 
 /// A GET goes up and its response comes down; two that come at once go up one behind the other, each over a connection of its own.

@@ -2,4 +2,4 @@ use Rattle.line_laws.proofs.Product.{requests_of_the_product_go_up}
 use Rattle.line_laws.proofs.laws.requests_of_the_product_go_up.Goals as goal
 
 pub returns : goal.returns
-returns c = requests_of_the_product_go_up
+returns g c = requests_of_the_product_go_up _ _
