@@ -235,7 +235,7 @@ module _ (plan : Plan) (n : ℕ) (r : Reads) (other : NotDown n r) where
     on_known s q line up b =
         let others : NotDown n q = (λ is down. other (ap (λ (k : ℕ). k == n) (sym line) ∙ is) (sym up ∙ down)) in
         goes_known plan n past q s b.once (subst AllParts (sym b.agenda) parts) (b.rests at_rest) (b.jobs ∙ idle)
-        (line_beside plan n past r other (Some q) [] (ahead_on n q others) a.lines s.lines (look n a.lines) (look n s.lines) a.hub s.hub b.notes ok)
+        (line_beside plan n past r other (Some q) [] (ahead_on n q others) a.lines s.lines (look n a.lines) (look n s.lines) a.hub s.hub refl refl b.notes ok)
 
     -- it ends
     ends_known : (s : Room) (q : Reads) (status : Option ℕ) → q.line ≡ r.line → q.up ≡ r.up → Beyond n a s → Known plan n past (reading_ends q status s)
@@ -245,7 +245,7 @@ module _ (plan : Plan) (n : ℕ) (r : Reads) (other : NotDown n r) where
         ended_known plan n past (reading_ends q status s) b.once (subst AllParts (sym b.agenda) parts)
         (subst Tail (sym (js ∙ append-nil (jobs_of q status s))) (line_tail q.line (jobs_of q status s) (jobs_of_line q status s))) refl
         (subst (λ l. LineOk plan n past None l s.lines (look n s.lines) s.hub) (sym js)
-        (line_beside plan n past r other None (jobs_of q status s ++ []) (ahead_end n q status s others) a.lines s.lines (look n a.lines) (look n s.lines) a.hub s.hub b.notes ok))
+        (line_beside plan n past r other None (jobs_of q status s ++ []) (ahead_end n q status s others) a.lines s.lines (look n a.lines) (look n s.lines) a.hub s.hub refl refl b.notes ok))
 
     joins_known : (item : Item) (s : Room) → Beyond n a s → Known plan n past (joins r item s)
     joins_known item s b =
@@ -288,7 +288,7 @@ module _ (plan : Plan) (n : ℕ) (r : Reads) (other : NotDown n r) where
         ended_known plan n past (in_front (jobs.Close r.line false ∷ []) (reading_ends r None s)) b.once (subst AllParts (sym b.agenda) parts) none refl
         (subst (λ l. LineOk plan n past None (jobs.Close r.line false ∷ l) s.lines (look n s.lines) s.hub) (sym none)
         (line_beside plan n past r other None (jobs.Close r.line false ∷ []) (record { batch = refl; puts = refl; none = tt; unclosed = (apart (first_false r.up _ e), tt); reads = λ x. tt }) a.lines s.lines
-        (look n a.lines) (look n s.lines) a.hub s.hub b.notes ok)))
+        (look n a.lines) (look n s.lines) a.hub s.hub refl refl b.notes ok)))
       where
         first_false : (u v : Bool) → (u || v) ≡ false → u ≡ false
         first_false true v is = absurd (cc)

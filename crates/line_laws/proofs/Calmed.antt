@@ -21,6 +21,7 @@ use Rattle.line_laws.specs.Requests.{OneByOne}
 use Rattle.line_laws.proofs.Looks.{look, Beside, IsPlain, LivesOn, Quietly, Exs, Looks}
 use Rattle.line_laws.proofs.Rooms.{IsFree, AllFree, AllParts, Calm}
 use Rattle.line_laws.proofs.Story.{put_of, puts_of, HasClose, NoClose, Tail, Stands, Rests, Phase, IsFreshJobs, IsRefusing, NoEnter, OneEnter, pending, Alike, Becomes, passage_on, Proper, Matches, Stream, fresh, going, doomed, Other, Tale, plainly, filtered, Idle, Busy, Free, ExOk, LineOk, Known, lives_up, story_on}
+use Rattle.line_laws.proofs.Hearing.{Listens, same_listens}
 use Rattle.line_laws.proofs.Kept.{over_told}
 
 -- ---- jobs in front
@@ -156,9 +157,9 @@ pub idle_on : (plan : Plan) (n : ℕ) (past : List Sent) (hub after : Hub) → B
 idle_on plan n past hub after b idle =
     subst (OneByOne plan) (ups_join n past hub.sent ∙ (ap (λ t. ups n past ++ t) (sym b.up) ∙ sym (ups_join n past after.sent))) idle
 
-pub other_on : (plan : Plan) (n : ℕ) (past : List Sent) (reading now : Option Reads) (js ks : List Job) (x y : Exchange) (hub after : Hub) → (y.filters ≡ [] → x.filters ≡ []) → Alike n reading js now ks → Becomes n x hub y after
-    → Other plan n past reading js x hub → Other plan n past now ks y after
-other_on plan n past reading now js ks x y hub after filters a b o = record {
+pub other_on : (plan : Plan) (n : ℕ) (past : List Sent) (reading now : Option Reads) (js ks : List Job) (lines later : List Line) (x y : Exchange) (hub after : Hub) → (y.filters ≡ [] → x.filters ≡ []) → Alike n reading js now ks → Listens n lines later → Becomes n x hub y after
+    → Other plan n past reading js lines x hub → Other plan n past now ks later y after
+other_on plan n past reading now js ks lines later x y hub after filters a listens b o = record {
   filters = λ e. o.filters (filters e);
   head = o.head;
   start = o.start;
@@ -166,30 +167,31 @@ other_on plan n past reading now js ks x y hub after filters a b o = record {
   some = o.some;
   base = o.base;
   before = o.before;
-  passage = passage_on n past reading now js ks x y hub after o.head o.start o.base a b o.passage;
+  got = o.got;
+  passage = passage_on n past reading now js ks lines later x y hub after o.head o.start o.base o.got a listens b o.passage;
 }
 
 module _ (plan : Plan) (n : ℕ) (past : List Sent) (js ks : List Job) (s : Shift n js ks) where
-  tale_calm : (lines later : List Line) (x y : Exchange) (hub after : Hub) → Quietly n x hub y after
+  tale_calm : (lines later : List Line) (x y : Exchange) (hub after : Hub) → Listens n lines later → Quietly n x hub y after
       → ((fields : Headers) → IsPlain x → IsFreshJobs n js → Rests lines → request_map x.place hub.contexts ≡ fields → Proper (pending n None js) x.asked.whole → Stream n None ks later y after.contexts fields [])
       → Tale plan n past None js lines x hub → Tale plan n past None ks later y after
-  tale_calm lines later x y hub after q on (plainly t) =
+  tale_calm lines later x y hub after listens q on (plainly t) =
       let l : LivesOn n x hub y after = q.plain t.plain in
       plainly (story_on plan n past None None js ks lines later x y hub after t (lives_up n x y hub after l) (ap (λ a. a.minor) q.asked)
-      (passage_on n past None None js ks x y hub after t.head t.start (ups n t.start_hub.sent) (shift_alike n js ks s) (quietly_becomes n x y hub after q) t.passage)
+      (passage_on n past None None js ks lines later x y hub after t.head t.start (ups n t.start_hub.sent) _ (shift_alike n js ks s) listens (quietly_becomes n x y hub after q) t.passage)
       (stream_calm n js ks lines later x y hub after t.head.fields _ s q.asked (over_told x y l.told) (on t.head.fields t.plain) t.stream))
-  tale_calm lines later x y hub after q on (filtered o) =
-      filtered (other_on plan n past None None js ks x y hub after q.filtered (shift_alike n js ks s) (quietly_becomes n x y hub after q) o)
+  tale_calm lines later x y hub after listens q on (filtered o) =
+      filtered (other_on plan n past None None js ks lines later x y hub after q.filtered (shift_alike n js ks s) listens (quietly_becomes n x y hub after q) o)
 
-  busy_calm : (lines later : List Line) (due : Due) (x y : Exchange) (hub after : Hub) → Quietly n x hub y after
+  busy_calm : (lines later : List Line) (due : Due) (x y : Exchange) (hub after : Hub) → Listens n lines later → Quietly n x hub y after
       → ((fields : Headers) → IsPlain x → IsFreshJobs n js → Rests lines → request_map x.place hub.contexts ≡ fields → Proper (pending n None js) x.asked.whole → Stream n None ks later y after.contexts fields [])
       → Busy plan n past None js lines due x hub → Busy plan n past None ks later due y after
-  busy_calm lines later due x y hub after q on b = record {
+  busy_calm lines later due x y hub after listens q on b = record {
     staid = q.staid b.staid;
     matches = subst (λ w. Matches w due) (sym (ap (λ a. a.whole) q.asked)) b.matches;
     unclosed = s.no b.unclosed;
     reads = tt;
-    tale = tale_calm lines later x y hub after q on b.tale;
+    tale = tale_calm lines later x y hub after listens q on b.tale;
   }
 
   by_due : (due : Due) → (due ≡ head) ⊎ HasClose n js → (due ≡ head) ⊎ HasClose n ks
@@ -213,7 +215,7 @@ module _ (plan : Plan) (n : ℕ) (past : List Sent) (js ks : List Job) (s : Shif
       by_exchange None None is behind exs ok = free_calm l.requests.due hub after exs ok
       by_exchange None (Some y) is behind exs ok = absurd exs
       by_exchange (Some x) None is behind exs ok = absurd exs
-      by_exchange (Some x) (Some y) is behind exs ok = busy_calm lines later l.requests.due x y hub after exs (λ fields p. on l m x y fields at is to behind p exs.place exs.asked) ok
+      by_exchange (Some x) (Some y) is behind exs ok = busy_calm lines later l.requests.due x y hub after (same_listens n lines later l m at to looks.0) exs (λ fields p. on l m x y fields at is to behind p exs.place exs.asked) ok
 
 -- from a room of which this was in hand
 pub known_calm : (plan : Plan) (n : ℕ) (past : List Sent) (js : List Job) (mid later : Room) → AllParts mid.agenda → Tail mid.jobs → mid.reading ≡ None

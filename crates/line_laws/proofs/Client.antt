@@ -29,6 +29,7 @@ use Rattle.worker.specs.Plan.{Plan}
 use Rattle.worker.specs.Rooms.{with_contexts}
 use Rattle.worker.specs.Steps.{change_line, change_exchange, on_lines, exchange_on, exchange_of_line, exchange_for, free_place, with_exchange, begun, read_on, noted, is_last, jobs_of, puts_items, refuses, creates, begins_for, begins_exchange, begins_with_head, reading_ends, with_item, joins, takes, in_contexts, head_item, put_trailers, hands_part, stops, in_front}
 use Rattle.line_laws.specs.Living.{requests_in}
+use Rattle.line_laws.specs.Heard.{items_of}
 use Rattle.line_laws.specs.Requests.{IsBegun}
 use Rattle.line_laws.proofs.Earlier.{behind}
 use Rattle.line_laws.proofs.Finding.{IsOnce}
@@ -38,10 +39,11 @@ use Rattle.line_laws.proofs.Looks.{is_n, look, line_in_is, IsPlain, equal_is}
 use Rattle.line_laws.proofs.Maps.{trailers_map, opened_map}
 use Rattle.line_laws.proofs.Reader.{InBody, HeadNext, BodyNext, head_next, body_next, waits_in}
 use Rattle.line_laws.proofs.Rooms.{AllParts}
-use Rattle.line_laws.proofs.Story.{puts_of, batch_of, HasClose, NoClose, NoEnter, OneEnter, Tail, Rests, pending, Proper, Flow, flows, ceases, Passage, Matches, Stream, fresh, going, doomed, Tale, plainly, filtered, Idle, Busy, Free, ExOk, LineOk, Known, LivesUp, story_on}
+use Rattle.line_laws.proofs.Story.{puts_of, batch_of, HasClose, NoClose, NoEnter, OneEnter, Tail, Rests, pending, Proper, Flow, flows, ceases, Passage, passage_on, alike_itself, Matches, Stream, fresh, going, doomed, Tale, plainly, filtered, Idle, Busy, Free, ExOk, LineOk, Known, LivesUp, story_on}
 use Rattle.line_laws.proofs.OnLines.{on_once, on_same, on_rests, jobs_of_line, line_tail, line_unclosed}
 use Rattle.line_laws.proofs.Calmed.{none_once}
-use Rattle.line_laws.proofs.Upward.{still_up}
+use Rattle.line_laws.proofs.Upward.{still_up, keeps_itself}
+use Rattle.line_laws.proofs.Hearing.{HeardIn, hands_listen, halts_listen}
 use Rattle.line_laws.proofs.Sides.{puts_unentered, note_up, goes_known, ended_known, numbered_change, numbered_read, still_change}
 
 -- the client of a line is read, of which this was read
@@ -131,19 +133,20 @@ module _ (plan : Plan) (n : ℕ) (past : List Sent) where
       doomed message (append-nil (puts_of n (jobs_of (client n b) status s)) ∙ (ap (puts_of n) jobs_are ∙ refuses_none n n status)) (inl is)
   ends_stream b s status y fields got there plain (doomed message none (inr is)) = absurd is
 
-  ends_passage : (b : List Item) (s : Room) (status : Option ℕ) (y : Exchange) (h : Head) (first : Exchange) (base : List Traffic) → exchange_on n s ≡ Some y → Passage n past (Some (client n b)) [] y s.hub h first base
-      → Passage n past None (jobs_of (client n b) status s) y s.hub h first base
-  ends_passage b s status y h first base there p = by_flow p.flow
+  ends_passage : (b : List Item) (s : Room) (status : Option ℕ) (y : Exchange) (h : Head) (first : Exchange) (base : List Traffic) (got : List Item) → exchange_on n s ≡ Some y → Passage n past (Some (client n b)) [] s.lines y s.hub h first base got
+      → Passage n past None (jobs_of (client n b) status s) s.lines y s.hub h first base got
+  ends_passage b s status y h first base got there p = by_flow p.flow
     where
-      done : (js : List Job) → jobs_of (client n b) status s ≡ js → Flow n None js y p.got → OneEnter n js → (y.is_entered ≡ true → NoEnter n js) → Passage n past None (jobs_of (client n b) status s) y s.hub h first base
+      done : (js : List Job) → jobs_of (client n b) status s ≡ js → Flow n None js y got p.heard → OneEnter n js → (y.is_entered ≡ true → NoEnter n js) → Passage n past None (jobs_of (client n b) status s) s.lines y s.hub h first base got
       done js are flow once none = record {
         went = p.went;
         adds = p.adds;
-        got = p.got;
+        heard = p.heard;
+        was = p.was;
         up = p.up;
         minor = p.minor;
         framed = p.framed;
-        flow = subst (λ l. Flow n None l y p.got) (sym are) flow;
+        flow = subst (λ l. Flow n None l y got p.heard) (sym are) flow;
         enters = record { once = subst (OneEnter n) (sym are) once; none = λ e. subst (NoEnter n) (sym are) (none e); first = λ e. absurd (cc) };
       }
 
@@ -151,12 +154,13 @@ module _ (plan : Plan) (n : ℕ) (past : List Sent) where
       by_head true is = ap (λ c. if c && true then begins_for (client n b) status (exchange_on n s) else puts_items n false b ++ refuses n status) is
       by_head false is = ap (λ c. if c && true then begins_for (client n b) status (exchange_on n s) else puts_items n false b ++ refuses n status) is
 
-      more : (c : Bool) → begins_with_head b ≡ c → Proper (p.got ++ b) y.asked.whole → Passage n past None (jobs_of (client n b) status s) y s.hub h first base
-      more false is proper =
+      more : (c : Bool) → begins_with_head b ≡ c → Proper (got ++ b) y.asked.whole → got ++ b ≡ p.heard → Passage n past None (jobs_of (client n b) status s) s.lines y s.hub h first base got
+      more false is proper same =
           done (puts_items n false b ++ refuses n status) (by_head false is)
-          (flows (subst (λ l. Proper (p.got ++ l) y.asked.whole) (sym (append-nil (puts_of n (puts_items n false b ++ refuses n status)) ∙ put_is n b status)) proper))
+          (flows (subst (λ l. Proper (got ++ l) y.asked.whole) (sym (append-nil (puts_of n (puts_items n false b ++ refuses n status)) ∙ put_is n b status)) proper)
+          (ap (λ l. got ++ l) (append-nil (puts_of n (puts_items n false b ++ refuses n status)) ∙ put_is n b status) ∙ same))
           (none_once n (puts_items n false b ++ refuses n status) (puts_unentered n n false b status)) (λ e. puts_unentered n n false b status)
-      more true is proper = by_refusal y.refusal refl
+      more true is proper same = by_refusal y.refusal refl
         where
           jobs_are : jobs_of (client n b) status s ≡ begins_exchange (client n b) status y y.refusal
           jobs_are = by_head true is ∙ ap (begins_for (client n b) status) there
@@ -164,32 +168,33 @@ module _ (plan : Plan) (n : ℕ) (past : List Sent) where
           behind_creates : List Job
           behind_creates = jobs.Enter n ∷ (puts_items n false b ++ refuses n status)
 
-          by_refusal : (q : Option ℕ) → y.refusal ≡ q → Passage n past None (jobs_of (client n b) status s) y s.hub h first base
+          by_refusal : (q : Option ℕ) → y.refusal ≡ q → Passage n past None (jobs_of (client n b) status s) s.lines y s.hub h first base got
           by_refusal (Some number) q =
-              done (jobs.Refuse n number ∷ []) (jobs_are ∙ ap (begins_exchange (client n b) status y) q) (ceases (message_front p.got b proper.1) refl (inr (inl (itself n)))) tt (λ e. tt)
+              done (jobs.Refuse n number ∷ []) (jobs_are ∙ ap (begins_exchange (client n b) status y) q) (ceases (message_front got b proper.1) refl (inr (inl (itself n))) (b, same)) tt (λ e. tt)
           by_refusal None q =
               done (creates n (length y.filters) ++ (jobs.Enter n ∷ (puts_items n false b ++ refuses n status))) (jobs_are ∙ ap (begins_exchange (client n b) status y) q)
-              (flows (subst (λ l. Proper (p.got ++ l) y.asked.whole)
-              (sym (append-nil (puts_of n (creates n (length y.filters) ++ (jobs.Enter n ∷ (puts_items n false b ++ refuses n status)))) ∙ (creates_puts n n (length y.filters) (jobs.Enter n ∷ (puts_items n false b ++ refuses n status)) ∙ put_is n b status))) proper))
+              (flows (subst (λ l. Proper (got ++ l) y.asked.whole)
+              (sym (append-nil (puts_of n (creates n (length y.filters) ++ (jobs.Enter n ∷ (puts_items n false b ++ refuses n status)))) ∙ (creates_puts n n (length y.filters) (jobs.Enter n ∷ (puts_items n false b ++ refuses n status)) ∙ put_is n b status))) proper)
+              (ap (λ l. got ++ l) (append-nil (puts_of n (creates n (length y.filters) ++ (jobs.Enter n ∷ (puts_items n false b ++ refuses n status)))) ∙ (creates_puts n n (length y.filters) (jobs.Enter n ∷ (puts_items n false b ++ refuses n status)) ∙ put_is n b status)) ∙ same))
               (creates_once n n (length y.filters) (jobs.Enter n ∷ (puts_items n false b ++ refuses n status))
               ((λ e. puts_unentered n n false b status), none_once n (puts_items n false b ++ refuses n status) (puts_unentered n n false b status)))
               (λ e.
               let free : y.is_entered ≡ false = p.enters.first (ap begins_with_head (batch_alone n b) ∙ is) in
               let never : ◌≡◌ {A = Bool} true false = sym e ∙ free in absurd (cc))
 
-      by_flow : Flow n (Some (client n b)) [] y p.got → Passage n past None (jobs_of (client n b) status s) y s.hub h first base
-      by_flow (flows proper) = more (begins_with_head b) refl (subst (λ l. Proper (p.got ++ l) y.asked.whole) (batch_is n b) proper)
-      by_flow (ceases message none (inl is)) =
+      by_flow : Flow n (Some (client n b)) [] y got p.heard → Passage n past None (jobs_of (client n b) status s) s.lines y s.hub h first base got
+      by_flow (flows proper same) = more (begins_with_head b) refl (subst (λ l. Proper (got ++ l) y.asked.whole) (batch_is n b) proper) (ap (λ l. got ++ l) (sym (batch_is n b)) ∙ same)
+      by_flow (ceases message none (inl is) front) =
           let empty : b ≡ [] = sym (batch_is n b) ∙ none in
           done (refuses n status) (by_head false (ap begins_with_head empty) ∙ ap (λ (l : List Item). puts_items n false l ++ refuses n status) empty)
-          (ceases message (append-nil (puts_of n (refuses n status)) ∙ refuses_none n n status) (inl is)) (none_once n (refuses n status) (puts_unentered n n false [] status)) (λ e. puts_unentered n n false [] status)
-      by_flow (ceases message none (inr is)) = absurd is
+          (ceases message (append-nil (puts_of n (refuses n status)) ∙ refuses_none n n status) (inl is) front) (none_once n (refuses n status) (puts_unentered n n false [] status)) (λ e. puts_unentered n n false [] status)
+      by_flow (ceases message none (inr is) front) = absurd is
 
   ends_tale : (b : List Item) (s : Room) (status : Option ℕ) (y : Exchange) → exchange_on n s ≡ Some y → Tale plan n past (Some (client n b)) [] s.lines y s.hub
       → Tale plan n past None (jobs_of (client n b) status s) s.lines y s.hub
   ends_tale b s status y there (plainly t) =
       plainly (story_on plan n past (Some (client n b)) None [] (jobs_of (client n b) status s) s.lines s.lines y y s.hub s.hub t (same_up n y s.hub t.plain) refl
-      (ends_passage b s status y t.head t.start (ups n t.start_hub.sent) there t.passage) (ends_stream b s status y t.head.fields (requests_in t.deeds) there t.plain t.stream))
+      (ends_passage b s status y t.head t.start (ups n t.start_hub.sent) _ there t.passage) (ends_stream b s status y t.head.fields (requests_in t.deeds) there t.plain t.stream))
   ends_tale b s status y there (filtered o) = filtered (record {
     filters = o.filters;
     head = o.head;
@@ -198,7 +203,8 @@ module _ (plan : Plan) (n : ℕ) (past : List Sent) where
     some = o.some;
     base = o.base;
     before = o.before;
-    passage = ends_passage b s status y o.head o.start o.base there o.passage;
+    got = o.got;
+    passage = ends_passage b s status y o.head o.start o.base o.got there o.passage;
   })
 
   -- a room in which a line with an exchange is read
@@ -257,12 +263,17 @@ module _ (plan : Plan) (n : ℕ) (past : List Sent) where
   more_stream b item lines later x c d fields got of unread unended same still (doomed message none (inl is)) = absurd (cc)
   more_stream b item lines later x c d fields got of unread unended same still (doomed message none (inr is)) = absurd is
 
-  more_passage : (b : List Item) (item : Item) (x : Exchange) (hub after : Hub) (h : Head) (first : Exchange) (base : List Traffic) → OfBody item → x.asked.whole ≡ false → is_over x ≡ false → after.sent ≡ hub.sent
-      → Passage n past (Some (client n b)) [] x hub h first base → Passage n past (Some (client n (b ++ item ∷ []))) [] (noted false item x) after h first base
-  more_passage b item x hub after h first base of unread unended sent p = record {
+  -- one item more was heard
+  abbrev HearsOne : List Line → List Line → Item → Type 0
+  HearsOne lines later item = (h : Head) (got : List Item) → HeardIn n lines h got → HeardIn n later h (got ++ item ∷ [])
+
+  more_passage : (b : List Item) (item : Item) (lines later : List Line) (x : Exchange) (hub after : Hub) (h : Head) (first : Exchange) (base : List Traffic) (got : List Item) → OfBody item → x.asked.whole ≡ false → is_over x ≡ false → after.sent ≡ hub.sent
+      → HearsOne lines later item → Passage n past (Some (client n b)) [] lines x hub h first base got → Passage n past (Some (client n (b ++ item ∷ []))) [] later (noted false item x) after h first base got
+  more_passage b item lines later x hub after h first base got of unread unended sent hears p = record {
     went = p.went;
     adds = ap (λ l. ups n (past ++ l)) sent ∙ p.adds;
-    got = p.got;
+    heard = p.heard ++ item ∷ [];
+    was = hears h p.heard p.was;
     up = still_up n (x, hub) (noted false item x, hub) [] p.went _ (record { minor = refl; framed = refl; reader = refl; live = λ e. (e, refl); entered = refl; answered = λ a. a; sends = refl }) p.up;
     minor = p.minor;
     framed = p.framed;
@@ -270,23 +281,24 @@ module _ (plan : Plan) (n : ℕ) (past : List Sent) where
     enters = record { once = tt; none = λ e. tt; first = λ e. p.enters.first (ap begins_with_head (batch_alone n b) ∙ begins_more b item of (ap begins_with_head (sym (batch_alone n (b ++ item ∷ []))) ∙ e)) };
   }
     where
-      by_flow : Flow n (Some (client n b)) [] x p.got → Flow n (Some (client n (b ++ item ∷ []))) [] (noted false item x) p.got
-      by_flow (flows proper) =
+      by_flow : Flow n (Some (client n b)) [] x got p.heard → Flow n (Some (client n (b ++ item ∷ []))) [] (noted false item x) got (p.heard ++ item ∷ [])
+      by_flow (flows proper same) =
           flows
-          (subst (λ l. Proper (p.got ++ l) (is_last item)) (sym (batch_is n (b ++ item ∷ [])))
-          (subst (λ l. Proper l (is_last item)) (append_assoc p.got b (item ∷ []))
-          (proper_more (p.got ++ b) item (subst (λ w. Proper (p.got ++ b) w) unread (subst (λ l. Proper (p.got ++ l) x.asked.whole) (batch_is n b) proper)) of)))
-      by_flow (ceases message none (inl is)) = let never : ◌≡◌ {A = Bool} true false = sym is ∙ unended in absurd (cc)
-      by_flow (ceases message none (inr is)) = absurd is
+          (subst (λ l. Proper (got ++ l) (is_last item)) (sym (batch_is n (b ++ item ∷ [])))
+          (subst (λ l. Proper l (is_last item)) (append_assoc got b (item ∷ []))
+          (proper_more (got ++ b) item (subst (λ w. Proper (got ++ b) w) unread (subst (λ l. Proper (got ++ l) x.asked.whole) (batch_is n b) proper)) of)))
+          (ap (λ l. got ++ l) (batch_is n (b ++ item ∷ [])) ∙ (sym (append_assoc got b (item ∷ [])) ∙ ap (λ l. l ++ item ∷ []) (ap (λ l. got ++ l) (sym (batch_is n b)) ∙ same)))
+      by_flow (ceases message none (inl is) front) = let never : ◌≡◌ {A = Bool} true false = sym is ∙ unended in absurd (cc)
+      by_flow (ceases message none (inr is) front) = absurd is
 
   more_tale : (b : List Item) (item : Item) (lines later : List Line) (x : Exchange) (hub after : Hub) → OfBody item → x.asked.whole ≡ false → is_over x ≡ false
-      → (request_map x.place after.contexts ≡ request_map x.place hub.contexts) → after.sent ≡ hub.sent → (Rests lines → Rests later)
+      → (request_map x.place after.contexts ≡ request_map x.place hub.contexts) → after.sent ≡ hub.sent → (Rests lines → Rests later) → HearsOne lines later item
       → Tale plan n past (Some (client n b)) [] lines x hub → Tale plan n past (Some (client n (b ++ item ∷ []))) [] later (noted false item x) after
-  more_tale b item lines later x hub after of unread unended same sent still (plainly t) =
+  more_tale b item lines later x hub after of unread unended same sent still hears (plainly t) =
       plainly (story_on plan n past (Some (client n b)) (Some (client n (b ++ item ∷ []))) [] [] lines later x (noted false item x) hub after t
       (note_up n x (noted false item x) hub after t.plain (record { unfiltered = t.plain.1; framed = refl; stays_over = λ o. o }) (ap (ups n) sent) (λ o. o)) refl
-      (more_passage b item x hub after t.head t.start (ups n t.start_hub.sent) of unread unended sent t.passage) (more_stream b item lines later x hub.contexts after.contexts t.head.fields (requests_in t.deeds) of unread unended same still t.stream))
-  more_tale b item lines later x hub after of unread unended same sent still (filtered o) =
+      (more_passage b item lines later x hub after t.head t.start (ups n t.start_hub.sent) _ of unread unended sent hears t.passage) (more_stream b item lines later x hub.contexts after.contexts t.head.fields (requests_in t.deeds) of unread unended same still t.stream))
+  more_tale b item lines later x hub after of unread unended same sent still hears (filtered o) =
       filtered (record {
         filters = o.filters;
         head = o.head;
@@ -295,14 +307,15 @@ module _ (plan : Plan) (n : ℕ) (past : List Sent) where
         some = o.some;
         base = o.base;
         before = o.before;
-        passage = more_passage b item x hub after o.head o.start o.base of unread unended sent o.passage;
+        got = o.got;
+        passage = more_passage b item lines later x hub after o.head o.start o.base o.got of unread unended sent hears o.passage;
       })
 
   -- ---- a new exchange
 
   new_tale : (h : Head) (place now : ℕ) (dead : List ℕ) (used : ℕ) (text : List ℕ) (lines : List Line) (hub : Hub) → SpellsStep text (found h used) → hub.moment ≡ now → request_map place hub.contexts ≡ h.fields
-      → Rests lines → Idle plan n past hub → Tale plan n past (Some (client n (head_item h ∷ []))) [] lines (noted false (head_item h) (exchange_for plan place now dead h (route_in plan.routes (path_of h.fields)))) hub
-  new_tale h place now dead used text lines hub spells moment map rests idle = by_filters x.filters refl
+      → Rests lines → Idle plan n past hub → HeardIn n lines h (head_item h ∷ []) → Tale plan n past (Some (client n (head_item h ∷ []))) [] lines (noted false (head_item h) (exchange_for plan place now dead h (route_in plan.routes (path_of h.fields)))) hub
+  new_tale h place now dead used text lines hub spells moment map rests idle was = by_filters x.filters refl
     where
       x : Exchange
       x = exchange_for plan place now dead h (route_in plan.routes (path_of h.fields))
@@ -313,16 +326,17 @@ module _ (plan : Plan) (n : ℕ) (past : List Sent) where
       proper : Proper (head_item h ∷ []) (is_bare (length_in h.length))
       proper = head_proper (is_bare (length_in h.length))
 
-      passage : (base : List Traffic) → base ≡ ups n (past ++ hub.sent) → Passage n past (Some (client n (head_item h ∷ []))) [] (noted false (head_item h) (exchange_for plan place now dead h (route_in plan.routes (path_of h.fields)))) hub h
-          (exchange_for plan place now dead h (route_in plan.routes (path_of h.fields))) base
+      passage : (base : List Traffic) → base ≡ ups n (past ++ hub.sent) → Passage n past (Some (client n (head_item h ∷ []))) [] lines (noted false (head_item h) (exchange_for plan place now dead h (route_in plan.routes (path_of h.fields)))) hub h
+          (exchange_for plan place now dead h (route_in plan.routes (path_of h.fields))) base []
       passage base is = record {
         went = [];
         adds = sym is ∙ sym (append-nil base);
-        got = [];
+        heard = head_item h ∷ [];
+        was = was;
         up = record { left = []; outs = []; are = tt; is = refl; opened = refl; through = λ e. refl; idle = λ e. tt; sound = tt; left_sound = tt; unentered = λ e f. refl; answered = λ e. refl };
         minor = refl;
         framed = refl;
-        flow = flows (subst (λ l. Proper l (is_bare (length_in h.length))) (sym (batch_is n (head_item h ∷ []))) proper);
+        flow = flows (subst (λ l. Proper l (is_bare (length_in h.length))) (sym (batch_is n (head_item h ∷ []))) proper) (batch_is n (head_item h ∷ []));
         enters = record { once = tt; none = λ e. tt; first = λ e. refl };
       }
 
@@ -357,6 +371,7 @@ module _ (plan : Plan) (n : ℕ) (past : List Sent) where
         some = cons_some f fs are;
         base = ups n (past ++ hub.sent);
         before = idle;
+        got = [];
         passage = passage (ups n (past ++ hub.sent)) refl;
       })
 
@@ -399,50 +414,52 @@ module _ (plan : Plan) (n : ℕ) (past : List Sent) where
       with_note : (item : Item) (new : Reading) → change_line (noted false item) (said new) ≡ record l { requests = new; exchange = Some (noted false item x) }
       with_note item new = ap (change_exchange (noted false item) (said new)) exchange
 
-      taken : (item : Item) (new : Reading) (s : Room) → OfBody item → s.lines ≡ (read new).lines → s.agenda ≡ a.agenda → s.jobs ≡ [] → s.hub.sent ≡ a.hub.sent → request_map x.place s.hub.contexts ≡ request_map x.place a.hub.contexts
+      taken : (item : Item) (p : Part) (new : Reading) (s : Room) → Hands l.requests p new → items_of p ≡ item ∷ [] → OfBody item → s.lines ≡ (read new).lines → s.agenda ≡ a.agenda → s.jobs ≡ [] → s.hub.sent ≡ a.hub.sent → request_map x.place s.hub.contexts ≡ request_map x.place a.hub.contexts
           → new.asked ≡ None → Matches (is_last item) new.due → Known plan n past (takes (client n b) item s)
-      taken item new s of lines agenda jobless sent same asked_new matches =
+      taken item p new s handed items_are of lines agenda jobless sent same asked_new matches =
           let t : Room = on_lines (change_line (noted false item)) n s in
           let y : Exchange = noted false item x in
           let s_once : IsOnce (is_n n) s.lines = subst (IsOnce (is_n n)) (sym lines) (read_once new) in
           let s_rests : Rests s.lines = subst Rests (sym lines) (read_rests new) in
           let s_there : look n s.lines ≡ Some (said new) = ap (look n) lines ∙ read_there new in
           let t_rests : Rests t.lines = on_rests n (change_line (noted false item)) s.lines (λ k at is. still_change (noted false item) (λ z. (refl, refl, refl)) k ∙ is) s_rests in
+          let t_there : look n t.lines ≡ Some (record l { requests = new; exchange = Some y })
+          = on_same n n (change_line (noted false item)) s.lines (numbered_change (noted false item)) s_once (itself n) ∙ (ap (option_map (change_line (noted false item))) s_there ∙ ap Some (with_note item new)) in
           joins_busy b item t (record l { requests = new; exchange = Some y }) y
           (record {
             once = on_once n n (change_line (noted false item)) s.lines (numbered_change (noted false item)) s_once;
             parts = subst AllParts (sym agenda) parts;
             idle = jobless;
             rests = t_rests;
-            there = on_same n n (change_line (noted false item)) s.lines (numbered_change (noted false item)) s_once (itself n) ∙ (ap (option_map (change_line (noted false item))) s_there ∙ ap Some (with_note item new));
+            there = t_there;
             exchange = refl;
             asked = asked_new;
             staid = λ e. let never : ◌≡◌ {A = Bool} true false = sym (busy.staid e) ∙ reads.0 in absurd (cc);
             matches = matches;
-            tale = more_tale b item a.lines t.lines x a.hub s.hub of reads.0 reads.1 same sent (λ e. t_rests) busy.tale;
+            tale = more_tale b item a.lines t.lines x a.hub s.hub of reads.0 reads.1 same sent (λ e. t_rests) (hands_listen n a.lines t.lines l (record l { requests = new; exchange = Some y }) p (item ∷ []) there t_there handed items_are) busy.tale;
           }) refl reads.1
 
-      body_said : (p : Part) (new : Reading) → new.asked ≡ None → BodyNext None p new.due → Known plan n past (hands_part plan (client n b) p (read new))
-      body_said (head_part h) new asked_new is = absurd is
-      body_said (interim_part h) new asked_new is = absurd is
-      body_said (piece bytes false) new asked_new is = taken (items.Piece bytes false) new (read new) tt refl refl idle refl refl asked_new is
-      body_said (piece bytes true) new asked_new is = taken (items.Piece bytes true) new (read new) tt refl refl idle refl refl asked_new is
-      body_said (trailer_part fields) new asked_new is =
+      body_said : (p : Part) (new : Reading) → Hands l.requests p new → new.asked ≡ None → BodyNext None p new.due → Known plan n past (hands_part plan (client n b) p (read new))
+      body_said (head_part h) new handed asked_new is = absurd is
+      body_said (interim_part h) new handed asked_new is = absurd is
+      body_said (piece bytes false) new handed asked_new is = taken (items.Piece bytes false) (piece bytes false) new (read new) handed refl tt refl refl idle refl refl asked_new is
+      body_said (piece bytes true) new handed asked_new is = taken (items.Piece bytes true) (piece bytes true) new (read new) handed refl tt refl refl idle refl refl asked_new is
+      body_said (trailer_part fields) new handed asked_new is =
           let on : exchange_on n (read new) ≡ Some x = on_is n (read new) (Some (said new)) (read_there new) ∙ exchange in
           let change : ℕ → Contexts → Contexts = put_trailers false (with_fields no_headers fields) in
           let s : Room = with_contexts (change x.place (read new).hub.contexts) (read new) in
           subst (λ (o : Option Exchange). Known plan n past (takes (client n b) items.Trailers (in_contexts change o (read new)))) (sym on)
-          (taken items.Trailers new s tt refl refl idle refl (trailers_map (with_fields no_headers fields) x.place x.place a.hub.contexts) asked_new is)
+          (taken items.Trailers (trailer_part fields) new s handed refl tt refl refl idle refl (trailers_map (with_fields no_headers fields) x.place x.place a.hub.contexts) asked_new is)
 
       -- a part
       pub part_said : (p : Part) (new : Reading) → Hands l.requests p new → Known plan n past (hands_part plan (client n b) p (read new))
       part_said p new is =
-          body_said p new (ap (λ r. r.asked) is.is ∙ asked)
+          body_said p new is (ap (λ r. r.asked) is.is ∙ asked)
           (subst (λ d. BodyNext None p d) (sym (ap (λ r. r.due) is.is))
           (body_next l.requests.ended None l.requests.due l.requests.unread p is.used is.due inside (subst (λ q. IsNext l.requests.ended q l.requests.due l.requests.unread (part p is.used is.due)) asked is.next)))
 
-      still_busied : (new : Reading) → new.asked ≡ None → InBody new.due → Busied b (read new) (said new) x
-      still_busied new asked_new due = record {
+      still_busied : (why : Stop) (new : Reading) → Halts l.requests why new → new.asked ≡ None → InBody new.due → Busied b (read new) (said new) x
+      still_busied why new halted asked_new due = record {
         once = read_once new;
         parts = parts;
         idle = idle;
@@ -460,10 +477,17 @@ module _ (plan : Plan) (n : ℕ) (past : List Sent) where
           read_stream fields got (going begins proper) = going begins proper
           read_stream fields got (doomed message none is) = doomed message none is
 
+          on_passage : (h : Head) (start : Exchange) (base : List Traffic) (got : List Item) → Passage n past (Some (client n b)) [] a.lines x a.hub h start base got → Passage n past (Some (client n b)) [] (read new).lines x a.hub h start base got
+          on_passage h start base got p =
+              passage_on n past (Some (client n b)) (Some (client n b)) [] [] a.lines (read new).lines x x a.hub a.hub h start base got (alike_itself n (Some (client n b)) [])
+              (halts_listen n a.lines (read new).lines l (said new) why there (read_there new) halted)
+              (record { asked = refl; entered = refl; framed = refl; over = λ o. o; keeps = keeps_itself n (x, a.hub) }) p
+
           read_tale : Tale plan n past (Some (client n b)) [] a.lines x a.hub → Tale plan n past (Some (client n b)) [] (read new).lines x a.hub
           read_tale (plainly t) =
-              plainly (story_on plan n past (Some (client n b)) (Some (client n b)) [] [] a.lines (read new).lines x x a.hub a.hub t (same_up n x a.hub t.plain) refl t.passage (read_stream t.head.fields (requests_in t.deeds) t.stream))
-          read_tale (filtered o) = filtered o
+              plainly (story_on plan n past (Some (client n b)) (Some (client n b)) [] [] a.lines (read new).lines x x a.hub a.hub t (same_up n x a.hub t.plain) refl (on_passage t.head t.start (ups n t.start_hub.sent) _ t.passage) (read_stream t.head.fields (requests_in t.deeds) t.stream))
+          read_tale (filtered o) =
+              filtered (record { filters = o.filters; head = o.head; start = o.start; begun = o.begun; some = o.some; base = o.base; before = o.before; got = o.got; passage = on_passage o.head o.start o.base o.got o.passage })
 
       -- no further part
       pub stop_said : (why : Stop) (new : Reading) → Halts l.requests why new → Known plan n past (stops (client n b) why (read new))
@@ -471,7 +495,7 @@ module _ (plan : Plan) (n : ℕ) (past : List Sent) where
           by_stop why
         where
           f : Busied b (read new) (said new) x
-          f = still_busied new (ap (λ r. r.asked) is.is ∙ asked) (subst InBody (sym (ap (λ r. r.due) is.is)) (waits_in l.requests.due l.requests.unread inside))
+          f = still_busied why new is (ap (λ r. r.asked) is.is ∙ asked) (subst InBody (sym (ap (λ r. r.due) is.is)) (waits_in l.requests.due l.requests.unread inside))
 
           on : is_some (exchange_on n (read new)) ≡ true
           on = ap is_some (on_is n (read new) (Some (said new)) (read_there new) ∙ exchange)
@@ -485,8 +509,8 @@ module _ (plan : Plan) (n : ℕ) (past : List Sent) where
 
     -- where there is none
     module _ (exchange : l.exchange ≡ None) (due : l.requests.due ≡ head) (idle_line : Idle plan n past a.hub) where
-      begin_said : (h : Head) (used : ℕ) (new : Reading) → SpellsStep l.requests.unread (found h used) → new.asked ≡ None → new.due ≡ due_after h → Known plan n past (takes (client n []) (head_item h) (begun plan n h (read new)))
-      begin_said h used new spells asked_new due_new =
+      begin_said : (h : Head) (used : ℕ) (new : Reading) → Hands l.requests (head_part h) new → SpellsStep l.requests.unread (found h used) → new.asked ≡ None → new.due ≡ due_after h → Known plan n past (takes (client n []) (head_item h) (begun plan n h (read new)))
+      begin_said h used new handed spells asked_new due_new =
           let place : ℕ = free_place a.hub.contexts in
           let route : Option ℕ = route_in plan.routes (path_of h.fields) in
           let x : Exchange = exchange_for plan place a.hub.moment a.dead h route in
@@ -499,29 +523,36 @@ module _ (plan : Plan) (n : ℕ) (past : List Sent) where
           let s_rests : Rests s.lines = on_rests n (with_exchange x) (read new).lines (λ k at is. refl) (read_rests new) in
           let t : Room = on_lines (change_line (noted false item)) n s in
           let t_rests : Rests t.lines = on_rests n (change_line (noted false item)) s.lines (λ k at is. still_change (noted false item) (λ z. (refl, refl, refl)) k ∙ is) s_rests in
+          let t_there : look n t.lines ≡ Some (record l { requests = new; exchange = Some y })
+          = on_same n n (change_line (noted false item)) s.lines (numbered_change (noted false item)) s_once (itself n) ∙ ap (option_map (change_line (noted false item))) s_there in
           joins_busy [] item t (record l { requests = new; exchange = Some y }) y
           (record {
             once = on_once n n (change_line (noted false item)) s.lines (numbered_change (noted false item)) s_once;
             parts = parts;
             idle = idle;
             rests = t_rests;
-            there = on_same n n (change_line (noted false item)) s.lines (numbered_change (noted false item)) s_once (itself n) ∙ ap (option_map (change_line (noted false item))) s_there;
+            there = t_there;
             exchange = refl;
             asked = asked_new;
             staid = λ e. absurd (cc);
             matches = subst (λ d. Matches (is_bare (length_in h.length)) d) (sym due_new) (due_matches h);
-            tale = new_tale h place a.hub.moment a.dead used l.requests.unread t.lines s.hub spells refl (opened_map n h.fields a.hub.contexts) t_rests idle_line;
+            tale = new_tale h place a.hub.moment a.dead used l.requests.unread t.lines s.hub spells refl (opened_map n h.fields a.hub.contexts) t_rests idle_line
+                (record {
+                  now = new;
+                  at = ap (option_map (λ (k : Line). k.requests)) t_there;
+                  was = record { first = l.requests; asked = asked; due = due; acts = []; does = (new, handed, refl); are = refl };
+                });
           }) refl refl
 
-      head_said : (p : Part) (used : ℕ) (new : Reading) → new.asked ≡ None → HeadNext None l.requests.unread p used new.due → Known plan n past (hands_part plan (client n []) p (read new))
-      head_said (head_part h) used new asked_new is = begin_said h used new is.0 asked_new is.1
-      head_said (interim_part h) used new asked_new is = absurd is
-      head_said (piece bytes last) used new asked_new is = absurd is
-      head_said (trailer_part fields) used new asked_new is = absurd is
+      head_said : (p : Part) (used : ℕ) (new : Reading) → Hands l.requests p new → new.asked ≡ None → HeadNext None l.requests.unread p used new.due → Known plan n past (hands_part plan (client n []) p (read new))
+      head_said (head_part h) used new handed asked_new is = begin_said h used new handed is.0 asked_new is.1
+      head_said (interim_part h) used new handed asked_new is = absurd is
+      head_said (piece bytes last) used new handed asked_new is = absurd is
+      head_said (trailer_part fields) used new handed asked_new is = absurd is
 
       pub first_said : (p : Part) (new : Reading) → Hands l.requests p new → Known plan n past (hands_part plan (client n []) p (read new))
       first_said p new is =
-          head_said p is.used new (ap (λ r. r.asked) is.is ∙ asked)
+          head_said p is.used new is (ap (λ r. r.asked) is.is ∙ asked)
           (subst (λ d. HeadNext None l.requests.unread p is.used d) (sym (ap (λ r. r.due) is.is)) (head_next l.requests.ended None l.requests.unread p is.used is.due
           (subst (λ d. IsNext l.requests.ended None d l.requests.unread (part p is.used is.due)) due (subst (λ q. IsNext l.requests.ended q l.requests.due l.requests.unread (part p is.used is.due)) asked is.next))))
 

@@ -20,6 +20,7 @@ use Rattle.worker.specs.Plan.{Plan}
 use Rattle.worker.specs.Rooms.{place_in, sending}
 use Rattle.worker.specs.Steps.{exchange_of_line, line_in, drops_at, drops_line, closes_line, reads_side, line_ends, refusal_sent, fixed_answer, refuses_in, refuses_line}
 use Rattle.line_laws.proofs.Finding.{Seeks, missing, first, seeks, IsOnce, remove_other, remove_found, remove_once}
+use Rattle.line_laws.proofs.Hearing.{no_feed}
 use Rattle.line_laws.proofs.Kept.{by_bool}
 use Rattle.line_laws.proofs.Looks.{is_n, look, line_in_is, equal_by}
 use Rattle.line_laws.proofs.Rooms.{AllParts}
@@ -56,7 +57,7 @@ exchange_as_is n (Some x) hub after same = notes_itself n x hub after same
 
 pub line_as_is : (n : ℕ) (o : Option Line) (hub after : Hub) → ups n after.sent ≡ ups n hub.sent → LineTurns n o hub o after
 line_as_is n None hub after same = same
-line_as_is n (Some l) hub after same = (refl, refl, exchange_as_is n l.exchange hub after same)
+line_as_is n (Some l) hub after same = (refl, refl, exchange_as_is n l.exchange hub after same, no_feed l.requests)
 
 module _ (plan : Plan) (n : ℕ) (past : List Sent) where
   idle_line : (js : List Job) (lines : List Line) (hub : Hub) (o : Option Line) → exchange_of_line o ≡ None → LineOk plan n past None js lines o hub → Idle plan n past hub
@@ -75,7 +76,7 @@ module _ (plan : Plan) (n : ℕ) (past : List Sent) where
       by_test : (b : Bool) → (m == n) ≡ b → LineOk plan n past None ks (drops_at lines (place_in m lines)) (look n (drops_at lines (place_in m lines))) after
       by_test false other =
           subst (λ (o : Option Line). LineOk plan n past None ks (drops_at lines (place_in m lines)) o after) (sym (drop_other n m lines other))
-          (line_turn plan n past js None ks (turn other) lines (drops_at lines (place_in m lines)) (look n lines) (look n lines) hub after (line_as_is n (look n lines) hub after same) (λ y e. tt) ok)
+          (line_turn plan n past js None ks (turn other) lines (drops_at lines (place_in m lines)) (look n lines) (look n lines) hub after refl (drop_other n m lines other) (line_as_is n (look n lines) hub after same) (λ y e. tt) ok)
       by_test true here =
           subst (λ (o : Option Line). LineOk plan n past None ks (drops_at lines (place_in m lines)) o after) (sym (drop_same n m lines once here))
           (pend ∙ no_exchange plan n past js lines hub (look n lines) (none here) ok, idle_same plan n past hub after same (idle_line js lines hub (look n lines) (none here) ok))
@@ -113,7 +114,7 @@ module _ (plan : Plan) (n : ℕ) (past : List Sent) where
       ended_known plan n past mid pop.once pop.parts pop.tail pop.quiet (by_test (m == n) refl)
     where
       by_test : (b : Bool) → (m == n) ≡ b → LineOk plan n past None mid.jobs mid.lines (look n mid.lines) mid.hub
-      by_test false other = line_turn plan n past (job ∷ mid.jobs) None mid.jobs (turn other) mid.lines mid.lines (look n mid.lines) (look n mid.lines) mid.hub mid.hub (line_as_is n (look n mid.lines) mid.hub mid.hub refl) (λ y e. tt) pop.line
+      by_test false other = line_turn plan n past (job ∷ mid.jobs) None mid.jobs (turn other) mid.lines mid.lines (look n mid.lines) (look n mid.lines) mid.hub mid.hub refl refl (line_as_is n (look n mid.lines) mid.hub mid.hub refl) (λ y e. tt) pop.line
       by_test true here = by_line (look n mid.lines) refl pop.line
         where
           by_line : (o : Option Line) → look n mid.lines ≡ o → LineOk plan n past None (job ∷ mid.jobs) mid.lines o mid.hub → LineOk plan n past None mid.jobs mid.lines o mid.hub
@@ -206,7 +207,7 @@ module _ (plan : Plan) (n : ℕ) (past : List Sent) where
               by_test false other =
                   subst (λ l. LineOk plan n past (Some (record { line = m; up = false; batch = [] })) l mid.lines (look n mid.lines) mid.hub) last
                   (line_turn plan n past (jobs.Close m true ∷ mid.jobs) (Some (record { line = m; up = false; batch = [] })) mid.jobs (close_turn m true mid.jobs (Some (record { line = m; up = false; batch = [] })) other (no_side m other)) mid.lines mid.lines
-                  (look n mid.lines) (look n mid.lines) mid.hub mid.hub (line_as_is n (look n mid.lines) mid.hub mid.hub refl) (λ y e is. let never : ◌≡◌ {A = Bool} true false = sym is ∙ other in absurd (cc)) popped.line)
+                  (look n mid.lines) (look n mid.lines) mid.hub mid.hub refl refl (line_as_is n (look n mid.lines) mid.hub mid.hub refl) (λ y e is. let never : ◌≡◌ {A = Bool} true false = sym is ∙ other in absurd (cc)) popped.line)
               by_test true here = by_look (look n mid.lines) (none here) popped.line
                 where
                   no_batch : batch_of n (Some (record { line = m; up = false; batch = [] })) ≡ []

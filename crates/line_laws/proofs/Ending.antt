@@ -43,7 +43,7 @@ use Rattle.line_laws.proofs.Readable.{readable}
 use Rattle.line_laws.proofs.Rooms.{AllFree}
 use Rattle.line_laws.proofs.Story.{puts_of, HasClose, Tail, Matches, pending, Stream, fresh, going, doomed, Story, Passage, Tale, plainly, filtered, Busy, ExOk, LineOk, Known}
 use Rattle.line_laws.proofs.Calmed.{free_puts, free_has, free_no, free_tail, free_none, none_once}
-use Rattle.line_laws.proofs.Parts.{goes_of, closes_so, one_part}
+use Rattle.line_laws.proofs.Parts.{goes_of, came_front, closes_so, one_part}
 use Rattle.line_laws.proofs.Sides.{ended_known}
 use Rattle.line_laws.proofs.Turned.{line_turn}
 use Rattle.line_laws.proofs.Closing.{line_as_is}
@@ -151,6 +151,7 @@ pub record Went (plan : Plan) (n : ℕ) (past : List Sent) (reading : Option Rea
   pub request : OutRequest
   pub sent_of : IsSentOf s.head request
   pub goes : GoesUpOnce request (came_of n s.start s.start_hub s.deeds) (is_over x) (ups n s.start_hub.sent) (ups n (past ++ hub.sent))
+  pub front : IsFront (came_of n s.start s.start_hub s.deeds) (out_items request)
   pub full : is_whole (requests_in s.deeds) ≡ true → (came_of n s.start s.start_hub s.deeds ≡ out_items request) ⊎ (came_of n s.start s.start_hub s.deeds ≡ out.head request.head ∷ [])
 
 module _ (plan : Plan) (n : ℕ) (past : List Sent) (reading : Option Reads) (js : List Job) (lines : List Line) (x : Exchange) (hub : Hub) (s : Story plan n past reading js lines x hub) where
@@ -172,6 +173,7 @@ module _ (plan : Plan) (n : ℕ) (past : List Sent) (reading : Option Reads) (js
         request = q.request;
         sent_of = record { filtered = of.filters_requests; head = q.head; framing = q.framed ∙ framed };
         goes = one_request n s.start x s.start_hub (behind past hub) s.deeds outs q.request (ap (λ (y : Exchange). y.request) s.began.begun.is) (lives_with n s.deeds s.start x s.start_hub (behind past hub) s.lives) q.framed q.front;
+        front = q.front;
         full = q.full;
       }
 
@@ -179,11 +181,14 @@ module _ (plan : Plan) (n : ℕ) (past : List Sent) (reading : Option Reads) (js
   pub same_went : went.goes.went ≡ s.passage.went
   same_went = append_cancel_left (ups n s.start_hub.sent) went.goes.went s.passage.went (sym went.goes.adds ∙ s.passage.adds)
 
-  pub exact_of : IsExact s.head s.passage.went
+  pub exact_of : IsExact s.head (requests_in s.deeds) s.passage.went
   exact_of = record {
     request = went.request;
     sent_of = went.sent_of;
     reads_back = λ ended other room suits. went.goes.read_back ended (readable s.head went.request s.began.begun.judged went.sent_of other room) suits;
+    outs = came_of n s.start s.start_hub s.deeds;
+    of = s.came;
+    items = went.front;
     front = subst (λ (t : List Traffic). IsFront t (opens ∷ map byte (out_wire went.request))) same_went went.goes.front;
   }
 
@@ -215,24 +220,38 @@ module _ (plan : Plan) (n : ℕ) (past : List Sent) where
       all : ups n (past ++ sent) ≡ ups n (past ++ hub.sent) ++ ups n (close_up m x.reader)
       all = ap (λ l. ups n (past ++ l)) is ∙ (ap (ups n) (sym (append_assoc past hub.sent (close_up m x.reader))) ∙ ups_join n (past ++ hub.sent) (close_up m x.reader))
 
-      closing : (h : Head) (start : Exchange) (base : List Traffic) (p : Passage n past None [] x hub h start base) → ups n (close_up m x.reader) ≡ close_behind p.went
-      closing h start base p =
-          closes_so n past None [] x hub h start base p x.reader refl (ups n (close_up m x.reader)) (λ none. ap (λ (o : Option Reading). ups n (close_up m o)) none) (λ some. by_reader x.reader some)
+      closing : (h : Head) (start : Exchange) (base : List Traffic) (got : List Item) (p : Passage n past None [] lines x hub h start base got) → ups n (close_up m x.reader) ≡ close_behind p.went
+      closing h start base got p =
+          closes_so n past None [] lines x hub h start base got p x.reader refl (ups n (close_up m x.reader)) (λ none. ap (λ (o : Option Reading). ups n (close_up m o)) none) (λ some. by_reader x.reader some)
         where
           by_reader : (o : Option Reading) → is_some o ≡ true → ups n (close_up m o) ≡ closes ∷ []
           by_reader None some = absurd (cc)
           by_reader (Some r) some = close_same n m r here
 
-      total : (h : Head) (start : Exchange) (base : List Traffic) (p : Passage n past None [] x hub h start base) → ups n (past ++ sent) ≡ base ++ (p.went ++ close_behind p.went)
-      total h start base p = all ∙ ((λ i. p.adds i ++ closing h start base p i) ∙ append_assoc base p.went (close_behind p.went))
+      total : (h : Head) (start : Exchange) (base : List Traffic) (got : List Item) (p : Passage n past None [] lines x hub h start base got) → ups n (past ++ sent) ≡ base ++ (p.went ++ close_behind p.went)
+      total h start base got p = all ∙ ((λ i. p.adds i ++ closing h start base got p i) ∙ append_assoc base p.went (close_behind p.went))
 
       by_tale : Tale plan n past None [] lines x hub → OneByOne plan (ups n (past ++ sent))
       by_tale (filtered o) =
-          one_part plan o.base (ups n (past ++ sent)) (record { head = o.head; first = o.start; went = o.passage.went }) o.before
-          (record { begun = o.begun; goes = goes_of n past None [] x hub o.head o.start o.base o.passage; exact = λ e. absurd (o.some e) }) (total o.head o.start o.base o.passage)
+          one_part plan o.base (ups n (past ++ sent)) (record { head = o.head; first = o.start; heard = o.passage.heard; came = o.got; went = o.passage.went }) o.before
+          (record {
+            begun = o.begun;
+            now = o.passage.was.now;
+            was_heard = o.passage.was.was;
+            came_first = came_front n past None [] lines x hub o.head o.start o.base o.got o.passage;
+            goes = goes_of n past None [] lines x hub o.head o.start o.base o.got o.passage;
+            exact = λ e. absurd (o.some e);
+          }) (total o.head o.start o.base o.got o.passage)
       by_tale (plainly s) =
-          one_part plan (ups n s.start_hub.sent) (ups n (past ++ sent)) (record { head = s.head; first = s.start; went = s.passage.went }) s.before
-          (record { begun = s.began.begun; goes = goes_of n past None [] x hub s.head s.start (ups n s.start_hub.sent) s.passage; exact = λ e. exact_of plan n past None [] lines x hub s }) (total s.head s.start (ups n s.start_hub.sent) s.passage)
+          one_part plan (ups n s.start_hub.sent) (ups n (past ++ sent)) (record { head = s.head; first = s.start; heard = s.passage.heard; came = requests_in s.deeds; went = s.passage.went }) s.before
+          (record {
+            begun = s.began.begun;
+            now = s.passage.was.now;
+            was_heard = s.passage.was.was;
+            came_first = came_front n past None [] lines x hub s.head s.start (ups n s.start_hub.sent) (requests_in s.deeds) s.passage;
+            goes = goes_of n past None [] lines x hub s.head s.start (ups n s.start_hub.sent) (requests_in s.deeds) s.passage;
+            exact = λ e. exact_of plan n past None [] lines x hub s;
+          }) (total s.head s.start (ups n s.start_hub.sent) (requests_in s.deeds) s.passage)
 
   pub end_known : (place : ℕ) (room : Room) → Known plan n past room → room.jobs ≡ [] → room.reading ≡ None → position rooms.is_over room.lines ≡ Some place → Known plan n past (ends_at place room)
   end_known place room k jobless quiet at = by_seek (seeks rooms.is_over room.lines)
@@ -292,7 +311,7 @@ module _ (plan : Plan) (n : ℕ) (past : List Sent) where
                     unread = refl;
                     unfresh = λ h. h;
                   }) room.lines (slice_set room.lines place (record l { exchange = None })) (look n room.lines) (look n room.lines) room.hub
-                  (ends_with room (Some (l.number, x), slice_set room.lines place (record l { exchange = None }))).hub
+                  (ends_with room (Some (l.number, x), slice_set room.lines place (record l { exchange = None }))).hub refl (set_other (is_n n) room.lines place l (record l { exchange = None }) there other other)
                   (line_as_is n (look n room.lines) room.hub _ (ups_join n room.hub.sent (close_up l.number x.reader) ∙ (ap (λ t. ups n room.hub.sent ++ t) (close_other n l.number x.reader other) ∙ append-nil (ups n room.hub.sent)))) (λ y e. tt) ok)
               by_test true here =
                   subst (λ (o : Option Line). LineOk plan n past None (done_jobs x.filters ++ jobs.Close l.number x.stays ∷ []) (slice_set room.lines place (record l { exchange = None })) o

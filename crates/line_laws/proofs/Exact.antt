@@ -12,7 +12,7 @@ use Rattle.exchange.specs.Maps.{request_map}
 use Rattle.exchange.specs.Passing.{put_in, puts_all, refused}
 use Rattle.exchange_laws.specs.Lives.{Deed, comes, turns, is_over, items_out}
 use Rattle.exchange_laws.specs.Responses.{IsMessage}
-use Rattle.exchange_laws.specs.Traffic.{Traffic, ups}
+use Rattle.exchange_laws.specs.Traffic.{Traffic, ups, IsFront}
 use Rattle.exchange_laws.proofs.Ups.{comes_over, comes_open, puts_is, no_stage}
 use Rattle.filter_chain.specs.declared.item.Item.{Item}
 use Rattle.filter_chain.specs.declared.item.Item.TheVariants as items
@@ -26,6 +26,7 @@ use Rattle.worker.specs.Steps.{begins_with_head}
 use Rattle.line_laws.specs.Living.{request_in, requests_in, LivesBy}
 use Rattle.line_laws.specs.Requests.{AreOf}
 use Rattle.line_laws.proofs.Earlier.{behind}
+use Rattle.line_laws.proofs.Hearing.{Listens}
 use Rattle.line_laws.proofs.Items.{message_rest, message_sound, begins_join}
 use Rattle.line_laws.proofs.Kept.{Kept, by_bool, over_told, puts_all_kept, put_in_kept, through_rest}
 use Rattle.line_laws.proofs.Lives.{behind_deed, lives_behind, came_of, came_join, of_join, NoHead, body_of}
@@ -75,15 +76,16 @@ none_left : {A : Type 0} (b c : List A) → b ++ c ≡ [] → (b ≡ []) × (c �
 none_left [] c is = (refl, is)
 none_left (i ∷ b) c is = absurd (cc)
 
-pub puts_passage : (n : ℕ) (past : List Sent) (now : Option Reads) (js ks : List Job) (x : Exchange) (hub : Hub) (a : List Item) (after : Hub) (h : Head) (first : Exchange) (base : List Traffic) → after.sent ≡ (put_in false a n x hub).1.sent
-    → pending n None js ≡ a ++ pending n now ks → (IsRefusing n js → IsRefusing n ks) → (NoEnter n js → NoEnter n ks) → (OneEnter n js → OneEnter n ks) → Passage n past None js x hub h first base
-    → (begins_with_head (batch_of n now) ≡ true → x.is_entered ≡ false) → Passage n past now ks (put_in false a n x hub).0 after h first base
-puts_passage n past now js ks x hub a after h first base sent pend refusing none once p batch =
+pub puts_passage : (n : ℕ) (past : List Sent) (now : Option Reads) (js ks : List Job) (lines later : List Line) (x : Exchange) (hub : Hub) (a : List Item) (after : Hub) (h : Head) (first : Exchange) (base : List Traffic) (got : List Item)
+    → after.sent ≡ (put_in false a n x hub).1.sent → pending n None js ≡ a ++ pending n now ks → (IsRefusing n js → IsRefusing n ks) → (NoEnter n js → NoEnter n ks) → (OneEnter n js → OneEnter n ks) → Listens n lines later
+    → Passage n past None js lines x hub h first base got → (begins_with_head (batch_of n now) ≡ true → x.is_entered ≡ false) → Passage n past now ks later (put_in false a n x hub).0 after h first base (got ++ a)
+puts_passage n past now js ks lines later x hub a after h first base got sent pend refusing none once listens p batch =
     record {
       went = p.went ++ o.more;
       adds = grows_past n past hub after base p.went o.more (ap (ups n) sent ∙ o.grows) p.adds;
-      got = p.got ++ a;
-      up = subst (λ (i : Phase). Up (put_in false a n x hub).0 [] (p.went ++ o.more) i) (sym (run_join fresh_phase p.got a)) o.goes;
+      heard = p.heard;
+      was = listens h p.heard p.was;
+      up = subst (λ (i : Phase). Up (put_in false a n x hub).0 [] (p.went ++ o.more) i) (sym (run_join fresh_phase got a)) o.goes;
       minor = ap (λ q. q.minor) kept.asked ∙ p.minor;
       framed = kept.framed ∙ p.framed;
       flow = by_flow p.flow;
@@ -93,24 +95,27 @@ puts_passage n past now js ks x hub a after h first base sent pend refusing none
     kept : Kept x (put_in false a n x hub).0
     kept = put_in_kept false a n x hub
 
-    sound_of : Flow n None js x p.got → IsSound (run (run fresh_phase p.got) a)
-    sound_of (flows proper) =
-        subst IsSound (run_join fresh_phase p.got a)
-        (sound_run (run fresh_phase (p.got ++ a)) (pending n now ks) (subst IsSound (run_join fresh_phase (p.got ++ a) (pending n now ks))
-        (subst (λ (l : List Item). IsSound (run fresh_phase l)) (sym (append_assoc p.got a (pending n now ks))) (subst (λ (l : List Item). IsSound (run fresh_phase (p.got ++ l))) pend (message_sound (p.got ++ pending n None js) proper.1)))))
-    sound_of (ceases message gone is) =
-        let both = none_left a (pending n now ks) (sym pend ∙ gone) in subst (λ (l : List Item). IsSound (run (run fresh_phase p.got) l)) (sym both.0) p.up.sound
+    joined : got ++ pending n None js ≡ (got ++ a) ++ pending n now ks
+    joined = ap (λ l. got ++ l) pend ∙ sym (append_assoc got a (pending n now ks))
 
-    o : Onward n hub (put_in false a n x hub) p.went (run (run fresh_phase p.got) a)
-    o = put_in_goes n a x hub p.went (run fresh_phase p.got) p.up (sound_of p.flow)
+    sound_of : Flow n None js x got p.heard → IsSound (run (run fresh_phase got) a)
+    sound_of (flows proper same) =
+        subst IsSound (run_join fresh_phase got a)
+        (sound_run (run fresh_phase (got ++ a)) (pending n now ks) (subst IsSound (run_join fresh_phase (got ++ a) (pending n now ks))
+        (subst (λ (l : List Item). IsSound (run fresh_phase l)) joined (message_sound (got ++ pending n None js) proper.1))))
+    sound_of (ceases message gone is front) =
+        let both = none_left a (pending n now ks) (sym pend ∙ gone) in subst (λ (l : List Item). IsSound (run (run fresh_phase got) l)) (sym both.0) p.up.sound
 
-    by_flow : Flow n None js x p.got → Flow n now ks (put_in false a n x hub).0 (p.got ++ a)
-    by_flow (flows proper) =
-        flows (subst (λ l. Proper l (put_in false a n x hub).0.asked.whole) (sym (append_assoc p.got a (pending n now ks)))
-        (subst (λ l. Proper (p.got ++ l) (put_in false a n x hub).0.asked.whole) pend (subst (λ w. Proper (p.got ++ pending n None js) w) (sym (ap (λ q. q.whole) kept.asked)) proper)))
-    by_flow (ceases message gone is) =
+    o : Onward n hub (put_in false a n x hub) p.went (run (run fresh_phase got) a)
+    o = put_in_goes n a x hub p.went (run fresh_phase got) p.up (sound_of p.flow)
+
+    by_flow : Flow n None js x got p.heard → Flow n now ks (put_in false a n x hub).0 (got ++ a) p.heard
+    by_flow (flows proper same) =
+        flows (subst (λ l. Proper l (put_in false a n x hub).0.asked.whole) joined (subst (λ w. Proper (got ++ pending n None js) w) (sym (ap (λ q. q.whole) kept.asked)) proper)) (sym joined ∙ same)
+    by_flow (ceases message gone is front) =
         let both = none_left a (pending n now ks) (sym pend ∙ gone) in
-        ceases (subst IsMessage (sym (ap (λ l. p.got ++ l) both.0 ∙ append-nil p.got)) message) both.1 (by_end is)
+        let all : got ++ a ≡ got = ap (λ l. got ++ l) both.0 ∙ append-nil got in
+        ceases (subst IsMessage (sym all) message) both.1 (by_end is) (subst (λ (l : List Item). IsFront l p.heard) (sym all) front)
       where
         by_end : (is_over x ≡ true) ⊎ IsRefusing n js → (is_over (put_in false a n x hub).0 ≡ true) ⊎ IsRefusing n ks
         by_end (inl over) = inl (over_told x (put_in false a n x hub).0 kept.told over)
@@ -124,7 +129,7 @@ module _ (plan : Plan) (n : ℕ) (past : List Sent) (now : Option Reads) (js ks 
 
   story_put : (sent : after.sent ≡ goes.1.sent) → (s : Story plan n past None js lines x hub) → AreOf s.head a (items_out x hub a)
       → (is_some goes.0.reader ≡ true) ⊎ ((ups n (past ++ after.sent) ≡ ups n s.start_hub.sent) × ((requests_in s.deeds ++ a ≡ []) ⊎ (is_over goes.0 ≡ true)))
-      → Passage n past now ks goes.0 after s.head s.start (ups n s.start_hub.sent)
+      → Passage n past now ks later goes.0 after s.head s.start (ups n s.start_hub.sent) (requests_in s.deeds ++ a)
       → Stream n now ks later goes.0 after.contexts s.head.fields (requests_in s.deeds ++ a) → Story plan n past now ks later goes.0 after
   story_put sent s are opened passage stream =
       let kept : Kept x goes.0 = put_in_kept false a n x hub in
@@ -150,21 +155,21 @@ module _ (plan : Plan) (n : ℕ) (past : List Sent) (now : Option Reads) (js ks 
             subst (λ l. AreOf s.head l (came_of n s.start s.start_hub (s.deeds ++ more))) (sym all_got)
             (subst (λ l. AreOf s.head (requests_in s.deeds ++ a) l) (sym all_came) (of_join s.head (requests_in s.deeds) a (came_of n s.start s.start_hub s.deeds) (items_out x hub a) s.came are));
         minor = ap (λ q. q.minor) kept.asked ∙ s.minor;
-        passage = passage;
+        passage = subst (Passage n past now ks later goes.0 after s.head s.start (ups n s.start_hub.sent)) (sym all_got) passage;
         opened = subst (λ l. (is_some goes.0.reader ≡ true) ⊎ ((ups n (past ++ after.sent) ≡ ups n s.start_hub.sent) × ((l ≡ []) ⊎ (is_over goes.0 ≡ true)))) (sym all_got) opened;
         stream = subst (Stream n now ks later goes.0 after.contexts s.head.fields) (sym all_got) stream;
       }
 
   -- what is put in is what was pending first
-  pub puts_story : after.sent ≡ goes.1.sent → pending n None js ≡ a ++ pending n now ks → (IsFreshJobs n js → begins_with_head a ≡ true) → (IsRefusing n js → IsRefusing n ks) → (NoEnter n js → NoEnter n ks) → (OneEnter n js → OneEnter n ks) → now ≡ None
+  pub puts_story : after.sent ≡ goes.1.sent → pending n None js ≡ a ++ pending n now ks → (IsFreshJobs n js → begins_with_head a ≡ true) → (IsRefusing n js → IsRefusing n ks) → (NoEnter n js → NoEnter n ks) → (OneEnter n js → OneEnter n ks) → Listens n lines later → now ≡ None
       → Story plan n past None js lines x hub → Story plan n past now ks later goes.0 after
-  puts_story sent first begins_so refusing none once quiet s = by_stream s.stream
+  puts_story sent first begins_so refusing none once listens quiet s = by_stream s.stream
     where
       no_batch : begins_with_head (batch_of n now) ≡ true → x.is_entered ≡ false
       no_batch e = let never : ◌≡◌ {A = Bool} false true = ap (λ r. begins_with_head (batch_of n r)) (sym quiet) ∙ e in absurd (cc)
 
-      passage : Passage n past now ks goes.0 after s.head s.start (ups n s.start_hub.sent)
-      passage = puts_passage n past now js ks x hub a after s.head s.start (ups n s.start_hub.sent) sent first refusing none once s.passage no_batch
+      passage : Passage n past now ks later goes.0 after s.head s.start (ups n s.start_hub.sent) (requests_in s.deeds ++ a)
+      passage = puts_passage n past now js ks lines later x hub a after s.head s.start (ups n s.start_hub.sent) (requests_in s.deeds) sent first refusing none once listens s.passage no_batch
 
       kept : Kept x goes.0
       kept = put_in_kept false a n x hub

@@ -21,6 +21,7 @@ use Rattle.worker.specs.Rooms as rooms
 use Rattle.worker.specs.Rooms.{moves, place_in, on_number, sending}
 use Rattle.worker.specs.Steps.{change_line, change_exchange, on_line, on_lines, exchange_of_line, exchange_on, line_in, line_reading, drops_line, reads_side, most_lines, new_line, place_for, opens, further, further_back, with_further, further_on, is_open, is_answered_in, is_read_in, comes, lost_exchange, lost, loses_down, is_missed, loses_up, happens}
 use Rattle.line_laws.proofs.Finding.{Seeks, missing, first, seeks, IsOnce, insert_other, insert_found, insert_once}
+use Rattle.line_laws.proofs.Hearing.{Feeds, no_feed, further_feeds}
 use Rattle.line_laws.proofs.Kept.{by_bool}
 use Rattle.line_laws.proofs.Upward.{still_keeps}
 use Rattle.line_laws.proofs.Looks.{is_n, look, line_in_is, equal_by, does_deed}
@@ -115,12 +116,12 @@ lost_notes n x hub = record {
 }
 
 further_line : (n : ℕ) (up stops : Bool) (bytes : List ℕ) (l : Line) (hub : Hub) → LineTurns n (Some l) hub (Some (further_on up stops bytes l)) hub
-further_line n false stops bytes l hub = let t = text_same stops bytes l.requests in (t.0, t.1, (line_as_is n (Some l) hub hub refl).2)
+further_line n false stops bytes l hub = let t = text_same stops bytes l.requests in (t.0, t.1, (line_as_is n (Some l) hub hub refl).2, further_feeds stops bytes l.requests)
 further_line n true stops bytes l hub =
-    let t = noted_exchange n (with_further stops bytes) l hub (λ x. further_notes n stops bytes x hub) in (ap (λ r. r.asked) t.0, ap (λ r. r.due) t.0, t.1)
+    let t = noted_exchange n (with_further stops bytes) l hub (λ x. further_notes n stops bytes x hub) in (ap (λ r. r.asked) t.0, ap (λ r. r.due) t.0, t.1, subst (Feeds l.requests) (sym t.0) (no_feed l.requests))
 
 lost_line : (n : ℕ) (l : Line) (hub : Hub) → LineTurns n (Some l) hub (Some (lost l)) hub
-lost_line n l hub = let t = noted_exchange n lost_exchange l hub (λ x. lost_notes n x hub) in (ap (λ r. r.asked) t.0, ap (λ r. r.due) t.0, t.1)
+lost_line n l hub = let t = noted_exchange n lost_exchange l hub (λ x. lost_notes n x hub) in (ap (λ r. r.asked) t.0, ap (λ r. r.due) t.0, t.1, subst (Feeds l.requests) (sym t.0) (no_feed l.requests))
 
 option_turns : (n : ℕ) (f : Line → Line) (hub : Hub) (o : Option Line) → ((l : Line) → LineTurns n (Some l) hub (Some (f l)) hub) → LineTurns n o hub (option_map f o) hub
 option_turns n f hub None each = refl
@@ -142,7 +143,7 @@ module _ (plan : Plan) (n : ℕ) (past : List Sent) (w : What) (mid : Room) (pop
   ends_so later once agenda js reading turns =
       ended_known plan n past later once (subst AllParts (sym agenda) pop.parts) (subst Tail (sym js) pop.tail) (reading ∙ pop.quiet)
       (subst (λ l. LineOk plan n past None l later.lines (look n later.lines) later.hub) (sym js)
-      (line_turn plan n past (jobs.Happen w ∷ mid.jobs) None mid.jobs (turn_to None refl) mid.lines later.lines (look n mid.lines) (look n later.lines) mid.hub later.hub turns (λ y e. tt) pop.line))
+      (line_turn plan n past (jobs.Happen w ∷ mid.jobs) None mid.jobs (turn_to None refl) mid.lines later.lines (look n mid.lines) (look n later.lines) mid.hub later.hub refl refl turns (λ y e. tt) pop.line))
 
   nothing_so : Known plan n past mid
   nothing_so = ends_so mid pop.once refl refl refl (line_as_is n (look n mid.lines) mid.hub mid.hub refl)
@@ -153,7 +154,7 @@ module _ (plan : Plan) (n : ℕ) (past : List Sent) (w : What) (mid : Room) (pop
   reads_so later r once agenda js rests none turns reads =
       goes_known plan n past r later once (subst AllParts (sym agenda) pop.parts) rests (js ∙ last)
       (subst (λ l. LineOk plan n past (Some r) l later.lines (look n later.lines) later.hub) last
-      (line_turn plan n past (jobs.Happen w ∷ mid.jobs) (Some r) mid.jobs (turn_to (Some r) none) mid.lines later.lines (look n mid.lines) (look n later.lines) mid.hub later.hub turns reads pop.line))
+      (line_turn plan n past (jobs.Happen w ∷ mid.jobs) (Some r) mid.jobs (turn_to (Some r) none) mid.lines later.lines (look n mid.lines) (look n later.lines) mid.hub later.hub refl refl turns reads pop.line))
 
   -- ---- a connection was opened
 

@@ -7,6 +7,7 @@ pub mod Reader
 pub mod Looks
 pub mod Rooms
 pub mod Calls
+pub mod Hearing
 pub mod Lives
 pub mod Story
 pub mod Calmed

@@ -1,5 +1,5 @@
 -- What an exchange sent up is one message, whatever filters it has; and the exchanges one behind the other.
-use Rattle.std.proofs.Common.{◌≡◌, ℕ, Bool, true, false, List, [], ◌∷◌, ◌++◌, map, refl, ap, ◌∙◌, sym, subst}
+use Rattle.std.proofs.Common.{◌≡◌, inl, inr, ℕ, Bool, true, false, List, [], ◌∷◌, ◌++◌, map, refl, ap, ◌∙◌, sym, subst}
 use Rattle.std.proofs.lemmas.Grind.{flat_map-append}
 use Rattle.std.proofs.lemmas.List.{append-nil, map-append}
 use Rattle.std.specs.List.{flat_map}
@@ -7,6 +7,7 @@ use Rattle.std.specs.Prelude.{Option, None, Some, is_some}
 use Rattle.exchange.specs.declared.types.Exchange.{Exchange}
 use Rattle.exchange.specs.declared.types.Hub.{Hub}
 use Rattle.exchange.specs.Leaving.{goes_up}
+use Rattle.exchange_laws.specs.Lives.{is_over}
 use Rattle.exchange_laws.specs.Traffic.{Traffic, opens, byte, closes, traffic, IsFront}
 use Rattle.filter_chain.specs.declared.item.Item.{Item}
 use Rattle.filter_chain.specs.declared.item.Item.TheVariants as items
@@ -17,11 +18,12 @@ use Rattle.http1_model.specs.Framing as out
 use Rattle.http1_model.specs.Head.{Head}
 use Rattle.http1_model.specs.Unread.{Reading}
 use Rattle.worker.specs.declared.types.Job.{Job}
+use Rattle.worker.specs.declared.types.Line.{Line}
 use Rattle.worker.specs.declared.types.Reads.{Reads}
 use Rattle.worker.specs.Plan.{Plan}
 use Rattle.line_laws.specs.Requests.{GoesUp, sends_nothing, sends_request, Part, IsPart, close_behind, traffic_of, AreParts, OneByOne}
 use Rattle.line_laws.proofs.Phases.{fresh, inside, whole, run, IsSound}
-use Rattle.line_laws.proofs.Story.{Passage}
+use Rattle.line_laws.proofs.Story.{IsRefusing, pending, Flow, flows, ceases, Passage}
 use Rattle.line_laws.proofs.Upward.{AreMade, is_any}
 
 -- ---- a body as it goes out
@@ -159,7 +161,24 @@ all_made h first t (items.Trailers ∷ left) (o ∷ outs) are is sound = absurd 
     broken_stays (items.Piece b f ∷ l) e = broken_stays l e
     broken_stays (items.Trailers ∷ l) e = broken_stays l e
 
-module _ (n : ℕ) (past : List Sent) (reading : Option Reads) (js : List Job) (x : Exchange) (hub : Hub) (h : Head) (first : Exchange) (base : List Traffic) (p : Passage n past reading js x hub h first base) where
+module _ (n : ℕ) (past : List Sent) (reading : Option Reads) (js : List Job) (lines : List Line) (x : Exchange) (hub : Hub) (h : Head) (first : Exchange) (base : List Traffic) (got : List Item)
+    (p : Passage n past reading js lines x hub h first base got) where
+  -- WHAT CAME to its chain is a front of what was heard, and all of it where nothing is in hand
+  pub came_front : IsFront got p.heard
+  came_front = by_flow p.flow
+    where
+      by_flow : Flow n reading js x got p.heard → IsFront got p.heard
+      by_flow (flows proper same) = (pending n reading js, same)
+      by_flow (ceases message none is front) = front
+
+  pub all_came : is_over x ≡ false → reading ≡ None → js ≡ [] → got ≡ p.heard
+  all_came live quiet jobless = by_flow p.flow
+    where
+      by_flow : Flow n reading js x got p.heard → got ≡ p.heard
+      by_flow (flows proper same) = sym (append-nil got) ∙ (ap (λ l. got ++ l) (λ i. pending n (sym quiet i) (sym jobless i)) ∙ same)
+      by_flow (ceases message none (inl over) front) = let never : ◌≡◌ {A = Bool} true false = sym over ∙ live in absurd (cc)
+      by_flow (ceases message none (inr is) front) = absurd (subst (IsRefusing n) jobless is)
+
   -- AN EXCHANGE SENDS UP ONE MESSAGE
   pub goes_of : GoesUp h first p.went
   goes_of =

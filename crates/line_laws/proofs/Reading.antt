@@ -80,7 +80,7 @@ module _ (plan : Plan) (past : List Sent) (room : Room) where
         by_reading None reads =
             ended_known plan n past still k.once k.parts (subst Tail (sym (k.alone r is).0) tt) refl
             (subst (λ l. LineOk plan n past None l room.lines (look n room.lines) room.hub) (sym (k.alone r is).0)
-            (line_beside plan n past r other None [] (record { batch = refl; puts = refl; unclosed = tt; none = tt; reads = λ x. tt }) room.lines room.lines (look n room.lines) (look n room.lines) room.hub room.hub
+            (line_beside plan n past r other None [] (record { batch = refl; puts = refl; unclosed = tt; none = tt; reads = λ x. tt }) room.lines room.lines (look n room.lines) (look n room.lines) room.hub room.hub refl refl
             (line_aside n (look n room.lines) room.hub room.hub refl) ok))
         by_reading (Some reading) reads = λ h says.
             heard_beyond plan n r other past still k.once k.parts (k.alone r is).0 refl (k.alone r is).1 ok

@@ -29,6 +29,7 @@ use Rattle.line_laws.proofs.Looks.{is_n, look, IsPlain}
 use Rattle.line_laws.proofs.Rooms.{AllParts}
 use Rattle.line_laws.proofs.Story.{puts_of, HasClose, NoClose, NoEnter, Alike, Becomes, passage_on, Tail, Stands, Rests, Phase, Matches, batch_of, pending, Proper, Stream, fresh, going, doomed, Tale, plainly, filtered, Idle, ExOk, LineOk, Known, LivesUp, story_on, ReadsOk}
 use Rattle.line_laws.proofs.Calmed.{other_on, none_once, tail_stands, tail_phase}
+use Rattle.line_laws.proofs.Hearing.{Listens, same_listens}
 use Rattle.line_laws.proofs.OnLines.{Numbered, jobs_of_line, line_unclosed, line_unentered, line_puts}
 use Rattle.line_laws.proofs.Upward.{Keeps, still_keeps, aside_still}
 
@@ -140,37 +141,37 @@ module _ (plan : Plan) (n : ℕ) (past : List Sent) (r : Reads) (other : NotDown
   stream_beside lines later x y c d fields got same is_same (doomed message none (inl is)) = doomed message ahead_none (inl (is_same is))
   stream_beside lines later x y c d fields got same is_same (doomed message none (inr is)) = absurd is
 
-  tale_beside : (lines later : List Line) (x y : Exchange) (hub after : Hub) → Notes n x hub y after → Tale plan n past (Some r) [] lines x hub → Tale plan n past now ks later y after
-  tale_beside lines later x y hub after q (plainly t) =
+  tale_beside : (lines later : List Line) (x y : Exchange) (hub after : Hub) → Listens n lines later → Notes n x hub y after → Tale plan n past (Some r) [] lines x hub → Tale plan n past now ks later y after
+  tale_beside lines later x y hub after listens q (plainly t) =
       let l : LivesUp n x hub y after = q.plain t.plain in
       plainly (story_on plan n past (Some r) now [] ks lines later x y hub after t l (ap (λ q. q.minor) q.asked)
-      (passage_on n past (Some r) now [] ks x y hub after t.head t.start (ups n t.start_hub.sent) ahead_alike (notes_become n x y hub after q) t.passage)
+      (passage_on n past (Some r) now [] ks lines later x y hub after t.head t.start (ups n t.start_hub.sent) _ ahead_alike listens (notes_become n x y hub after q) t.passage)
       (stream_beside lines later x y hub.contexts after.contexts t.head.fields _ q.asked l.over t.stream))
-  tale_beside lines later x y hub after q (filtered o) = filtered (other_on plan n past (Some r) now [] ks x y hub after (λ e. sym q.filters ∙ e) ahead_alike (notes_become n x y hub after q) o)
+  tale_beside lines later x y hub after listens q (filtered o) = filtered (other_on plan n past (Some r) now [] ks lines later x y hub after (λ e. sym q.filters ∙ e) ahead_alike listens (notes_become n x y hub after q) o)
 
-  exchange_beside : (lines later : List Line) (due : Due) (o p : Option Exchange) (hub after : Hub) → ExNotes n o hub p after → ExOk plan n past (Some r) [] lines due o hub → ExOk plan n past now ks later due p after
-  exchange_beside lines later due None None hub after q ok = record { none = ahead_none; due_or = by_due ok.due_or; idle = idle_same plan n past hub after q ok.idle }
+  exchange_beside : (lines later : List Line) (due : Due) (o p : Option Exchange) (hub after : Hub) → Listens n lines later → ExNotes n o hub p after → ExOk plan n past (Some r) [] lines due o hub → ExOk plan n past now ks later due p after
+  exchange_beside lines later due None None hub after listens q ok = record { none = ahead_none; due_or = by_due ok.due_or; idle = idle_same plan n past hub after q ok.idle }
     where
       by_due : (due ≡ head) ⊎ HasClose n [] → (due ≡ head) ⊎ HasClose n ks
       by_due (inl e) = inl e
       by_due (inr e) = absurd e
-  exchange_beside lines later due None (Some y) hub after q ok = absurd q
-  exchange_beside lines later due (Some x) None hub after q ok = absurd q
-  exchange_beside lines later due (Some x) (Some y) hub after q ok = record {
+  exchange_beside lines later due None (Some y) hub after listens q ok = absurd q
+  exchange_beside lines later due (Some x) None hub after listens q ok = absurd q
+  exchange_beside lines later due (Some x) (Some y) hub after listens q ok = record {
     staid = q.staid ok.staid;
     matches = subst (λ w. Matches w due) (sym (ap (λ q. q.whole) q.asked)) ok.matches;
     unclosed = a.unclosed;
     reads = a.reads y;
-    tale = tale_beside lines later x y hub after q ok.tale;
+    tale = tale_beside lines later x y hub after listens q ok.tale;
   }
 
-  pub line_beside : (lines later : List Line) (o p : Option Line) (hub after : Hub) → LineNotes n o hub p after → LineOk plan n past (Some r) [] lines o hub → LineOk plan n past now ks later p after
-  line_beside lines later None None hub after q ok = (ahead_none, idle_same plan n past hub after q ok.1)
-  line_beside lines later None (Some m) hub after q ok = absurd q
-  line_beside lines later (Some l) None hub after q ok = absurd q
-  line_beside lines later (Some l) (Some m) hub after q ok = (
+  pub line_beside : (lines later : List Line) (o p : Option Line) (hub after : Hub) → look n lines ≡ o → look n later ≡ p → LineNotes n o hub p after → LineOk plan n past (Some r) [] lines o hub → LineOk plan n past now ks later p after
+  line_beside lines later None None hub after at to q ok = (ahead_none, idle_same plan n past hub after q ok.1)
+  line_beside lines later None (Some m) hub after at to q ok = absurd q
+  line_beside lines later (Some l) None hub after at to q ok = absurd q
+  line_beside lines later (Some l) (Some m) hub after at to q ok = (
     ap (λ t. t.asked) q.0 ∙ ok.0,
-    subst (λ d. ExOk plan n past now ks later d m.exchange after) (sym (ap (λ t. t.due) q.0)) (exchange_beside lines later l.requests.due l.exchange m.exchange hub after q.1 ok.1),
+    subst (λ d. ExOk plan n past now ks later d m.exchange after) (sym (ap (λ t. t.due) q.0)) (exchange_beside lines later l.requests.due l.exchange m.exchange hub after (same_listens n lines later l m at to q.0) q.1 ok.1),
   )
 
 -- ---- the reading goes on, or ends

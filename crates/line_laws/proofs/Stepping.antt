@@ -163,7 +163,7 @@ module _ {H : Type 0} (calling : Calling H) (logs : WriteLogs calling) (plan : P
           line = subst (λ (r : Option Reads). LineOk plan n past r (job ∷ []) room.lines (look n room.lines) room.hub) (sym quiet)
               (line_turn plan n past [] None (job ∷ [])
               (record { pend = (λ i. (part_puts n job parts.0 i ++ []) ++ []); has = λ h. absurd h; no = λ h. part_unclosed n job parts.0; refusing = λ h. absurd h; none = λ h. part_unentered n job parts.0; once = λ h. none_once n (job ∷ []) (part_unentered n job parts.0); unread = refl; unfresh = λ h. h })
-              room.lines room.lines (look n room.lines) (look n room.lines) room.hub room.hub (line_as_is n (look n room.lines) room.hub room.hub refl) (λ y e. tt) (idle_ok quiet jobless));
+              room.lines room.lines (look n room.lines) (look n room.lines) room.hub room.hub refl refl (line_as_is n (look n room.lines) room.hub room.hub refl) (λ y e. tt) (idle_ok quiet jobless));
         }
 
     -- EACH STEP

@@ -12,7 +12,7 @@ use Rattle.exchange.specs.Maps.{request_map}
 use Rattle.exchange_laws.specs.Laws.{IsQuiet}
 use Rattle.exchange_laws.specs.Lives.{Deed, done_by, is_over}
 use Rattle.exchange_laws.specs.Responses.{IsMessage}
-use Rattle.exchange_laws.specs.Traffic.{Traffic, ups}
+use Rattle.exchange_laws.specs.Traffic.{Traffic, ups, IsFront}
 use Rattle.exchange_laws.proofs.Lives.{nothing_else}
 use Rattle.exchange_laws.proofs.Traffic.{ups_join}
 use Rattle.filter_chain.specs.declared.item.Item.{Item}
@@ -34,6 +34,7 @@ pub use Rattle.line_laws.specs.Requests.{is_whole}
 use Rattle.line_laws.specs.Requests.{IsBegun, Began, OneByOne, AreOf}
 use Rattle.line_laws.proofs.Earlier.{behind}
 use Rattle.line_laws.proofs.Finding.{IsOnce}
+use Rattle.line_laws.proofs.Hearing.{HeardIn, Listens}
 use Rattle.line_laws.proofs.Kept.{Staid, over_told}
 use Rattle.line_laws.proofs.Lives.{behind_deed, lives_behind, requests_behind, came_of, came_join, none_came, none_of, none_left}
 use Rattle.line_laws.proofs.Looks.{is_n, look, IsPlain, LivesOn, lives_join}
@@ -138,9 +139,9 @@ ReadsOk n (Some r) x = (r.line == n) ≡ true → r.up ≡ false → (x.asked.wh
 -- ---- what an exchange sent up, whatever filters it has
 
 -- the request: it comes on, or nothing of it comes any more
-pub data Flow (n : ℕ) (reading : Option Reads) (js : List Job) (x : Exchange) (got : List Item) : Type 0 where
-  flows : Proper (got ++ pending n reading js) x.asked.whole → Flow n reading js x got
-  ceases : IsMessage got → pending n reading js ≡ [] → (is_over x ≡ true) ⊎ IsRefusing n js → Flow n reading js x got
+pub data Flow (n : ℕ) (reading : Option Reads) (js : List Job) (x : Exchange) (got heard : List Item) : Type 0 where
+  flows : Proper (got ++ pending n reading js) x.asked.whole → got ++ pending n reading js ≡ heard → Flow n reading js x got heard
+  ceases : IsMessage got → pending n reading js ≡ [] → (is_over x ≡ true) ⊎ IsRefusing n js → IsFront got heard → Flow n reading js x got heard
 
 -- stages are made once, before anything of the request comes to them
 pub record Enters (n : ℕ) (reading : Option Reads) (js : List Job) (x : Exchange) : Type 0 where
@@ -149,14 +150,15 @@ pub record Enters (n : ℕ) (reading : Option Reads) (js : List Job) (x : Exchan
   pub first : begins_with_head (batch_of n reading) ≡ true → x.is_entered ≡ false
 
 -- behind what was sent before it began, of an exchange that was the first when it began
-pub record Passage (n : ℕ) (past : List Sent) (reading : Option Reads) (js : List Job) (x : Exchange) (hub : Hub) (h : Head) (first : Exchange) (base : List Traffic) : Type 0 where
+pub record Passage (n : ℕ) (past : List Sent) (reading : Option Reads) (js : List Job) (lines : List Line) (x : Exchange) (hub : Hub) (h : Head) (first : Exchange) (base : List Traffic) (got : List Item) : Type 0 where
   pub went : List Traffic
   pub adds : ups n (past ++ hub.sent) ≡ base ++ went
-  pub got : List Item
+  pub heard : List Item
+  pub was : HeardIn n lines h heard
   pub up : Up x [] went (run fresh_phase got)
   pub minor : x.asked.minor ≡ h.minor
   pub framed : goes_up x ≡ goes_up first
-  pub flow : Flow n reading js x got
+  pub flow : Flow n reading js x got heard
   pub enters : Enters n reading js x
 
 -- what is in hand and what is read, where that is the same for the line
@@ -184,14 +186,15 @@ grows_past n past hub after base went more grows adds =
     ups_join n past after.sent
     ∙ (ap (λ t. ups n past ++ t) grows ∙ (sym (append_assoc (ups n past) (ups n hub.sent) more) ∙ (ap (λ t. t ++ more) (sym (ups_join n past hub.sent) ∙ adds) ∙ append_assoc base went more)))
 
-pub passage_on : (n : ℕ) (past : List Sent) (reading now : Option Reads) (js ks : List Job) (x y : Exchange) (hub after : Hub) (h : Head) (first : Exchange) (base : List Traffic) → Alike n reading js now ks → Becomes n x hub y after
-    → Passage n past reading js x hub h first base → Passage n past now ks y after h first base
-passage_on n past reading now js ks x y hub after h first base a b p =
-    let o : Onward n hub (y, after) p.went (run fresh_phase p.got) = b.keeps p.went (run fresh_phase p.got) p.up in
+pub passage_on : (n : ℕ) (past : List Sent) (reading now : Option Reads) (js ks : List Job) (lines later : List Line) (x y : Exchange) (hub after : Hub) (h : Head) (first : Exchange) (base : List Traffic) (got : List Item) → Alike n reading js now ks → Listens n lines later
+    → Becomes n x hub y after → Passage n past reading js lines x hub h first base got → Passage n past now ks later y after h first base got
+passage_on n past reading now js ks lines later x y hub after h first base got a listens b p =
+    let o : Onward n hub (y, after) p.went (run fresh_phase got) = b.keeps p.went (run fresh_phase got) p.up in
     record {
       went = p.went ++ o.more;
       adds = grows_past n past hub after base p.went o.more o.grows p.adds;
-      got = p.got;
+      heard = p.heard;
+      was = listens h p.heard p.was;
       up = o.goes;
       minor = ap (λ q. q.minor) b.asked ∙ p.minor;
       framed = b.framed ∙ p.framed;
@@ -199,10 +202,11 @@ passage_on n past reading now js ks x y hub after h first base a b p =
       enters = record { once = a.once p.enters.once; none = λ e. a.none (p.enters.none (sym b.entered ∙ e)); first = λ e. b.entered ∙ p.enters.first (a.first e) };
     }
   where
-    by_flow : Flow n reading js x p.got → Flow n now ks y p.got
-    by_flow (flows proper) = flows (subst (λ l. Proper (p.got ++ l) y.asked.whole) (sym a.pend) (subst (λ w. Proper (p.got ++ pending n reading js) w) (sym (ap (λ q. q.whole) b.asked)) proper))
-    by_flow (ceases message none (inl over)) = ceases message (a.pend ∙ none) (inl (b.over over))
-    by_flow (ceases message none (inr is)) = ceases message (a.pend ∙ none) (inr (a.refusing is))
+    by_flow : Flow n reading js x got p.heard → Flow n now ks y got p.heard
+    by_flow (flows proper same) =
+        flows (subst (λ l. Proper (got ++ l) y.asked.whole) (sym a.pend) (subst (λ w. Proper (got ++ pending n reading js) w) (sym (ap (λ q. q.whole) b.asked)) proper)) (ap (λ l. got ++ l) a.pend ∙ same)
+    by_flow (ceases message none (inl over) front) = ceases message (a.pend ∙ none) (inl (b.over over)) front
+    by_flow (ceases message none (inr is) front) = ceases message (a.pend ∙ none) (inr (a.refusing is)) front
 
 -- ---- the request of an exchange without filters: its head is on its way, with the map of the head; or has come; or nothing of it comes any more
 pub data Stream (n : ℕ) (reading : Option Reads) (js : List Job) (lines : List Line) (x : Exchange) (contexts : Contexts) (fields : Headers) (got : List Item) : Type 0 where
@@ -224,11 +228,11 @@ pub record Story (plan : Plan) (n : ℕ) (past : List Sent) (reading : Option Re
   pub minor : x.asked.minor ≡ head.minor
   -- it opened a connection, or sent nothing up
   pub opened : (is_some x.reader ≡ true) ⊎ ((ups n (past ++ hub.sent) ≡ ups n start_hub.sent) × ((requests_in deeds ≡ []) ⊎ (is_over x ≡ true)))
-  pub passage : Passage n past reading js x hub head start (ups n start_hub.sent)
+  pub passage : Passage n past reading js lines x hub head start (ups n start_hub.sent) (requests_in deeds)
   pub stream : Stream n reading js lines x hub.contexts head.fields (requests_in deeds)
 
 -- of an exchange with filters
-pub record Other (plan : Plan) (n : ℕ) (past : List Sent) (reading : Option Reads) (js : List Job) (x : Exchange) (hub : Hub) : Type 0 where
+pub record Other (plan : Plan) (n : ℕ) (past : List Sent) (reading : Option Reads) (js : List Job) (lines : List Line) (x : Exchange) (hub : Hub) : Type 0 where
   pub filters : x.filters ≡ [] → ⊥
   pub head : Head
   pub start : Exchange
@@ -236,11 +240,12 @@ pub record Other (plan : Plan) (n : ℕ) (past : List Sent) (reading : Option Re
   pub some : start.filters ≡ [] → ⊥
   pub base : List Traffic
   pub before : OneByOne plan base
-  pub passage : Passage n past reading js x hub head start base
+  pub got : List Item
+  pub passage : Passage n past reading js lines x hub head start base got
 
 pub data Tale (plan : Plan) (n : ℕ) (past : List Sent) (reading : Option Reads) (js : List Job) (lines : List Line) (x : Exchange) (hub : Hub) : Type 0 where
   plainly : Story plan n past reading js lines x hub → Tale plan n past reading js lines x hub
-  filtered : Other plan n past reading js x hub → Tale plan n past reading js lines x hub
+  filtered : Other plan n past reading js lines x hub → Tale plan n past reading js lines x hub
 
 -- ---- the line
 
@@ -297,7 +302,7 @@ quiet_ups n (d ∷ deeds) x y hub after none lives is =
     quiet_ups n deeds (done_by n d x hub).0 y (done_by n d x hub).1 after q.kin.unfiltered lives.1 both.1 ∙ q.sends
 
 pub story_on : (plan : Plan) (n : ℕ) (past : List Sent) (reading now : Option Reads) (js ks : List Job) (lines later : List Line) (x y : Exchange) (hub after : Hub)
-    → (s : Story plan n past reading js lines x hub) → LivesUp n x hub y after → y.asked.minor ≡ x.asked.minor → Passage n past now ks y after s.head s.start (ups n s.start_hub.sent)
+    → (s : Story plan n past reading js lines x hub) → LivesUp n x hub y after → y.asked.minor ≡ x.asked.minor → Passage n past now ks later y after s.head s.start (ups n s.start_hub.sent) (requests_in s.deeds)
     → Stream n now ks later y after.contexts s.head.fields (requests_in s.deeds) → Story plan n past now ks later y after
 story_on plan n past reading now js ks lines later x y hub after s l minor passage stream =
     let more : List Deed = map (behind_deed past) l.deeds in
@@ -319,7 +324,7 @@ story_on plan n past reading now js ks lines later x y hub after s l minor passa
       lives = lives_join false n s.deeds more s.start x y s.start_hub (behind past hub) (behind past after) s.lives lives_more;
       came = same_came all_got all_came s.came;
       minor = minor ∙ s.minor;
-      passage = passage;
+      passage = subst (Passage n past now ks later y after s.head s.start (ups n s.start_hub.sent)) (sym all_got) passage;
       opened = by_opened (quiet_ups n more x y (behind past hub) (behind past after) s.plain.1 lives_more none) all_got s.opened;
       stream = subst (Stream n now ks later y after.contexts s.head.fields) (sym all_got) stream;
     }

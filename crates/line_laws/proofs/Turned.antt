@@ -21,6 +21,7 @@ use Rattle.worker.specs.Rooms.{Changes, marking, in_line, in_exchange, with_resu
 use Rattle.worker.specs.Steps.{exchange_of_line, begins_with_head}
 use Rattle.line_laws.specs.Living.{request_in}
 use Rattle.line_laws.proofs.Finding.{Seeks, missing, first, seeks, IsOnce, only_found, set_once, set_there}
+use Rattle.line_laws.proofs.Hearing.{Listens, Feeds, feeds_listen}
 use Rattle.line_laws.proofs.Kept.{Kept, over_told}
 use Rattle.line_laws.proofs.Looks.{is_n, look, Beside, IsPlain, plain_kept, kept_by, equal_by, Still, still_aside, set_still, sends_beside, beside_itself, beside_then, LineGoes, looks_aside}
 use Rattle.line_laws.proofs.Phases.{Phase, run, IsSound}
@@ -34,7 +35,7 @@ abbrev pub LineTurns : ℕ → Option Line → Hub → Option Line → Hub → T
 LineTurns n None hub None after = ups n after.sent ≡ ups n hub.sent
 LineTurns n None hub (Some m) after = ⊥
 LineTurns n (Some l) hub None after = ⊥
-LineTurns n (Some l) hub (Some m) after = (m.requests.asked ≡ l.requests.asked) × (m.requests.due ≡ l.requests.due) × ExNotes n l.exchange hub m.exchange after
+LineTurns n (Some l) hub (Some m) after = (m.requests.asked ≡ l.requests.asked) × (m.requests.due ≡ l.requests.due) × ExNotes n l.exchange hub m.exchange after × Feeds l.requests m.requests
 
 -- what is in hand, and what is read
 pub record Turn (n : ℕ) (js : List Job) (now : Option Reads) (ks : List Job) : Type 0 where
@@ -65,39 +66,39 @@ module _ (plan : Plan) (n : ℕ) (past : List Sent) (js : List Job) (now : Optio
     first = λ e. let never : ◌≡◌ {A = Bool} false true = ap begins_with_head (sym t.unread) ∙ e in absurd (cc);
   }
 
-  tale_turn : (lines later : List Line) (x y : Exchange) (hub after : Hub) → Notes n x hub y after → Tale plan n past None js lines x hub → Tale plan n past now ks later y after
-  tale_turn lines later x y hub after q (plainly s) =
+  tale_turn : (lines later : List Line) (x y : Exchange) (hub after : Hub) → Listens n lines later → Notes n x hub y after → Tale plan n past None js lines x hub → Tale plan n past now ks later y after
+  tale_turn lines later x y hub after listens q (plainly s) =
       let l : LivesUp n x hub y after = q.plain s.plain in
       plainly (story_on plan n past None now js ks lines later x y hub after s l (ap (λ a. a.minor) q.asked)
-      (passage_on n past None now js ks x y hub after s.head s.start (ups n s.start_hub.sent) turn_alike (notes_become n x y hub after q) s.passage)
+      (passage_on n past None now js ks lines later x y hub after s.head s.start (ups n s.start_hub.sent) _ turn_alike listens (notes_become n x y hub after q) s.passage)
       (stream_turn lines later x y hub.contexts after.contexts s.head.fields _ q.asked l.over s.stream))
-  tale_turn lines later x y hub after q (filtered o) = filtered (other_on plan n past None now js ks x y hub after (λ e. sym q.filters ∙ e) turn_alike (notes_become n x y hub after q) o)
+  tale_turn lines later x y hub after listens q (filtered o) = filtered (other_on plan n past None now js ks lines later x y hub after (λ e. sym q.filters ∙ e) turn_alike listens (notes_become n x y hub after q) o)
 
-  exchange_turn : (lines later : List Line) (due : Due) (o p : Option Exchange) (hub after : Hub) → ExNotes n o hub p after → ((y : Exchange) → p ≡ Some y → ReadsOk n now y) → ExOk plan n past None js lines due o hub
+  exchange_turn : (lines later : List Line) (due : Due) (o p : Option Exchange) (hub after : Hub) → Listens n lines later → ExNotes n o hub p after → ((y : Exchange) → p ≡ Some y → ReadsOk n now y) → ExOk plan n past None js lines due o hub
       → ExOk plan n past now ks later due p after
-  exchange_turn lines later due None None hub after q reads ok = record { none = t.pend ∙ ok.none; due_or = by_due ok.due_or; idle = idle_same plan n past hub after q ok.idle }
+  exchange_turn lines later due None None hub after listens q reads ok = record { none = t.pend ∙ ok.none; due_or = by_due ok.due_or; idle = idle_same plan n past hub after q ok.idle }
     where
       by_due : (due ≡ head) ⊎ HasClose n js → (due ≡ head) ⊎ HasClose n ks
       by_due (inl e) = inl e
       by_due (inr e) = inr (t.has e)
-  exchange_turn lines later due None (Some y) hub after q reads ok = absurd q
-  exchange_turn lines later due (Some x) None hub after q reads ok = absurd q
-  exchange_turn lines later due (Some x) (Some y) hub after q reads ok = record {
+  exchange_turn lines later due None (Some y) hub after listens q reads ok = absurd q
+  exchange_turn lines later due (Some x) None hub after listens q reads ok = absurd q
+  exchange_turn lines later due (Some x) (Some y) hub after listens q reads ok = record {
     staid = q.staid ok.staid;
     matches = subst (λ w. Matches w due) (sym (ap (λ a. a.whole) q.asked)) ok.matches;
     unclosed = t.no ok.unclosed;
     reads = reads y refl;
-    tale = tale_turn lines later x y hub after q ok.tale;
+    tale = tale_turn lines later x y hub after listens q ok.tale;
   }
 
-  pub line_turn : (lines later : List Line) (o p : Option Line) (hub after : Hub) → LineTurns n o hub p after → ((y : Exchange) → exchange_of_line p ≡ Some y → ReadsOk n now y) → LineOk plan n past None js lines o hub
+  pub line_turn : (lines later : List Line) (o p : Option Line) (hub after : Hub) → look n lines ≡ o → look n later ≡ p → LineTurns n o hub p after → ((y : Exchange) → exchange_of_line p ≡ Some y → ReadsOk n now y) → LineOk plan n past None js lines o hub
       → LineOk plan n past now ks later p after
-  line_turn lines later None None hub after q reads ok = (t.pend ∙ ok.0, idle_same plan n past hub after q ok.1)
-  line_turn lines later None (Some m) hub after q reads ok = absurd q
-  line_turn lines later (Some l) None hub after q reads ok = absurd q
-  line_turn lines later (Some l) (Some m) hub after q reads ok = (
+  line_turn lines later None None hub after at to q reads ok = (t.pend ∙ ok.0, idle_same plan n past hub after q ok.1)
+  line_turn lines later None (Some m) hub after at to q reads ok = absurd q
+  line_turn lines later (Some l) None hub after at to q reads ok = absurd q
+  line_turn lines later (Some l) (Some m) hub after at to q reads ok = (
     q.0 ∙ ok.0,
-    subst (λ d. ExOk plan n past now ks later d m.exchange after) (sym q.1) (exchange_turn lines later l.requests.due l.exchange m.exchange hub after q.2 reads ok.1),
+    subst (λ d. ExOk plan n past now ks later d m.exchange after) (sym q.1) (exchange_turn lines later l.requests.due l.exchange m.exchange hub after (feeds_listen n lines later l m at to q.3) q.2 reads ok.1),
   )
 
 -- ---- what is done to the exchange of the line, exactly

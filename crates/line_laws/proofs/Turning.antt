@@ -15,6 +15,7 @@ use Rattle.exchange.specs.declared.types.Hub.{Hub}
 use Rattle.exchange_laws.specs.Lives.{turns, is_over}
 use Rattle.exchange_laws.specs.Traffic.{Traffic, opens, byte, traffic, ups, IsFront}
 use Rattle.exchange_laws.proofs.Traffic.{ups_join}
+use Rattle.filter_chain.specs.declared.item.Item.{Item}
 use Rattle.gate_io.specs.declared.event.Event.{Event}
 use Rattle.gate_io.specs.declared.event.Sent.{Sent}
 use Rattle.gate_io.specs.declared.event.What.{What}
@@ -37,10 +38,10 @@ use Rattle.worker.specs.Turn.{Outcome, turn, turn_by, facing, agenda_of, starts,
 use Rattle.line_laws.specs.Laws.{ExchangesLive, RequestsGoUpOneByOne}
 use Rattle.line_laws.specs.Logs.{Calling, WriteLogs}
 use Rattle.line_laws.specs.Living.{requests_in, request_in, LivesBy}
-use Rattle.line_laws.specs.Requests.{AreOf, OneByOne, is_whole, IsExact, IsSoFar, IsOpen, GoesUpBy, HasLived}
+use Rattle.line_laws.specs.Requests.{AreOf, OneByOne, is_whole, IsSoFar, IsOpen, GoesUpBy, HasLived}
 use Rattle.line_laws.specs.Turns.{Done, Turns, new_room, sent_in}
 use Rattle.line_laws.proofs.Earlier.{behind}
-use Rattle.line_laws.proofs.Ending.{Went, went, is_message, same_went, exact_of}
+use Rattle.line_laws.proofs.Ending.{Went, went, is_message, same_went}
 use Rattle.line_laws.proofs.Joining.{ups_joined}
 use Rattle.line_laws.proofs.Kept.{by_bool}
 use Rattle.line_laws.proofs.Lives.{came_of, came_join, lives_with}
@@ -48,7 +49,7 @@ use Rattle.line_laws.proofs.Looks.{look, line_in_is, lives_join}
 use Rattle.line_laws.proofs.Readable.{readable}
 use Rattle.line_laws.proofs.Rooms.{AllParts}
 use Rattle.line_laws.proofs.Stepping.{settling_keeps}
-use Rattle.line_laws.proofs.Parts.{goes_of, no_parts}
+use Rattle.line_laws.proofs.Parts.{goes_of, came_front, all_came, no_parts}
 use Rattle.line_laws.proofs.Story.{IsFresh, IsRefusing, pending, Stream, fresh, going, doomed, Passage, Story, Tale, plainly, filtered, Idle, ExOk, LineOk, Known}
 
 -- ---- the parts of a turn
@@ -91,9 +92,10 @@ agenda_parts plan what room =
 -- ---- what was sent is counted otherwise
 
 module _ (plan : Plan) (n : ℕ) (past now : List Sent) (hub after : Hub) (same : ups n (now ++ after.sent) ≡ ups n (past ++ hub.sent)) (alike : after.contexts ≡ hub.contexts) where
-  passage_past : (reading : Option Reads) (js : List Job) (x : Exchange) (h : Head) (first : Exchange) (base : List Traffic) → Passage n past reading js x hub h first base → Passage n now reading js x after h first base
-  passage_past reading js x h first base p =
-      record { went = p.went; adds = same ∙ p.adds; got = p.got; up = p.up; minor = p.minor; framed = p.framed; flow = p.flow; enters = p.enters }
+  passage_past : (reading : Option Reads) (js : List Job) (lines : List Line) (x : Exchange) (h : Head) (first : Exchange) (base : List Traffic) (got : List Item) → Passage n past reading js lines x hub h first base got
+      → Passage n now reading js lines x after h first base got
+  passage_past reading js lines x h first base got p =
+      record { went = p.went; adds = same ∙ p.adds; heard = p.heard; was = p.was; up = p.up; minor = p.minor; framed = p.framed; flow = p.flow; enters = p.enters }
 
   story_past : (reading : Option Reads) (js : List Job) (lines : List Line) (x : Exchange) → Story plan n past reading js lines x hub → Story plan n now reading js lines x after
   story_past reading js lines x s =
@@ -113,7 +115,7 @@ module _ (plan : Plan) (n : ℕ) (past now : List Sent) (hub after : Hub) (same 
         lives = lives_join false n s.deeds (turns x (behind now after) ∷ []) s.start x x s.start_hub (behind past hub) (behind now after) s.lives one;
         came = subst (λ l. AreOf s.head l (came_of n s.start s.start_hub (s.deeds ++ turns x (behind now after) ∷ []))) (sym got) (subst (λ l. AreOf s.head (requests_in s.deeds) l) (sym outs) s.came);
         minor = s.minor;
-        passage = passage_past reading js x s.head s.start (ups n s.start_hub.sent) s.passage;
+        passage = subst (Passage n now reading js lines x after s.head s.start (ups n s.start_hub.sent)) (sym got) (passage_past reading js lines x s.head s.start (ups n s.start_hub.sent) (requests_in s.deeds) s.passage);
         opened = by_opened got s.opened;
         stream = subst (Stream n reading js lines x after.contexts s.head.fields) (sym got) (subst (λ (c : Contexts). Stream n reading js lines x c s.head.fields (requests_in s.deeds)) (sym alike) s.stream);
       }
@@ -137,7 +139,8 @@ module _ (plan : Plan) (n : ℕ) (past now : List Sent) (hub after : Hub) (same 
     some = o.some;
     base = o.base;
     before = o.before;
-    passage = passage_past reading js x o.head o.start o.base o.passage;
+    got = o.got;
+    passage = passage_past reading js lines x o.head o.start o.base o.got o.passage;
   })
 
   exchange_past : (reading : Option Reads) (js : List Job) (lines : List Line) (due : Due) (o : Option Exchange) → ExOk plan n past reading js lines due o hub → ExOk plan n now reading js lines due o after
@@ -227,16 +230,14 @@ new_known plan contexts n = record {
 
 -- ---- what went up
 
-so_far : (plan : Plan) (n : ℕ) (past : List Sent) (room : Room) (x : Exchange) → (s : Story plan n past room.reading room.jobs room.lines x room.hub) → IsSoFar room x s.head s.passage.went
+so_far : (plan : Plan) (n : ℕ) (past : List Sent) (room : Room) (x : Exchange) → (s : Story plan n past room.reading room.jobs room.lines x room.hub) → IsSoFar room x s.head (requests_in s.deeds) s.passage.went
 so_far plan n past room x s =
     let w : Went plan n past room.reading room.jobs room.lines x room.hub s = went plan n past room.reading room.jobs room.lines x room.hub s in
-    let e : IsExact s.head s.passage.went = exact_of plan n past room.reading room.jobs room.lines x room.hub s in
     let same : w.goes.went ≡ s.passage.went = same_went plan n past room.reading room.jobs room.lines x room.hub s in
     record {
       request = w.request;
       sent_of = w.sent_of;
       reads_back = λ ended other room suits. w.goes.read_back ended (readable s.head w.request s.began.begun.judged w.sent_of other room) suits;
-      items = requests_in s.deeds;
       message = is_message plan n past room.reading room.jobs room.lines x room.hub s;
       came = came_of n s.start s.start_hub s.deeds;
       of = s.came;
@@ -277,9 +278,15 @@ goes_up_by plan n past room k =
           head = s.head;
           first = s.start;
           begun = s.began.begun;
+          heard = s.passage.heard;
+          now = s.passage.was.now;
+          was_heard = s.passage.was.was;
+          came = requests_in s.deeds;
+          came_first = came_front n past room.reading room.jobs room.lines x room.hub s.head s.start (ups n s.start_hub.sent) (requests_in s.deeds) s.passage;
+          came_all = all_came n past room.reading room.jobs room.lines x room.hub s.head s.start (ups n s.start_hub.sent) (requests_in s.deeds) s.passage;
           went = s.passage.went;
           adds = s.passage.adds;
-          goes = goes_of n past room.reading room.jobs x room.hub s.head s.start (ups n s.start_hub.sent) s.passage;
+          goes = goes_of n past room.reading room.jobs room.lines x room.hub s.head s.start (ups n s.start_hub.sent) (requests_in s.deeds) s.passage;
           exact = λ e. so_far plan n past room x s;
         }
         by_tale (filtered o) = record {
@@ -288,9 +295,15 @@ goes_up_by plan n past room k =
           head = o.head;
           first = o.start;
           begun = o.begun;
+          heard = o.passage.heard;
+          now = o.passage.was.now;
+          was_heard = o.passage.was.was;
+          came = o.got;
+          came_first = came_front n past room.reading room.jobs room.lines x room.hub o.head o.start o.base o.got o.passage;
+          came_all = all_came n past room.reading room.jobs room.lines x room.hub o.head o.start o.base o.got o.passage;
           went = o.passage.went;
           adds = o.passage.adds;
-          goes = goes_of n past room.reading room.jobs x room.hub o.head o.start o.base o.passage;
+          goes = goes_of n past room.reading room.jobs room.lines x room.hub o.head o.start o.base o.got o.passage;
           exact = λ e. absurd (o.filters e);
         }
 

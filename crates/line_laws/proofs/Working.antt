@@ -28,6 +28,7 @@ use Rattle.worker.specs.Steps.{Both, exchange_of_line, entered, entering, works,
 use Rattle.line_laws.specs.Logs.{Calling, WriteLogs}
 use Rattle.line_laws.specs.Living.{requests_in}
 use Rattle.line_laws.proofs.Finding.{Seeks, missing, first, seeks, IsOnce, set_other, only_found}
+use Rattle.line_laws.proofs.Hearing.{Listens, same_listens}
 use Rattle.line_laws.proofs.Kept.{Kept, by_bool, put_in_kept, refused_kept}
 use Rattle.line_laws.proofs.Looks.{is_n, look, beside_itself, aside, IsPlain, LivesOn, equal_by, Still, still_aside}
 use Rattle.line_laws.proofs.Maps.{mark_map}
@@ -271,14 +272,18 @@ module _ (plan : Plan) (n : ℕ) (past : List Sent) where
               sent : after.sent ≡ mid.hub.sent
               sent = ap (λ (k : Hub). k.sent) hub
 
-              enters_on : (h : _) (start : Exchange) (base : _) → Passage n past None (jobs.Enter m ∷ mid.jobs) x mid.hub h start base → Passage n past None mid.jobs (entered mid.dead x) after h start base
-              enters_on h start base q =
+              listens : Listens n mid.lines later
+              listens = same_listens n mid.lines later l (record l { exchange = Some (entered mid.dead x) }) at then_at refl
+
+              enters_on : (h : _) (start : Exchange) (base : _) (got : List Item) → Passage n past None (jobs.Enter m ∷ mid.jobs) mid.lines x mid.hub h start base got → Passage n past None mid.jobs later (entered mid.dead x) after h start base got
+              enters_on h start base got q =
                   let free : x.is_entered ≡ false = unentered (x.is_entered) refl q.enters.none in
-                  let o : Onward n mid.hub (entered mid.dead x, mid.hub) q.went (run fresh_phase q.got) = made_goes n mid.dead x mid.hub free q.went (run fresh_phase q.got) q.up in
+                  let o : Onward n mid.hub (entered mid.dead x, mid.hub) q.went (run fresh_phase got) = made_goes n mid.dead x mid.hub free q.went (run fresh_phase got) q.up in
                   record {
                     went = q.went ++ o.more;
                     adds = grows_past n past mid.hub after base q.went o.more (ap (ups n) sent ∙ o.grows) q.adds;
-                    got = q.got;
+                    heard = q.heard;
+                    was = listens h q.heard q.was;
                     up = o.goes;
                     minor = ap (λ (a : _). a.minor) asked ∙ q.minor;
                     framed = framed ∙ q.framed;
@@ -290,10 +295,10 @@ module _ (plan : Plan) (n : ℕ) (past : List Sent) where
                   unentered false is none = is
                   unentered true is none = let never : ◌≡◌ {A = Bool} true false = sym here ∙ (none is).0 in absurd (cc)
 
-                  by_flow : Flow n None (jobs.Enter m ∷ mid.jobs) x q.got → Flow n None mid.jobs (entered mid.dead x) q.got
-                  by_flow (flows proper) = flows (subst (λ w. Proper (q.got ++ pending n None mid.jobs) w) (sym (ap (λ (a : _). a.whole) asked)) proper)
-                  by_flow (ceases message none (inl is)) = ceases message none (inl (over ∙ is))
-                  by_flow (ceases message none (inr is)) = ceases message none (inr is)
+                  by_flow : Flow n None (jobs.Enter m ∷ mid.jobs) x got q.heard → Flow n None mid.jobs (entered mid.dead x) got q.heard
+                  by_flow (flows proper e) = flows (subst (λ w. Proper (got ++ pending n None mid.jobs) w) (sym (ap (λ (a : _). a.whole) asked)) proper) e
+                  by_flow (ceases message none (inl is) front) = ceases message none (inl (over ∙ is)) front
+                  by_flow (ceases message none (inr is) front) = ceases message none (inr is) front
 
               by_stream : (fields : Headers) (got : List Item) → IsPlain x → Stream n None (jobs.Enter m ∷ mid.jobs) mid.lines x mid.hub.contexts fields got → Stream n None mid.jobs later (entered mid.dead x) after.contexts fields got
               by_stream fields got plain (fresh none is rests map proper) =
@@ -309,7 +314,7 @@ module _ (plan : Plan) (n : ℕ) (past : List Sent) where
                   let last : LivesOn n (entered mid.dead x) mid.hub (entered mid.dead x) after = (aside n (entered mid.dead x) mid.hub after (same_sent n mid.hub after sent)).plain on.plain in
                   let l : LivesUp n x mid.hub (entered mid.dead x) after = lives_then n x (entered mid.dead x) (entered mid.dead x) mid.hub mid.hub after (lives_up n x (entered mid.dead x) mid.hub mid.hub on) (lives_up n (entered mid.dead x) (entered mid.dead x) mid.hub after last) in
                   plainly (story_on plan n past None None (jobs.Enter m ∷ mid.jobs) mid.jobs mid.lines later x (entered mid.dead x) mid.hub after s l (ap (λ (a : _). a.minor) asked)
-                  (enters_on s.head s.start (ups n s.start_hub.sent) s.passage) (by_stream s.head.fields (requests_in s.deeds) s.plain s.stream))
+                  (enters_on s.head s.start (ups n s.start_hub.sent) _ s.passage) (by_stream s.head.fields (requests_in s.deeds) s.plain s.stream))
               by_tale (filtered o) = filtered (record {
                 filters = λ e. o.filters (sym filters ∙ e);
                 head = o.head;
@@ -318,7 +323,8 @@ module _ (plan : Plan) (n : ℕ) (past : List Sent) where
                 some = o.some;
                 base = o.base;
                 before = o.before;
-                passage = enters_on o.head o.start o.base o.passage;
+                got = o.got;
+                passage = enters_on o.head o.start o.base o.got o.passage;
               })
 
   -- WHAT WAS READ OF A REQUEST
@@ -358,6 +364,9 @@ module _ (plan : Plan) (n : ℕ) (past : List Sent) where
               sent : (at_place (put_in false a) mid.lines (place_in m mid.lines) mid.hub).1.sent ≡ (put_in false a n x mid.hub).1.sent
               sent = ap (λ (k : Hub). k.sent) hub
 
+              listens : Listens n mid.lines (at_place (put_in false a) mid.lines (place_in m mid.lines) mid.hub).0
+              listens = same_listens n mid.lines _ l (record l { exchange = Some (put_in false a n x mid.hub).0 }) at then_at refl
+
               pend : pending n None (jobs.Put m false a ∷ mid.jobs) ≡ a ++ pending n None mid.jobs
               pend = (λ i. ((if here i then a else []) ++ puts_of n mid.jobs) ++ []) ∙ append_assoc a (puts_of n mid.jobs) []
 
@@ -365,7 +374,7 @@ module _ (plan : Plan) (n : ℕ) (past : List Sent) where
                   → Tale plan n past None mid.jobs (at_place (put_in false a) mid.lines (place_in m mid.lines) mid.hub).0 (put_in false a n x mid.hub).0 (at_place (put_in false a) mid.lines (place_in m mid.lines) mid.hub).1
               by_tale (plainly s) =
                   plainly (puts_story plan n past None (jobs.Put m false a ∷ mid.jobs) mid.jobs mid.lines (at_place (put_in false a) mid.lines (place_in m mid.lines) mid.hub).0 x mid.hub a
-                  (at_place (put_in false a) mid.lines (place_in m mid.lines) mid.hub).1 sent pend (λ f. f.1) (λ h. h) (λ h. h) (λ h. h) refl s)
+                  (at_place (put_in false a) mid.lines (place_in m mid.lines) mid.hub).1 sent pend (λ f. f.1) (λ h. h) (λ h. h) (λ h. h) listens refl s)
               by_tale (filtered o) = filtered (record {
                 filters = λ e. o.filters (sym (put_in_kept false a n x mid.hub).filters ∙ e);
                 head = o.head;
@@ -374,7 +383,9 @@ module _ (plan : Plan) (n : ℕ) (past : List Sent) where
                 some = o.some;
                 base = o.base;
                 before = o.before;
-                passage = puts_passage n past None (jobs.Put m false a ∷ mid.jobs) mid.jobs x mid.hub a (at_place (put_in false a) mid.lines (place_in m mid.lines) mid.hub).1 o.head o.start o.base sent pend (λ h. h) (λ h. h) (λ h. h) o.passage (λ e. absurd (cc));
+                got = o.got ++ a;
+                passage = puts_passage n past None (jobs.Put m false a ∷ mid.jobs) mid.jobs mid.lines (at_place (put_in false a) mid.lines (place_in m mid.lines) mid.hub).0 x mid.hub a (at_place (put_in false a) mid.lines (place_in m mid.lines) mid.hub).1 o.head
+                    o.start o.base o.got sent pend (λ h. h) (λ h. h) (λ h. h) listens o.passage (λ e. absurd (cc));
               })
 
   -- what was read of a response
@@ -403,6 +414,9 @@ module _ (plan : Plan) (n : ℕ) (past : List Sent) where
               kept : Kept x (put_in true a n x mid.hub).0
               kept = put_in_kept true a n x mid.hub
 
+              listens : Listens n mid.lines (at_place (put_in true a) mid.lines (place_in m mid.lines) mid.hub).0
+              listens = same_listens n mid.lines _ l (record l { exchange = Some (put_in true a n x mid.hub).0 }) at then_at refl
+
               sent : (at_place (put_in true a) mid.lines (place_in m mid.lines) mid.hub).1.sent ≡ (put_in true a n x mid.hub).1.sent
               sent = ap (λ (k : Hub). k.sent) hub
 
@@ -413,12 +427,12 @@ module _ (plan : Plan) (n : ℕ) (past : List Sent) where
                   let after : Hub = (at_place (put_in true a) mid.lines (place_in m mid.lines) mid.hub).1 in
                   let l : LivesUp n x mid.hub (put_in true a n x mid.hub).0 after = own_up n (responds a) x mid.hub after tt tt refl sent s.plain in
                   plainly (story_on plan n past None None (jobs.Put m true a ∷ mid.jobs) mid.jobs mid.lines later x (put_in true a n x mid.hub).0 mid.hub after s l (ap (λ q. q.minor) kept.asked)
-                  (passage_on n past None None (jobs.Put m true a ∷ mid.jobs) mid.jobs x (put_in true a n x mid.hub).0 mid.hub after s.head s.start (ups n s.start_hub.sent) (shift_alike n (jobs.Put m true a ∷ mid.jobs) mid.jobs shift)
+                  (passage_on n past None None (jobs.Put m true a ∷ mid.jobs) mid.jobs mid.lines later x (put_in true a n x mid.hub).0 mid.hub after s.head s.start (ups n s.start_hub.sent) _ (shift_alike n (jobs.Put m true a ∷ mid.jobs) mid.jobs shift) listens
                   (own_becomes n (responds a) x mid.hub after tt refl sent) s.passage)
                   (stream_calm n (jobs.Put m true a ∷ mid.jobs) mid.jobs mid.lines later x (put_in true a n x mid.hub).0 mid.hub after s.head.fields (requests_in s.deeds) shift kept.asked l.over (λ f rests map proper. absurd f) s.stream))
               by_tale (filtered o) =
-                  filtered (other_on plan n past None None (jobs.Put m true a ∷ mid.jobs) mid.jobs x (put_in true a n x mid.hub).0 mid.hub (at_place (put_in true a) mid.lines (place_in m mid.lines) mid.hub).1 (λ e. sym kept.filters ∙ e)
-                  (shift_alike n (jobs.Put m true a ∷ mid.jobs) mid.jobs shift) (own_becomes n (responds a) x mid.hub (at_place (put_in true a) mid.lines (place_in m mid.lines) mid.hub).1 tt refl sent) o)
+                  filtered (other_on plan n past None None (jobs.Put m true a ∷ mid.jobs) mid.jobs mid.lines (at_place (put_in true a) mid.lines (place_in m mid.lines) mid.hub).0 x (put_in true a n x mid.hub).0 mid.hub
+                  (at_place (put_in true a) mid.lines (place_in m mid.lines) mid.hub).1 (λ e. sym kept.filters ∙ e) (shift_alike n (jobs.Put m true a ∷ mid.jobs) mid.jobs shift) listens (own_becomes n (responds a) x mid.hub (at_place (put_in true a) mid.lines (place_in m mid.lines) mid.hub).1 tt refl sent) o)
 
   -- the exchange on it is refused
   pub refused_works : (m status : ℕ) (mid : Room) → Popped plan n past (jobs.Refuse m status) mid → Known plan n past (on_number (refused status) m mid)
@@ -471,15 +485,16 @@ module _ (plan : Plan) (n : ℕ) (past : List Sent) where
               sent = ap (λ (k : Hub). k.sent) hub
 
               -- what refuses it is in hand no more, and it is over
-              refuses_on : (h : _) (start : Exchange) (base : _) → Passage n past None (jobs.Refuse m status ∷ mid.jobs) x mid.hub h start base
-                  → Passage n past None mid.jobs (refused status n x mid.hub).0 (at_place (refused status) mid.lines (place_in m mid.lines) mid.hub).1 h start base
-              refuses_on h start base q =
+              refuses_on : (h : _) (start : Exchange) (base : _) (got : List Item) → Passage n past None (jobs.Refuse m status ∷ mid.jobs) mid.lines x mid.hub h start base got
+                  → Passage n past None mid.jobs (at_place (refused status) mid.lines (place_in m mid.lines) mid.hub).0 (refused status n x mid.hub).0 (at_place (refused status) mid.lines (place_in m mid.lines) mid.hub).1 h start base got
+              refuses_on h start base got q =
                   let b : Becomes n x mid.hub (refused status n x mid.hub).0 (at_place (refused status) mid.lines (place_in m mid.lines) mid.hub).1 = own_becomes n (refuses status) x mid.hub _ tt refl sent in
-                  let o : Onward n mid.hub ((refused status n x mid.hub).0, (at_place (refused status) mid.lines (place_in m mid.lines) mid.hub).1) q.went (run fresh_phase q.got) = b.keeps q.went (run fresh_phase q.got) q.up in
+                  let o : Onward n mid.hub ((refused status n x mid.hub).0, (at_place (refused status) mid.lines (place_in m mid.lines) mid.hub).1) q.went (run fresh_phase got) = b.keeps q.went (run fresh_phase got) q.up in
                   record {
                     went = q.went ++ o.more;
                     adds = grows_past n past mid.hub (at_place (refused status) mid.lines (place_in m mid.lines) mid.hub).1 base q.went o.more o.grows q.adds;
-                    got = q.got;
+                    heard = q.heard;
+                    was = same_listens n mid.lines _ l (record l { exchange = Some (refused status n x mid.hub).0 }) at then_at refl h q.heard q.was;
                     up = o.goes;
                     minor = ap (λ (a : _). a.minor) b.asked ∙ q.minor;
                     framed = b.framed ∙ q.framed;
@@ -487,9 +502,9 @@ module _ (plan : Plan) (n : ℕ) (past : List Sent) where
                     enters = record { once = q.enters.once; none = λ e. q.enters.none (sym b.entered ∙ e); first = λ e. absurd (cc) };
                   }
                 where
-                  by_flow : Flow n None (jobs.Refuse m status ∷ mid.jobs) x q.got → Flow n None mid.jobs (refused status n x mid.hub).0 q.got
-                  by_flow (flows proper) = flows (subst (λ w. Proper (q.got ++ pending n None mid.jobs) w) (sym (ap (λ (a : _). a.whole) kept.asked)) proper)
-                  by_flow (ceases message none is) = ceases message none (inl (refused_over status n x mid.hub))
+                  by_flow : Flow n None (jobs.Refuse m status ∷ mid.jobs) x got q.heard → Flow n None mid.jobs (refused status n x mid.hub).0 got q.heard
+                  by_flow (flows proper e) = flows (subst (λ w. Proper (got ++ pending n None mid.jobs) w) (sym (ap (λ (a : _). a.whole) kept.asked)) proper) e
+                  by_flow (ceases message none is front) = ceases message none (inl (refused_over status n x mid.hub)) front
 
               by_stream : (later : List Line) (d : Contexts) (fields : Headers) (got : List Item) → Stream n None (jobs.Refuse m status ∷ mid.jobs) mid.lines x mid.hub.contexts fields got → Stream n None mid.jobs later (refused status n x mid.hub).0 d fields got
               by_stream later d fields got (fresh none is rests map proper) = absurd is
@@ -502,7 +517,7 @@ module _ (plan : Plan) (n : ℕ) (past : List Sent) where
                   let later : List Line = (at_place (refused status) mid.lines (place_in m mid.lines) mid.hub).0 in
                   let after : Hub = (at_place (refused status) mid.lines (place_in m mid.lines) mid.hub).1 in
                   plainly (story_on plan n past None None (jobs.Refuse m status ∷ mid.jobs) mid.jobs mid.lines later x (refused status n x mid.hub).0 mid.hub after s
-                  (own_up n (refuses status) x mid.hub after tt tt refl sent s.plain) (ap (λ q. q.minor) kept.asked) (refuses_on s.head s.start (ups n s.start_hub.sent) s.passage) (by_stream later after.contexts s.head.fields (requests_in s.deeds) s.stream))
+                  (own_up n (refuses status) x mid.hub after tt tt refl sent s.plain) (ap (λ q. q.minor) kept.asked) (refuses_on s.head s.start (ups n s.start_hub.sent) _ s.passage) (by_stream later after.contexts s.head.fields (requests_in s.deeds) s.stream))
               by_tale (filtered o) = filtered (record {
                 filters = λ e. o.filters (sym kept.filters ∙ e);
                 head = o.head;
@@ -511,5 +526,6 @@ module _ (plan : Plan) (n : ℕ) (past : List Sent) where
                 some = o.some;
                 base = o.base;
                 before = o.before;
-                passage = refuses_on o.head o.start o.base o.passage;
+                got = o.got;
+                passage = refuses_on o.head o.start o.base o.got o.passage;
               })

@@ -1,5 +1,6 @@
 pub mod Living
 pub mod Logs
+pub mod Heard
 pub mod Requests
 pub mod Turns
 pub mod Examples

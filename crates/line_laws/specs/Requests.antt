@@ -11,7 +11,7 @@ use Rattle.exchange_laws.specs.Responses.{IsMessage}
 use Rattle.exchange_laws.specs.Traffic.{Traffic, opens, byte, closes, ups, traffic, IsFront}
 use Rattle.filter_chain.specs.declared.item.Item.{Item}
 use Rattle.filter_chain.specs.declared.item.Item.TheVariants.{Head as head, Piece, Trailers}
-use Rattle.h1_write.specs.Lines.{OutRequest, out_wire, in_items}
+use Rattle.h1_write.specs.Lines.{OutRequest, out_items, out_wire, in_items}
 use Rattle.h1_write.specs.Requests.{request_fields}
 use Rattle.h1_write.specs.Round.{Suits, body_items, stop_behind, IsReadAs}
 use Rattle.header_maps.specs.Headers.{Headers}
@@ -21,9 +21,11 @@ use Rattle.http1_model.specs.Head.{Head, SpellsStep, found}
 use Rattle.http1_model.specs.Lines.{head_limit, line_limit}
 use Rattle.http1_model.specs.Messages.{head as head_is_due}
 use Rattle.http1_model.specs.Target.{absolute}
+use Rattle.http1_model.specs.Unread.{Reading}
 use Rattle.worker.specs.Plan.{Plan}
 use Rattle.worker.specs.Steps.{exchange_for, is_last}
 use Rattle.worker.specs.declared.room.Room.{Room}
+use Rattle.line_laws.specs.Heard.{WasHeard}
 use Rattle.line_laws.specs.Living.{requests_in}
 
 -- a head of a request as heads are judged: some text spells it
@@ -67,6 +69,20 @@ pub record Began (plan : Plan) (h : Head) (x : Exchange) (hub : Hub) : Type 0 wh
   pub moment : hub.moment ≡ begun.now
   pub map : request_map begun.place hub.contexts ≡ h.fields
 
+-- ---- the items of a request, and the same on their way out
+
+abbrev pub IsOf : Head → Item → OutItem → Type 0
+IsOf h (head end) (out.head g) = g ≡ sent_head h.fields (up_tail h.minor)
+IsOf h (Piece bytes end) (out.piece went last) = (went ≡ bytes) × (last ≡ end)
+IsOf h Trailers (out.trailers fields) = Unit {0}
+IsOf h item o = ⊥
+
+abbrev pub AreOf : Head → List Item → List OutItem → Type 0
+AreOf h [] [] = Unit {0}
+AreOf h [] (o ∷ outs) = ⊥
+AreOf h (item ∷ items) [] = ⊥
+AreOf h (item ∷ items) (o ∷ outs) = IsOf h item o × AreOf h items outs
+
 -- ---- what an exchange sent up
 
 -- A REQUEST ON ITS WAY UP: framed as the exchange frames it, with `via` and `connection: close` behind the fields of its head, whatever filters made of
@@ -89,25 +105,34 @@ pub data GoesUp (h : Head) (first : Exchange) (t : List Traffic) : Type 0 where
   sends_nothing : t ≡ [] → GoesUp h first t
   sends_request : IsOneRequest h first t → GoesUp h first t
 
--- of one without filters: a front of one connection and the bytes of one request, that of its head, exactly
-pub record IsExact (h : Head) (t : List Traffic) : Type 0 where
+-- of one without filters, to whose chain these items came: a front of one connection and the bytes of one request, that of its head, exactly, with the
+-- pieces that came
+pub record IsExact (h : Head) (came : List Item) (t : List Traffic) : Type 0 where
   pub request : OutRequest
   pub sent_of : IsSentOf h request
   pub reads_back : ReadsBack h request
+  pub outs : List OutItem
+  pub of : AreOf h came outs
+  pub items : IsFront outs (out_items request)
   pub front : IsFront t (opens ∷ map byte (out_wire request))
 
 -- ---- exchange by exchange
 
--- an exchange that has ended, as it began, with its head; and what it sent up
+-- an exchange that has ended, as it began, with its head; the items of its request that were heard, and those that came to its chain; and what it sent up
 pub record Part : Type 0 where
   pub head : Head
   pub first : Exchange
+  pub heard : List Item
+  pub came : List Item
   pub went : List Traffic
 
 pub record IsPart (plan : Plan) (p : Part) : Type 0 where
   pub begun : IsBegun plan p.head p.first
+  pub now : Reading
+  pub was_heard : WasHeard p.head p.heard now
+  pub came_first : IsFront p.came p.heard
   pub goes : GoesUp p.head p.first p.went
-  pub exact : p.first.filters ≡ [] → IsExact p.head p.went
+  pub exact : p.first.filters ≡ [] → IsExact p.head p.came p.went
 
 -- its connection is closed, where one was opened
 abbrev pub close_behind : List Traffic → List Traffic
@@ -127,32 +152,17 @@ pub record OneByOne (plan : Plan) (total : List Traffic) : Type 0 where
   pub are : AreParts plan parts
   pub is : total ≡ flat_map traffic_of parts
 
--- ---- the items of a request, and the same on their way out
-
-abbrev pub IsOf : Head → Item → OutItem → Type 0
-IsOf h (head end) (out.head g) = g ≡ sent_head h.fields (up_tail h.minor)
-IsOf h (Piece bytes end) (out.piece went last) = (went ≡ bytes) × (last ≡ end)
-IsOf h Trailers (out.trailers fields) = Unit {0}
-IsOf h item o = ⊥
-
-abbrev pub AreOf : Head → List Item → List OutItem → Type 0
-AreOf h [] [] = Unit {0}
-AreOf h [] (o ∷ outs) = ⊥
-AreOf h (item ∷ items) [] = ⊥
-AreOf h (item ∷ items) (o ∷ outs) = IsOf h item o × AreOf h items outs
-
 -- the last item of a message is among them
 abbrev pub is_whole : List Item → Bool
 is_whole [] = false
 is_whole (item ∷ items) = is_last item || is_whole items
 
 -- WHAT AN EXCHANGE WITHOUT FILTERS HAS SENT UP while it is open: a front of one connection and the bytes of one request, that of its head, exactly
-pub record IsSoFar (room : Room) (x : Exchange) (h : Head) (went : List Traffic) : Type 0 where
+pub record IsSoFar (room : Room) (x : Exchange) (h : Head) (items : List Item) (went : List Traffic) : Type 0 where
   pub request : OutRequest
   pub sent_of : IsSentOf h request
   pub reads_back : ReadsBack h request
-  -- what was read of it and came to its chain, and the same as it goes out
-  pub items : List Item
+  -- what was read of it and came to its chain is a front of one message; and the same as it goes out
   pub message : IsMessage items
   pub came : List OutItem
   pub of : AreOf h items came
@@ -171,10 +181,17 @@ pub record IsOpen (plan : Plan) (room : Room) (x : Exchange) (total : List Traff
   pub head : Head
   pub first : Exchange
   pub begun : IsBegun plan head first
+  -- what was heard of its request, and of that what came to its chain: all, where nothing is in hand, unless it was answered or has ended
+  pub heard : List Item
+  pub now : Reading
+  pub was_heard : WasHeard head heard now
+  pub came : List Item
+  pub came_first : IsFront came heard
+  pub came_all : is_over x ≡ false → room.reading ≡ None → room.jobs ≡ [] → came ≡ heard
   pub went : List Traffic
   pub adds : total ≡ before ++ went
   pub goes : GoesUp head first went
-  pub exact : x.filters ≡ [] → IsSoFar room x head went
+  pub exact : x.filters ≡ [] → IsSoFar room x head came went
 
 -- what went up on a line, by the exchange that is on it now
 abbrev pub GoesUpBy : Plan → Room → Option Exchange → List Traffic → Type 0
