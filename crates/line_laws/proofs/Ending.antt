@@ -1,6 +1,8 @@
 -- What an exchange sent up, and a step in which it ends.
-use Rattle.std.proofs.Common.{◌≡◌, ◌⊎◌, inl, inr, ℕ, ◌==◌, Bool, true, false, List, [], ◌∷◌, ◌++◌, map, refl, ap, ◌∙◌, sym, subst}
+use Rattle.std.proofs.Common.{◌≡◌, ◌⊎◌, inl, inr, ℕ, ◌+◌, ◌≤◌, length, length-append, arith, ◌==◌, Bool, true, false, List, [], ◌∷◌, ◌++◌, map, refl, ap, ◌∙◌, sym, subst}
 use Rattle.std.proofs.lemmas.List.{append-nil, append_assoc, append_cancel_left}
+use Rattle.std.proofs.lemmas.Bool.{and_from, le-leb}
+use Rattle.std.specs.List.{concat, list_all}
 use Rattle.std.specs.Prelude.{Option, None, Some, is_some, slice_get, slice_set, position, if◌then◌else◌}
 use Rattle.exchange.specs.declared.types.Exchange.{Exchange}
 use Rattle.exchange.specs.declared.types.Filter.{Filter}
@@ -17,7 +19,11 @@ use Rattle.filter_chain.specs.declared.item.Item.{Item}
 use Rattle.filter_chain.specs.declared.item.Item.TheVariants as items
 use Rattle.gate_io.specs.declared.event.Sent.{Sent}
 use Rattle.h1_write.specs.Lines.{OutRequest, out_items, out_wire}
-use Rattle.h1_write.specs.Round.{Ending, last_bytes, last_trailers, body_items}
+use Rattle.h1_write.specs.Laws.{is_short}
+use Rattle.h1_write.specs.Round.{Ending, last_bytes, last_trailers, body_items, body_bytes, all_pieces, Suits}
+use Rattle.filter_chain.specs.Items.{size}
+use Rattle.http1_model.specs.Length.{length_limit}
+use Rattle.http1_model.specs.Trailers.{piece_limit}
 use Rattle.http1_model.specs.Framing.{Framing, OutItem}
 use Rattle.http1_model.specs.Framing as out
 use Rattle.http1_model.specs.Head.{Head}
@@ -33,13 +39,14 @@ use Rattle.worker.specs.Plan.{Plan}
 use Rattle.worker.specs.Rooms as rooms
 use Rattle.worker.specs.Steps.{done_jobs, close_up, ends_with, ends_at, exchange_for}
 use Rattle.line_laws.specs.Living.{requests_in}
-use Rattle.line_laws.specs.Requests.{is_whole, AreOf, IsSentOf, IsExact, close_behind, OneByOne}
+use Rattle.line_laws.specs.Requests.{is_whole, AreOf, IsSentOf, WholeReadsBack, IsExact, close_behind, OneByOne}
 use Rattle.line_laws.proofs.Earlier.{behind}
 use Rattle.line_laws.proofs.Finding.{Seeks, missing, first, seeks, IsOnce, set_other, only_found, set_once, set_there}
 use Rattle.line_laws.proofs.Items.{message_front}
 use Rattle.line_laws.proofs.Lives.{came_of, lives_with}
 use Rattle.line_laws.proofs.Looks.{is_n, look, equal_by, equal_is, other_is, other_by}
-use Rattle.line_laws.proofs.Readable.{readable}
+use Rattle.line_laws.proofs.Readable.{judged_small, readable}
+use Rattle.line_laws.proofs.Suiting.{AreShort, suits_of}
 use Rattle.line_laws.proofs.Rooms.{AllFree}
 use Rattle.line_laws.proofs.Story.{puts_of, HasClose, Tail, Matches, pending, Stream, fresh, going, doomed, Story, Passage, Tale, plainly, filtered, Busy, ExOk, LineOk, Known}
 use Rattle.line_laws.proofs.Calmed.{free_puts, free_has, free_no, free_tail, free_none, none_once}
@@ -56,6 +63,18 @@ record OfBody (items : List Item) (outs : List OutItem) : Type 0 where
   ending : Ending
   front : IsFront outs (body_items pieces ending)
   full : is_whole items ≡ true → outs ≡ body_items pieces ending
+  sized : is_whole items ≡ true → length (body_bytes pieces ending) ≡ size items
+  short : AreShort items → list_all is_short (all_pieces pieces ending) ≡ true
+
+all_more : (bytes : List ℕ) (pieces : List (List ℕ)) (ending : Ending) → all_pieces (bytes ∷ pieces) ending ≡ bytes ∷ all_pieces pieces ending
+all_more bytes pieces (last_bytes last) = refl
+all_more bytes pieces (last_trailers fields) = refl
+
+piece_short : (bytes : List ℕ) → length bytes ≤ piece_limit → is_short bytes ≡ true
+piece_short bytes few = le-leb (length bytes) length_limit (omega (arith, few))
+
+empty_short : list_all is_short ([] ∷ []) ≡ true
+empty_short = and_from _ _ (piece_short [] (omega arith)) refl
 
 none_out : (h : Head) (items : List Item) (outs : List OutItem) → items ≡ [] → AreOf h items outs → outs ≡ []
 none_out h [] [] is are = refl
@@ -63,7 +82,7 @@ none_out h [] (o ∷ outs) is are = absurd are
 none_out h (i ∷ items) outs is are = absurd (cc)
 
 body_of : (h : Head) (items : List Item) (outs : List OutItem) → IsBody items → AreOf h items outs → OfBody items outs
-body_of h [] [] body are = record { pieces = []; ending = last_bytes []; front = (body_items [] (last_bytes []), refl); full = λ e. absurd (cc) }
+body_of h [] [] body are = record { pieces = []; ending = last_bytes []; front = (body_items [] (last_bytes []), refl); full = λ e. absurd (cc); sized = λ e. absurd (cc); short = λ e. empty_short }
 body_of h [] (o ∷ outs) body are = absurd are
 body_of h (i ∷ items) [] body are = absurd are
 body_of h (items.Head end ∷ rest) (o ∷ outs) body are = absurd body
@@ -74,12 +93,18 @@ body_of h (items.Piece bytes false ∷ rest) (out.piece went last ∷ outs) body
       ending = later.ending;
       front = (later.front.0, (λ i. out.piece (are.0.0 i) (are.0.1 i) ∷ later.front.1 i));
       full = λ e. (λ i. out.piece (are.0.0 i) (are.0.1 i) ∷ later.full e i);
+      sized = λ e.
+          ap (λ (l : List (List ℕ)). length (concat l)) (all_more bytes later.pieces later.ending)
+          ∙ (length-append bytes (body_bytes later.pieces later.ending) ∙ ap (λ k. length bytes + k) (later.sized e));
+      short = λ e. ap (list_all is_short) (all_more bytes later.pieces later.ending) ∙ and_from _ _ (piece_short bytes e.0) (later.short e.1);
     }
 body_of h (items.Piece bytes true ∷ rest) (out.piece went last ∷ outs) body are = record {
   pieces = [];
   ending = last_bytes bytes;
   front = ([], (λ i. out.piece (are.0.0 i) (are.0.1 i) ∷ (none_out h rest outs body are.1 i ++ [])));
   full = λ e. (λ i. out.piece (are.0.0 i) (are.0.1 i) ∷ none_out h rest outs body are.1 i);
+  sized = λ e. ap length (append-nil bytes) ∙ (omega arith ∙ ap (λ (l : List Item). length bytes + size l) (sym body));
+  short = λ e. and_from _ _ (piece_short bytes e.0) refl;
 }
 body_of h (items.Piece bytes last ∷ rest) (out.head g ∷ outs) body are = absurd are.0
 body_of h (items.Piece bytes last ∷ rest) (out.interim g ∷ outs) body are = absurd are.0
@@ -89,6 +114,8 @@ body_of h (items.Trailers ∷ rest) (out.trailers fields ∷ outs) body are = re
   ending = last_trailers fields;
   front = ([], (λ i. out.trailers fields ∷ (none_out h rest outs body are.1 i ++ [])));
   full = λ e. (λ i. out.trailers fields ∷ none_out h rest outs body are.1 i);
+  sized = λ e. ap (λ (l : List Item). 0 + size l) (sym body);
+  short = λ e. refl;
 }
 body_of h (items.Trailers ∷ rest) (out.head g ∷ outs) body are = absurd are.0
 body_of h (items.Trailers ∷ rest) (out.interim g ∷ outs) body are = absurd are.0
@@ -100,6 +127,8 @@ pub record OfRequest (h : Head) (framing : Framing) (items : List Item) (outs : 
   pub head : request.head ≡ sent_head h.fields (up_tail h.minor)
   pub front : IsFront outs (out_items request)
   pub full : is_whole items ≡ true → (outs ≡ out_items request) ⊎ (outs ≡ out.head request.head ∷ [])
+  pub sized : is_whole items ≡ true → length (body_bytes request.pieces request.ending) ≡ size items
+  pub short : AreShort items → list_all is_short (all_pieces request.pieces request.ending) ≡ true
 
 abbrev sent_as : Head → Head
 sent_as h = sent_head h.fields (up_tail h.minor)
@@ -114,15 +143,19 @@ with_body h framing rest outs b = record {
   head = refl;
   front = (b.front.0, ap (λ l. out.head (sent_as h) ∷ l) b.front.1);
   full = λ e. inl (ap (λ l. out.head (sent_as h) ∷ l) (b.full e));
+  sized = λ e. b.sized e ∙ omega arith;
+  short = λ e. b.short e.1;
 }
 
-without_body : (h : Head) (framing : Framing) (rest : List Item) → OfRequest h framing rest (out.head (sent_as h) ∷ [])
-without_body h framing rest = record {
+without_body : (h : Head) (framing : Framing) (rest : List Item) → size rest ≡ 0 → OfRequest h framing rest (out.head (sent_as h) ∷ [])
+without_body h framing rest none = record {
   request = record { framing = framing; head = sent_as h; pieces = []; ending = last_bytes [] };
   framed = refl;
   head = refl;
   front = (body_items [] (last_bytes []), refl);
   full = λ e. inr refl;
+  sized = λ e. sym none;
+  short = λ e. empty_short;
 }
 
 pub request_of_items : (h : Head) (framing : Framing) (items : List Item) (outs : List OutItem) → IsMessage items → AreOf h items outs → OfRequest h framing items outs
@@ -132,13 +165,15 @@ request_of_items h framing [] [] message are = record {
   head = refl;
   front = (out.head (sent_as h) ∷ body_items [] (last_bytes []), refl);
   full = λ e. absurd (cc);
+  sized = λ e. absurd (cc);
+  short = λ e. empty_short;
 }
 request_of_items h framing [] (o ∷ outs) message are = absurd are
 request_of_items h framing (i ∷ rest) [] message are = absurd are
 request_of_items h framing (items.Head false ∷ rest) (out.head g ∷ outs) message are = headed h framing (items.Head false ∷ rest) g outs are.0 (with_body h framing rest outs (body_of h rest outs message are.1))
 request_of_items h framing (items.Head true ∷ rest) (out.head g ∷ outs) message are =
     headed h framing (items.Head true ∷ rest) g outs are.0
-    (subst (λ l. OfRequest h framing (items.Head true ∷ rest) (out.head (sent_as h) ∷ l)) (sym (none_out h rest outs message are.1)) (without_body h framing (items.Head true ∷ rest)))
+    (subst (λ l. OfRequest h framing (items.Head true ∷ rest) (out.head (sent_as h) ∷ l)) (sym (none_out h rest outs message are.1)) (without_body h framing (items.Head true ∷ rest) (ap (λ (l : List Item). 0 + size l) message)))
 request_of_items h framing (items.Head end ∷ rest) (out.interim g ∷ outs) message are = absurd are.0
 request_of_items h framing (items.Head end ∷ rest) (out.piece went last ∷ outs) message are = absurd are.0
 request_of_items h framing (items.Head end ∷ rest) (out.trailers fields ∷ outs) message are = absurd are.0
@@ -152,6 +187,8 @@ pub record Went (plan : Plan) (n : ℕ) (past : List Sent) (reading : Option Rea
   pub sent_of : IsSentOf s.head request
   pub goes : GoesUpOnce request (came_of n s.start s.start_hub s.deeds) (is_over x) (ups n s.start_hub.sent) (ups n (past ++ hub.sent))
   pub front : IsFront (came_of n s.start s.start_hub s.deeds) (out_items request)
+  pub sized : is_whole (requests_in s.deeds) ≡ true → length (body_bytes request.pieces request.ending) ≡ size (requests_in s.deeds)
+  pub short : AreShort (requests_in s.deeds) → list_all is_short (all_pieces request.pieces request.ending) ≡ true
   pub full : is_whole (requests_in s.deeds) ≡ true → (came_of n s.start s.start_hub s.deeds ≡ out_items request) ⊎ (came_of n s.start s.start_hub s.deeds ≡ out.head request.head ∷ [])
 
 module _ (plan : Plan) (n : ℕ) (past : List Sent) (reading : Option Reads) (js : List Job) (lines : List Line) (x : Exchange) (hub : Hub) (s : Story plan n past reading js lines x hub) where
@@ -174,6 +211,8 @@ module _ (plan : Plan) (n : ℕ) (past : List Sent) (reading : Option Reads) (js
         sent_of = record { filtered = of.filters_requests; head = q.head; framing = q.framed ∙ framed };
         goes = one_request n s.start x s.start_hub (behind past hub) s.deeds outs q.request (ap (λ (y : Exchange). y.request) s.began.begun.is) (lives_with n s.deeds s.start x s.start_hub (behind past hub) s.lives) q.framed q.front;
         front = q.front;
+        sized = q.sized;
+        short = q.short;
         full = q.full;
       }
 
@@ -181,11 +220,21 @@ module _ (plan : Plan) (n : ℕ) (past : List Sent) (reading : Option Reads) (js
   pub same_went : went.goes.went ≡ s.passage.went
   same_went = append_cancel_left (ups n s.start_hub.sent) went.goes.went s.passage.went (sym went.goes.adds ∙ s.passage.adds)
 
+  came_so : IsFront (requests_in s.deeds) s.passage.heard
+  came_so = came_front n past reading js lines x hub s.head s.start (ups n s.start_hub.sent) (requests_in s.deeds) s.passage
+
+  pub whole_reads_back : WholeReadsBack s.head (requests_in s.deeds) went.request
+  whole_reads_back ended all other room fits =
+      let suits : Suits went.request.framing went.request.pieces went.request.ending ended []
+      = suits_of s.head went.sent_of.filtered went.request s.passage.heard (requests_in s.deeds) s.passage.was.now (judged_small s.head s.began.begun.judged other) went.sent_of.framing s.passage.was.was came_so is_message all (went.sized all) went.short fits ended in
+      went.goes.read_back ended (readable s.head went.request s.began.begun.judged went.sent_of other room) suits
+
   pub exact_of : IsExact s.head (requests_in s.deeds) s.passage.went
   exact_of = record {
     request = went.request;
     sent_of = went.sent_of;
     reads_back = λ ended other room suits. went.goes.read_back ended (readable s.head went.request s.began.begun.judged went.sent_of other room) suits;
+    whole_reads_back = whole_reads_back;
     outs = came_of n s.start s.start_hub s.deeds;
     of = s.came;
     items = went.front;

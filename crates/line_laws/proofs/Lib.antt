@@ -19,6 +19,7 @@ pub mod Beyond
 pub mod Client
 pub mod Reading
 pub mod Exact
+pub mod Suiting
 pub mod Parts
 pub mod Turned
 pub mod Working

@@ -39,6 +39,7 @@ use Rattle.std.specs.Char.{is_ascii_digit}
 use Rattle.std.specs.Str.Parse.{digits_value}
 use Rattle.http_header.specs.Token.{lowercase}
 use Rattle.line_laws.specs.Requests.{IsJudged, IsSentOf, HasRoom}
+use Rattle.line_laws.proofs.Looks.{equal_by}
 
 -- ---- lengths that are told
 
@@ -46,6 +47,7 @@ pub record IsSmall (m : Measure) : Type 0 where
   pub told : (n : ℕ) → m.told ≡ Some n → n ≤ length_limit
   pub exact : (n : ℕ) → m.length ≡ exactly n → n ≤ length_limit
   pub ends : m.length ≡ until_end → ⊥
+  pub none : m.length ≡ nothing → (n : ℕ) → m.told ≡ Some n → n ≡ 0
 
 number_small : (member : List ℕ) (n : ℕ) → number_of member ≡ Some n → n ≤ length_limit
 number_small member n is = by_test (nat_lt 0 (length member) && list_all is_ascii_digit member) (nat_le (digits_value 10 member) length_limit) refl is
@@ -75,8 +77,13 @@ told_small (Some n) small m is =
       told = λ k e. let s : n ≡ k = cc in subst (λ j. j ≤ length_limit) s (small n refl);
       exact = λ k e. by_zero (n == 0) k e;
       ends = λ e. no_end (n == 0) e;
+      none = λ e k f. by_none (n == 0) refl e k f;
     })
   where
+    by_none : (b : Bool) → (n == 0) ≡ b → (if b then nothing else exactly n) ≡ nothing → (k : ℕ) → Some n ≡ Some k → k ≡ 0
+    by_none true is e k f = let s : n ≡ k = cc in sym s ∙ equal_by n 0 is
+    by_none false is e k f = absurd (cc)
+
     by_zero : (b : Bool) (k : ℕ) → (if b then nothing else exactly n) ≡ exactly k → k ≤ length_limit
     by_zero true k e = absurd (cc)
     by_zero false k e = let s : n ≡ k = cc in subst (λ j. j ≤ length_limit) s (small n refl)
@@ -88,7 +95,7 @@ told_small (Some n) small m is =
 measure_small : (minor : ℕ) (codings lengths : List (List ℕ)) (m : Measure) → request_measure minor codings lengths ≡ Ok m → IsSmall m
 measure_small minor [] [] m is =
     let same : record { length = nothing; told = None } ≡ m = cc in
-    subst IsSmall same (record { told = λ n e. absurd (cc); exact = λ n e. absurd (cc); ends = λ e. cc })
+    subst IsSmall same (record { told = λ n e. absurd (cc); exact = λ n e. absurd (cc); ends = λ e. cc; none = λ e n f. absurd (cc) })
 measure_small minor [] (v ∷ vs) m is = told_small (one_number (flat_map members (v ∷ vs))) (λ n e. one_small (flat_map members (v ∷ vs)) n e) m is
 measure_small minor (c ∷ cs) lengths m is = by_test (nat_lt 0 (length lengths) || minor == 0) (is_chunked (c ∷ cs)) is
   where
@@ -96,7 +103,7 @@ measure_small minor (c ∷ cs) lengths m is = by_test (nat_lt 0 (length lengths)
     by_test true b e = absurd (cc)
     by_test false true e =
         let same : record { length = chunked; told = None } ≡ m = cc in
-        subst IsSmall same (record { told = λ n f. absurd (cc); exact = λ n f. absurd (cc); ends = λ f. cc })
+        subst IsSmall same (record { told = λ n f. absurd (cc); exact = λ n f. absurd (cc); ends = λ f. cc; none = λ g n f. absurd (cc) })
     by_test false false e = absurd (cc)
 
 pub record IsFramed (framing : Framing) : Type 0 where
@@ -380,6 +387,10 @@ module _ (h : Head) (other : h.form ≡ Some absolute → ⊥) where
       by_cut rest unfinished at is = absurd (cc)
 
 -- ---- as it is written
+
+-- the measure of a head that was judged
+pub judged_small : (h : Head) → IsJudged h → (h.form ≡ Some absolute → ⊥) → IsSmall (record { length = h.length; told = h.told })
+judged_small h judged other = (is_right h other judged.text judged.used judged.spells).small
 
 pub readable : (h : Head) (q : OutRequest) → IsJudged h → IsSentOf h q → (h.form ≡ Some absolute → ⊥) → HasRoom q → IsReadableRequest q.framing q.head
 readable h q judged sent other room =

@@ -41,7 +41,7 @@ use Rattle.line_laws.specs.Living.{requests_in, request_in, LivesBy}
 use Rattle.line_laws.specs.Requests.{AreOf, OneByOne, is_whole, IsSoFar, IsOpen, GoesUpBy, HasLived}
 use Rattle.line_laws.specs.Turns.{Done, Turns, new_room, sent_in}
 use Rattle.line_laws.proofs.Earlier.{behind}
-use Rattle.line_laws.proofs.Ending.{Went, went, is_message, same_went}
+use Rattle.line_laws.proofs.Ending.{Went, went, is_message, same_went, whole_reads_back}
 use Rattle.line_laws.proofs.Joining.{ups_joined}
 use Rattle.line_laws.proofs.Kept.{by_bool}
 use Rattle.line_laws.proofs.Lives.{came_of, came_join, lives_with}
@@ -238,6 +238,7 @@ so_far plan n past room x s =
       request = w.request;
       sent_of = w.sent_of;
       reads_back = λ ended other room suits. w.goes.read_back ended (readable s.head w.request s.began.begun.judged w.sent_of other room) suits;
+      whole_reads_back = whole_reads_back plan n past room.reading room.jobs room.lines x room.hub s;
       message = is_message plan n past room.reading room.jobs room.lines x room.hub s;
       came = came_of n s.start s.start_hub s.deeds;
       of = s.came;

@@ -13,7 +13,7 @@ use Rattle.filter_chain.specs.declared.item.Item.{Item}
 use Rattle.filter_chain.specs.declared.item.Item.TheVariants.{Head as head, Piece, Trailers}
 use Rattle.h1_write.specs.Lines.{OutRequest, out_items, out_wire, in_items}
 use Rattle.h1_write.specs.Requests.{request_fields}
-use Rattle.h1_write.specs.Round.{Suits, body_items, stop_behind, IsReadAs}
+use Rattle.h1_write.specs.Round.{FitsSection, Suits, body_items, stop_behind, IsReadAs}
 use Rattle.header_maps.specs.Headers.{Headers}
 use Rattle.http1_model.specs.Framing.{OutItem, head_wire, items_wire}
 use Rattle.http1_model.specs.Framing as out
@@ -53,6 +53,17 @@ abbrev pub ReadsBack : Head → OutRequest → Type 0
 ReadsBack h q =
     (ended : Bool) → (h.form ≡ Some absolute → ⊥) → HasRoom q → Suits q.framing q.pieces q.ending ended []
     → IsReadAs (out_wire q) ended None head_is_due (in_items q) (stop_behind ended None)
+
+-- the last item of a message is among them
+abbrev pub is_whole : List Item → Bool
+is_whole [] = false
+is_whole (item ∷ items) = is_last item || is_whole items
+
+-- where these items came of it, among them the last of its message, its pieces suit its framing: so a reader with room for its head reads its bytes back as
+-- that one request and nothing else, where its trailers, if it has any, are fields with room in a reader's section
+abbrev pub WholeReadsBack : Head → List Item → OutRequest → Type 0
+WholeReadsBack h came q =
+    (ended : Bool) → is_whole came ≡ true → (h.form ≡ Some absolute → ⊥) → HasRoom q → FitsSection q.ending → IsReadAs (out_wire q) ended None head_is_due (in_items q) (stop_behind ended None)
 
 -- an exchange as it begins: with a head that was judged, at a place among the exchanges of the contexts, at a moment, with the VMs that are dead then,
 -- on the route that takes the path
@@ -111,6 +122,7 @@ pub record IsExact (h : Head) (came : List Item) (t : List Traffic) : Type 0 whe
   pub request : OutRequest
   pub sent_of : IsSentOf h request
   pub reads_back : ReadsBack h request
+  pub whole_reads_back : WholeReadsBack h came request
   pub outs : List OutItem
   pub of : AreOf h came outs
   pub items : IsFront outs (out_items request)
@@ -152,16 +164,12 @@ pub record OneByOne (plan : Plan) (total : List Traffic) : Type 0 where
   pub are : AreParts plan parts
   pub is : total ≡ flat_map traffic_of parts
 
--- the last item of a message is among them
-abbrev pub is_whole : List Item → Bool
-is_whole [] = false
-is_whole (item ∷ items) = is_last item || is_whole items
-
 -- WHAT AN EXCHANGE WITHOUT FILTERS HAS SENT UP while it is open: a front of one connection and the bytes of one request, that of its head, exactly
 pub record IsSoFar (room : Room) (x : Exchange) (h : Head) (items : List Item) (went : List Traffic) : Type 0 where
   pub request : OutRequest
   pub sent_of : IsSentOf h request
   pub reads_back : ReadsBack h request
+  pub whole_reads_back : WholeReadsBack h items request
   -- what was read of it and came to its chain is a front of one message; and the same as it goes out
   pub message : IsMessage items
   pub came : List OutItem
