@@ -30,6 +30,7 @@ pub mod Joining
 pub mod Stepping
 pub mod Turning
 pub mod Wholly
+pub mod Refusing
 pub mod Worked
 pub mod Machines
 pub mod Readable

@@ -9,13 +9,14 @@ use Rattle.exchange.specs.declared.types.Hub.{Hub}
 use Rattle.exchange.specs.Answering.{cut_off, directly, passed_down, put_went_down, puts_down, answered_by, with_answer, through, is_direct, shutting, answers_open, answer, with_held}
 use Rattle.exchange.specs.Heads.{is_bare, is_final, passes_filters, shuts, sent_head, up_tail}
 use Rattle.exchange.specs.Leaving.{sending, goes_up, up, down, leaves, left, is_due}
-use Rattle.exchange.specs.Maps.{request_map, request_trailers}
+use Rattle.exchange.specs.Maps.{request_map}
 use Rattle.exchange.specs.Passing as passing
 use Rattle.exchange.specs.Passing.{passed_on, went, put_went, puts, puts_all, put_in, goes_on, gives_way, resumes_at, stage_of, chain_of, with_chain, pauses, opens_at, opens, opens_all, fails_closed, takes_nothing}
 use Rattle.exchange_laws.specs.Ends.{IsOwn}
-use Rattle.exchange_laws.specs.Lives.{Deed, comes, responds, acts, resumes, closes, answers, dies, refuses, expires, turns, done_by, is_over}
+use Rattle.exchange_laws.specs.Lives.{Deed, comes, responds, acts, resumes, closes, answers, dies, refuses, expires, turns, done_by, is_over, out_item}
 use Rattle.exchange_laws.specs.Traffic.{Traffic, opens as opening, byte, ups, item_traffic, traffic}
 use Rattle.exchange_laws.proofs.Quiet.{reply_to}
+use Rattle.exchange_laws.proofs.Ups.{GoesUp as AllUp, all_up, puts_is, no_stage}
 use Rattle.exchange_laws.proofs.Traffic.{here, up_is_all, adds, adds_none, down_is_none}
 use Rattle.filter_chain.specs.Chains.{put, continued, let_through, asked}
 use Rattle.filter_chain.specs.declared.item.Item.{Item}
@@ -27,7 +28,7 @@ use Rattle.gate_io.specs.declared.event.Sent.TheVariants.{Connect}
 use Rattle.gate_io.specs.declared.event.Side.TheVariants.{Up as to_server}
 use Rattle.header_maps.specs.Headers.{Headers}
 use Rattle.http1_model.specs.Fields.{Pair}
-use Rattle.http1_model.specs.Framing.{OutItem, head_wire, piece_wire, trailer_wire}
+use Rattle.http1_model.specs.Framing.{OutItem, head_wire, piece_wire}
 use Rattle.http1_model.specs.Framing as out
 use Rattle.worker.specs.Steps.{is_live, new_stage, entered}
 use Rattle.line_laws.specs.Living.{request_in}
@@ -296,6 +297,10 @@ record One (n : ℕ) (hub : Hub) (q : Exchange × Hub) (t : List Traffic) (items
   runs : q.0.has_ended ≡ false
   live : is_over q.0 ≡ false
 
+no_answer : (a b : Bool) → (a || b) ≡ false → b ≡ false
+no_answer true b is = absurd (cc)
+no_answer false b is = is
+
 -- there was a head before it
 some_left : (left : List Item) (i : Item) → (step fresh i ≡ broken) → IsSound (step (run fresh left) i) → is_any left ≡ true
 some_left [] i none sound = absurd (subst IsSound none sound)
@@ -350,11 +355,14 @@ module _ (n : ℕ) (items : List Item) (x : Exchange) (hub : Hub) (t : List Traf
     live = live;
   }
   sends_one Trailers u =
-      let fields : Headers = request_trailers x.place hub.contexts in
+      let o : OutItem = out_item x hub Trailers in
+      let answered : x.is_answered ≡ false = no_answer x.has_ended x.is_answered live in
+      let all : AllUp n (no_stage x) hub (Trailers ∷ []) (puts_all false n (Trailers ∷ []) (no_stage x, hub)).0 (puts_all false n (Trailers ∷ []) (no_stage x, hub)).1 = all_up n (Trailers ∷ []) (no_stage x) hub refl runs answered in
       record {
-        more = item_traffic (goes_up x) (out.trailers fields);
-        grows = adds n hub.sent (sending n to_server (trailer_wire (goes_up x) fields.pairs)) (map byte (trailer_wire (goes_up x) fields.pairs)) (up_is_all n (trailer_wire (goes_up x) fields.pairs));
-        goes = one_more Trailers (out.trailers fields) x u refl refl refl refl refl refl tt (was_opened Trailers refl u);
+        more = item_traffic (goes_up x) o;
+        grows =
+            ap (λ (p : Exchange × Hub). ups n p.1.sent) (sym (puts_is n Trailers (no_stage x) hub refl runs answered)) ∙ (all.sent ∙ ap (λ t. ups n hub.sent ++ t) (append-nil (item_traffic (goes_up x) o)));
+        goes = one_more Trailers o x u refl refl refl refl refl refl tt (was_opened Trailers refl u);
         runs = runs;
         live = live;
       }

@@ -30,6 +30,7 @@ use Rattle.worker.specs.declared.no_machines.NoMachines.{NoMachines}
 use Rattle.worker.specs.declared.types.Line.{Line}
 use Rattle.line_laws.specs.Examples.{open_plan, new_worker, event, whole_response, worked_request, LineExamples}
 use Rattle.line_laws.specs.Turns.{Done, Turns, sent_in}
+use Rattle.line_laws.proofs.Refusing.{refused}
 
 -- its end behind these, or this where it has none there
 abbrev end_of : {A : Type 0} → A → List Met → Course A → A
@@ -286,4 +287,5 @@ line_examples = record {
   pipeline_up = both_go_up;
   wire = wire_is;
   room = record { few = omega (arith, three_fields); short = omega (arith, head_bytes) };
+  refused = refused;
 }

@@ -1,7 +1,8 @@
 -- Worked turns of a new worker without machines: a GET, and two GETs that come at once.
-use Rattle.std.specs.Prelude.{◌≡◌, ℕ, true, List, [], ◌∷◌, ◌++◌, map, codes}
+use Rattle.std.specs.Prelude.{◌≡◌, ◌≤◌, suc, ℕ, true, List, [], ◌∷◌, ◌++◌, map, codes}
 use Rattle.contexts.specs.Making.{no_contexts}
-use Rattle.exchange_laws.specs.Traffic.{opens, byte, closes, ups}
+use Rattle.exchange.specs.declared.types.Exchange.{Exchange}
+use Rattle.exchange_laws.specs.Traffic.{Traffic, opens, byte, closes, ups}
 use Rattle.gate_base.specs.declared.level.Level.TheVariants.{Info}
 use Rattle.gate_io.specs.declared.event.Event.{Event}
 use Rattle.gate_io.specs.declared.event.Side.TheVariants.{Down, Up}
@@ -12,13 +13,14 @@ use Rattle.h1_write.specs.Lines.{OutRequest, out_wire}
 use Rattle.h1_write.specs.Round.{last_bytes}
 use Rattle.http1_model.specs.Examples.{worked_head, worked_text, worked_wire, worked_response_text}
 use Rattle.http1_model.specs.Framing.{no_body}
+use Rattle.http1_model.specs.Head.{Head}
 use Rattle.worker.specs.NoCalls.{no_calling}
 use Rattle.worker.specs.Plan.{Plan}
 use Rattle.worker.specs.Steps.{Both, both}
 use Rattle.worker.specs.declared.no_machines.NoMachines.{NoMachines}
 use Rattle.worker.specs.declared.types.Line.{Line}
 use Rattle.line_laws.specs.Logs.{WriteLogs}
-use Rattle.line_laws.specs.Requests.{HasRoom}
+use Rattle.line_laws.specs.Requests.{IsJudged, HasRoom, GoesUp, Part, IsPart, traffic_of}
 use Rattle.line_laws.specs.Turns.{Done, Turns, new_room, sent_in}
 
 -- one route, which takes every path and has no filters
@@ -53,6 +55,21 @@ pub record Runs (events : List Event) : Type 0 where
   pub run : Turns no_calling open_plan new_worker turns to
   pub happened : map (λ (t : Done NoMachines). t.event) turns ≡ events
 
+-- how many connections are opened
+abbrev pub openings : List Traffic → ℕ
+openings [] = 0
+openings (opens ∷ t) = suc (openings t)
+openings (byte b ∷ t) = openings t
+openings (closes ∷ t) = openings t
+
+-- WHAT THE DEFINITIONS REFUSE: an exchange opens no second connection, closes none of which nothing went up, and sends nothing behind the close; and a head
+-- that was not judged began none
+pub record Refused : Type 0 where
+  pub once : (h : Head) (first : Exchange) (t : List Traffic) → GoesUp h first t → openings t ≤ 1
+  pub opened : (p : Part) → traffic_of p ≡ closes ∷ [] → ⊥
+  pub last : (plan : Plan) (p : Part) (b : ℕ) → IsPart plan p → traffic_of p ≡ opens ∷ closes ∷ byte b ∷ [] → ⊥
+  pub judged : (plan : Plan) (p : Part) → (IsJudged p.head → ⊥) → IsPart plan p → ⊥
+
 pub record LineExamples : Type 0 where
   -- machines that are none write logs alone
   pub logs : WriteLogs no_calling
@@ -64,3 +81,4 @@ pub record LineExamples : Type 0 where
   -- a reader has room for its head
   pub wire : out_wire worked_request ≡ worked_wire
   pub room : HasRoom worked_request
+  pub refused : Refused

@@ -42,7 +42,8 @@ pub fn requests_of_the_product_go_up<S: Shared>()
     ensures { RequestsOfTheProductGoUp S S.performs }
 {}
 
-/// A GET goes up and its response comes down; two that come at once go up one behind the other, each over a connection of its own.
+/// A GET goes up and its response comes down; two that come at once go up one behind the other, each over a connection of its own. And what the
+/// definitions of what goes up refuse.
 pub fn worked_lines()
     ensures { LineExamples }
 {}
