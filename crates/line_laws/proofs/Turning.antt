@@ -49,7 +49,7 @@ use Rattle.line_laws.proofs.Looks.{look, line_in_is, lives_join}
 use Rattle.line_laws.proofs.Readable.{readable}
 use Rattle.line_laws.proofs.Rooms.{AllParts}
 use Rattle.line_laws.proofs.Stepping.{settling_keeps}
-use Rattle.line_laws.proofs.Parts.{goes_of, came_front, all_came, no_parts}
+use Rattle.line_laws.proofs.Parts.{goes_of, all_of, came_front, all_came, no_parts}
 use Rattle.line_laws.proofs.Story.{IsFresh, IsRefusing, pending, Stream, fresh, going, doomed, Passage, Story, Tale, plainly, filtered, Idle, ExOk, LineOk, Known}
 
 -- ---- the parts of a turn
@@ -288,6 +288,7 @@ goes_up_by plan n past room k =
           went = s.passage.went;
           adds = s.passage.adds;
           goes = goes_of n past room.reading room.jobs room.lines x room.hub s.head s.start (ups n s.start_hub.sent) (requests_in s.deeds) s.passage;
+          all = all_of n past room.reading room.jobs room.lines x room.hub s.head s.start (ups n s.start_hub.sent) (requests_in s.deeds) s.passage;
           exact = λ e. so_far plan n past room x s;
         }
         by_tale (filtered o) = record {
@@ -305,6 +306,7 @@ goes_up_by plan n past room k =
           went = o.passage.went;
           adds = o.passage.adds;
           goes = goes_of n past room.reading room.jobs room.lines x room.hub o.head o.start o.base o.got o.passage;
+          all = all_of n past room.reading room.jobs room.lines x room.hub o.head o.start o.base o.got o.passage;
           exact = λ e. absurd (o.filters e);
         }
 

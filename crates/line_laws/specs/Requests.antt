@@ -11,6 +11,8 @@ use Rattle.exchange_laws.specs.Responses.{IsMessage}
 use Rattle.exchange_laws.specs.Traffic.{Traffic, opens, byte, closes, ups, traffic, IsFront}
 use Rattle.filter_chain.specs.declared.item.Item.{Item}
 use Rattle.filter_chain.specs.declared.item.Item.TheVariants.{Head as head, Piece, Trailers}
+use Rattle.filter_chain.specs.declared.item.Held.TheVariants as held
+use Rattle.filter_chain.specs.declared.stage.Stage.{Stage}
 use Rattle.h1_write.specs.Lines.{OutRequest, out_items, out_wire, in_items}
 use Rattle.h1_write.specs.Requests.{request_fields}
 use Rattle.h1_write.specs.Round.{FitsSection, Suits, body_items, stop_behind, IsReadAs}
@@ -116,6 +118,17 @@ pub data GoesUp (h : Head) (first : Exchange) (t : List Traffic) : Type 0 where
   sends_nothing : t ≡ [] → GoesUp h first t
   sends_request : IsOneRequest h first t → GoesUp h first t
 
+-- ALL OF IT: the whole message, or the head alone of one without a body
+pub record IsAllOfOne (h : Head) (first : Exchange) (t : List Traffic) : Type 0 where
+  pub request : OutRequest
+  pub made : IsMadeOf h first request
+  pub is : (t ≡ opens ∷ map byte (out_wire request)) ⊎ (t ≡ opens ∷ map byte (head_wire request.framing request.head))
+
+-- no stage holds an item, or has one that waits
+abbrev pub AreEmpty : List Stage → Type 0
+AreEmpty [] = Unit {0}
+AreEmpty (s ∷ stages) = (s.held ≡ held.Nothing) × (s.waiting ≡ []) × AreEmpty stages
+
 -- of one without filters, to whose chain these items came: a front of one connection and the bytes of one request, that of its head, exactly, with the
 -- pieces that came
 pub record IsExact (h : Head) (came : List Item) (t : List Traffic) : Type 0 where
@@ -199,6 +212,8 @@ pub record IsOpen (plan : Plan) (room : Room) (x : Exchange) (total : List Traff
   pub went : List Traffic
   pub adds : total ≡ before ++ went
   pub goes : GoesUp head first went
+  -- where it was neither answered nor has ended, its last item came, and no stage has anything of it: all of it
+  pub all : is_over x ≡ false → AreEmpty x.request → is_whole came ≡ true → IsAllOfOne head first went
   pub exact : x.filters ≡ [] → IsSoFar room x head came went
 
 -- what went up on a line, by the exchange that is on it now
