@@ -21,15 +21,15 @@ use Rattle.worker.specs.declared.types.Job.{Job}
 use Rattle.worker.specs.declared.types.Line.{Line}
 use Rattle.worker.specs.Rooms.{marking, in_exchange, put_back, at_some, at_place, with_lines, place_in, place_of, on_number, on_context}
 use Rattle.worker.specs.Steps.{first_begun, frees_at}
-use Rattle.flow_laws.specs.Acts.{IsLeft}
-use Rattle.flow_laws.specs.Apart.{AreAliens, PassesBy, Does, PassesAliens}
+use Rattle.chain_laws.specs.Acts.{IsLeft}
+use Rattle.body_laws.specs.Apart.{AreAliens, PassesBy, Does, PassesAliens}
 use Rattle.flow_laws.specs.Besides.{OthersAreAlien, IsWhole, OtherLinesLeave, OtherDirectionLeaves, QuietStepsLeave}
-use Rattle.flow_laws.specs.Deeds.{comes, AreDeeds}
+use Rattle.body_laws.specs.Deeds.{comes, AreDeeds}
 use Rattle.flow_laws.specs.Rooms.{IsOn, Leaves, IsAsked, asked_exchange, question}
-use Rattle.flow_laws.proofs.Apart.{Holds, Chained, same, next, by_vms, alien_at, continues, pauses_by}
-use Rattle.flow_laws.proofs.Asks.{Took, TookFor, Taken, took_head, took_piece, took_trailers, took}
-use Rattle.flow_laws.proofs.Deeds.{passed_is, puts_is, goes_is}
-use Rattle.flow_laws.proofs.Holding.{hold_all, hold_then, hold_other, there_other}
+use Rattle.body_laws.proofs.Apart.{Holds, Chained, same, next, by_vms, alien_at, continues, pauses_by}
+use Rattle.chain_laws.proofs.Asks.{Took, TookFor, Taken, took_head, took_piece, took_trailers, took}
+use Rattle.body_laws.proofs.Deeds.{passed_is, puts_is, goes_is}
+use Rattle.chain_laws.proofs.Holding.{hold_all, hold_then, hold_other, there_other}
 use Rattle.flow_laws.proofs.Lines.{with_exchange, on_set, on_number_is, on_context_is, marking_vms, place_set}
 
 -- ---- a room with the same lines

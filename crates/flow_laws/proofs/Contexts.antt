@@ -1,5 +1,5 @@
 -- Why contexts of others that come and go leave a direction as it was.
-use Rattle.std.proofs.Common.{◌≡◌, ℕ, ◌+◌, Bool, true, false, not, ◌&&◌, ◌||◌, List, [], ◌∷◌, ◌++◌, ap, ◌∙◌, sym, refl, subst}
+use Rattle.std.proofs.Common.{◌≡◌, ℕ, Bool, true, false, not, ◌&&◌, ◌||◌, List, [], ◌∷◌, ◌++◌, ap, ◌∙◌, sym, refl, subst}
 use Rattle.std.specs.Prelude.{Option, None, Some, slice_get, slice_set, if◌then◌else◌}
 use Rattle.contexts.specs.declared.parts.Context.{Context}
 use Rattle.contexts.specs.declared.parts.Contexts.{Contexts}
@@ -22,12 +22,13 @@ use Rattle.worker.specs.declared.types.Own.TheVariants as owns
 use Rattle.worker.specs.Rooms.{place_in, with_contexts, is_dead, died, answered_with, valued}
 use Rattle.worker.specs.Steps.{Both, both, Answered, answered, goes_on_with, called_in, has_vm, in_front, waits, deletes, is_drawn_out, may_root, root_jobs, new_one, rooting, with_filter, change_line, line_at_place, may_stream, with_stream, streaming, creating_filter, filter_at, creating}
 use Rattle.flow_laws.specs.Besides.{IsWhole}
-use Rattle.flow_laws.specs.Contexts.{NotOf, ContextsLeave, CallsAreRuns}
+use Rattle.chain_laws.specs.Acts.{NotOf}
+use Rattle.flow_laws.specs.Contexts.{ContextsLeave, CallsAreRuns}
 use Rattle.flow_laws.specs.Elsewhere.{IsBeside, behind_effects}
 use Rattle.flow_laws.specs.Rooms.{IsOn, Leaves, leaves, Meanwhile, nothing, other}
 use Rattle.flow_laws.proofs.Besides.{stays}
 use Rattle.flow_laws.proofs.Elsewhere.{run_then, Beside, beside}
-use Rattle.flow_laws.proofs.Holding.{hold_set, there_set, keeps_same, keeps_more, keeps_less, KeepsFound}
+use Rattle.chain_laws.proofs.Holding.{hold_set, there_set, keeps_same, keeps_more, keeps_less, KeepsFound}
 use Rattle.flow_laws.proofs.Moving.{then_runs, Ran, ran}
 use Rattle.flow_laws.proofs.Readings.{Gentle, soft_exchange, lines_gentle}
 

@@ -13,11 +13,11 @@ use Rattle.worker.specs.declared.room.Room.{Room}
 use Rattle.worker.specs.declared.types.Line.{Line}
 use Rattle.worker.specs.Rooms.{marking, with_result, in_exchange, in_line, all_lines, with_lines, sending, death_text}
 use Rattle.contexts.specs.Reached.{vm_in}
-use Rattle.flow_laws.specs.Apart.{IsAlien, PassesBy, Does, PassesAliens}
+use Rattle.body_laws.specs.Apart.{IsAlien, PassesBy, Does, PassesAliens}
 use Rattle.flow_laws.specs.Besides.{OthersAreAlien, IsWhole}
-use Rattle.flow_laws.specs.Deaths.{NoneOf, AllLinesLeave}
+use Rattle.flow_laws.specs.Deaths.{NoneOf, AllLinesLeave, IsReached, DeathsReach}
 use Rattle.flow_laws.specs.Rooms.{IsOn, Leaves}
-use Rattle.flow_laws.proofs.Apart.{Holds, same, next, by_vms, exchanges_pass_by}
+use Rattle.body_laws.proofs.Apart.{Holds, same, next, by_vms, exchanges_pass_by}
 use Rattle.flow_laws.proofs.Lines.{marking_vms}
 
 -- ---- one line
@@ -165,5 +165,91 @@ all_lines_leave = record {
         chain = refl;
         holds = l.holds;
         there = l.there;
+      };
+}
+
+-- ---- what is done reaches each line
+
+-- what all lines have in common when the turn of the line at a place comes
+abbrev found_at : Does → ℕ → List Line → Hub → Hub
+found_at does zero lines hub = hub
+found_at does (suc p) [] hub = hub
+found_at does (suc p) (l ∷ lines) hub = found_at does p lines (in_line does l hub).1
+
+reach_there : (does : Does) (lines : List Line) (hub : Hub) (place : ℕ) (line : Line) → slice_get lines place ≡ Some line
+    → slice_get (all_lines does lines hub).0 place ≡ Some (in_line does line (found_at does place lines hub)).0
+reach_there does [] hub place line at = absurd (cc)
+reach_there does (l ∷ lines) hub zero line at =
+    let here : l ≡ line = (cc) in
+    ap (λ (k : Line). Some (in_line does k hub).0) here
+reach_there does (l ∷ lines) hub (suc place) line at = reach_there does lines (in_line does l hub).1 place line at
+
+reach_front : (does : Does) → PassesAliens does → (ss : List Stage) (lines : List Line) (hub : Hub) (place : ℕ)
+    → ((p : ℕ) (l : Line) (y : Exchange) → slice_get lines p ≡ Some l → l.exchange ≡ Some y → (p ≡ place → ⊥) → IsAlien ss y) → Holds ss hub.contexts (found_at does place lines hub).contexts
+reach_front does passes ss lines hub zero alien = same ss hub.contexts
+reach_front does passes ss [] hub (suc place) alien = same ss hub.contexts
+reach_front does passes ss (l ∷ lines) hub (suc place) alien =
+    let mid : Hub = (in_line does l hub).1 in
+    next ss hub.contexts mid.contexts (found_at does place lines mid).contexts (one_holds does passes ss l hub (λ y is. alien 0 l y refl is (λ e. cc e)))
+    (reach_front does passes ss lines mid place (λ p k y at is apart. alien (suc p) k y at is (λ e. apart (cc e))))
+
+reach_behind : (does : Does) → PassesAliens does → (ss : List Stage) (lines : List Line) (hub : Hub) (place : ℕ) (line : Line) → slice_get lines place ≡ Some line
+    → ((p : ℕ) (l : Line) (y : Exchange) → slice_get lines p ≡ Some l → l.exchange ≡ Some y → (p ≡ place → ⊥) → IsAlien ss y)
+    → Holds ss (in_line does line (found_at does place lines hub)).1.contexts (all_lines does lines hub).1.contexts
+reach_behind does passes ss [] hub place line at alien = absurd (cc)
+reach_behind does passes ss (l ∷ lines) hub zero line at alien =
+    let here : l ≡ line = (cc) in
+    subst (λ (k : Line). Holds ss (in_line does k hub).1.contexts (all_lines does lines (in_line does l hub).1).1.contexts) here
+    (others_hold does passes ss lines (in_line does l hub).1 (λ p k y at_ is. alien (suc p) k y at_ is (λ e. cc e)))
+reach_behind does passes ss (l ∷ lines) hub (suc place) line at alien =
+    reach_behind does passes ss lines (in_line does l hub).1 place line at (λ p k y at_ is apart. alien (suc p) k y at_ is (λ e. apart (cc e)))
+
+-- the line of the exchange itself
+own_line : (does : Does) (n : ℕ) (x : Exchange) (line : Line) (hub : Hub) → line.exchange ≡ Some x → line.number ≡ n → in_line does line hub ≡ with_result line (marking (does n x hub))
+own_line does n x line hub is number = ap (λ (o : Option Exchange). in_exchange does line o hub) is ∙ ap (λ (m : ℕ). with_result line (marking (does m x hub))) number
+
+all_reach : (does : Does) → PassesAliens does → (response : Bool) (n : ℕ) (x : Exchange) (room : Room) (on : IsOn n room x) → OthersAreAlien (chain_of response x) on.place room
+    → IsWhole response x room → IsReached does response n x room (with_lines room (all_lines does room.lines room.hub))
+all_reach does passes response n x room on alien whole =
+    let ss : List Stage = chain_of response x in
+    let all : List Line × Hub = all_lines does room.lines room.hub in
+    let found : Hub = found_at does on.place room.lines room.hub in
+    let r : Exchange × Hub = does n x found in
+    let front : Holds ss room.hub.contexts found.contexts = reach_front does passes ss room.lines room.hub on.place alien in
+    let own : in_line does on.line found ≡ with_result on.line (marking r) = own_line does n x on.line found on.exchange on.number in
+    let later : Holds ss (with_result on.line (marking r)).1.contexts all.1.contexts
+    = subst (λ (k : Line × Hub). Holds ss k.1.contexts all.1.contexts) own (reach_behind does passes ss room.lines room.hub on.place on.line on.at alien) in
+    let marked : Holds ss r.1.contexts (marking r).1.contexts = by_vms ss r.1.contexts (marking r).1.contexts (marking_vms r) in
+    let one : position_or_len (λ (l : Line). l.number == n) all.0 ≡ position_or_len (λ (l : Line). l.number == n) room.lines = same_places does n room.lines room.hub in
+    let two : length all.0 ≡ length room.lines = same_many does room.lines room.hub in
+    record {
+      found = found;
+      holds = front.holds;
+      there = front.there whole;
+      on = record {
+        place = on.place;
+        line = (with_result on.line (marking r)).0;
+        stands = (λ i. cond (nat_lt (one i) (two i)) (Some (one i)) None) ∙ on.stands;
+        at = reach_there does room.lines room.hub on.place on.line on.at ∙ ap (λ (k : Line × Hub). Some k.0) own;
+        number = on.number;
+        exchange = refl;
+      };
+      behind = (next ss r.1.contexts (marking r).1.contexts all.1.contexts marked later).holds;
+    }
+
+pub deaths_reach : DeathsReach
+deaths_reach = record {
+  on_all = all_reach;
+  dying = λ vm death response n x room on alien whole.
+      let told : Room = sending (Log Critical (death_text (vm_in room.hub.contexts vm).name death) ∷ []) room in
+      let told_on : IsOn n told x = record { place = on.place; line = on.line; stands = on.stands; at = on.at; number = on.number; exchange = on.exchange } in
+      let l : IsReached (dies vm) response n x told (with_lines told (all_lines (dies vm) told.lines told.hub))
+      = all_reach (dies vm) (exchanges_pass_by.dying vm) response n x told told_on alien whole in
+      record {
+        found = l.found;
+        holds = l.holds;
+        there = l.there;
+        on = record { place = l.on.place; line = l.on.line; stands = l.on.stands; at = l.on.at; number = l.on.number; exchange = l.on.exchange };
+        behind = l.behind;
       };
 }

@@ -30,13 +30,13 @@ use Rattle.worker.specs.declared.types.Own.{Own}
 use Rattle.worker.specs.Changes.{changed}
 use Rattle.worker.specs.Moves.{asks_chain, asks_response, asks_exchange, asks_in, asks_back, asks_at}
 use Rattle.worker.specs.Rooms.{place_of, with_lines, on_context, does, effects_of, is_own, marking}
-use Rattle.flow_laws.specs.Acts.{HoldSame, AreThere}
-use Rattle.flow_laws.specs.Apart.{AreAliens, IsAlien, PassesBy}
+use Rattle.chain_laws.specs.Acts.{HoldSame, AreThere}
+use Rattle.body_laws.specs.Apart.{AreAliens, IsAlien, PassesBy}
 use Rattle.flow_laws.specs.Effects.{MayResume, IsMild, MildEffectsAreOthers, CallbacksAreRuns, AskingElsewhereLeaves}
 use Rattle.flow_laws.specs.Rooms.{IsOn, Leaves, Other, wakes, leaves, Others, quiet_room, Meanwhile, nothing, other}
-use Rattle.flow_laws.proofs.Apart.{Holds, same, by_vms, alien_at, alien_set, alien_with, alien_chain, passed_on_by, and_then, held_by, exchanges_pass_by}
+use Rattle.body_laws.proofs.Apart.{Holds, same, by_vms, alien_at, alien_set, alien_with, alien_chain, passed_on_by, and_then, held_by, exchanges_pass_by}
 use Rattle.flow_laws.proofs.Besides.{stays, on_other, other_lines, other_direction}
-use Rattle.flow_laws.proofs.Holding.{hold_all, hold_then, hold_by_vms, there_by_vms, hold_other, there_other}
+use Rattle.chain_laws.proofs.Holding.{hold_all, hold_then, hold_by_vms, there_by_vms, hold_other, there_other}
 use Rattle.flow_laws.proofs.Lines.{marking_vms}
 use Rattle.flow_laws.proofs.Rooms.{other_on}
 

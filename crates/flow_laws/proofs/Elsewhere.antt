@@ -19,7 +19,7 @@ use Rattle.worker.specs.Steps.{Both, both, action_of, acts_on, moved_with}
 use Rattle.flow_laws.specs.Elsewhere.{IsBeside, behind_effects, asked_program, IsElsewhere, OtherLinesMove, IsAcross, OtherDirectionMoves}
 use Rattle.flow_laws.specs.Rooms.{IsOn, Leaves, Others, leaves, asked_exchange, question, stage_own, quiet_room, Meanwhile, nothing, other}
 use Rattle.flow_laws.specs.Steps.{callback_program}
-use Rattle.flow_laws.proofs.Apart.{exchanges_pass_by}
+use Rattle.body_laws.proofs.Apart.{exchanges_pass_by}
 use Rattle.flow_laws.proofs.Besides.{other_lines, other_direction}
 use Rattle.flow_laws.proofs.Effects.{effects_seen, quietly, others_run, asking_elsewhere}
 use Rattle.flow_laws.proofs.Moving.{Ran, behind_it, the_asked, the_lines, asks_is, move_ran}

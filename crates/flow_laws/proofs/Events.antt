@@ -1,5 +1,5 @@
 -- Why what happens on lines leaves a direction as it was.
-use Rattle.std.proofs.Common.{◌≡◌, ◌<◌, ℕ, zero, suc, ◌+◌, ◌==◌, Bool, true, false, not, ◌&&◌, List, [], ◌∷◌, length, get_or, cond, ap, ◌∙◌, sym, refl, eq-eqb, ne_eqb, arith, ⊎_elim}
+use Rattle.std.proofs.Common.{◌≡◌, ◌<◌, ℕ, zero, suc, ◌+◌, ◌==◌, Bool, true, false, not, ◌&&◌, List, [], ◌∷◌, length, get_or, cond, ap, ◌∙◌, sym, refl, eq-eqb, ne_eqb, arith}
 use Rattle.std.specs.List.{position_or_len, list_any, insert, remove}
 use Rattle.std.specs.Prelude.{Option, None, Some, is_some, slice_get, nat_lt, if◌then◌else◌}
 use Rattle.std.proofs.lemmas.Bool.{eqb-true}
@@ -18,10 +18,10 @@ use Rattle.worker.specs.Steps.{entering, in_place, line_in, exchange_of_line, ex
 use Rattle.flow_laws.specs.Besides.{OthersAreAlien, IsWhole}
 use Rattle.flow_laws.specs.Events.{LosesNone, EventsLeave}
 use Rattle.flow_laws.specs.Rooms.{IsOn, Leaves}
-use Rattle.flow_laws.proofs.Apart.{exchanges_pass_by}
+use Rattle.body_laws.proofs.Apart.{exchanges_pass_by}
 use Rattle.flow_laws.proofs.Besides.{stays, on_other, other_lines}
 use Rattle.flow_laws.proofs.Deaths.{all_lines_leave}
-use Rattle.flow_laws.proofs.Holding.{hold_all, hold_then, hold_by_vms, there_by_vms}
+use Rattle.chain_laws.proofs.Holding.{hold_all, hold_then, hold_by_vms, there_by_vms}
 use Rattle.flow_laws.proofs.Lines.{marking_vms}
 use Rattle.flow_laws.proofs.Readings.{Gentle, IsSoft, soft_exchange, lines_gentle}
 

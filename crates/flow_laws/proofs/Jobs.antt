@@ -30,7 +30,7 @@ use Rattle.flow_laws.specs.Rooms.{IsOn, Leaves, Meanwhile, nothing}
 use Rattle.flow_laws.proofs.Apart.{Holds, next, by_vms, drops}
 use Rattle.flow_laws.proofs.Besides.{stays, on_other}
 use Rattle.flow_laws.proofs.Elsewhere.{Beside, beside}
-use Rattle.flow_laws.proofs.Holding.{hold_all, hold_then, hold_by_vms, there_by_vms, hold_kept, there_kept, kept_many}
+use Rattle.chain_laws.proofs.Holding.{hold_all, hold_then, hold_by_vms, there_by_vms, hold_kept, there_kept, kept_many}
 use Rattle.flow_laws.proofs.Moving.{then_runs, Ran, ran}
 
 by_bool : {A : Type 0} (P : A → Type 0) (b : Bool) (a c : A) → (b ≡ true → P a) → (b ≡ false → P c) → P (if b then a else c)

@@ -30,7 +30,7 @@ use Rattle.flow_laws.specs.Besides.{IsWhole}
 use Rattle.flow_laws.specs.Readings.{BeginsNone, HearsNone, ReadingLeaves}
 use Rattle.flow_laws.specs.Rooms.{IsOn, Leaves}
 use Rattle.flow_laws.proofs.Besides.{on_other}
-use Rattle.flow_laws.proofs.Holding.{hold_by_vms, there_by_vms}
+use Rattle.chain_laws.proofs.Holding.{hold_by_vms, there_by_vms}
 use Rattle.flow_laws.proofs.Lines.{get_set, place_set}
 
 -- ---- gentle changes: the chains stay, and what the VMs have among the contexts

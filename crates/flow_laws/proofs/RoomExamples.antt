@@ -12,9 +12,10 @@ use Rattle.filter_chain.specs.declared.item.Item.TheVariants.{Head, Piece}
 use Rattle.filter_chain.specs.Chains.{asked}
 use Rattle.worker.specs.declared.room.Room.{Room}
 use Rattle.worker.specs.Rooms.{on_number}
-use Rattle.flow_laws.specs.Examples.{upload_start, asked_with}
+use Rattle.chain_laws.specs.Examples.{asked_with}
+use Rattle.body_laws.specs.Examples.{upload_start}
 use Rattle.flow_laws.specs.RoomExamples.{upload_room, RoomExample}
-use Rattle.flow_laws.proofs.Examples.{exchange_examples}
+use Rattle.body_laws.proofs.Examples.{exchange_examples}
 use Rattle.httparse.proofs.OnLiterals.{httparse_on_literals}
 use Rattle.std.specs.Fmt.{digits}
 use Rattle.flow_laws.specs.Rooms.{IsAsked, IsMove, IsPut, asked_exchange, moves, puts, Run, rests, goes, moved_exchange, moved_room}

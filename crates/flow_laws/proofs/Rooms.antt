@@ -1,5 +1,5 @@
 -- What a worker does are deeds on the exchange of a line.
-use Rattle.std.proofs.Common.{◌≡◌, ℕ, suc, ◌+◌, Bool, List, [], ◌∷◌, ◌++◌, map, ap, ◌∙◌, sym, refl, subst, arith}
+use Rattle.std.proofs.Common.{◌≡◌, ℕ, suc, Bool, List, [], ◌∷◌, ◌++◌, map, ap, ◌∙◌, sym, refl, subst, arith}
 use Rattle.std.specs.Prelude.{Option, None, Some, slice_get, drop, if◌then◌else◌}
 use Rattle.std.proofs.lemmas.List.{append_assoc, append-nil}
 use Rattle.contexts.specs.declared.parts.Contexts.{Contexts}
@@ -15,22 +15,25 @@ use Rattle.filter_chain.specs.declared.item.Asking.{Asking}
 use Rattle.filter_chain.specs.declared.item.Asking.TheVariants.{Nothing, Over, Asks}
 use Rattle.filter_chain.specs.declared.item.Item.{Item}
 use Rattle.filter_chain.specs.Chains.{asked}
+use Rattle.filter_chain.specs.Flow.{flow}
 use Rattle.filter_chain.specs.Items.{joined}
 use Rattle.worker.specs.declared.room.Room.{Room}
 use Rattle.worker.specs.declared.types.Own.{Own}
 use Rattle.worker.specs.Rooms.{Changes, marking, on_number, does, effects_of}
 use Rattle.worker.specs.Steps.{action_of}
-use Rattle.flow_laws.specs.Acts.{AreThere, IsCall, is_body, where_one, buffer_in, buffer_at, buffer_called}
-use Rattle.flow_laws.specs.Acts as at_chain
-use Rattle.flow_laws.specs.Deeds.{Deed, comes, calls, answers, resumes, turns, Running, standing, done, called, resumed, done_by, done_all, acts_of, left_by, came, buffers_by, AreDeeds}
-use Rattle.flow_laws.specs.PassThrough.{IsInOrder, PassesThrough}
+use Rattle.chain_laws.specs.Acts.{pending, behind, AreThere, IsCall, is_body, where_one, buffer_in, buffer_at, buffer_called}
+use Rattle.chain_laws.specs.Acts as at_chain
+use Rattle.body_laws.specs.Deeds.{Deed, comes, calls, answers, resumes, lets, turns, Running, standing, done, called, resumed, done_by, done_all, acts_of, left_by, came, buffers_by, AreDeeds}
+use Rattle.chain_laws.specs.PassThrough.{bare_all, bare_in, Thinner, IsInOrder, PassesThrough}
+use Rattle.body_laws.specs.Exchanges.{GoesOn}
 use Rattle.flow_laws.specs.Rooms.{IsOn, running, Leaves, Wakes, Other, wakes, leaves, Meanwhile, nothing, other, Others, quiet_room, IsAsked, asked_exchange, question, stage_own, IsMove, affected, moved_exchange, moved_room, IsPut, Part, moves, puts as puts_part, others, Run, rests, goes, other_deeds, effect_deeds, part_deeds, run_deeds, part_items, run_items, part_buffers, run_buffers}
-use Rattle.flow_laws.specs.Workers.{IsIdleRun, MeanwhileRuns, WorkersPassBodies, LastStagesPass, UnchangedPass}
-use Rattle.flow_laws.proofs.Deeds.{deed_does, exchanges_pass}
-use Rattle.flow_laws.proofs.Holding.{hold_then, hold_by_vms, there_by_vms}
+use Rattle.flow_laws.specs.Workers.{IsIdleRun, MeanwhileRuns, WorkersPassBodies, LastStagesPass, UnchangedPass, RunGoesOn, RunsGoOn}
+use Rattle.body_laws.proofs.Deeds.{deed_does, are_written, passed_as, exchanges_pass}
+use Rattle.chain_laws.proofs.Holding.{hold_then, hold_by_vms, there_by_vms}
 use Rattle.flow_laws.proofs.Lines.{with_exchange, on_set, on_number_is, on_context_is, marking_vms}
-use Rattle.flow_laws.proofs.Steps.{Keeps}
-use Rattle.flow_laws.proofs.Through.{Went, went, new_keeps}
+use Rattle.chain_laws.specs.Sound.{IsSound}
+use Rattle.chain_laws.proofs.Order.{last_in}
+use Rattle.chain_laws.proofs.Through.{Went, went, new_keeps, idle_ends}
 
 -- ---- deeds, one list behind the other
 
@@ -56,6 +59,7 @@ came_more (comes item ∷ a) b = ap (λ (l : List Item). item ∷ l) (came_more 
 came_more (calls after ∷ a) b = came_more a b
 came_more (answers value ∷ a) b = came_more a b
 came_more (resumes vm context ∷ a) b = came_more a b
+came_more (lets k ∷ a) b = came_more a b
 came_more (turns y after ∷ a) b = came_more a b
 
 buffers_more : (response : Bool) (n k : ℕ) (a b : List Deed) (w : Running)
@@ -79,16 +83,16 @@ told_none : (response : Bool) (n count : ℕ) (w : Running) → Told response n 
 told_none response n count w = record { are = tt; last = refl; cames = refl; lefts = λ k. refl }
 
 -- what holds between acts holds behind deeds
-deeds_keep : (response : Bool) (n count : ℕ) (deeds : List Deed) (w : Running) → AreDeeds response n count deeds w → Keeps count (standing response w)
-    → Keeps count (standing response (done_all response n deeds w))
+deeds_keep : (response : Bool) (n count : ℕ) (deeds : List Deed) (w : Running) → AreDeeds response n count deeds w → IsSound count (standing response w)
+    → IsSound count (standing response (done_all response n deeds w))
 deeds_keep response n count [] w are keeps = keeps
 deeds_keep response n count (deed ∷ deeds) w are keeps =
     let all : Went count (acts_of response deed w) (standing response w) = went count (acts_of response deed w) (standing response w) keeps are.0.acts in
-    deeds_keep response n count deeds (done_by response n deed w) are.1 (subst (Keeps count) (sym (deed_does response n count deed w are.0)) all.keeps)
+    deeds_keep response n count deeds (done_by response n deed w) are.1 (subst (IsSound count) (sym (deed_does response n count deed w are.0)) all.keeps)
 
-told_keeps : (response : Bool) (n count : ℕ) (deeds : List Deed) (w v : Running) (i : List Item) (f : ℕ → List ℕ) → Told response n count deeds w v i f → Keeps count (standing response w)
-    → Keeps count (standing response v)
-told_keeps response n count deeds w v i f told keeps = subst (λ (u : Running). Keeps count (standing response u)) told.last (deeds_keep response n count deeds w told.are keeps)
+told_keeps : (response : Bool) (n count : ℕ) (deeds : List Deed) (w v : Running) (i : List Item) (f : ℕ → List ℕ) → Told response n count deeds w v i f → IsSound count (standing response w)
+    → IsSound count (standing response v)
+told_keeps response n count deeds w v i f told keeps = subst (λ (u : Running). IsSound count (standing response u)) told.last (deeds_keep response n count deeds w told.are keeps)
 
 -- ---- what host calls are told of the exchange
 
@@ -110,7 +114,7 @@ marked_told response n count due x hub after same there = record {
 
 -- ---- what else a worker does
 
-wakes_told : (response : Bool) (n count : ℕ) (due : Option Ask) (x : Exchange) (room : Room) (y : Exchange) (after : Room) → Keeps count (standing response (running due x room))
+wakes_told : (response : Bool) (n count : ℕ) (due : Option Ask) (x : Exchange) (room : Room) (y : Exchange) (after : Room) → IsSound count (standing response (running due x room))
     → (w : Wakes response n count due x room y after)
     → Told response n count (resumes w.vm w.context ∷ turns y after.hub ∷ []) (running due x room) (running due y after) [] (λ k. [])
 wakes_told response n count due x room y after keeps w =
@@ -146,7 +150,7 @@ leaves_told response n count due x room y after l = record {
   lefts = λ k. refl;
 }
 
-other_told : (response : Bool) (n count : ℕ) (due : Option Ask) (x : Exchange) (room : Room) (y : Exchange) (after : Room) → Keeps count (standing response (running due x room))
+other_told : (response : Bool) (n count : ℕ) (due : Option Ask) (x : Exchange) (room : Room) (y : Exchange) (after : Room) → IsSound count (standing response (running due x room))
     → (o : Other response n count due x room y after) → Told response n count (other_deeds o) (running due x room) (running due y after) [] (λ k. [])
 other_told response n count due x room y after keeps (wakes w) = wakes_told response n count due x room y after keeps w
 other_told response n count due x room y after keeps (leaves l) = leaves_told response n count due x room y after l
@@ -157,14 +161,14 @@ other_on response n count due x room y after (leaves l) = l.on
 
 -- the effects of a callback
 others_told : (response : Bool) (n count : ℕ) (due : Option Ask) (vm : ℕ) (own : Own) (es : List Effect) (x : Exchange) (room : Room) (z : Exchange)
-    → Keeps count (standing response (running due x room)) → (are : Others response n count due vm own es x room z)
+    → IsSound count (standing response (running due x room)) → (are : Others response n count due vm own es x room z)
     → Told response n count (effect_deeds response n count due vm own es x room z are) (running due x room) (running due z (effects_of vm own es room)) [] (λ k. [])
 others_told response n count due vm own [] x room z keeps are =
     subst (λ (y : Exchange). Told response n count [] (running due x room) (running due y room) [] (λ k. [])) (sym are.0) (told_none response n count (running due x room))
 others_told response n count due vm own (e ∷ es) x room z keeps are =
     let mid : Room = does vm own e.context e.what room in
     let first : Told response n count (other_deeds are.1) (running due x room) (running due are.0 mid) [] (λ k. []) = other_told response n count due x room are.0 mid keeps are.1 in
-    let later_keeps : Keeps count (standing response (running due are.0 mid))
+    let later_keeps : IsSound count (standing response (running due are.0 mid))
     = told_keeps response n count (other_deeds are.1) (running due x room) (running due are.0 mid) [] (λ k. []) first keeps in
     told_more response n count (other_deeds are.1) (effect_deeds response n count due vm own es are.0 mid z are.2) (running due x room) (running due are.0 mid)
     (running due z (effects_of vm own es mid)) [] [] (λ k. []) (λ k. []) first (others_told response n count due vm own es are.0 mid z later_keeps are.2)
@@ -232,7 +236,7 @@ module _ {H : Type 0} (response : Bool) (n count : ℕ) (c : Called H) (x : Exch
       subst (λ (t : Room). IsOn n t (moved_exchange m)) (sym (on_number_is change n (affected c q) m.behind on))
       (on_set n (affected c q) m.behind on (marking (change n m.behind (affected c q).hub)))
 
-  move_told : Keeps count (standing response (running None x room))
+  move_told : IsSound count (standing response (running None x room))
       → Told response n count (part_deeds (moves c q m)) (running None x room) (running None (moved_exchange m) (moved_room m)) []
       (λ k. buffer_called k c.contexts (asked room.hub.contexts (chain_of response x)))
   move_told keeps =
@@ -244,11 +248,11 @@ module _ {H : Type 0} (response : Bool) (n count : ℕ) (c : Called H) (x : Exch
       let w2 : Running = running (Some q.ask) m.behind (affected c q) in
       let change : Changes = acts response q.ask.stage (action_of m.value) in
       let r : Exchange × Hub = change n m.behind (affected c q).hub in
-      let keeps1 : Keeps count (standing response w1) = told_keeps response n count (calls first_room.hub ∷ []) (running None x room) w1 [] f call_told keeps in
+      let keeps1 : IsSound count (standing response w1) = told_keeps response n count (calls first_room.hub ∷ []) (running None x room) w1 [] f call_told keeps in
       let effects : List Deed = effect_deeds response n count (Some q.ask) q.stage.vm own es first_exchange first_room m.behind m.effects in
       let second : Told response n count effects w1 w2 [] none = others_told response n count (Some q.ask) q.stage.vm own es first_exchange first_room m.behind keeps1 m.effects in
-      let keeps2 : Keeps count (standing response w2) = told_keeps response n count effects w1 w2 [] none second keeps1 in
-      let keeps3 : Keeps count (standing response (done None r)) = told_keeps response n count (answers (action_of m.value) ∷ []) w2 (done None r) [] none answer_told keeps2 in
+      let keeps2 : IsSound count (standing response w2) = told_keeps response n count effects w1 w2 [] none second keeps1 in
+      let keeps3 : IsSound count (standing response (done None r)) = told_keeps response n count (answers (action_of m.value) ∷ []) w2 (done None r) [] none answer_told keeps2 in
       let on : IsOn n (affected c q) m.behind = others_on response n count (Some q.ask) q.stage.vm own es first_exchange first_room m.behind m.effects in
       let vms : (moved_room m).hub.contexts.vms ≡ r.1.contexts.vms
       = ap (λ (t : Room). t.hub.contexts.vms) (on_number_is change n (affected c q) m.behind on) ∙ marking_vms r in
@@ -280,7 +284,7 @@ puts_buffers response n k [] w = refl
 puts_buffers response n k (item ∷ items) w = puts_buffers response n k items (done_by response n (comes item) w)
 
 put_told : (H : Type 0) (response : Bool) (n count : ℕ) (items : List Item) (x : Exchange) (room : Room) (is : IsPut response n count items x room)
-    → Keeps count (standing response (running None x room))
+    → IsSound count (standing response (running None x room))
     → Told response n count (map comes items ++ turns (put_in response items n x room.hub).0 (on_number (put_in response items) n room).hub ∷ []) (running None x room)
     (running None (put_in response items n x room.hub).0 (on_number (put_in response items) n room)) items (λ k. [])
 put_told H response n count items x room is keeps =
@@ -296,7 +300,7 @@ put_told H response n count items x room is keeps =
       cames = puts_came items;
       lefts = λ k. puts_buffers response n k items w;
     } in
-    let keeps1 : Keeps count (standing response (done None r)) = told_keeps response n count (map comes items) w (done None r) items none first keeps in
+    let keeps1 : IsSound count (standing response (done None r)) = told_keeps response n count (map comes items) w (done None r) items none first keeps in
     let after : Room = on_number (put_in response items) n room in
     let vms : after.hub.contexts.vms ≡ r.1.contexts.vms
     = ap (λ (q : Room). q.hub.contexts.vms) (on_number_is (put_in response items) n room x is.on) ∙ marking_vms r in
@@ -308,19 +312,19 @@ put_told H response n count items x room is keeps =
 -- ---- one behind the other
 
 part_told : {H : Type 0} {response : Bool} {n count : ℕ} {x : Exchange} {room : Room} {y : Exchange} {after : Room} → (part : Part H response n count x room y after)
-    → Keeps count (standing response (running None x room))
+    → IsSound count (standing response (running None x room))
     → Told response n count (part_deeds part) (running None x room) (running None y after) (part_items part) (λ k. part_buffers k part)
 part_told {H} {response} {n} {count} {x} {room} (moves c q m) keeps = move_told response n count c x room q m keeps
 part_told {H} {response} {n} {count} {x} {room} (puts_part items is) keeps = put_told H response n count items x room is keeps
 part_told {H} {response} {n} {count} {x} {room} (others y after is) keeps = other_told response n count None x room y after keeps is
 
 run_told : {H : Type 0} {response : Bool} {n count : ℕ} {x y : Exchange} {room after : Room} → (run : Run H response n count x room y after)
-    → Keeps count (standing response (running None x room))
+    → IsSound count (standing response (running None x room))
     → Told response n count (run_deeds run) (running None x room) (running None y after) (run_items run) (λ k. run_buffers k run)
 run_told {H} {response} {n} {count} (rests x room) keeps = told_none response n count (running None x room)
 run_told {H} {response} {n} {count} (goes {x} {y} {z} {room} {mid} {after} part run) keeps =
     let first : Told response n count (part_deeds part) (running None x room) (running None y mid) (part_items part) (λ k. part_buffers k part) = part_told part keeps in
-    let keeps1 : Keeps count (standing response (running None y mid))
+    let keeps1 : IsSound count (standing response (running None y mid))
     = told_keeps response n count (part_deeds part) (running None x room) (running None y mid) (part_items part) (λ k. part_buffers k part) first keeps in
     told_more response n count (part_deeds part) (run_deeds run) (running None x room) (running None y mid) (running None z after) (part_items part) (run_items run)
     (λ k. part_buffers k part) (λ k. run_buffers k run) first (run_told run keeps1)
@@ -331,14 +335,32 @@ pub workers_pass : (H : Type 0) → WorkersPassBodies H
 workers_pass H = λ response n count x y room after run new within.
     let told : Told response n count (run_deeds run) (running None x room) (running None y after) (run_items run) (λ k. run_buffers k run)
     = run_told run (new_keeps count (standing response (running None x room)) new within) in
-    record { are = told.are; last = told.last }
+    let w : Running = running None x room in
+    let sound : IsSound count (standing response w) = new_keeps count (standing response w) new within in
+    record {
+      are = told.are;
+      last = told.last;
+      written = λ order.
+          are_written response n count w (run_deeds run) sound told.are
+          (subst IsInOrder (sym ((λ i. idle_ends room.hub.contexts (chain_of response x) new.idle i ++ bare_all (told.cames i)))) (last_in (run_items run) order));
+    }
+
+-- how the direction stands at the end, when nothing is due
+rests_as : {came_a came_b left : List Item} {whole_a whole_b : List ℕ} (response : Bool) (n : ℕ) (v : Running) (y : Exchange) (after : Room) → v ≡ running None y after → came_a ≡ came_b
+    → whole_a ≡ whole_b → pending n (standing response (running None y after)) ≡ [] → PassesThrough came_a whole_a left (behind n (standing response v)) (chain_of response v.exchange)
+    → PassesThrough came_b whole_b left (flow after.hub.contexts (drop n (chain_of response y))) (chain_of response y)
+rests_as {came_a} {came_b} {left} response n v y after is came_is whole_is none law =
+    let inside : behind n (standing response v) ≡ flow after.hub.contexts (drop n (chain_of response y))
+    = ap (λ (u : Running). behind n (standing response u)) is
+    ∙ (ap (λ (l : List ℕ). flow after.hub.contexts (drop n (chain_of response y)) ++ l) none ∙ append-nil (flow after.hub.contexts (drop n (chain_of response y)))) in
+    passed_as came_is whole_is refl inside (ap (λ (u : Running). chain_of response u.exchange) is) law
 
 pub last_stages : (H : Type 0) → LastStagesPass H
 last_stages H = λ response n k x y room after run new within order.
     let w : Running = running None x room in
     let told : Told response n (suc k) (run_deeds run) w (running None y after) (run_items run) (λ j. run_buffers j run)
     = run_told run (new_keeps (suc k) (standing response w) new (omega arith)) in
-    subst (PassesThrough (left_by response n (run_deeds run) w)) (told.lefts k)
+    rests_as response (suc k) (done_all response n (run_deeds run) w) y after told.last told.cames (told.lefts k) refl
     (exchanges_pass.last_stage response n k w (run_deeds run) new within told.are (subst IsInOrder (sym told.cames) order))
 
 pub unchanged_bodies : (H : Type 0) → UnchangedPass H
@@ -346,8 +368,43 @@ unchanged_bodies H = λ response n x y room after run new order.
     let w : Running = running None x room in
     let told : Told response n 0 (run_deeds run) w (running None y after) (run_items run) (λ k. run_buffers k run)
     = run_told run (new_keeps 0 (standing response w) new (omega arith)) in
-    subst (λ (l : List Item). PassesThrough (left_by response n (run_deeds run) w) (joined l)) told.cames
+    rests_as response 0 (done_all response n (run_deeds run) w) y after told.last told.cames (ap joined told.cames) refl
     (exchanges_pass.unchanged response n w (run_deeds run) new told.are (subst IsInOrder (sym told.cames) order))
+
+-- from a sound state
+run_goes : (H : Type 0) (response : Bool) (n count : ℕ) (x y : Exchange) (room after : Room) (run : Run H response n count x room y after) (whole_a whole_b : List ℕ)
+    → (sound : IsSound count (standing response (running None x room))) → pending count (standing response (running None x room)) ≡ []
+    → pending count (standing response (running None y after)) ≡ [] → whole_a ≡ whole_b → GoesOn response n count (run_deeds run) (running None x room) whole_a → RunGoesOn run whole_b
+run_goes H response n count x y room after run whole_a whole_b sound none_before none_after same law =
+    let w : Running = running None x room in
+    let told : Told response n count (run_deeds run) w (running None y after) (run_items run) (λ k. run_buffers k run) = run_told run sound in
+    let before : behind count (standing response w) ≡ flow room.hub.contexts (drop count (chain_of response x))
+    = ap (λ (l : List ℕ). flow room.hub.contexts (drop count (chain_of response x)) ++ l) none_before ∙ append-nil (flow room.hub.contexts (drop count (chain_of response x))) in
+    let behind_it : behind count (standing response (done_all response n (run_deeds run) w)) ≡ flow after.hub.contexts (drop count (chain_of response y))
+    = ap (λ (u : Running). behind count (standing response u)) told.last
+    ∙ (ap (λ (l : List ℕ). flow after.hub.contexts (drop count (chain_of response y)) ++ l) none_after ∙ append-nil (flow after.hub.contexts (drop count (chain_of response y)))) in
+    record {
+      bytes = sym (ap (λ (l : List ℕ). joined (left_by response n (run_deeds run) w) ++ l) behind_it) ∙ (law.bytes ∙ (λ i. before i ++ same i));
+      order = subst (λ (t : List Item × Running). Thinner (bare_in (chain_of response x) ++ bare_all t.0) (bare_all (left_by response n (run_deeds run) w) ++ bare_in (chain_of response t.1.exchange)))
+          (λ i. (told.cames i, told.last i)) law.order;
+      written = λ order.
+          are_written response n count w (run_deeds run) sound told.are (subst (λ (l : List Item). IsInOrder (bare_in (chain_of response x) ++ bare_all l)) (sym told.cames) order);
+      sound = subst (λ (u : Running). IsSound count (standing response u)) told.last law.sound;
+    }
+
+pub runs_go_on : (H : Type 0) → RunsGoOn H
+runs_go_on H = record {
+  last_stage = λ response n k x y room after run sound.
+      let w : Running = running None x room in
+      let told : Told response n (suc k) (run_deeds run) w (running None y after) (run_items run) (λ j. run_buffers j run) = run_told run sound in
+      run_goes H response n (suc k) x y room after run (buffers_by response n k (run_deeds run) w) (run_buffers k run) sound refl refl (told.lefts k)
+      (exchanges_pass.last_goes_on response n k w (run_deeds run) sound told.are);
+  unchanged = λ response n x y room after run sound.
+      let w : Running = running None x room in
+      let told : Told response n 0 (run_deeds run) w (running None y after) (run_items run) (λ j. run_buffers j run) = run_told run sound in
+      run_goes H response n 0 x y room after run (joined (came (run_deeds run))) (joined (run_items run)) sound refl refl (ap joined told.cames)
+      (exchanges_pass.unchanged_goes_on response n w (run_deeds run) sound told.are);
+}
 
 pub meanwhile_runs : (H : Type 0) → MeanwhileRuns H
 meanwhile_runs H response n count x y room after m = run_of m

@@ -18,14 +18,14 @@ use Rattle.worker.specs.declared.types.Own.TheVariants as owns
 use Rattle.worker.specs.Plan.{Plan}
 use Rattle.worker.specs.Rooms.{place_in, on_number, died, is_dead}
 use Rattle.worker.specs.Steps.{Both, both, starts, finishes, forgets, ends_at, first_begun, frees as free_one, is_zero, in_front, unless_zero, last_jobs, waits, done_with, deletes, vm_length, plugin_length, ticked, may_stream, rooting, creating, quietly, noticed, takes_notice, made_one, tells, works, works_first, step}
-use Rattle.flow_laws.specs.Acts.{AreThere, HoldSame}
+use Rattle.chain_laws.specs.Acts.{AreThere, HoldSame}
 use Rattle.flow_laws.specs.Besides.{IsWhole}
-use Rattle.flow_laws.specs.Contexts.{NotOf}
+use Rattle.chain_laws.specs.Acts.{NotOf}
 use Rattle.flow_laws.specs.Elsewhere.{behind_effects}
 use Rattle.flow_laws.specs.Rooms.{IsOn, Leaves, leaves, Meanwhile, nothing, other}
 use Rattle.flow_laws.specs.Steps.{Calling}
 use Rattle.flow_laws.specs.Stepping.{in_hand, Tells, TellsThen, MayJob, begin, root, start, configure, tick, expire, happen, create, enter, put_across, put_elsewhere, refuse, done, log, delete, close, notice, ready, MayWork, no_job, first_job, MayBeside, reads, moves_across, moves_elsewhere, works as works_on, frees, ends_other, begins, stops, StepsBeside}
-use Rattle.flow_laws.proofs.Apart.{exchanges_pass_by}
+use Rattle.body_laws.proofs.Apart.{exchanges_pass_by}
 use Rattle.flow_laws.proofs.Besides.{stays, other_lines, other_direction, quiet_steps}
 use Rattle.flow_laws.proofs.Contexts.{contexts_leave, calls_are}
 use Rattle.flow_laws.proofs.Elsewhere.{other_lines_move, other_direction_moves}

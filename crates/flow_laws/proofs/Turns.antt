@@ -1,12 +1,13 @@
 -- Why bodies pass through turns.
-use Rattle.std.proofs.Common.{◌≡◌, ◌≤◌, ℕ, zero, suc, ◌+◌, Bool, List, [], ◌∷◌, ◌++◌, length, ap, ◌∙◌, sym, refl, subst, arith}
-use Rattle.std.specs.Prelude.{None}
+use Rattle.std.proofs.Common.{◌≡◌, ◌≤◌, ℕ, zero, suc, Bool, List, [], ◌∷◌, ◌++◌, length, ap, ◌∙◌, sym, refl, subst, arith}
+use Rattle.std.specs.Prelude.{None, drop}
 use Rattle.std.proofs.lemmas.List.{append_assoc, append-nil}
 use Rattle.course.specs.Called.{Called}
 use Rattle.course.specs.Course.{Course, ends, Met, Reaches}
 use Rattle.exchange.specs.declared.types.Exchange.{Exchange}
 use Rattle.exchange.specs.Passing.{chain_of, put_in}
 use Rattle.filter_chain.specs.declared.item.Item.{Item}
+use Rattle.filter_chain.specs.Flow.{flow}
 use Rattle.filter_chain.specs.Items.{joined}
 use Rattle.worker.specs.declared.room.Room.{Room}
 use Rattle.worker.specs.declared.types.Job.{Job}
@@ -16,17 +17,19 @@ use Rattle.worker.specs.Rooms.{next_of, marking, on_number}
 use Rattle.worker.specs.Steps.{Both, both, step}
 use Rattle.worker.specs.Turn.{emptied, facing}
 use Rattle.flow_laws.specs.Besides.{IsWhole}
-use Rattle.flow_laws.specs.Deeds.{left_by}
-use Rattle.flow_laws.specs.PassThrough.{IsInOrder, PassesThrough}
+use Rattle.body_laws.specs.Deeds.{left_by}
+use Rattle.chain_laws.specs.PassThrough.{IsInOrder, PassesThrough}
 use Rattle.flow_laws.specs.Rooms.{IsOn, running, Leaves, leaves, Meanwhile, nothing, other, IsMove, IsPut, moved_exchange, moved_room, moves, puts, others, Run, rests, goes, run_deeds, part_items, run_items, run_buffers}
 use Rattle.flow_laws.specs.Stepping.{in_hand}
 use Rattle.flow_laws.specs.Steps.{Calling, MoveEnds}
-use Rattle.flow_laws.specs.Turns.{MayStep, moves_own, puts_own, is_beside, Steps, no_step, one_step, next_turn, HavePassed, TurnsPassBodies}
-use Rattle.flow_laws.specs.Workers.{IsIdleRun}
+use Rattle.flow_laws.specs.Turns.{MayStep, moves_own, puts_own, is_beside, Steps, no_step, one_step, next_turn, HavePassed, TurnsPassBodies, HaveGoneOn, TurnsGoOn}
+use Rattle.chain_laws.specs.Sound.{IsSound}
+use Rattle.body_laws.specs.Deeds.{standing}
+use Rattle.flow_laws.specs.Workers.{IsIdleRun, RunGoesOn}
 use Rattle.flow_laws.proofs.Jobs.{jobs_leave}
 use Rattle.flow_laws.proofs.Lines.{on_set, on_number_is}
 use Rattle.flow_laws.proofs.Moving.{moves_are, puts_are}
-use Rattle.flow_laws.proofs.Rooms.{other_on, moved_on, meanwhile_runs, workers_pass, last_stages, unchanged_bodies}
+use Rattle.flow_laws.proofs.Rooms.{other_on, moved_on, meanwhile_runs, workers_pass, last_stages, unchanged_bodies, runs_go_on}
 use Rattle.flow_laws.proofs.Stepping.{steps_beside}
 
 -- ---- the run of a step
@@ -118,27 +121,62 @@ turns_pass H calling plan response n count x b e items steps on new within order
     by_count : (c : ℕ) → Steps calling plan response n c x b items e → c ≤ length (chain_of response x) → HavePassed response n c x b items e
     by_count zero steps_ within_ =
         let w : Went H response n 0 x b.room e.room items = steps_went calling plan response n 0 x b e items steps_ on in
-        let law : PassesThrough (left_by response n (run_deeds w.run) (running None x b.room)) (joined (run_items w.run))
-        = unchanged_bodies H response n x w.last b.room e.room w.run new (subst IsInOrder (sym w.put) order) in
+        let left : List Item = left_by response n (run_deeds w.run) (running None x b.room) in
+        let inside : List ℕ = flow e.room.hub.contexts (chain_of response w.last) in
         record {
           last = w.last;
+          on = w.on;
           run = w.run;
           put = w.put;
           deeds = workers_pass H response n 0 x w.last b.room e.room w.run new within_;
           last_stage = λ k is. absurd (cc is);
-          unchanged = λ is. subst (λ (l : List Item). PassesThrough (left_by response n (run_deeds w.run) (running None x b.room)) (joined l)) w.put law;
+          unchanged = λ is.
+              subst (λ (l : List Item). PassesThrough l (joined l) left inside (chain_of response w.last)) w.put
+              (unchanged_bodies H response n x w.last b.room e.room w.run new (subst IsInOrder (sym w.put) order));
         }
     by_count (suc j) steps_ within_ =
         let w : Went H response n (suc j) x b.room e.room items = steps_went calling plan response n (suc j) x b e items steps_ on in
-        let law : PassesThrough (left_by response n (run_deeds w.run) (running None x b.room)) (run_buffers j w.run)
-        = last_stages H response n j x w.last b.room e.room w.run new (omega arith) (subst IsInOrder (sym w.put) order) in
+        let left : List Item = left_by response n (run_deeds w.run) (running None x b.room) in
+        let inside : List ℕ = flow e.room.hub.contexts (drop (suc j) (chain_of response w.last)) in
+        let law : PassesThrough items (run_buffers j w.run) left inside (chain_of response w.last)
+        = subst (λ (l : List Item). PassesThrough l (run_buffers j w.run) left inside (chain_of response w.last)) w.put
+        (last_stages H response n j x w.last b.room e.room w.run new (omega arith) (subst IsInOrder (sym w.put) order)) in
         record {
           last = w.last;
+          on = w.on;
           run = w.run;
           put = w.put;
           deeds = workers_pass H response n (suc j) x w.last b.room e.room w.run new within_;
           last_stage = λ k is.
               let same : j ≡ k = (cc is) in
-              subst (λ (i : ℕ). PassesThrough (left_by response n (run_deeds w.run) (running None x b.room)) (run_buffers i w.run)) same law;
+              subst (λ (i : ℕ). PassesThrough items (run_buffers i w.run) left inside (chain_of response w.last)) same law;
+          unchanged = λ is. absurd (cc is);
+        }
+
+pub turns_go_on : (H : Type 0) → TurnsGoOn H
+turns_go_on H calling plan response n count x b e items steps on sound = by_count count steps sound
+  where
+    by_count : (c : ℕ) → Steps calling plan response n c x b items e → IsSound c (standing response (running None x b.room)) → HaveGoneOn response n c x b items e
+    by_count zero steps_ sound_ =
+        let w : Went H response n 0 x b.room e.room items = steps_went calling plan response n 0 x b e items steps_ on in
+        record {
+          last = w.last;
+          on = w.on;
+          run = w.run;
+          put = w.put;
+          last_stage = λ k is. absurd (cc is);
+          unchanged = λ is.
+              subst (λ (l : List Item). RunGoesOn w.run (joined l)) w.put ((runs_go_on H).unchanged response n x w.last b.room e.room w.run sound_);
+        }
+    by_count (suc j) steps_ sound_ =
+        let w : Went H response n (suc j) x b.room e.room items = steps_went calling plan response n (suc j) x b e items steps_ on in
+        record {
+          last = w.last;
+          on = w.on;
+          run = w.run;
+          put = w.put;
+          last_stage = λ k is.
+              let same : j ≡ k = (cc is) in
+              subst (λ (i : ℕ). RunGoesOn w.run (run_buffers i w.run)) same ((runs_go_on H).last_stage response n j x w.last b.room e.room w.run sound_);
           unchanged = λ is. absurd (cc is);
         }

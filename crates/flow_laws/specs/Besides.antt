@@ -1,5 +1,5 @@
 -- WHAT ELSE A WORKER DOES that leaves a direction as it was.
-use Rattle.std.specs.Prelude.{◌≡◌, ℕ, ◌==◌, Bool, true, false, not, List, [], ◌∷◌, None, Some, slice_get, map}
+use Rattle.std.specs.Prelude.{◌≡◌, ℕ, ◌==◌, Bool, true, false, not, List, None, Some, slice_get, map}
 use Rattle.exchange.specs.declared.types.Exchange.{Exchange}
 use Rattle.exchange.specs.Passing.{chain_of, put_in, acts, resumes, stage_of, pauses}
 use Rattle.filter_chain.specs.declared.stage.Stage.{Stage}
@@ -9,9 +9,9 @@ use Rattle.worker.specs.declared.room.Room.{Room}
 use Rattle.worker.specs.declared.types.Line.{Line}
 use Rattle.worker.specs.Rooms.{place_in, place_of, on_number, on_context}
 use Rattle.worker.specs.Steps.{first_begun, frees}
-use Rattle.flow_laws.specs.Acts.{AreThere, IsLeft}
-use Rattle.flow_laws.specs.Apart.{AreAliens, IsAlien, Does, PassesAliens}
-use Rattle.flow_laws.specs.Deeds.{comes, AreDeeds}
+use Rattle.chain_laws.specs.Acts.{AreThere, IsLeft}
+use Rattle.body_laws.specs.Apart.{AreAliens, IsAlien, Does, PassesAliens}
+use Rattle.body_laws.specs.Deeds.{comes, AreDeeds}
 use Rattle.flow_laws.specs.Rooms.{IsOn, IsAsked, asked_exchange, question, Leaves, running}
 
 -- the exchanges of all other lines have other stages than these

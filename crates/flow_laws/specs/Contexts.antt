@@ -1,25 +1,20 @@
 -- CONTEXTS OF OTHERS come and go: that leaves a direction as it was.
-use Rattle.std.specs.Prelude.{◌≡◌, ℕ, Bool, false, List, [], ◌∷◌, Option, None, Some}
+use Rattle.std.specs.Prelude.{◌≡◌, ℕ, Bool, false, List, Option, None, Some}
 use Rattle.course.specs.Called.{Called}
 use Rattle.course.specs.Course.{ends, runs_then, Met, Reaches}
 use Rattle.course.specs.declared.host.Callback.{Callback}
 use Rattle.exchange.specs.declared.types.Exchange.{Exchange}
 use Rattle.exchange.specs.declared.types.Filter.{Filter}
 use Rattle.exchange.specs.Passing.{chain_of}
-use Rattle.filter_chain.specs.declared.stage.Stage.{Stage}
 use Rattle.worker.specs.declared.room.Room.{Room}
 use Rattle.worker.specs.declared.types.ContextAt.{ContextAt}
 use Rattle.worker.specs.declared.types.Own.TheVariants as owns
 use Rattle.worker.specs.Steps.{Both, Then, waits, deletes, is_drawn_out, rooting, filter_at, creating, calls_live}
+use Rattle.chain_laws.specs.Acts.{NotOf}
 use Rattle.flow_laws.specs.Besides.{IsWhole}
 use Rattle.flow_laws.specs.Elsewhere.{IsBeside, behind_effects}
 use Rattle.flow_laws.specs.Rooms.{IsOn, Leaves, Meanwhile}
 use Rattle.flow_laws.specs.Steps.{Calling}
-
--- none of the stages is of the context
-abbrev pub NotOf : (vm context : ℕ) → List Stage → Type 0
-NotOf vm context [] = Unit {0}
-NotOf vm context (s ∷ ss) = (s.vm ≡ vm → s.context ≡ context → ⊥) × NotOf vm context ss
 
 -- A CONTEXT waits for `proxy_done`; one that is none of the direction's stages' is deleted; a root or a stream is made, while ids are left.
 pub record ContextsLeave : Type 0 where

@@ -3,11 +3,12 @@ use Rattle.std.specs.Prelude.{◌≡◌, ℕ, ◌==◌, Bool, false, List, [], �
 use Rattle.course.specs.declared.host.Death.{Death}
 use Rattle.exchange.specs.declared.types.Exchange.{Exchange}
 use Rattle.exchange.specs.declared.types.Hub.{Hub}
-use Rattle.exchange.specs.Passing.{chain_of, fails_closed}
+use Rattle.exchange.specs.Passing.{chain_of, fails_closed, dies}
 use Rattle.filter_chain.specs.declared.stage.Stage.{Stage}
 use Rattle.worker.specs.declared.room.Room.{Room}
 use Rattle.worker.specs.Rooms.{all_lines, with_lines, died}
-use Rattle.flow_laws.specs.Apart.{Does, PassesAliens}
+use Rattle.chain_laws.specs.Acts.{HoldSame, AreThere}
+use Rattle.body_laws.specs.Apart.{Does, PassesAliens}
 use Rattle.flow_laws.specs.Besides.{OthersAreAlien, IsWhole}
 use Rattle.flow_laws.specs.Rooms.{IsOn, Leaves}
 
@@ -23,3 +24,19 @@ pub record AllLinesLeave : Type 0 where
       → IsWhole response x room → ((hub : Hub) → does n x hub ≡ (x, hub)) → Leaves response n x room x (with_lines room (all_lines does room.lines room.hub))
   pub dying : (vm : ℕ) (death : Death) (response : Bool) (n : ℕ) (x : Exchange) (room : Room) (on : IsOn n room x) → OthersAreAlien (chain_of response x) on.place room
       → IsWhole response x room → fails_closed vm x ≡ false → NoneOf vm x.request → NoneOf vm x.response → Leaves response n x room x (died vm death room)
+
+-- What is done on all lines reaches the exchange on one of them: it finds what all lines have in common as those in front left it, with the stages of the
+-- direction holding what they held; and what is done behind it leaves what they hold then. What host calls are told of the exchange goes with it.
+pub record IsReached (does : Does) (response : Bool) (n : ℕ) (x : Exchange) (room after : Room) : Type 0 where
+  pub found : Hub
+  pub holds : HoldSame room.hub.contexts found.contexts (chain_of response x)
+  pub there : AreThere found.contexts (chain_of response x)
+  pub on : IsOn n after (does n x found).0
+  pub behind : HoldSame (does n x found).1.contexts after.hub.contexts (chain_of response x)
+
+-- A VM'S DEATH REACHES each exchange: it is done to it what `dies` is, whatever VM it is and whatever stages the exchange has.
+pub record DeathsReach : Type 0 where
+  pub on_all : (does : Does) → PassesAliens does → (response : Bool) (n : ℕ) (x : Exchange) (room : Room) (on : IsOn n room x) → OthersAreAlien (chain_of response x) on.place room
+      → IsWhole response x room → IsReached does response n x room (with_lines room (all_lines does room.lines room.hub))
+  pub dying : (vm : ℕ) (death : Death) (response : Bool) (n : ℕ) (x : Exchange) (room : Room) (on : IsOn n room x) → OthersAreAlien (chain_of response x) on.place room
+      → IsWhole response x room → IsReached (dies vm) response n x room (died vm death room)

@@ -13,10 +13,10 @@ use Rattle.worker.specs.declared.room.Room.{Room}
 use Rattle.worker.specs.declared.types.Own.{Own}
 use Rattle.worker.specs.Moves.{asks_at}
 use Rattle.worker.specs.Rooms.{place_of, with_lines, does, answered_with}
-use Rattle.flow_laws.specs.Acts.{HoldSame, AreThere, IsLeft}
-use Rattle.flow_laws.specs.Apart.{AreAliens}
+use Rattle.chain_laws.specs.Acts.{HoldSame, AreThere, IsLeft}
+use Rattle.body_laws.specs.Apart.{AreAliens}
 use Rattle.flow_laws.specs.Besides.{OthersAreAlien, IsWhole}
-use Rattle.flow_laws.specs.Deeds.{resumes, IsDeed}
+use Rattle.body_laws.specs.Deeds.{resumes, IsDeed}
 use Rattle.flow_laws.specs.Rooms.{IsOn, Leaves, Others, running, quiet_room, Meanwhile, running}
 
 -- ---- effects

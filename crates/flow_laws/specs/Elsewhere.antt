@@ -18,8 +18,8 @@ use Rattle.worker.specs.Moves.{asks_at}
 use Rattle.worker.specs.Plan.{Plan}
 use Rattle.worker.specs.Rooms.{place_in, with_lines, effects_of}
 use Rattle.worker.specs.Steps.{Both, callback_of, number_of, action_of, step}
-use Rattle.flow_laws.specs.Acts.{HoldSame, AreThere, IsLeft}
-use Rattle.flow_laws.specs.Apart.{AreAliens}
+use Rattle.chain_laws.specs.Acts.{HoldSame, AreThere, IsLeft}
+use Rattle.body_laws.specs.Apart.{AreAliens}
 use Rattle.flow_laws.specs.Besides.{OthersAreAlien, IsWhole}
 use Rattle.flow_laws.specs.Effects.{AreMild}
 use Rattle.flow_laws.specs.Rooms.{IsOn, IsAsked, asked_exchange, question, stage_own, quiet_room, Meanwhile}

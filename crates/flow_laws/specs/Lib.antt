@@ -1,11 +1,5 @@
-pub mod Acts
-pub mod PassThrough
-pub mod Examples
-pub mod Deeds
-pub mod Exchanges
 pub mod Rooms
 pub mod Workers
-pub mod Apart
 pub mod Besides
 pub mod RoomExamples
 pub mod Effects

@@ -5,9 +5,9 @@ use Rattle.filter_chain.specs.declared.item.Item.TheVariants.{Head, Piece}
 use Rattle.filter_chain.specs.Items.{joined}
 use Rattle.http1_model.specs.Unread.{new_reading}
 use Rattle.worker.specs.declared.room.Room.{Room}
-use Rattle.flow_laws.specs.Deeds.{standing, left_by}
-use Rattle.flow_laws.specs.Examples.{upload_start}
-use Rattle.flow_laws.specs.PassThrough.{IsNew, has_end}
+use Rattle.body_laws.specs.Deeds.{standing, left_by}
+use Rattle.body_laws.specs.Examples.{upload_start}
+use Rattle.chain_laws.specs.PassThrough.{IsNew, has_end}
 use Rattle.flow_laws.specs.Rooms.{running, Run, run_deeds, run_items, run_buffers}
 
 -- line 1 alone, with an exchange that begins, whose request has one filter

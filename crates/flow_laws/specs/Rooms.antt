@@ -20,8 +20,8 @@ use Rattle.worker.specs.declared.types.Own.TheVariants as owns
 use Rattle.worker.specs.Moves.{asks_response}
 use Rattle.worker.specs.Rooms.{place_in, place_of, with_lines, with_contexts, sending, on_number, on_context, does, effects_of, without_effects}
 use Rattle.worker.specs.Steps.{action_of}
-use Rattle.flow_laws.specs.Acts.{HoldSame, AreThere, IsCall, buffer_called}
-use Rattle.flow_laws.specs.Deeds.{Deed, comes, calls, answers, resumes, turns, Running, IsDeed, AreDeeds}
+use Rattle.chain_laws.specs.Acts.{HoldSame, AreThere, IsCall, buffer_called}
+use Rattle.body_laws.specs.Deeds.{Deed, comes, calls, answers, resumes, turns, Running, IsDeed, AreDeeds}
 
 -- the exchange on the line of a number
 pub record IsOn (n : ℕ) (room : Room) (x : Exchange) : Type 0 where

@@ -27,10 +27,10 @@ use Rattle.worker.specs.Moves.{asks_at}
 use Rattle.worker.specs.Plan.{Plan}
 use Rattle.worker.specs.Rooms.{place_in, with_lines}
 use Rattle.worker.specs.Steps.{Both, is_zero, vm_length, plugin_length, ticked, is_drawn_out, rooting, filter_at, creating, reading_on, step}
-use Rattle.flow_laws.specs.Apart.{AreAliens}
+use Rattle.body_laws.specs.Apart.{AreAliens}
 use Rattle.flow_laws.specs.Besides.{OthersAreAlien, IsWhole}
-use Rattle.flow_laws.specs.Contexts.{NotOf}
-use Rattle.flow_laws.specs.Deeds.{comes, AreDeeds}
+use Rattle.chain_laws.specs.Acts.{NotOf}
+use Rattle.body_laws.specs.Deeds.{comes, AreDeeds}
 use Rattle.flow_laws.specs.Elsewhere.{IsBeside, behind_effects, asked_program, IsElsewhere, IsAcross}
 use Rattle.flow_laws.specs.Events.{LosesNone}
 use Rattle.flow_laws.specs.Readings.{HearsNone}

@@ -1,5 +1,5 @@
 -- STEPS OF A WORKER that move a direction, or put what was read into it.
-use Rattle.std.specs.Prelude.{◌≡◌, ℕ, Bool, List, [], ◌∷◌}
+use Rattle.std.specs.Prelude.{◌≡◌, ℕ, Bool, List, ◌∷◌}
 use Rattle.contexts.specs.declared.parts.Contexts.{Contexts}
 use Rattle.course.specs.Called.{Called}
 use Rattle.course.specs.Course.{ends, runs_then, Met, Reaches}

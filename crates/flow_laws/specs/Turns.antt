@@ -1,10 +1,11 @@
 -- BODIES PASS THROUGH TURNS: over all steps of a worker, in turns one behind the other.
-use Rattle.std.specs.Prelude.{◌≡◌, ◌≤◌, ℕ, suc, Bool, List, [], ◌∷◌, ◌++◌, length, None}
+use Rattle.std.specs.Prelude.{◌≡◌, ◌≤◌, ℕ, suc, Bool, List, [], ◌∷◌, ◌++◌, length, drop, None}
 use Rattle.course.specs.Called.{Called}
 use Rattle.course.specs.Course.{ends, runs_then, Met, Reaches}
 use Rattle.exchange.specs.declared.types.Exchange.{Exchange}
 use Rattle.exchange.specs.Passing.{chain_of}
 use Rattle.filter_chain.specs.declared.item.Item.{Item}
+use Rattle.filter_chain.specs.Flow.{flow}
 use Rattle.filter_chain.specs.Items.{joined}
 use Rattle.gate_io.specs.declared.event.Event.{Event}
 use Rattle.worker.specs.declared.types.Job.{Job}
@@ -16,12 +17,13 @@ use Rattle.worker.specs.Rooms.{next_of}
 use Rattle.worker.specs.Steps.{Both, both, step}
 use Rattle.worker.specs.Turn.{emptied, facing}
 use Rattle.flow_laws.specs.Besides.{IsWhole}
-use Rattle.flow_laws.specs.Deeds.{standing, left_by}
-use Rattle.flow_laws.specs.PassThrough.{IsInOrder, IsNew, PassesThrough}
+use Rattle.body_laws.specs.Deeds.{standing, left_by}
+use Rattle.chain_laws.specs.PassThrough.{IsInOrder, IsNew, PassesThrough}
+use Rattle.chain_laws.specs.Sound.{IsSound}
 use Rattle.flow_laws.specs.Rooms.{IsOn, running, IsAsked, IsMove, IsPut, Run, run_deeds, run_items, run_buffers}
 use Rattle.flow_laws.specs.Stepping.{in_hand, MayBeside}
 use Rattle.flow_laws.specs.Steps.{Calling, callback_program}
-use Rattle.flow_laws.specs.Workers.{AreTheDeeds}
+use Rattle.flow_laws.specs.Workers.{AreTheDeeds, RunGoesOn}
 
 -- What a step may be, and the items that it puts into the chain of the direction: a move of the direction, each end of whose callback is a move of the
 -- law; a put of what was read; or a step beside.
@@ -42,19 +44,37 @@ pub data Steps {H : Type 0} (calling : Calling H) (plan : Plan) (response : Bool
   next_turn : (x : Exchange) (b e : Both H) (items : List Item) (event : Event) → IsOn n b.room x → IsWhole response x b.room
       → Steps calling plan response n count x (both b.host (facing plan event (emptied b.room))) items e → Steps calling plan response n count x b items e
 
--- what passed: these are deeds of the law on exchanges, from the state at first to that behind; and the passed bytes are as that says
+-- What passed: these are deeds of the law on exchanges, from the state at first to that behind, and the exchange writes what leaves the chain; and with what
+-- is held and waits then it is as that law says.
 pub record HavePassed {H : Type 0} (response : Bool) (n count : ℕ) (x : Exchange) (b : Both H) (items : List Item) (e : Both H) : Type 0 where
   pub last : Exchange
+  pub on : IsOn n e.room last
   pub run : Run H response n count x b.room last e.room
   pub put : run_items run ≡ items
   pub deeds : AreTheDeeds run
-  -- where this count is that of the last stage with a body callback, from 1: a front of what its body callbacks left
-  pub last_stage : (k : ℕ) → count ≡ suc k → PassesThrough (left_by response n (run_deeds run) (running None x b.room)) (run_buffers k run)
-  -- where no buffer of its stages is changed by a callback: a front of what was read
-  pub unchanged : count ≡ 0 → PassesThrough (left_by response n (run_deeds run) (running None x b.room)) (joined items)
+  -- where this count is that of the last stage with a body callback, from 1: what its body callbacks left
+  pub last_stage : (k : ℕ) → count ≡ suc k
+      → PassesThrough items (run_buffers k run) (left_by response n (run_deeds run) (running None x b.room)) (flow e.room.hub.contexts (drop count (chain_of response last)))
+      (chain_of response last)
+  -- where no buffer of its stages is changed by a callback: what was read
+  pub unchanged : count ≡ 0
+      → PassesThrough items (joined items) (left_by response n (run_deeds run) (running None x b.room)) (flow e.room.hub.contexts (chain_of response last)) (chain_of response last)
 
 -- BODIES PASS THROUGH TURNS, from an exchange whose stages were made and through which nothing passed yet. (Every callback that comes returns; the law is
 -- silent on runs in which a VM dies, be it one of others.)
 abbrev pub TurnsPassBodies : Type 0 → Type 0
 TurnsPassBodies H = (calling : Calling H) (plan : Plan) (response : Bool) (n count : ℕ) (x : Exchange) (b e : Both H) (items : List Item) → Steps calling plan response n count x b items e
     → IsOn n b.room x → IsNew (standing response (running None x b.room)) → count ≤ length (chain_of response x) → IsInOrder items → HavePassed response n count x b items e
+
+-- TURNS GO ON from any state between steps in which the direction is sound, so behind the death of a VM too: these are deeds of the law on exchanges.
+pub record HaveGoneOn {H : Type 0} (response : Bool) (n count : ℕ) (x : Exchange) (b : Both H) (items : List Item) (e : Both H) : Type 0 where
+  pub last : Exchange
+  pub on : IsOn n e.room last
+  pub run : Run H response n count x b.room last e.room
+  pub put : run_items run ≡ items
+  pub last_stage : (k : ℕ) → count ≡ suc k → RunGoesOn run (run_buffers k run)
+  pub unchanged : count ≡ 0 → RunGoesOn run (joined items)
+
+abbrev pub TurnsGoOn : Type 0 → Type 0
+TurnsGoOn H = (calling : Calling H) (plan : Plan) (response : Bool) (n count : ℕ) (x : Exchange) (b e : Both H) (items : List Item) → Steps calling plan response n count x b items e
+    → IsOn n b.room x → IsSound count (standing response (running None x b.room)) → HaveGoneOn response n count x b items e

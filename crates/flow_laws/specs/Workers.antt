@@ -1,17 +1,21 @@
 -- BODIES PASS THROUGH WORKERS.
-use Rattle.std.specs.Prelude.{◌≡◌, ◌<◌, ◌≤◌, ℕ, suc, Bool, [], length, None}
+use Rattle.std.specs.Prelude.{◌≡◌, ◌<◌, ◌≤◌, ℕ, suc, Bool, List, [], ◌++◌, length, drop, None}
 use Rattle.exchange.specs.declared.types.Exchange.{Exchange}
 use Rattle.exchange.specs.Passing.{chain_of}
+use Rattle.filter_chain.specs.Flow.{flow}
 use Rattle.filter_chain.specs.Items.{joined}
 use Rattle.worker.specs.declared.room.Room.{Room}
-use Rattle.flow_laws.specs.Deeds.{standing, left_by, AreDeeds, done_all}
-use Rattle.flow_laws.specs.PassThrough.{IsInOrder, IsNew, PassesThrough}
+use Rattle.body_laws.specs.Deeds.{standing, left_by, AreDeeds, AreWritten, done_all}
+use Rattle.chain_laws.specs.PassThrough.{bare_all, bare_in, Thinner, IsInOrder, IsNew, PassesThrough}
+use Rattle.chain_laws.specs.Sound.{IsSound}
 use Rattle.flow_laws.specs.Rooms.{running, Meanwhile, Run, run_deeds, run_items, run_buffers}
 
 -- what a worker does are deeds of the law on exchanges: from the exchange and what all lines have in common to those behind it
 pub record AreTheDeeds {H : Type 0} {response : Bool} {n count : ℕ} {x y : Exchange} {room after : Room} (run : Run H response n count x room y after) : Type 0 where
   pub are : AreDeeds response n count (run_deeds run) (running None x room)
   pub last : done_all response n (run_deeds run) (running None x room) ≡ running None y after
+  -- what leaves the chain by them the exchange writes, each item of it
+  pub written : IsInOrder (run_items run) → AreWritten response n (run_deeds run) (running None x room)
 
 -- THE PASSED BYTES OF A DIRECTION of the exchange on a line, whatever its worker does meanwhile that is among this: moves of the direction, whose
 -- callbacks for bodies and trailers return Continue; puts of what was read; and what else resumes a stage of the direction or leaves that as it was.
@@ -22,12 +26,29 @@ WorkersPassBodies H = (response : Bool) (n count : ℕ) (x y : Exchange) (room a
 abbrev pub LastStagesPass : Type 0 → Type 0
 LastStagesPass H = (response : Bool) (n k : ℕ) (x y : Exchange) (room after : Room) (run : Run H response n (suc k) x room y after)
     → IsNew (standing response (running None x room)) → k < length (chain_of response x) → IsInOrder (run_items run)
-    → PassesThrough (left_by response n (run_deeds run) (running None x room)) (run_buffers k run)
+    → PassesThrough (run_items run) (run_buffers k run) (left_by response n (run_deeds run) (running None x room))
+    (flow after.hub.contexts (drop (suc k) (chain_of response y))) (chain_of response y)
 
 abbrev pub UnchangedPass : Type 0 → Type 0
 UnchangedPass H = (response : Bool) (n : ℕ) (x y : Exchange) (room after : Room) (run : Run H response n 0 x room y after)
     → IsNew (standing response (running None x room)) → IsInOrder (run_items run)
-    → PassesThrough (left_by response n (run_deeds run) (running None x room)) (joined (run_items run))
+    → PassesThrough (run_items run) (joined (run_items run)) (left_by response n (run_deeds run) (running None x room))
+    (flow after.hub.contexts (chain_of response y)) (chain_of response y)
+
+-- From any state between steps in which the direction is sound: what left and what is held and waits then is what was held and waited, and what was to pass;
+-- in order; what left the exchange writes; and the direction is sound then. So the law goes on behind the death of a VM.
+pub record RunGoesOn {H : Type 0} {response : Bool} {n count : ℕ} {x y : Exchange} {room after : Room} (run : Run H response n count x room y after) (whole : List ℕ) : Type 0 where
+  pub bytes : joined (left_by response n (run_deeds run) (running None x room)) ++ flow after.hub.contexts (drop count (chain_of response y))
+      ≡ flow room.hub.contexts (drop count (chain_of response x)) ++ whole
+  pub order : Thinner (bare_in (chain_of response x) ++ bare_all (run_items run)) (bare_all (left_by response n (run_deeds run) (running None x room)) ++ bare_in (chain_of response y))
+  pub written : IsInOrder (bare_in (chain_of response x) ++ bare_all (run_items run)) → AreWritten response n (run_deeds run) (running None x room)
+  pub sound : IsSound count (standing response (running None y after))
+
+pub record RunsGoOn (H : Type 0) : Type 0 where
+  pub last_stage : (response : Bool) (n k : ℕ) (x y : Exchange) (room after : Room) (run : Run H response n (suc k) x room y after) → IsSound (suc k) (standing response (running None x room))
+      → RunGoesOn run (run_buffers k run)
+  pub unchanged : (response : Bool) (n : ℕ) (x y : Exchange) (room after : Room) (run : Run H response n 0 x room y after) → IsSound 0 (standing response (running None x room))
+      → RunGoesOn run (joined (run_items run))
 
 -- what resumes stages of the direction, or leaves that as it was, is a run by which nothing is put and no callback of the direction comes
 pub record IsIdleRun {H : Type 0} {response : Bool} {n count : ℕ} {x y : Exchange} {room after : Room} (run : Run H response n count x room y after) : Type 0 where

@@ -1,41 +1,27 @@
 // What flows through one direction of an exchange. The functions have nothing to do: their contracts are the laws.
-ghost use Rattle.flow_laws.specs.Apart.{ExchangesPassBy};
 ghost use Rattle.flow_laws.specs.Besides.{OtherLinesLeave, OtherDirectionLeaves, QuietStepsLeave};
 ghost use Rattle.flow_laws.specs.Contexts.{CallsAreRuns, ContextsLeave};
-ghost use Rattle.flow_laws.specs.Deaths.{AllLinesLeave};
+ghost use Rattle.flow_laws.specs.Deaths.{AllLinesLeave, DeathsReach};
 ghost use Rattle.flow_laws.specs.Effects.{AskingElsewhereLeaves, CallbacksAreRuns, MildEffectsAreOthers};
 ghost use Rattle.flow_laws.specs.Elsewhere.{OtherDirectionMoves, OtherLinesMove};
 ghost use Rattle.flow_laws.specs.Events.{EventsLeave};
-ghost use Rattle.flow_laws.specs.Examples.{ExchangeExamples, PassThroughExamples};
-ghost use Rattle.flow_laws.specs.Exchanges.{ExchangesPassBodies};
 ghost use Rattle.flow_laws.specs.Jobs.{JobsLeave, TellsAreRuns};
-ghost use Rattle.flow_laws.specs.PassThrough.{BodiesPassThrough};
 ghost use Rattle.flow_laws.specs.Readings.{ReadingLeaves};
 ghost use Rattle.flow_laws.specs.RoomExamples.{RoomExample};
 ghost use Rattle.flow_laws.specs.Stepping.{StepsBeside};
 ghost use Rattle.flow_laws.specs.Steps.{MovesAreSteps, PutsAreSteps};
-ghost use Rattle.flow_laws.specs.Turns.{TurnsPassBodies};
-ghost use Rattle.flow_laws.specs.Workers.{LastStagesPass, MeanwhileRuns, UnchangedPass, WorkersPassBodies};
+ghost use Rattle.flow_laws.specs.Turns.{TurnsGoOn, TurnsPassBodies};
+ghost use Rattle.flow_laws.specs.Workers.{LastStagesPass, MeanwhileRuns, RunsGoOn, UnchangedPass, WorkersPassBodies};
 
-/// Where the callbacks for bodies and trailers of one direction all answer Continue, the bytes that left its chain are a front of what the body
-/// callbacks of its last such stage left, and of what came where no buffer is changed; and all of it once the end has left.
-pub fn bodies_pass_through()
-    ensures { BodiesPassThrough }
-{}
-
-/// The same of an exchange, whatever happens to it while it runs and is not answered. By one deed what left the chain of a direction is what some exchange
-/// writes of it over the same connections; whether that exchange had ended, and so wrote nothing, is not said.
-pub fn exchanges_pass_bodies()
-    ensures { ExchangesPassBodies }
-{}
-
-/// The same of the exchange on a line, whatever the machines are and whatever its worker does meanwhile of moves of the direction, puts of what
-/// was read, and what else resumes a stage of the direction or leaves that as it was.
+/// Of one direction of the exchange on a line: what left its chain, and what is held and waits then, is what was to pass, whole and in order, whatever
+/// the machines are and whatever its worker does meanwhile of moves of the direction, puts of what was read, and what else resumes a stage of the
+/// direction or leaves that as it was.
 pub fn workers_pass_bodies<H>()
     ensures deeds { WorkersPassBodies H }
     ensures last_stage { LastStagesPass H }
     ensures unchanged { UnchangedPass H }
     ensures meanwhile { MeanwhileRuns H }
+    ensures goes_on { RunsGoOn H }
 {}
 
 /// A worker's step that moves a direction comes to the end of a callback of the stage that is asked, and then to the room behind that move; one
@@ -43,11 +29,6 @@ pub fn workers_pass_bodies<H>()
 pub fn moves_are_steps<H>()
     ensures moves { MovesAreSteps H }
     ensures puts { PutsAreSteps H }
-{}
-
-/// Whatever is done to an exchange passes by stages that are none of its own: they hold what they held.
-pub fn exchanges_pass_by()
-    ensures { ExchangesPassBy }
 {}
 
 /// What a worker does on other lines, in the other direction of the exchange, and in steps that touch no line, leaves a direction as it was, where no
@@ -80,8 +61,11 @@ pub fn jobs_leave_directions<H>()
 {}
 
 /// What is done on all lines and does nothing to the exchange itself leaves a direction as it was; so the death of a VM that is none of its stages'.
-pub fn deaths_of_others()
-    ensures { AllLinesLeave }
+/// The death of any VM reaches the exchange: it is answered or its stages are let through, as `deaths_cut_or_pass` of `body_laws` says, with what the
+/// direction's stages held before, and what is done on other lines leaves what they hold.
+pub fn deaths_on_lines()
+    ensures others { AllLinesLeave }
+    ensures reach { DeathsReach }
 {}
 
 /// Contexts of others come and go, and that leaves a direction as it was. A callback of no stage is what the law takes a worker to do besides, where
@@ -106,18 +90,18 @@ pub fn steps_beside<H>()
     ensures { StepsBeside H }
 {}
 
-/// Over all steps of a worker, in turns one behind the other: the passed bytes of one direction of an exchange are a front of what the body callbacks
-/// of its last such stage left, or of what was put where no buffer is changed; and all of it once the end has left. Every callback returns, those for
-/// bodies and trailers of the direction with Continue; the exchange is neither answered nor closed; no stage is in two chains, the contexts of the
-/// direction's stages are there, and callbacks of others leave what these hold as it was.
+/// Over all steps of a worker, in turns one behind the other, of one direction of an exchange: what left its chain, and what its stages hold and what waits at
+/// them behind the last stage with a body callback, is what the body callbacks of that stage left, or where no buffer is changed what was put; what left and
+/// what is in the chain is the head, the pieces and the end or the trailers that were put, in order; once the end has left, all has; and the exchange, which
+/// had not ended, writes each item that leaves. From any state between steps the same goes on (`goes_on`), with stages that were let through too. In each step
+/// every callback returns, those for bodies and trailers of the direction with Continue; the exchange is neither answered nor closed; no stage is in two
+/// chains, the contexts of the direction's stages are there, and callbacks of others leave what these hold as it was.
 pub fn turns_pass_bodies<H>()
-    ensures { TurnsPassBodies H }
+    ensures turns { TurnsPassBodies H }
+    ensures goes_on { TurnsGoOn H }
 {}
 
-/// Two filters, worked: three pieces of which the second filter changes one, and a head that the first filter holds. And an exchange, and the worker
-/// with it, whose filter changes the body of a request.
+/// A worker, worked, whose filter changes the body of a request.
 pub fn worked_bodies()
-    ensures chains { PassThroughExamples }
-    ensures exchanges { ExchangeExamples }
-    ensures room { RoomExample }
+    ensures { RoomExample }
 {}

@@ -1,4 +1,4 @@
-use Rattle.flow_laws.proofs.Rooms.{last_stages, meanwhile_runs, unchanged_bodies, workers_pass}
+use Rattle.flow_laws.proofs.Rooms.{last_stages, meanwhile_runs, runs_go_on, unchanged_bodies, workers_pass}
 use Rattle.flow_laws.proofs.laws.workers_pass_bodies.Goals as goal
 
 pub returns-clause-deeds : goal.returns-clause-deeds
@@ -12,3 +12,6 @@ returns-clause-unchanged g c = unchanged_bodies _
 
 pub returns-clause-meanwhile : goal.returns-clause-meanwhile
 returns-clause-meanwhile g c = meanwhile_runs _
+
+pub returns-clause-goes_on : goal.returns-clause-goes_on
+returns-clause-goes_on g c = runs_go_on _

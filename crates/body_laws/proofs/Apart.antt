@@ -1,0 +1,351 @@
+-- What is done to one exchange passes by the stages of others.
+use Rattle.std.proofs.Common.{◌≡◌, ℕ, zero, suc, ◌-◌, ◌+◌, ◌==◌, Bool, true, false, not, ◌||◌, List, [], ◌∷◌, ◌++◌, length, refl, subst}
+use Rattle.std.specs.Prelude.{if◌then◌else◌, Option, None, Some, slice_get, slice_set, drop}
+use Rattle.contexts.specs.declared.parts.Contexts.{Contexts}
+use Rattle.contexts.specs.declared.parts.ExchangeView.{ExchangeView}
+use Rattle.contexts.specs.Reached.{view_at}
+use Rattle.contexts.specs.Stages.{let_go as nothing, returned, emptied}
+use Rattle.exchange.specs.declared.types.Exchange.{Exchange}
+use Rattle.exchange.specs.declared.types.Hub.{Hub}
+use Rattle.exchange.specs.Answering.{none_held, cut_off, directly, passed_down, put_went_down, puts_down, answered_by, with_answer, through, is_direct, shutting, answers_open, answer, with_held}
+use Rattle.exchange.specs.Heads.{is_bare, is_final, passes_filters, shuts}
+use Rattle.exchange.specs.Leaving.{leaves, left, up, down, is_due}
+use Rattle.exchange.specs.Maps.{in_view, put_response, answer_map}
+use Rattle.exchange.specs.Passing.{went, put_went, passed_on, puts, puts_all, put_in, goes_on, gives_way, resumes, resumes_at, stage_of, acts, closed, opens_at, opens, opens_all, dies, fails_closed, refused, expires, takes_nothing, chain_of, with_chain, pauses}
+use Rattle.filter_chain.specs.declared.item.Item.{Item}
+use Rattle.filter_chain.specs.declared.item.Item.TheVariants.{Head, Piece, Trailers}
+use Rattle.filter_chain.specs.declared.item.Passed.{Passed}
+use Rattle.filter_chain.specs.declared.item.Passed.TheVariants as passed
+use Rattle.filter_chain.specs.declared.stage.Stage.{Stage}
+use Rattle.filter_chain.specs.Items.{holds_bytes, size, held_items}
+use Rattle.filter_chain.specs.Chains.{put, target, accepts, onto, handed, given, unless_over, bytes_held, without_held, let_go, opened, continued, continued_at, let_through, let_through_at, paused, paused_at, cleared, reached, with_more}
+use Rattle.filter_chain.specs.Flow.{NoneIs}
+use Rattle.http1_model.specs.Fields.{Pair}
+use Rattle.chain_laws.specs.Acts.{HoldSame, AreThere}
+use Rattle.body_laws.specs.Apart.{AreAliens, IsAlien, PassesBy, ExchangesPassBy}
+use Rattle.chain_laws.proofs.Holding.{hold_all, hold_then, hold_by_vms, there_by_vms, hold_other, there_other}
+
+by_bool : {A : Type 0} (P : A → Type 0) (b : Bool) (a c : A) → (b ≡ true → P a) → (b ≡ false → P c) → P (if b then a else c)
+by_bool P true a c here there = here refl
+by_bool P false a c here there = there refl
+
+-- ---- among the contexts
+
+pub record Holds (ss : List Stage) (b c : Contexts) : Type 0 where
+  pub holds : HoldSame b c ss
+  pub there : AreThere b ss → AreThere c ss
+
+pub same : (ss : List Stage) (b : Contexts) → Holds ss b b
+same ss b = record { holds = hold_all b ss; there = λ t. t }
+
+pub next : (ss : List Stage) (b c d : Contexts) → Holds ss b c → Holds ss c d → Holds ss b d
+next ss b c d one two = record { holds = hold_then b c d ss one.holds two.holds; there = λ t. two.there (one.there t) }
+
+pub by_vms : (ss : List Stage) (b c : Contexts) → c.vms ≡ b.vms → Holds ss b c
+by_vms ss b c is = record { holds = hold_by_vms b c ss is; there = there_by_vms b c ss is }
+
+clears : (ss : List Stage) (b : Contexts) (ts : List Stage) → AreAliens ss ts → Holds ss b (cleared b ts)
+clears ss b [] alien = same ss b
+clears ss b (t ∷ ts) alien =
+    let one : Contexts = emptied b t.vm t.context t.response in
+    next ss b one (cleared one ts) (record { holds = hold_other nothing b t ss alien.0; there = there_other nothing b t ss }) (clears ss one ts alien.1)
+
+lets_go : (ss : List Stage) (b : Contexts) (s : Stage) → NoneIs s ss → Holds ss b (without_held b s)
+lets_go ss b s none = by_bool (Holds ss b) (holds_bytes s.held) _ b (λ e. record { holds = hold_other nothing b s ss none; there = there_other nothing b s ss }) (λ e. same ss b)
+
+pub alien_at : (ss ts : List Stage) (k : ℕ) (s : Stage) → slice_get ts k ≡ Some s → AreAliens ss ts → NoneIs s ss
+alien_at ss [] k s at alien = absurd (cc)
+alien_at ss (x ∷ xs) zero s at alien =
+    let here : x ≡ s = (cc) in
+    subst (λ (y : Stage). NoneIs y ss) here alien.0
+alien_at ss (x ∷ xs) (suc k) s at alien = alien_at ss xs k s at alien.1
+
+pub alien_set : (ss ts : List Stage) (k : ℕ) (t : Stage) → NoneIs t ss → AreAliens ss ts → AreAliens ss (slice_set ts k t)
+alien_set ss [] k t none alien = tt
+alien_set ss (x ∷ xs) zero t none alien = (none, alien.1)
+alien_set ss (x ∷ xs) (suc k) t none alien = (alien.0, alien_set ss xs k t none alien.1)
+
+alien_drop : (ss ts : List Stage) (n : ℕ) → AreAliens ss ts → AreAliens ss (drop n ts)
+alien_drop ss ts zero alien = alien
+alien_drop ss [] (suc n) alien = tt
+alien_drop ss (t ∷ ts) (suc n) alien = alien_drop ss ts n alien.1
+
+-- ---- chains
+
+alien_onto : (ss : List Stage) (to : ℕ) (items : List Item) (changed : List Stage) (o : Option Stage) → ((s : Stage) → o ≡ Some s → NoneIs s ss) → AreAliens ss changed
+    → AreAliens ss (onto to items changed o).1
+alien_onto ss to items changed None none alien = alien
+alien_onto ss to items changed (Some s) none alien = alien_set ss changed to (with_more items s) (none s refl) alien
+
+alien_handed : (ss : List Stage) (h : Contexts) (n : ℕ) (items : List Item) (to : ℕ) (stages changed : List Stage) → AreAliens ss stages → AreAliens ss changed
+    → AreAliens ss (handed h n items to stages changed (slice_get stages to)).1
+alien_handed ss h n items to stages changed old new =
+    by_bool (λ (r : Passed × List Stage). AreAliens ss r.1) (accepts h n (slice_get stages to)) (onto to items changed (slice_get stages to)) (passed.Over, stages)
+    (λ e. alien_onto ss to items changed (slice_get stages to) (λ s at. alien_at ss stages to s at old) new) (λ e. old)
+
+pub alien_put : (ss : List Stage) (h : Contexts) (item : Item) (ts : List Stage) → AreAliens ss ts → AreAliens ss (put h item ts).1
+alien_put ss h item ts alien = alien_handed ss h (size (item ∷ [])) (item ∷ []) (target 0 ts) ts ts alien alien
+
+pub record Chained (ss : List Stage) (b : Contexts) (r : Passed × List Stage × Contexts) : Type 0 where
+  pub alien : AreAliens ss r.1
+  pub holds : Holds ss b r.2
+
+unless : (ss : List Stage) (b c : Contexts) (r : Passed × List Stage) → AreAliens ss r.1 → Holds ss b c → Chained ss b (unless_over b c r)
+unless ss b c (passed.Over, stages) alien holds = record { alien = alien; holds = same ss b }
+unless ss b c (passed.Left items, stages) alien holds = record { alien = alien; holds = holds }
+
+pub continues : (ss : List Stage) (b : Contexts) (k : ℕ) (ts : List Stage) → AreAliens ss ts → Chained ss b (continued b k ts)
+continues ss b k ts alien = by_stage (slice_get ts k) refl
+  where
+    by_stage : (o : Option Stage) → slice_get ts k ≡ o → Chained ss b (continued_at b k ts o)
+    by_stage None at = record { alien = alien; holds = same ss b }
+    by_stage (Some s) at =
+        let none : NoneIs s ss = alien_at ss ts k s at alien in
+        unless ss b (without_held b s) (given b (length (bytes_held b s)) (held_items s.held (bytes_held b s)) (k + 1) ts (slice_set ts k (let_go s)))
+        (alien_handed ss b (length (bytes_held b s)) (held_items s.held (bytes_held b s)) (target (k + 1) ts) ts (slice_set ts k (let_go s)) alien (alien_set ss ts k (let_go s) none alien))
+        (lets_go ss b s none)
+
+pub lets : (ss : List Stage) (b : Contexts) (k : ℕ) (ts : List Stage) → AreAliens ss ts → Chained ss b (let_through b k ts)
+lets ss b k ts alien = by_stage (slice_get ts k) refl
+  where
+    by_stage : (o : Option Stage) → slice_get ts k ≡ o → Chained ss b (let_through_at b k ts o)
+    by_stage None at = record { alien = alien; holds = same ss b }
+    by_stage (Some s) at =
+        let none : NoneIs s ss = alien_at ss ts k s at alien in
+        unless ss b (without_held b s) (given b (length (bytes_held b s) + size s.waiting) (held_items s.held (bytes_held b s) ++ s.waiting) (k + 1) ts (slice_set ts k (opened s)))
+        (alien_handed ss b (length (bytes_held b s) + size s.waiting) (held_items s.held (bytes_held b s) ++ s.waiting) (target (k + 1) ts) ts (slice_set ts k (opened s)) alien
+        (alien_set ss ts k (opened s) none alien))
+        (lets_go ss b s none)
+
+pub pauses_by : (ss : List Stage) (b : Contexts) (k : ℕ) (ts : List Stage) → AreAliens ss ts → Holds ss b (paused b k ts)
+pauses_by ss b k ts alien = by_stage (slice_get ts k) refl
+  where
+    by_stage : (o : Option Stage) → slice_get ts k ≡ o → Holds ss b (paused_at b o)
+    by_stage None at = same ss b
+    by_stage (Some s) at =
+        let none : NoneIs s ss = alien_at ss ts k s at alien in
+        record { holds = hold_other returned b s ss none; there = there_other returned b s ss }
+
+-- ---- exchanges
+
+abbrev pub By : List Stage → Hub → Exchange × Hub → Type 0
+By ss hub xh = PassesBy ss hub xh.0 xh.1
+
+stays : (ss : List Stage) (x : Exchange) (hub : Hub) → IsAlien ss x → By ss hub (x, hub)
+stays ss x hub alien = record { holds = hold_all hub.contexts ss; there = λ t. t; alien = alien }
+
+pub and_then : (ss : List Stage) (y : Exchange) (hub mid after : Hub) (z : Exchange) → PassesBy ss hub y mid → PassesBy ss mid z after → PassesBy ss hub z after
+and_then ss y hub mid after z a b = record { holds = hold_then hub.contexts mid.contexts after.contexts ss a.holds b.holds; there = λ t. b.there (a.there t); alien = b.alien }
+
+pub held_by : (ss : List Stage) (y : Exchange) (hub after : Hub) → Holds ss hub.contexts after.contexts → IsAlien ss y → PassesBy ss hub y after
+held_by ss y hub after holds alien = record { holds = holds.holds; there = holds.there; alien = alien }
+
+leaves_by : (ss : List Stage) (response : Bool) (n : ℕ) (item : Item) (x : Exchange) (hub : Hub) → IsAlien ss x → By ss hub (leaves response n item (x, hub))
+leaves_by ss false n item x hub alien = by_bool (By ss hub) x.has_ended (x, hub) (up n item x hub) (λ e. stays ss x hub alien) (λ e. goes_up item)
+  where
+    goes_up : (i : Item) → By ss hub (up n i x hub)
+    goes_up (Head end) = record { holds = hold_all hub.contexts ss; there = λ t. t; alien = record { request = alien.request; response = alien.response } }
+    goes_up (Piece bytes end) = record { holds = hold_all hub.contexts ss; there = λ t. t; alien = alien }
+    goes_up Trailers = record { holds = hold_all hub.contexts ss; there = λ t. t; alien = alien }
+leaves_by ss true n item x hub alien = by_bool (By ss hub) x.has_ended (x, hub) (down n item x hub) (λ e. stays ss x hub alien) (λ e. goes_down item)
+  where
+    goes_down : (i : Item) → By ss hub (down n i x hub)
+    goes_down (Head end) = record { holds = hold_all hub.contexts ss; there = λ t. t; alien = record { request = alien.request; response = alien.response } }
+    goes_down (Piece bytes end) = record { holds = hold_all hub.contexts ss; there = λ t. t; alien = record { request = alien.request; response = alien.response } }
+    goes_down Trailers = record { holds = hold_all hub.contexts ss; there = λ t. t; alien = record { request = alien.request; response = alien.response } }
+
+left_by : (ss : List Stage) (response : Bool) (n : ℕ) (items : List Item) (x : Exchange) (hub : Hub) → IsAlien ss x → By ss hub (left response n items (x, hub))
+left_by ss response n [] x hub alien = stays ss x hub alien
+left_by ss response n (item ∷ items) x hub alien =
+    let first : By ss hub (leaves response n item (x, hub)) = leaves_by ss response n item x hub alien in
+    let mid : Exchange × Hub = leaves response n item (x, hub) in
+    let last : Exchange × Hub = left response n items mid in
+    and_then ss mid.0 hub mid.1 last.1 last.0 first (left_by ss response n items mid.0 mid.1 first.alien)
+
+-- ---- answers
+
+pub drops : (ss : List Stage) (x : Exchange) (hub : Hub) → IsAlien ss x → Holds ss hub.contexts (none_held x hub).contexts
+drops ss x hub alien =
+    next ss hub.contexts (cleared hub.contexts x.request) (cleared (cleared hub.contexts x.request) x.response) (clears ss hub.contexts x.request alien.request)
+    (clears ss (cleared hub.contexts x.request) x.response alien.response)
+
+cut_off_by : (ss : List Stage) (x : Exchange) (hub : Hub) → IsAlien ss x → By ss hub (cut_off x hub)
+cut_off_by ss x hub alien = held_by ss (cut_off x hub).0 hub (cut_off x hub).1 (drops ss x hub alien) (record { request = tt; response = tt })
+
+directly_by : (ss : List Stage) (n status : ℕ) (fields : List Pair) (body : List ℕ) (x : Exchange) (hub : Hub) → IsAlien ss x → By ss hub (directly n status fields body x hub)
+directly_by ss n status fields body x hub alien =
+    by_bool (By ss hub) (x.is_head_out || not (is_final status)) (cut_off x hub) _ (λ e. cut_off_by ss x hub alien)
+    (λ e. record { holds = (drops ss x hub alien).holds; there = (drops ss x hub alien).there; alien = record { request = tt; response = tt } })
+
+passed_down_by : (ss : List Stage) (n : ℕ) (p : Passed) (x : Exchange) (hub : Hub) → IsAlien ss x → By ss hub (passed_down n p x hub)
+passed_down_by ss n passed.Over x hub alien = directly_by ss n 500 [] [] x hub alien
+passed_down_by ss n (passed.Left items) x hub alien = left_by ss true n items x hub alien
+
+puts_down_by : (ss : List Stage) (n : ℕ) (item : Item) (x : Exchange) (hub : Hub) → IsAlien ss x → By ss hub (puts_down n item (x, hub))
+puts_down_by ss n item x hub alien =
+    let t : Passed × List Stage = put hub.contexts item x.response in
+    by_bool (By ss hub) x.has_ended (x, hub) (put_went_down n x hub t) (λ e. stays ss x hub alien)
+    (λ e. passed_down_by ss n t.0 (record x { response = t.1 }) hub (record { request = alien.request; response = alien_put ss hub.contexts item x.response alien.response }))
+
+puts_two_by : (ss : List Stage) (n : ℕ) (one two : Item) (x : Exchange) (hub : Hub) → IsAlien ss x → By ss hub (puts_down n two (puts_down n one (x, hub)))
+puts_two_by ss n one two x hub alien =
+    let mid : Exchange × Hub = puts_down n one (x, hub) in
+    let first : By ss hub mid = puts_down_by ss n one x hub alien in
+    let last : Exchange × Hub = puts_down n two mid in
+    and_then ss mid.0 hub mid.1 last.1 last.0 first (puts_down_by ss n two mid.0 mid.1 first.alien)
+
+response_vms : (ss : List Stage) (status : ℕ) (fields : List Pair) (place : ℕ) (h : Contexts) → (put_response (answer_map status fields) place h).vms ≡ h.vms
+response_vms ss status fields place h = by_view (view_at h.exchanges place)
+  where
+    by_view : (v : Option ExchangeView) → (in_view (λ w. record w { maps = record w.maps { response = Some (answer_map status fields) } }) place v h).vms ≡ h.vms
+    by_view None = refl
+    by_view (Some v) = refl
+
+through_by : (ss : List Stage) (n status : ℕ) (fields : List Pair) (body : List ℕ) (x : Exchange) (hub : Hub) → IsAlien ss x → By ss hub (through n status fields body x hub)
+through_by ss n status fields body x hub alien =
+    let y : Exchange = answered_by status body x in
+    let k : Hub = with_answer status fields x hub in
+    let mapped : Contexts = put_response (answer_map status fields) x.place hub.contexts in
+    let here : Holds ss hub.contexts k.contexts
+    = next ss hub.contexts mapped (cleared mapped x.request) (by_vms ss hub.contexts mapped (response_vms ss status fields x.place hub.contexts))
+    (clears ss mapped x.request alien.request) in
+    let new : IsAlien ss y
+    = record { request = tt; response = alien_drop ss x.response (length x.response - (if x.is_entered then reached x.request else 0)) alien.response } in
+    let last : Exchange × Hub = through n status fields body x hub in
+    and_then ss y hub k last.1 last.0 (held_by ss y hub k here new)
+    (by_bool (By ss k) (is_bare y.told.length) (puts_down n (Head true) (y, k)) (puts_down n (Piece body true) (puts_down n (Head false) (y, k)))
+    (λ e. puts_down_by ss n (Head true) y k new) (λ e. puts_two_by ss n (Head false) (Piece body true) y k new))
+
+answers_open_by : (ss : List Stage) (n status : ℕ) (fields : List Pair) (body : List ℕ) (x : Exchange) (hub : Hub) → IsAlien ss x → By ss hub (answers_open n status fields body x hub)
+answers_open_by ss n status fields body x hub alien =
+    by_bool (By ss hub) (is_direct status x) (directly n status fields body x hub) (through n status fields body x hub) (λ e. directly_by ss n status fields body x hub alien)
+    (λ e. through_by ss n status fields body x hub alien)
+
+answer_by : (ss : List Stage) (n : ℕ) (shuts : Bool) (status : ℕ) (fields : List Pair) (body : List ℕ) (x : Exchange) (hub : Hub) → IsAlien ss x
+    → By ss hub (answer n shuts status fields body x hub)
+answer_by ss n shuts status fields body x hub alien =
+    by_bool (By ss hub) (x.has_ended || x.is_answered) (x, hub) (answers_open n status fields body (shutting shuts x) hub) (λ e. stays ss x hub alien)
+    (λ e. answers_open_by ss n status fields body (shutting shuts x) hub (record { request = alien.request; response = alien.response }))
+
+-- ---- what is read, goes on, or is let through
+
+pub alien_with : (ss : List Stage) (response : Bool) (stages : List Stage) (x : Exchange) → AreAliens ss stages → IsAlien ss x → IsAlien ss (with_chain response stages x)
+alien_with ss false stages x new alien = record { request = new; response = alien.response }
+alien_with ss true stages x new alien = record { request = alien.request; response = new }
+
+pub alien_chain : (ss : List Stage) (response : Bool) (x : Exchange) → IsAlien ss x → AreAliens ss (chain_of response x)
+alien_chain ss false x alien = alien.request
+alien_chain ss true x alien = alien.response
+
+pub passed_on_by : (ss : List Stage) (response : Bool) (n : ℕ) (p : Passed) (x : Exchange) (hub : Hub) → IsAlien ss x → By ss hub (passed_on response n p x hub)
+passed_on_by ss false n passed.Over x hub alien = answer_by ss n true 413 [] [] x hub alien
+passed_on_by ss false n (passed.Left items) x hub alien = left_by ss false n items x hub alien
+passed_on_by ss true n p x hub alien = passed_down_by ss n p x hub alien
+
+puts_by : (ss : List Stage) (response : Bool) (n : ℕ) (item : Item) (x : Exchange) (hub : Hub) → IsAlien ss x → By ss hub (puts response n item (x, hub))
+puts_by ss response n item x hub alien =
+    let t : Passed × List Stage = put hub.contexts item (chain_of response x) in
+    by_bool (By ss hub) (takes_nothing response x) (x, hub) (put_went response n x hub t) (λ e. stays ss x hub alien)
+    (λ e. passed_on_by ss response n t.0 (with_chain response t.1 x) hub
+    (alien_with ss response t.1 x (alien_put ss hub.contexts item (chain_of response x) (alien_chain ss response x alien)) alien))
+
+puts_all_by : (ss : List Stage) (response : Bool) (n : ℕ) (items : List Item) (x : Exchange) (hub : Hub) → IsAlien ss x → By ss hub (puts_all response n items (x, hub))
+puts_all_by ss response n [] x hub alien = stays ss x hub alien
+puts_all_by ss response n (item ∷ items) x hub alien =
+    let mid : Exchange × Hub = puts response n item (x, hub) in
+    let first : By ss hub mid = puts_by ss response n item x hub alien in
+    let last : Exchange × Hub = puts_all response n items mid in
+    and_then ss mid.0 hub mid.1 last.1 last.0 first (puts_all_by ss response n items mid.0 mid.1 first.alien)
+
+put_in_by : (ss : List Stage) (response : Bool) (items : List Item) (n : ℕ) (x : Exchange) (hub : Hub) → IsAlien ss x → By ss hub (put_in response items n x hub)
+put_in_by ss response items n x hub alien =
+    by_bool (By ss hub) x.is_answered (x, hub) (puts_all response n items (x, hub)) (λ e. stays ss x hub alien) (λ e. puts_all_by ss response n items x hub alien)
+
+went_by : (ss : List Stage) (response : Bool) (n : ℕ) (x : Exchange) (hub : Hub) (t : Passed × List Stage × Contexts) → Chained ss hub.contexts t → IsAlien ss x
+    → By ss hub (went response n x hub t)
+went_by ss response n x hub t chained alien =
+    let y : Exchange = with_chain response t.1 x in
+    let k : Hub = with_held t.2 hub in
+    let last : Exchange × Hub = passed_on response n t.0 y k in
+    let new : IsAlien ss y = alien_with ss response t.1 x chained.alien alien in
+    and_then ss y hub k last.1 last.0 (held_by ss y hub k chained.holds new) (passed_on_by ss response n t.0 y k new)
+
+goes_on_by : (ss : List Stage) (response : Bool) (n k : ℕ) (x : Exchange) (hub : Hub) → IsAlien ss x → By ss hub (goes_on response n k x hub)
+goes_on_by ss response n k x hub alien =
+    by_bool (By ss hub) x.has_ended (x, hub) (went response n x hub (continued hub.contexts k (chain_of response x))) (λ e. stays ss x hub alien)
+    (λ e. went_by ss response n x hub (continued hub.contexts k (chain_of response x)) (continues ss hub.contexts k (chain_of response x) (alien_chain ss response x alien)) alien)
+
+gives_way_by : (ss : List Stage) (response : Bool) (n k : ℕ) (x : Exchange) (hub : Hub) → IsAlien ss x → By ss hub (gives_way response n k x hub)
+gives_way_by ss response n k x hub alien =
+    by_bool (By ss hub) x.has_ended (x, hub) (went response n x hub (let_through hub.contexts k (chain_of response x))) (λ e. stays ss x hub alien)
+    (λ e. went_by ss response n x hub (let_through hub.contexts k (chain_of response x)) (lets ss hub.contexts k (chain_of response x) (alien_chain ss response x alien)) alien)
+
+resumes_by : (ss : List Stage) (vm context : ℕ) (response : Bool) (n : ℕ) (x : Exchange) (hub : Hub) → IsAlien ss x → By ss hub (resumes vm context response n x hub)
+resumes_by ss vm context response n x hub alien = by_place (stage_of vm context (chain_of response x))
+  where
+    by_place : (o : Option ℕ) → By ss hub (resumes_at response n o x hub)
+    by_place None = stays ss x hub alien
+    by_place (Some k) = goes_on_by ss response n k x hub alien
+
+acts_by : (ss : List Stage) (response : Bool) (k value n : ℕ) (x : Exchange) (hub : Hub) → IsAlien ss x → By ss hub (acts response k value n x hub)
+acts_by ss response k value n x hub alien =
+    let h : Hub = pauses response k x hub in
+    let first : PassesBy ss hub x h = held_by ss x hub h (pauses_by ss hub.contexts k (chain_of response x) (alien_chain ss response x alien)) alien in
+    by_bool (By ss hub) (value == 0) (goes_on response n k x h) (x, h)
+    (λ e. let last : Exchange × Hub = goes_on response n k x h in and_then ss x hub h last.1 last.0 first (goes_on_by ss response n k x h alien)) (λ e. first)
+
+closed_by : (ss : List Stage) (n : ℕ) (x : Exchange) (hub : Hub) → IsAlien ss x → By ss hub (closed n x hub)
+closed_by ss n x hub alien = by_bool (By ss hub) x.has_ended (x, hub) (cut_off x hub) (λ e. stays ss x hub alien) (λ e. cut_off_by ss x hub alien)
+
+-- ---- deaths
+
+opens_at_by : (ss : List Stage) (response : Bool) (vm n k : ℕ) (o : Option Stage) (x : Exchange) (hub : Hub) → IsAlien ss x → By ss hub (opens_at response vm n k o x hub)
+opens_at_by ss response vm n k None x hub alien = stays ss x hub alien
+opens_at_by ss response vm n k (Some s) x hub alien =
+    by_bool (By ss hub) (s.vm == vm) (gives_way response n k x hub) (x, hub) (λ e. gives_way_by ss response n k x hub alien) (λ e. stays ss x hub alien)
+
+opens_by : (ss : List Stage) (response : Bool) (vm n m : ℕ) (x : Exchange) (hub : Hub) → IsAlien ss x → By ss hub (opens response vm n m (x, hub))
+opens_by ss response vm n zero x hub alien = stays ss x hub alien
+opens_by ss response vm n (suc k) x hub alien =
+    let mid : Exchange × Hub = opens_at response vm n k (slice_get (chain_of response x) k) x hub in
+    let first : By ss hub mid = opens_at_by ss response vm n k (slice_get (chain_of response x) k) x hub alien in
+    let last : Exchange × Hub = opens response vm n k mid in
+    and_then ss mid.0 hub mid.1 last.1 last.0 first (opens_by ss response vm n k mid.0 mid.1 first.alien)
+
+opens_all_by : (ss : List Stage) (vm n : ℕ) (x : Exchange) (hub : Hub) → IsAlien ss x → By ss hub (opens_all vm n x hub)
+opens_all_by ss vm n x hub alien =
+    let mid : Exchange × Hub = opens false vm n (length x.request) (x, hub) in
+    let first : By ss hub mid = opens_by ss false vm n (length x.request) x hub alien in
+    let last : Exchange × Hub = opens true vm n (length mid.0.response) mid in
+    and_then ss mid.0 hub mid.1 last.1 last.0 first (opens_by ss true vm n (length mid.0.response) mid.0 mid.1 first.alien)
+
+dies_by : (ss : List Stage) (vm n : ℕ) (x : Exchange) (hub : Hub) → IsAlien ss x → By ss hub (dies vm n x hub)
+dies_by ss vm n x hub alien =
+    by_bool (By ss hub) x.has_ended (x, hub) (if fails_closed vm x then directly n 503 [] [] x hub else opens_all vm n x hub) (λ e. stays ss x hub alien)
+    (λ e. by_bool (By ss hub) (fails_closed vm x) (directly n 503 [] [] x hub) (opens_all vm n x hub) (λ d. directly_by ss n 503 [] [] x hub alien) (λ d. opens_all_by ss vm n x hub alien))
+
+-- ---- fixed answers
+
+refused_by : (ss : List Stage) (status n : ℕ) (x : Exchange) (hub : Hub) → IsAlien ss x → By ss hub (refused status n x hub)
+refused_by ss status n x hub alien =
+    by_bool (By ss hub) (x.has_ended || x.is_answered) (x, hub)
+    (if passes_filters status then answer n (shuts status) status [] [] x hub else directly n status [] [] (shutting (shuts status) x) hub) (λ e. stays ss x hub alien)
+    (λ e. by_bool (By ss hub) (passes_filters status) (answer n (shuts status) status [] [] x hub) (directly n status [] [] (shutting (shuts status) x) hub)
+    (λ d. answer_by ss n (shuts status) status [] [] x hub alien)
+    (λ d. directly_by ss n status [] [] (shutting (shuts status) x) hub (record { request = alien.request; response = alien.response })))
+
+expires_by : (ss : List Stage) (n : ℕ) (x : Exchange) (hub : Hub) → IsAlien ss x → By ss hub (expires n x hub)
+expires_by ss n x hub alien =
+    by_bool (By ss hub) (is_due hub.moment x) (answer n false 504 [] [] x hub) (x, hub) (λ e. answer_by ss n false 504 [] [] x hub alien) (λ e. stays ss x hub alien)
+
+pub exchanges_pass_by : ExchangesPassBy
+exchanges_pass_by = record {
+  putting = λ response items ss n x hub alien. put_in_by ss response items n x hub alien;
+  acting = λ response k value ss n x hub alien. acts_by ss response k value n x hub alien;
+  resuming = λ vm context response ss n x hub alien. resumes_by ss vm context response n x hub alien;
+  closing = λ ss n x hub alien. closed_by ss n x hub alien;
+  answering = λ shuts status fields body ss n x hub alien. answer_by ss n shuts status fields body x hub alien;
+  dying = λ vm ss n x hub alien. dies_by ss vm n x hub alien;
+  refusing = λ status ss n x hub alien. refused_by ss status n x hub alien;
+  expiring = λ ss n x hub alien. expires_by ss n x hub alien;
+}

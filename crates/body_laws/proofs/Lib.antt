@@ -1,0 +1,5 @@
+pub mod Deeds
+pub mod Apart
+pub mod Examples
+pub mod Deaths
+pub mod Moved

@@ -1,0 +1,97 @@
+-- WHERE A VM OF THE ROUTE DIES: the exchange is answered 503, or the stages of the VM are let through.
+use Rattle.std.specs.Prelude.{◌≡◌, ℕ, zero, suc, ◌==◌, Bool, true, false, List, [], ◌∷◌, ◌++◌, length, slice_get, Option, None, Some, option_map, if◌then◌else◌}
+use Rattle.contexts.specs.declared.parts.Contexts.{Contexts}
+use Rattle.exchange.specs.declared.types.Exchange.{Exchange}
+use Rattle.exchange.specs.declared.types.Hub.{Hub}
+use Rattle.exchange.specs.Answering.{none_held}
+use Rattle.exchange.specs.Passing.{chain_of, fails_closed, opens, opens_all, dies}
+use Rattle.filter_chain.specs.declared.stage.Stage.{Stage}
+use Rattle.filter_chain.specs.Chains.{bytes_at}
+use Rattle.chain_laws.specs.Acts.{AreThere}
+use Rattle.body_laws.specs.Apart.{AreAliens}
+use Rattle.body_laws.specs.Deeds.{Deed, lets, Running, came, AreDeeds, done_all}
+
+-- ---- answered
+
+-- these stages hold nothing
+abbrev pub HoldNothing : Contexts → List Stage → Type 0
+HoldNothing h [] = Unit {0}
+HoldNothing h (s ∷ ss) = (bytes_at h s ≡ []) × HoldNothing h ss
+
+-- The exchange has ended, and no stage is left; what its stages held is dropped.
+pub record IsCutShort (x : Exchange) (y : Exchange) (after : Hub) : Type 0 where
+  pub ended : y.has_ended ≡ true
+  pub request : y.request ≡ []
+  pub response : y.response ≡ []
+  pub requests : HoldNothing after.contexts x.request
+  pub responses : HoldNothing after.contexts x.response
+
+-- what the stages of an exchange held is dropped
+pub record AreDropped (x : Exchange) (after : Contexts) : Type 0 where
+  pub requests : HoldNothing after x.request
+  pub responses : HoldNothing after x.response
+
+-- WHAT IS HELD IS DROPPED where an exchange is closed, answered past its filters, or over
+abbrev pub DroppingDrops : Type 0
+DroppingDrops = (x : Exchange) (hub : Hub) → AreThere hub.contexts x.request → AreThere hub.contexts x.response → AreDropped x (none_held x hub).contexts
+
+-- ---- let through
+
+abbrev pub vm_at : List Stage → ℕ → Option ℕ
+vm_at stages k = option_map (λ (s : Stage). s.vm) (slice_get stages k)
+
+abbrev pub lets_at : ℕ → ℕ → Option ℕ → List Deed
+lets_at vm k None = []
+lets_at vm k (Some of) = if of == vm then lets k ∷ [] else []
+
+-- each stage of the VM among the first so many is let through, the one nearest to the exit first
+abbrev pub lets_of : ℕ → ℕ → List Stage → List Deed
+lets_of vm zero stages = []
+lets_of vm (suc k) stages = lets_at vm k (vm_at stages k) ++ lets_of vm k stages
+
+-- the stages of the VM from a place on pass everything
+abbrev pub PassFrom : ℕ → ℕ → List Stage → Type 0
+PassFrom vm k [] = Unit {0}
+PassFrom vm zero (s ∷ ss) = ((s.vm == vm) ≡ true → s.passes ≡ true) × PassFrom vm zero ss
+PassFrom vm (suc k) (s ∷ ss) = PassFrom vm k ss
+
+-- What is done to a direction is these deeds, and each stage of the VM passes everything behind them.
+pub record AreLetThrough (response : Bool) (n vm : ℕ) (w : Running) : Type 0 where
+  pub is : ((done_all response n (lets_of vm (length (chain_of response w.exchange)) (chain_of response w.exchange)) w).exchange, (done_all response n (lets_of vm (length (chain_of response w.exchange)) (chain_of response w.exchange)) w).hub)
+      ≡ opens response vm n (length (chain_of response w.exchange)) (w.exchange, w.hub)
+  pub passes : PassFrom vm zero (chain_of response (opens response vm n (length (chain_of response w.exchange)) (w.exchange, w.hub)).0)
+
+-- each of these is let through, and that is not too much
+abbrev pub MayLet : Bool → ℕ → ℕ → Running → Type 0
+MayLet response n vm w = AreDeeds response n 0 (lets_of vm (length (chain_of response w.exchange)) (chain_of response w.exchange)) w
+
+abbrev pub between : ℕ → ℕ → Exchange → Hub → Exchange × Hub
+between vm n x hub = opens false vm n (length x.request) (x, hub)
+
+-- the exchange and the hub behind deeds
+abbrev pub comes_to : Bool → ℕ → List Deed → Running → Exchange × Hub
+comes_to response n deeds w = ((done_all response n deeds w).exchange, (done_all response n deeds w).hub)
+
+-- A DEATH AS DEEDS of the law on bodies, as a direction sees it: its own stages of the VM are let through, and what becomes of those of the other direction
+-- leaves it as it was.
+pub record DeathsAreDeeds : Type 0 where
+  pub request : (n vm : ℕ) (w : Running) → w.exchange.has_ended ≡ false → fails_closed vm w.exchange ≡ false → MayLet false n vm w
+      → MayLet true n vm (record { due = None; exchange = (between vm n w.exchange w.hub).0; hub = (between vm n w.exchange w.hub).1 })
+      → AreAliens (between vm n w.exchange w.hub).0.request (between vm n w.exchange w.hub).0.response
+      → AreThere (between vm n w.exchange w.hub).1.contexts (between vm n w.exchange w.hub).0.request
+      → (deeds : List Deed) × AreDeeds false n 0 deeds w × (came deeds ≡ []) × (comes_to false n deeds w ≡ dies vm n w.exchange w.hub)
+  pub response : (n vm : ℕ) (w : Running) → w.exchange.has_ended ≡ false → fails_closed vm w.exchange ≡ false
+      → MayLet false n vm (record { due = None; exchange = w.exchange; hub = w.hub })
+      → MayLet true n vm (record w { exchange = (between vm n w.exchange w.hub).0; hub = (between vm n w.exchange w.hub).1 })
+      → AreAliens w.exchange.response w.exchange.request → AreThere w.hub.contexts w.exchange.response
+      → (deeds : List Deed) × AreDeeds true n 0 deeds w × (came deeds ≡ []) × (comes_to true n deeds w ≡ dies vm n w.exchange w.hub)
+
+-- A VM DIES. An exchange that has ended stays as it is; one with a filter of the VM that fails closed is cut short; else the stages of the VM are let through,
+-- those of the request first.
+pub record DeathsPass : Type 0 where
+  pub ended : (n vm : ℕ) (x : Exchange) (hub : Hub) → x.has_ended ≡ true → dies vm n x hub ≡ (x, hub)
+  pub closed : (n vm : ℕ) (x : Exchange) (hub : Hub) → x.has_ended ≡ false → fails_closed vm x ≡ true → AreThere hub.contexts x.request → AreThere hub.contexts x.response
+      → IsCutShort x (dies vm n x hub).0 (dies vm n x hub).1
+  pub open_ : (n vm : ℕ) (x : Exchange) (hub : Hub) → x.has_ended ≡ false → fails_closed vm x ≡ false → dies vm n x hub ≡ opens_all vm n x hub
+  pub let_through : (response : Bool) (n count vm : ℕ) (w : Running) → AreDeeds response n count (lets_of vm (length (chain_of response w.exchange)) (chain_of response w.exchange)) w
+      → AreLetThrough response n vm w

@@ -1,0 +1,6 @@
+pub mod Deeds
+pub mod Exchanges
+pub mod Apart
+pub mod Examples
+pub mod Deaths
+pub mod Moved

@@ -1,0 +1,8 @@
+use Rattle.flow_laws.proofs.Deaths.{all_lines_leave, deaths_reach}
+use Rattle.flow_laws.proofs.laws.deaths_on_lines.Goals as goal
+
+pub returns-clause-others : goal.returns-clause-others
+returns-clause-others c = all_lines_leave
+
+pub returns-clause-reach : goal.returns-clause-reach
+returns-clause-reach c = deaths_reach
