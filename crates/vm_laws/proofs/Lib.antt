@@ -14,3 +14,5 @@ mod Frames
 mod LastIds
 mod OwnLines
 mod Examples
+mod Lasting
+mod Lives

@@ -9,3 +9,4 @@ pub mod Frames
 pub mod LastIds
 pub mod OwnLines
 pub mod Examples
+pub mod Lives

@@ -3,6 +3,7 @@ ghost use Rattle.vm_laws.specs.Apart.{CallbacksAreApart};
 ghost use Rattle.vm_laws.specs.Examples.{IsolationExamples};
 ghost use Rattle.vm_laws.specs.Frames.{FramesCountTogether, AllocationsNeedAFrame, FrameExamples};
 ghost use Rattle.vm_laws.specs.LastIds.{IdsRunOut, LastIdExamples};
+ghost use Rattle.vm_laws.specs.Lives.{LivesKeepPlaces};
 ghost use Rattle.vm_laws.specs.MadeVms.{MadeVmsAreInPlace};
 ghost use Rattle.vm_laws.specs.OwnChanges.{CallbacksChangeTheirOwn, PlacesBegin, PlacesStay};
 ghost use Rattle.vm_laws.specs.OwnEffects.{EffectsAreOwn};
@@ -40,6 +41,13 @@ pub fn callbacks_change_their_own()
     ensures contexts { CallbacksChangeTheirOwn }
     ensures begins { PlacesBegin }
     ensures stays { PlacesStay }
+{}
+
+/// Over a worker's whole life, turn by turn and step by step, whatever modules do, stores reply and lines bring: machines that stand at the numbers of their
+/// contexts stay there, what says which callbacks are exported stays of the module that runs, and a VM whose callback trapped or spent its fuel is never run
+/// again. So the laws on callbacks hold of every callback of a life.
+pub fn lives_keep_places()
+    ensures { LivesKeepPlaces }
 {}
 
 /// A whole callback sends nothing but lines for the log, each not below the log's level and no longer than a line may be. What it asks its worker to
