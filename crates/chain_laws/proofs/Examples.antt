@@ -3,7 +3,7 @@ use Rattle.std.proofs.Common.{◌≡◌, true, false, List, [], ◌∷◌, ap, �
 use Rattle.filter_chain.specs.declared.item.Item.{Item}
 use Rattle.filter_chain.specs.declared.item.Item.TheVariants.{Head, Piece, Trailers}
 use Rattle.chain_laws.specs.Acts.{AreActs}
-use Rattle.chain_laws.specs.Examples.{PassThroughExamples, changed, changing, held_up, resumed, start}
+use Rattle.chain_laws.specs.Examples.{PassThroughExamples, changed, changing, held_up, resumed, let_on, start}
 use Rattle.chain_laws.specs.PassThrough.{Thinner, none, keeps, drops}
 
 changed_are : AreActs 2 changed start
@@ -48,6 +48,9 @@ place_kept thin =
     let first = first_kept thin (Head false) (Piece [] true ∷ []) refl (λ e. cc e) in
     cc first.1
 
+let_are : AreActs 2 let_on start
+let_are = (tt, ((refl, (tt, (((omega arith), _, refl), (((omega arith), _, refl), tt)))), ((tt, λ e. absurd (cc e)), (tt, ((λ e. absurd (cc e), tt), ((refl, (tt, (((omega arith), _, refl), (((omega arith), _, refl), tt)))), ((tt, λ _. tt), ((refl, (tt, (((omega arith), _, refl), (((omega arith), _, refl), tt)))), ((refl, λ _. tt), (tt, ((refl, (tt, (((omega arith), _, refl), (((omega arith), _, refl), tt)))), ((refl, λ _. tt), tt))))))))))))
+
 pub pass_through_examples : PassThroughExamples
 pass_through_examples = record {
   start_new = record {
@@ -78,6 +81,11 @@ pass_through_examples = record {
   resumed_acts = resumed_are;
   resumed_left = refl;
   resumed_behind = refl;
+  let_acts = let_are;
+  let_left = refl;
+  let_buffers = refl;
+  last_stays = λ are. are.0.0 refl;
+  others_may = ((λ e. absurd (cc e), tt), tt);
   dropped = keeps (drops (keeps none));
   no_end_dropped = end_kept;
   no_trailers_for_an_end = kind_kept;

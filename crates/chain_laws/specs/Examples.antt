@@ -10,19 +10,20 @@ use Rattle.filter_chain.specs.declared.item.Item.TheVariants.{Head, Piece, Trail
 use Rattle.filter_chain.specs.Chains.{asked}
 use Rattle.filter_chain.specs.Examples.{host, two}
 use Rattle.filter_chain.specs.Items.{joined}
-use Rattle.chain_laws.specs.Acts.{Act, comes, calls, answers, resumes, Standing, done_by, left_by, came, buffers_by, stands_after, behind, AreActs}
+use Rattle.chain_laws.specs.Acts.{Act, comes, calls, answers, resumes, lets, Standing, done_by, left_by, came, buffers_by, stands_after, behind, AreActs}
 use Rattle.chain_laws.specs.PassThrough.{has_end, bare_all, bare_in, Thinner, IsInOrder, IsNew}
 
 -- ---- scripts of acts
 
 -- An item comes; a callback comes, which leaves all buffers as they are, or writes into that of the second filter; its action is put in force; the
--- first filter is resumed.
+-- first filter is resumed; the VM of the filter at a place dies, and it is let through.
 pub data Play : Type 0 where
   reads : Item → Play
   looks : Play
   writes : List ℕ → Play
   acts : ℕ → Play
   wakes : Play
+  dies : ℕ → Play
 
 -- the contexts when a stage was asked
 abbrev pub asked_with : Asking × List Stage × Contexts → Contexts
@@ -38,6 +39,7 @@ act_of looks w = calls (asked_with (asked w.contexts w.stages))
 act_of (writes bytes) w = calls (written bytes (asked_with (asked w.contexts w.stages)))
 act_of (acts value) w = answers value
 act_of wakes w = resumes 0
+act_of (dies k) w = lets k
 
 abbrev pub played : List Play → Standing → List Act
 played [] w = []
@@ -83,6 +85,11 @@ held_up = played_here holds_head
 abbrev pub resumed : List Act
 resumed = played_here (holds_head ++ wakes ∷ passes_both)
 
+-- ---- THE FIRST FILTER'S VM DIES while it holds the head: what it held and what waits at it goes to the second, and so does what comes
+
+abbrev pub let_on : List Act
+let_on = played_here (holds_head ++ dies 0 ∷ passes_both ++ reads (Piece (codes "cd") true) ∷ looks ∷ acts 0 ∷ [])
+
 pub record PassThroughExamples : Type 0 where
   -- nothing passed the two filters yet
   pub start_new : IsNew start
@@ -112,6 +119,12 @@ pub record PassThroughExamples : Type 0 where
   pub resumed_acts : AreActs 0 resumed start
   pub resumed_left : left_by resumed start ≡ Head false ∷ []
   pub resumed_behind : behind 0 (stands_after resumed start) ≡ codes "ab"
+  pub let_acts : AreActs 2 let_on start
+  pub let_left : left_by let_on start ≡ Head false ∷ Piece (codes "ab") false ∷ Piece (codes "cd") true ∷ []
+  pub let_buffers : buffers_by 1 let_on start ≡ codes "abcd"
+  -- the last one with a body callback is let through in no act of the law with it as the last
+  pub last_stays : AreActs 2 (lets 1 ∷ []) start → ⊥
+  pub others_may : AreActs 0 (lets 1 ∷ []) start
   -- a piece that is not the end may be dropped; nothing else may, and nothing may be put elsewhere
   pub dropped : Thinner (Head false ∷ Piece [] false ∷ Trailers ∷ []) (Head false ∷ Trailers ∷ [])
   pub no_end_dropped : Thinner (Head false ∷ Piece [] true ∷ []) (Head false ∷ []) → ⊥
