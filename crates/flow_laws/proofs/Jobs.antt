@@ -25,9 +25,12 @@ use Rattle.worker.specs.Steps.{Both, both, Answered, answered, goes_on_with, not
 use Rattle.worker.specs.Turn.{emptied, facing}
 use Rattle.flow_laws.specs.Besides.{OthersAreAlien, IsWhole}
 use Rattle.flow_laws.specs.Elsewhere.{IsBeside, behind_effects}
-use Rattle.flow_laws.specs.Jobs.{JobsLeave, TellsAreRuns}
+use Rattle.flow_laws.specs.Jobs.{EndsDrop, JobsLeave, TellsAreRuns}
 use Rattle.flow_laws.specs.Rooms.{IsOn, Leaves, Meanwhile, nothing}
-use Rattle.flow_laws.proofs.Apart.{Holds, next, by_vms, drops}
+use Rattle.chain_laws.specs.Acts.{HoldSame}
+use Rattle.body_laws.specs.Deaths.{HoldNothing, AreDropped}
+use Rattle.body_laws.proofs.Deaths.{dropping_drops}
+use Rattle.body_laws.proofs.Apart.{Holds, next, by_vms, drops}
 use Rattle.flow_laws.proofs.Besides.{stays, on_other}
 use Rattle.flow_laws.proofs.Elsewhere.{Beside, beside}
 use Rattle.chain_laws.proofs.Holding.{hold_all, hold_then, hold_by_vms, there_by_vms, hold_kept, there_kept, kept_many}
@@ -139,6 +142,26 @@ ending_leaves place response n x room on alien whole apart = by_line (slice_get 
     by_line : (l : Option Line) → slice_get room.lines place ≡ l → Leaves response n x room x (ends_with room (ended_at place l room.lines))
     by_line None at = alike response n x room (ends_with room (None, room.lines)) on whole refl refl
     by_line (Some line) at = by_exchange line at line.exchange refl
+
+-- ---- the exchange's own end
+
+nothing_by : (b c : Contexts) (ss : List Stage) → HoldSame b c ss → HoldNothing b ss → HoldNothing c ss
+nothing_by b c [] same none = tt
+nothing_by b c (s ∷ ss) same none = (same.0 ∙ none.0, nothing_by b c ss same.1 none.1)
+
+pub ends_drop : EndsDrop
+ends_drop n x room on request response =
+    let mid : Contexts = (none_held x room.hub).contexts in
+    let after : Room = ends_at on.place room in
+    let is : after.hub.contexts ≡ ended x.place mid
+    = ap (λ (l : Option Line). (ends_with room (ended_at on.place l room.lines)).hub.contexts) on.at
+    ∙ ap (λ (e : Option Exchange). (ends_with room (ended_back on.place room.lines (ended_in on.line e))).hub.contexts) on.exchange in
+    let vms : after.hub.contexts.vms ≡ mid.vms = ap (λ (c : Contexts). c.vms) is ∙ ended_vms x.place mid in
+    let dropped : AreDropped x mid = dropping_drops x room.hub request response in
+    record {
+      requests = nothing_by mid after.hub.contexts x.request (hold_by_vms mid after.hub.contexts x.request vms) dropped.requests;
+      responses = nothing_by mid after.hub.contexts x.response (hold_by_vms mid after.hub.contexts x.response vms) dropped.responses;
+    }
 
 pub jobs_leave : JobsLeave
 jobs_leave = record {

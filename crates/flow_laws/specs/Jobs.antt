@@ -13,6 +13,8 @@ use Rattle.worker.specs.Plan.{Plan}
 use Rattle.worker.specs.Steps.{Both, noticed, ends_at, ticked, tells}
 use Rattle.worker.specs.Turn.{emptied, facing}
 use Rattle.exchange.specs.Passing.{chain_of}
+use Rattle.chain_laws.specs.Acts.{AreThere}
+use Rattle.body_laws.specs.Deaths.{AreDropped}
 use Rattle.flow_laws.specs.Besides.{OthersAreAlien, IsWhole}
 use Rattle.flow_laws.specs.Elsewhere.{IsBeside}
 use Rattle.flow_laws.specs.Rooms.{IsOn, Leaves, Meanwhile}
@@ -29,6 +31,11 @@ pub record JobsLeave : Type 0 where
   pub ticking : (vm root : ℕ) (response : Bool) (n : ℕ) (x : Exchange) (room : Room) → IsOn n room x → IsWhole response x room → Leaves response n x room x (ticked vm root room).1
   pub ending : (place : ℕ) (response : Bool) (n : ℕ) (x : Exchange) (room : Room) (on : IsOn n room x) → OthersAreAlien (chain_of response x) on.place room
       → IsWhole response x room → (place ≡ on.place → ⊥) → Leaves response n x room x (ends_at place room)
+
+-- AN EXCHANGE'S END drops what its stages still hold.
+abbrev pub EndsDrop : Type 0
+EndsDrop = (n : ℕ) (x : Exchange) (room : Room) (on : IsOn n room x) → AreThere room.hub.contexts x.request → AreThere room.hub.contexts x.response
+    → AreDropped x (ends_at on.place room).hub.contexts
 
 -- A CALLBACK WHOSE ANSWER SAYS NOTHING, such as that of a tick: it is what the law takes a worker to do besides.
 abbrev pub TellsAreRuns : Type 0 → Type 0

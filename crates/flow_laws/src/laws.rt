@@ -5,7 +5,7 @@ ghost use Rattle.flow_laws.specs.Deaths.{AllLinesLeave, DeathsReach};
 ghost use Rattle.flow_laws.specs.Effects.{AskingElsewhereLeaves, CallbacksAreRuns, MildEffectsAreOthers};
 ghost use Rattle.flow_laws.specs.Elsewhere.{OtherDirectionMoves, OtherLinesMove};
 ghost use Rattle.flow_laws.specs.Events.{EventsLeave};
-ghost use Rattle.flow_laws.specs.Jobs.{JobsLeave, TellsAreRuns};
+ghost use Rattle.flow_laws.specs.Jobs.{EndsDrop, JobsLeave, TellsAreRuns};
 ghost use Rattle.flow_laws.specs.Readings.{ReadingLeaves};
 ghost use Rattle.flow_laws.specs.RoomExamples.{RoomExample};
 ghost use Rattle.flow_laws.specs.Stepping.{StepsBeside};
@@ -54,10 +54,11 @@ pub fn others_move<H>()
 {}
 
 /// The next turn begins, a job is taken in hand, a notice was taken, a tick is due, or another exchange is at its end: that leaves a direction as it
-/// was. A callback whose answer says nothing is what the law takes a worker to do besides.
+/// was. A callback whose answer says nothing is what the law takes a worker to do besides. At the exchange's own end what its stages still hold is dropped.
 pub fn jobs_leave_directions<H>()
     ensures quiet { JobsLeave }
     ensures telling { TellsAreRuns H }
+    ensures drop { EndsDrop }
 {}
 
 /// What is done on all lines and does nothing to the exchange itself leaves a direction as it was; so the death of a VM that is none of its stages'.
