@@ -1,5 +1,6 @@
 -- Calls that are alone are those of one thread.
 use Rattle.std.proofs.Common.{◌≡◌, ◌==◌, ◌∙◌, ℕ, zero, suc, ◌-◌, ◌<◌, ◌≤◌, Bool, true, false, cond, if◌then◌else◌, List, [], ◌∷◌, ◌++◌, length, map, reverse, get_or, All, Option, refl, ap, sym, subst, arith, ⊎_elim, eq-eqb, ne_eqb, length-set, length-append, get_or-set_same, get_or-set_other}
+use Rattle.course.specs.Called.{Calling}
 use Rattle.std.specs.List.{filter}
 use Rattle.std.proofs.lemmas.Bool.{cases_eq}
 use Rattle.std.proofs.lemmas.List.{get_or_append_left, get_or-append_right}
@@ -23,7 +24,6 @@ use Rattle.store_model.specs.declared.call.Call.TheVariants.{Dequeue}
 use Rattle.store_model.specs.declared.call.Reply.TheVariants.{Absent, Empty}
 use Rattle.store_model.specs.declared.entry.Entry.{Entry}
 use Rattle.fleet.specs.Alone.{AloneExamples, AreAlone, AreWithin, OneWorkerIsAlone, RunsAloneAreOfOneThread, own_stores}
-use Rattle.fleet.specs.Lives.{Calling}
 use Rattle.fleet.specs.Made.{made_in}
 use Rattle.fleet.specs.Moves.{seats_in}
 use Rattle.fleet.specs.declared.post.Post.{Post}

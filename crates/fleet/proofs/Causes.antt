@@ -1,5 +1,6 @@
 -- Why a fleet ended as it did.
 use Rattle.std.proofs.Common.{◌≡◌, ◌≢◌, ◌∙◌, ◌⊎◌, ◌&&◌, ◌||◌, not, ℕ, Bool, true, false, if◌then◌else◌, List, [], ◌∷◌, All, Option, None, Some, refl, sym, inl, inr}
+use Rattle.course.specs.Called.{Calling}
 use Rattle.std.specs.List.{list_any}
 use Rattle.gate_io.specs.Nature.{Nature}
 use Rattle.gate_io.specs.declared.passed.Passed.{Passed}
@@ -8,7 +9,7 @@ use Rattle.worker.specs.State.{Standing}
 use Rattle.worker.specs.declared.worker.Turn.{Turn}
 use Rattle.worker.specs.declared.worker.Turn.TheVariants.{Went, Stopped, WorldFault, OutOfMemory}
 use Rattle.fleet.specs.Fleet.{Each, HasWorked}
-use Rattle.fleet.specs.Lives.{Calling, Cut, Last, OneLife, is_memory}
+use Rattle.fleet.specs.Lives.{Cut, Last, OneLife, is_memory}
 use Rattle.fleet.specs.Run.{EndExamples, end_of, has_failed, is_clean, is_fault, is_stopped, ran_short}
 use Rattle.fleet.specs.declared.post.Post.{Post}
 use Rattle.fleet.specs.declared.run.FleetEnd.TheVariants as fleet_ends

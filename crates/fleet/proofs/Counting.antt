@@ -1,7 +1,7 @@
 -- What each VM of the configuration came to.
 use Rattle.std.proofs.Common.{◌≡◌, ◌<◌, ◌∙◌, ℕ, List, [], ◌∷◌, length, map, reverse, Option, ap, arith}
+use Rattle.course.specs.Called.{Calling}
 use Rattle.fleet.specs.Laws.{HasOne}
-use Rattle.fleet.specs.Lives.{Calling}
 use Rattle.fleet.specs.Moves.{seats_in}
 use Rattle.fleet.specs.Run.{Ended}
 use Rattle.gate_config.specs.declared.config.Config.{Config}

@@ -1,5 +1,6 @@
 -- The world whose faults rose.
 use Rattle.std.proofs.Common.{◌≡◌, ◌⊎◌, ℕ, Bool, true, false, List, [], ◌∷◌, ◌++◌, map, reverse, Option, refl, sym, subst, inl, inr, ⊎_elim, ◌||◌}
+use Rattle.course.specs.Called.{Calling}
 use Rattle.std.specs.List.{list_any}
 use Rattle.std.proofs.lemmas.Grind.{reverse_onto}
 use Rattle.gate_io.specs.Nature.{Nature}
@@ -9,7 +10,6 @@ use Rattle.worker.specs.declared.worker.Turn.{Turn}
 use Rattle.worker.specs.declared.worker.Turn.TheVariants.{Went, Stopped, WorldFault, OutOfMemory}
 use Rattle.fleet.specs.Fleet.{Each, HasWorked}
 use Rattle.worker.specs.State.{Standing}
-use Rattle.fleet.specs.Lives.{Calling}
 use Rattle.fleet.specs.Moves.{world_in}
 use Rattle.fleet.specs.Run.{AnyRose, is_fault}
 use Rattle.fleet.specs.declared.post.Post.{Post}

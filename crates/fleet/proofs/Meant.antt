@@ -1,7 +1,8 @@
 -- The turns of a life are those that its events mean.
 use Rattle.std.proofs.Common.{◌≡◌, ℕ, zero, suc, List, [], ◌++◌, Option, sym, subst}
+use Rattle.course.specs.Called.{Calling}
 use Rattle.fleet.specs.Laws.{LivesAreMeant}
-use Rattle.fleet.specs.Lives.{Calling, Turns, Life}
+use Rattle.fleet.specs.Lives.{Turns, Life}
 use Rattle.gate_io.specs.declared.passed.Passed.{Passed}
 use Rattle.meaning.proofs.Folding.{means_more, means_nothing}
 use Rattle.meaning.specs.Meaning.{Means}

@@ -1,5 +1,6 @@
 -- The seats of all posts go on.
 use Rattle.std.proofs.Common.{◌≡◌, ◌≤◌, ◌∙◌, ℕ, List, All, Result, Ok, Err, IfOk, IfErr, Some, None, inl, map, reverse, Option, length, ap, sym, subst}
+use Rattle.course.specs.Called.{Calling}
 use lib.ListN.{length-map}
 use Rattle.gate_config.specs.declared.config.Config.{Config}
 use Rattle.gate_io.specs.Nature.{Nature}
@@ -12,7 +13,6 @@ use Rattle.shared_store.specs.Tables.{table_of}
 use Rattle.turn_table.specs.Seats.{TurnTableId}
 use Rattle.fleet.specs.Fleet.{Each, HasWorked, IsReady}
 use Rattle.worker.specs.State.{Standing}
-use Rattle.fleet.specs.Lives.{Calling}
 use Rattle.fleet.specs.Made.{made_in}
 use Rattle.fleet.specs.Moves.{seats_in, world_in}
 use Rattle.fleet.specs.Run.{Worked, Ran, end_of}

@@ -1,5 +1,6 @@
 -- Runs over seats that no other worker's calls come between: those of one thread's stores.
 use Rattle.std.specs.Prelude.{◌≡◌, ℕ, ◌<◌, List, [], ◌∷◌, length, Option}
+use Rattle.course.specs.Called.{Calling}
 use Rattle.course.specs.Course.{calls_in}
 use Rattle.gate_config.specs.declared.config.Config.{Config}
 use Rattle.gate_io.specs.Nature.{Nature}
@@ -18,7 +19,6 @@ use Rattle.store_model.specs.declared.metric.MetricAsk.TheVariants.{Sum}
 use Rattle.store_model.specs.declared.metric.MetricReply.TheVariants.{Unknown}
 use Rattle.worker.specs.State.{Standing}
 use Rattle.fleet.specs.Fleet.{HasWorked}
-use Rattle.fleet.specs.Lives.{Calling}
 use Rattle.fleet.specs.Made.{made_in}
 use Rattle.fleet.specs.Run.{Ended}
 use Rattle.fleet.specs.declared.post.Post.{Post}

@@ -1,5 +1,6 @@
 -- What the posts of a fleet come to.
 use Rattle.std.specs.Prelude.{◌≡◌, ℕ, ◌≤◌, List, [], ◌∷◌, Option, length}
+use Rattle.course.specs.Called.{Calling}
 use Rattle.gate_config.specs.declared.config.Config.{Config}
 use Rattle.gate_io.specs.Nature.{Nature}
 use Rattle.gate_io.specs.Told.{Rose}
@@ -8,7 +9,7 @@ use Rattle.shared_seats.specs.Moving.{SeatsGoOn}
 use Rattle.shared_seats.specs.Seats.{AreAt, TablesOf}
 use Rattle.worker.specs.State.{Standing}
 use Rattle.worker.specs.declared.worker.Turn.TheVariants.{WorldFault}
-use Rattle.fleet.specs.Lives.{Calling, Lives}
+use Rattle.fleet.specs.Lives.{Lives}
 use Rattle.fleet.specs.declared.post.Post.{Post}
 
 -- each of the first list stands so to that of the second at its place

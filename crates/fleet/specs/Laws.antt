@@ -1,8 +1,9 @@
 -- What holds of all lives, and of what all fleets come to.
 use Rattle.std.specs.Prelude.{◌≡◌, ℕ, ◌<◌, Bool, List, [], ◌∷◌, Option, length, map, reverse}
+use Rattle.course.specs.Called.{Calling}
 use mathlib.Core.Option.{some}
 use lib.ListN.{get_elem?}
-use Rattle.fleet.specs.Lives.{Calling, Life, Lives}
+use Rattle.fleet.specs.Lives.{Life, Lives}
 use Rattle.fleet.specs.Made.{made_in}
 use Rattle.fleet.specs.Moves.{seats_in}
 use Rattle.fleet.specs.Run.{Ended}

@@ -1,13 +1,11 @@
 -- The lives of a worker, one after another.
 use Rattle.std.specs.Prelude.{◌≡◌, ◌≢◌, ◌≤◌, ℕ, Bool, true, false, zero, suc, ◌⊎◌, ◌&&◌, List, Option}
-use Rattle.contexts.specs.declared.parts.Contexts.{Contexts}
-use Rattle.course.specs.Called.{Called}
+use Rattle.course.specs.Called.{Calling}
 use Rattle.course.specs.declared.host.Callback.{Callback}
 use Rattle.fleet.specs.Closing.{Closes, ClosesAll}
 use Rattle.gate_config.specs.declared.config.Config.{Config}
 use Rattle.gate_io.specs.declared.passed.Passed.{Passed}
 use Rattle.store_model.specs.Made.{Made}
-use Rattle.store_model.specs.Program.{Program}
 use Rattle.worker.specs.Making.{new_worker}
 use Rattle.worker.specs.State.{Standing}
 use Rattle.worker.specs.Turned.{Turned}
@@ -19,10 +17,6 @@ is_memory Went = false
 is_memory Stopped = false
 is_memory WorldFault = false
 is_memory OutOfMemory = true
-
--- what callbacks of machines do
-abbrev pub Calling : Type 0 → Type 0
-Calling H = H → ℕ → Callback → ℕ → ℕ → ℕ → ℕ → Contexts → Program (Called H)
 
 -- what a worker is when a life of it begins: each begins alike
 abbrev pub first_of : {H : Type 0} → (H → ℕ → Callback → Bool) → (H → ℕ → Bool) → Config → H → ℕ → List ℕ → Standing H

@@ -1,8 +1,9 @@
 -- The calls and asks that lives make, in order.
 use Rattle.std.proofs.Common.{⊎_elim}
+use Rattle.course.specs.Called.{Calling}
 use Rattle.std.specs.Prelude.{ℕ, Bool, zero, suc, ◌⊎◌, List, [], ◌++◌, Option}
 use Rattle.course.specs.Course.{Course, Goes, calls_in}
-use Rattle.fleet.specs.Lives.{Calling, Turns, Life, OneLife, Cut, Early, Last, Lives}
+use Rattle.fleet.specs.Lives.{Turns, Life, OneLife, Cut, Early, Last, Lives}
 use Rattle.gate_io.specs.declared.passed.Passed.{Passed}
 use Rattle.store_model.specs.Made.{Made}
 use Rattle.worker.specs.State.{Standing}

@@ -1,5 +1,6 @@
 -- What a fleet comes to.
 use Rattle.std.specs.Prelude.{◌≡◌, ◌⊎◌, ◌&&◌, ◌||◌, not, ℕ, Bool, true, false, if◌then◌else◌, All, List, [], ◌∷◌, length, map, reverse, Option, None, Some, Result, Ok, Err}
+use Rattle.course.specs.Called.{Calling}
 use Rattle.std.specs.List.{list_any}
 use Rattle.gate_config.specs.declared.config.Config.{Config}
 use Rattle.gate_io.specs.Nature.{Nature}
@@ -12,7 +13,7 @@ use Rattle.worker.specs.State.{Standing}
 use Rattle.worker.specs.declared.worker.Turn.{Turn}
 use Rattle.worker.specs.declared.worker.Turn.TheVariants.{Went, Stopped, WorldFault, OutOfMemory}
 use Rattle.fleet.specs.Fleet.{Each, HasWorked}
-use Rattle.fleet.specs.Lives.{Calling, is_memory}
+use Rattle.fleet.specs.Lives.{is_memory}
 use Rattle.fleet.specs.Moves.{AreFrom, seats_in, world_in}
 use Rattle.fleet.specs.declared.post.Post.{Post}
 use Rattle.fleet.specs.declared.run.FleetEnd.{FleetEnd}

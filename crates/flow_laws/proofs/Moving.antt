@@ -2,7 +2,7 @@
 use Rattle.std.proofs.Common.{◌≡◌, ℕ, Bool, true, false, List, [], ◌∷◌, ap, ◌∙◌, sym, refl, subst}
 use Rattle.std.specs.Prelude.{Option, Some, slice_get, slice_set, option_map}
 use Rattle.contexts.specs.declared.parts.Contexts.{Contexts}
-use Rattle.course.specs.Called.{Called}
+use Rattle.course.specs.Called.{Called, Calling}
 use Rattle.course.specs.Course.{Course, ends, asks, measures, then_do, runs_then, Met, called, measured, heard, Reaches}
 use Rattle.course.specs.declared.host.CallEnd.{CallEnd}
 use Rattle.exchange.specs.declared.types.Exchange.{Exchange}
@@ -23,7 +23,7 @@ use Rattle.worker.specs.Rooms.{with_lines, answered_with, valued}
 use Rattle.worker.specs.Steps.{Both, both, Answered, answered, acts_on, goes_on_with, moved_with, move_at, works_first}
 use Rattle.flow_laws.specs.Elsewhere.{asked_program}
 use Rattle.flow_laws.specs.Rooms.{IsAsked, asked_exchange, question}
-use Rattle.flow_laws.specs.Steps.{Calling, told_count, callback_program, MovesAreSteps, PutsAreSteps}
+use Rattle.flow_laws.specs.Steps.{told_count, callback_program, MovesAreSteps, PutsAreSteps}
 
 -- ---- courses of programs
 

@@ -1,5 +1,6 @@
 -- Why steps that are none of a direction resume stages of it, or leave it as it was.
 use Rattle.std.proofs.Common.{◌≡◌, ℕ, Bool, true, false, not, ◌||◌, ◌==◌, List, [], ◌∷◌, ap, ◌∙◌, sym, refl, subst}
+use Rattle.course.specs.Called.{Calling}
 use Rattle.std.specs.Prelude.{Option, None, Some, slice_get, nat_lt, if◌then◌else◌}
 use Rattle.course.specs.Course.{Course, ends, Met, called, measured, heard, Reaches}
 use Rattle.course.specs.declared.host.Callback.{Callback}
@@ -23,7 +24,6 @@ use Rattle.flow_laws.specs.Besides.{IsWhole}
 use Rattle.chain_laws.specs.Acts.{NotOf}
 use Rattle.flow_laws.specs.Elsewhere.{behind_effects}
 use Rattle.flow_laws.specs.Rooms.{IsOn, Leaves, leaves, Meanwhile, nothing, other}
-use Rattle.flow_laws.specs.Steps.{Calling}
 use Rattle.flow_laws.specs.Stepping.{in_hand, Tells, TellsThen, MayJob, begin, root, start, configure, tick, expire, happen, create, enter, put_across, put_elsewhere, refuse, done, log, delete, close, notice, ready, MayWork, no_job, first_job, MayBeside, reads, moves_across, moves_elsewhere, works as works_on, frees, ends_other, begins, stops, StepsBeside}
 use Rattle.body_laws.proofs.Apart.{exchanges_pass_by}
 use Rattle.flow_laws.proofs.Besides.{stays, other_lines, other_direction, quiet_steps}

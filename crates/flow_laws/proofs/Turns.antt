@@ -2,7 +2,7 @@
 use Rattle.std.proofs.Common.{◌≡◌, ◌≤◌, ℕ, zero, suc, Bool, List, [], ◌∷◌, ◌++◌, length, ap, ◌∙◌, sym, refl, subst, arith}
 use Rattle.std.specs.Prelude.{None, drop}
 use Rattle.std.proofs.lemmas.List.{append_assoc, append-nil}
-use Rattle.course.specs.Called.{Called}
+use Rattle.course.specs.Called.{Called, Calling}
 use Rattle.course.specs.Course.{Course, ends, Met, Reaches}
 use Rattle.exchange.specs.declared.types.Exchange.{Exchange}
 use Rattle.exchange.specs.Passing.{chain_of, put_in}
@@ -21,7 +21,7 @@ use Rattle.body_laws.specs.Deeds.{left_by}
 use Rattle.chain_laws.specs.PassThrough.{IsInOrder, PassesThrough}
 use Rattle.flow_laws.specs.Rooms.{IsOn, running, Leaves, leaves, Meanwhile, nothing, other, IsMove, IsPut, moved_exchange, moved_room, moves, puts, others, Run, rests, goes, run_deeds, part_items, run_items, run_buffers}
 use Rattle.flow_laws.specs.Stepping.{in_hand}
-use Rattle.flow_laws.specs.Steps.{Calling, MoveEnds}
+use Rattle.flow_laws.specs.Steps.{MoveEnds}
 use Rattle.flow_laws.specs.Turns.{MayStep, moves_own, puts_own, is_beside, Steps, no_step, one_step, next_turn, HavePassed, TurnsPassBodies, HaveGoneOn, TurnsGoOn}
 use Rattle.chain_laws.specs.Sound.{IsSound}
 use Rattle.body_laws.specs.Deeds.{standing}

@@ -1,6 +1,6 @@
 -- CONTEXTS OF OTHERS come and go: that leaves a direction as it was.
 use Rattle.std.specs.Prelude.{◌≡◌, ℕ, Bool, false, List, Option, None, Some}
-use Rattle.course.specs.Called.{Called}
+use Rattle.course.specs.Called.{Called, Calling}
 use Rattle.course.specs.Course.{ends, runs_then, Met, Reaches}
 use Rattle.course.specs.declared.host.Callback.{Callback}
 use Rattle.exchange.specs.declared.types.Exchange.{Exchange}
@@ -14,7 +14,6 @@ use Rattle.chain_laws.specs.Acts.{NotOf}
 use Rattle.flow_laws.specs.Besides.{IsWhole}
 use Rattle.flow_laws.specs.Elsewhere.{IsBeside, behind_effects}
 use Rattle.flow_laws.specs.Rooms.{IsOn, Leaves, Meanwhile}
-use Rattle.flow_laws.specs.Steps.{Calling}
 
 -- A CONTEXT waits for `proxy_done`; one that is none of the direction's stages' is deleted; a root or a stream is made, while ids are left.
 pub record ContextsLeave : Type 0 where

@@ -1,6 +1,6 @@
 -- MOVES of other lines and of the other direction, as a direction sees them.
 use Rattle.std.specs.Prelude.{◌≡◌, ℕ, ◌==◌, Bool, true, false, not, List, Option, None, Some, slice_get}
-use Rattle.course.specs.Called.{Called}
+use Rattle.course.specs.Called.{Called, Calling}
 use Rattle.course.specs.Course.{ends, runs_then, Met, Reaches}
 use Rattle.course.specs.declared.host.CallEnd.TheVariants as call_ends
 use Rattle.exchange.specs.declared.types.Exchange.{Exchange}
@@ -23,7 +23,7 @@ use Rattle.body_laws.specs.Apart.{AreAliens}
 use Rattle.flow_laws.specs.Besides.{OthersAreAlien, IsWhole}
 use Rattle.flow_laws.specs.Effects.{AreMild}
 use Rattle.flow_laws.specs.Rooms.{IsOn, IsAsked, asked_exchange, question, stage_own, quiet_room, Meanwhile}
-use Rattle.flow_laws.specs.Steps.{Calling, callback_program}
+use Rattle.flow_laws.specs.Steps.{callback_program}
 
 -- A callback of another stage, as the exchange and the room are when it comes: it returns, leaves what the direction's stages hold as it was, and its
 -- effects may be.

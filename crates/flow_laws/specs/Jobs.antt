@@ -1,6 +1,6 @@
 -- WHAT A WORKER DOES BETWEEN MOVES that leaves a direction as it was.
 use Rattle.std.specs.Prelude.{◌≡◌, ℕ, Bool, List}
-use Rattle.course.specs.Called.{Called}
+use Rattle.course.specs.Called.{Called, Calling}
 use Rattle.course.specs.Course.{ends, runs_then, Met, Reaches}
 use Rattle.course.specs.declared.host.Callback.{Callback}
 use Rattle.exchange.specs.declared.types.Exchange.{Exchange}
@@ -18,7 +18,6 @@ use Rattle.body_laws.specs.Deaths.{AreDropped}
 use Rattle.flow_laws.specs.Besides.{OthersAreAlien, IsWhole}
 use Rattle.flow_laws.specs.Elsewhere.{IsBeside}
 use Rattle.flow_laws.specs.Rooms.{IsOn, Leaves, Meanwhile}
-use Rattle.flow_laws.specs.Steps.{Calling}
 
 -- THE NEXT TURN BEGINS, a job is taken in hand, a notice was taken, a tick is due, or the exchange of another line is taken off it: that leaves the
 -- direction as it was.

@@ -1,5 +1,6 @@
 -- WHAT IS READ, as a direction sees that.
 use Rattle.std.specs.Prelude.{◌≡◌, ℕ, Bool, false, List, Some}
+use Rattle.course.specs.Called.{Calling}
 use Rattle.course.specs.Course.{ends, Met, Reaches}
 use Rattle.course.specs.Heard.{Heard, hands, halts, Hears}
 use Rattle.exchange.specs.declared.types.Exchange.{Exchange}
@@ -12,7 +13,6 @@ use Rattle.worker.specs.Rooms.{place_in}
 use Rattle.worker.specs.Steps.{Both, reading_on, step}
 use Rattle.flow_laws.specs.Besides.{IsWhole}
 use Rattle.flow_laws.specs.Rooms.{IsOn, Leaves}
-use Rattle.flow_laws.specs.Steps.{Calling}
 
 -- no exchange begins by this part on the line at the place
 abbrev pub BeginsNone : Reads → ℕ → Room → Part → Type 0

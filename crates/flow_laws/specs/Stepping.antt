@@ -1,6 +1,6 @@
 -- THE STEPS OF A WORKER, as a direction sees them.
 use Rattle.std.specs.Prelude.{◌≡◌, ℕ, Bool, false, not, List, [], ◌∷◌, map, Option, None, Some, slice_get}
-use Rattle.course.specs.Called.{Called}
+use Rattle.course.specs.Called.{Called, Calling}
 use Rattle.course.specs.Course.{ends, runs_then, Met, Reaches}
 use Rattle.course.specs.Heard.{Heard, Hears}
 use Rattle.course.specs.declared.host.Callback.{Callback}
@@ -35,7 +35,7 @@ use Rattle.flow_laws.specs.Elsewhere.{IsBeside, behind_effects, asked_program, I
 use Rattle.flow_laws.specs.Events.{LosesNone}
 use Rattle.flow_laws.specs.Readings.{HearsNone}
 use Rattle.flow_laws.specs.Rooms.{IsOn, running, IsAsked, Meanwhile}
-use Rattle.flow_laws.specs.Steps.{Calling, callback_program}
+use Rattle.flow_laws.specs.Steps.{callback_program}
 
 -- the room once the first job is in hand
 abbrev pub in_hand : List Job → Room → Room

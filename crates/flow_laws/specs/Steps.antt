@@ -1,9 +1,7 @@
 -- STEPS OF A WORKER that move a direction, or put what was read into it.
 use Rattle.std.specs.Prelude.{◌≡◌, ℕ, Bool, List, ◌∷◌}
-use Rattle.contexts.specs.declared.parts.Contexts.{Contexts}
-use Rattle.course.specs.Called.{Called}
+use Rattle.course.specs.Called.{Called, Calling}
 use Rattle.course.specs.Course.{ends, runs_then, Met, Reaches}
-use Rattle.course.specs.declared.host.Callback.{Callback}
 use Rattle.exchange.specs.declared.types.Exchange.{Exchange}
 use Rattle.exchange.specs.Answering.{with_held}
 use Rattle.exchange.specs.Passing.{put_in}
@@ -18,10 +16,6 @@ use Rattle.worker.specs.Plan.{Plan}
 use Rattle.worker.specs.Rooms.{on_number}
 use Rattle.worker.specs.Steps.{Both, both, callback_of, number_of, step}
 use Rattle.flow_laws.specs.Rooms.{IsAsked, asked_exchange, IsMove, moved_room}
-
--- machines, by what their callbacks do
-abbrev pub Calling : Type 0 → Type 0
-Calling H = H → ℕ → Callback → ℕ → ℕ → ℕ → ℕ → Contexts → Program (Called H)
 
 -- how many pairs or bytes the callback is told of
 abbrev pub told_count : {response : Bool} {n : ℕ} {x : Exchange} {room : Room} → IsAsked response n x room → ℕ

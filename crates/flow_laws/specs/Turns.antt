@@ -1,6 +1,6 @@
 -- BODIES PASS THROUGH TURNS: over all steps of a worker, in turns one behind the other.
 use Rattle.std.specs.Prelude.{◌≡◌, ◌≤◌, ℕ, suc, Bool, List, [], ◌∷◌, ◌++◌, length, drop, None}
-use Rattle.course.specs.Called.{Called}
+use Rattle.course.specs.Called.{Called, Calling}
 use Rattle.course.specs.Course.{ends, runs_then, Met, Reaches}
 use Rattle.exchange.specs.declared.types.Exchange.{Exchange}
 use Rattle.exchange.specs.Passing.{chain_of}
@@ -22,7 +22,7 @@ use Rattle.chain_laws.specs.PassThrough.{IsInOrder, IsNew, PassesThrough}
 use Rattle.chain_laws.specs.Sound.{IsSound}
 use Rattle.flow_laws.specs.Rooms.{IsOn, running, IsAsked, IsMove, IsPut, Run, run_deeds, run_items, run_buffers}
 use Rattle.flow_laws.specs.Stepping.{in_hand, MayBeside}
-use Rattle.flow_laws.specs.Steps.{Calling, callback_program}
+use Rattle.flow_laws.specs.Steps.{callback_program}
 use Rattle.flow_laws.specs.Workers.{AreTheDeeds, RunGoesOn}
 
 -- What a step may be, and the items that it puts into the chain of the direction: a move of the direction, each end of whose callback is a move of the

@@ -1,7 +1,7 @@
 -- How a run ends.
 use Rattle.std.proofs.Common.{ℕ, Bool, List, Option}
+use Rattle.course.specs.Called.{Calling}
 use Rattle.course.specs.declared.host.Callback.{Callback}
-use Rattle.fleet.specs.Lives.{Calling}
 use Rattle.gate_config.specs.declared.config.Config.{Config}
 use Rattle.generating.specs.Generating.{Generates, Ran, Tells}
 use Rattle.generating.specs.declared.running.GenerateEnd.{GenerateEnd}

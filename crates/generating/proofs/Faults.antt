@@ -1,8 +1,8 @@
 -- No world of the generator fails.
 use Rattle.std.proofs.Common.{◌≡◌, ◌^◌, ◌<◌, ◌-◌, ℕ, List, [], ◌∷◌, ◌++◌, IsTrue, map, reverse, Option, Some, refl, sym, subst, inl, inr, arith}
+use Rattle.course.specs.Called.{Calling}
 use Rattle.std.proofs.lemmas.Grind.{reverse_onto}
 use Rattle.fleet.specs.Fleet.{Each, HasWorked}
-use Rattle.fleet.specs.Lives.{Calling}
 use Rattle.fleet.specs.Moves.{world_in}
 use Rattle.fleet.specs.Run.{AnyRose, EndedBy}
 use Rattle.fleet.specs.declared.run.FleetEnd.TheVariants.{WorldFault}

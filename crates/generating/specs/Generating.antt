@@ -1,7 +1,8 @@
 -- What a run of the generator comes to.
 use Rattle.std.specs.Prelude.{◌≡◌, ℕ, Bool, List, [], ◌∷◌, ◌++◌, Option, Some}
+use Rattle.course.specs.Called.{Calling}
 use Rattle.course.specs.declared.host.Callback.{Callback}
-use Rattle.fleet.specs.Lives.{Calling, first_of}
+use Rattle.fleet.specs.Lives.{first_of}
 use Rattle.fleet.specs.Run.{EndedWell}
 use Rattle.gate_config.specs.Given.{given}
 use Rattle.gate_config.specs.declared.config.Config.{Config}

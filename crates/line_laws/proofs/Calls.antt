@@ -1,5 +1,6 @@
 -- The steps that bring no item to the line of a number: moves, and the jobs that are of no line.
 use Rattle.std.proofs.Common.{◌≡◌, ℕ, zero, suc, ◌==◌, Bool, true, false, not, ◌||◌, ◌&&◌, List, [], ◌∷◌, ◌++◌, map, filter, reverse, refl, ap, ◌∙◌, sym, subst}
+use Rattle.course.specs.Called.{Calling}
 use Rattle.std.proofs.lemmas.List.{append-nil}
 use Rattle.std.specs.Prelude.{Option, None, Some, is_some, slice_get, slice_set, nat_lt}
 use Rattle.std.specs.List.{list_any}
@@ -48,7 +49,7 @@ use Rattle.worker.specs.Moves.{asks_at, asks_line, asks_in, asks_exchange, asks_
 use Rattle.worker.specs.Plan.{Plan}
 use Rattle.worker.specs.Rooms.{marking, all_lines, with_lines, place_in, with_contexts, died, is_dead}
 use Rattle.worker.specs.Steps.{Both, both, Answered, answered, Then, goes_on_with, nothing_more, called_in, called_live, calls_live, in_front, unless_zero, has_vm, done_with, deletes, acts_on, is_drawn_out, may_root, root_jobs, rooting, with_filter, may_stream, with_stream, streaming, creating_filter, filter_at, creating, is_live, new_stage, entered, ticked_at, ticked, is_due_tick, is_late, expires_all, noticed, moved, move_at, tells, made_one, made_with, roots, streams, ticks, tells_ready, takes_notice, notices, works, callback_of, number_of, vm_length, plugin_length}
-use Rattle.line_laws.specs.Logs.{Calling, WriteLogs}
+use Rattle.line_laws.specs.Logs.{WriteLogs}
 use Rattle.line_laws.proofs.Finding.{IsOnce}
 use Rattle.line_laws.proofs.Kept.{Kept, Staid, over_told, by_bool, kept_itself, passed_on_kept}
 use Rattle.line_laws.proofs.Upward.{Keeps, keeps_then, Still as UpStill, still_itself as up_still_itself, still_then as up_still_then, still_keeps, aside_still, answer_still, directly_still, response_still, asked_keeps}

@@ -1,5 +1,6 @@
 -- What is known stays so in each step, each turn, and over turns.
 use Rattle.std.proofs.Common.{◌≡◌, ℕ, zero, suc, Bool, true, false, List, [], ◌∷◌, ◌++◌, refl, ap, ◌∙◌, sym, subst}
+use Rattle.course.specs.Called.{Calling}
 use Rattle.std.specs.Prelude.{Option, None, Some, is_some, slice_get, remove, position, find, if◌then◌else◌}
 use Rattle.course.specs.Course.{Course, ends, asks, measures, hears}
 use Rattle.course.proofs.Holds.{AllEnds, all_then}
@@ -17,7 +18,7 @@ use Rattle.worker.specs.Rooms as rooms
 use Rattle.worker.specs.Rooms.{next_of, next_part, moves, moves_or, frees_or, ends_or, begins_or_rests, is_any, is_released}
 use Rattle.worker.specs.Settling.{settling, settling_none, settling_rest, settling_step, rests}
 use Rattle.worker.specs.Steps.{Both, step, works, works_first, frees, frees_at, last_jobs, first_begun}
-use Rattle.line_laws.specs.Logs.{Calling, WriteLogs}
+use Rattle.line_laws.specs.Logs.{WriteLogs}
 use Rattle.line_laws.proofs.Finding.{Seeks, missing, first, seeks}
 use Rattle.line_laws.proofs.Looks.{look, still_aside, beside_itself}
 use Rattle.line_laws.proofs.Rooms.{IsPart, AllParts, Calm}

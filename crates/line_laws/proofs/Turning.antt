@@ -1,5 +1,6 @@
 -- Turns, and what is known behind them.
 use Rattle.std.proofs.Common.{◌≡◌, ◌⊎◌, inl, inr, ℕ, zero, suc, ◌+◌, ◌==◌, Bool, true, false, List, [], ◌∷◌, ◌++◌, map, refl, ap, ◌∙◌, sym, subst}
+use Rattle.course.specs.Called.{Calling}
 use Rattle.std.proofs.lemmas.Grind.{flat_map-append}
 use Rattle.std.proofs.lemmas.List.{append-nil, append_assoc}
 use Rattle.std.specs.Prelude.{Option, None, Some, is_some, slice_get}
@@ -36,7 +37,7 @@ use Rattle.worker.specs.Settling.{settling}
 use Rattle.worker.specs.Steps.{Both, both, exchange_of_line, exchange_on}
 use Rattle.worker.specs.Turn.{Outcome, turn, turn_by, facing, agenda_of, starts, starts_of, start_of, roots_from, vms_in, is_of, ticks_in, ticks_of, ticks_due, deadlines, notice_of, notices_of, is_due_now, registers_at, most_steps, comes_to, emptied}
 use Rattle.line_laws.specs.Laws.{ExchangesLive, RequestsGoUpOneByOne}
-use Rattle.line_laws.specs.Logs.{Calling, WriteLogs}
+use Rattle.line_laws.specs.Logs.{WriteLogs}
 use Rattle.line_laws.specs.Living.{requests_in, request_in, LivesBy}
 use Rattle.line_laws.specs.Requests.{AreOf, OneByOne, is_whole, IsSoFar, IsOpen, GoesUpBy, HasLived}
 use Rattle.line_laws.specs.Turns.{Done, Turns, new_room, sent_in}

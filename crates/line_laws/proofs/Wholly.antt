@@ -1,5 +1,6 @@
 -- Whole turns of a worker are turns, as they are defined.
 use Rattle.std.proofs.Common.{◌≡◌, List, [], ◌∷◌, ◌++◌, refl, ap, ◌∙◌, sym, subst}
+use Rattle.course.specs.Called.{Calling}
 use Rattle.exchange_laws.specs.Traffic.{ups}
 use Rattle.gate_io.specs.declared.event.Sent.{Sent}
 use Rattle.store_model.specs.Made.{Made}
@@ -9,7 +10,6 @@ use Rattle.worker.specs.State.{Standing, rules_of}
 use Rattle.worker.specs.Steps.{exchange_on}
 use Rattle.worker.specs.Turn.{outcome}
 use Rattle.line_laws.specs.Laws.{WorkersGoUpOneByOne}
-use Rattle.line_laws.specs.Logs.{Calling}
 use Rattle.line_laws.specs.Requests.{GoesUpBy}
 use Rattle.line_laws.specs.Turns.{Done, Turns, Worked, no_turn, a_turn, sent_in}
 use Rattle.line_laws.proofs.Turning.{all_go_up_one_by_one}

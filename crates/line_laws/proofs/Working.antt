@@ -1,5 +1,6 @@
 -- A step in which the next job in hand is worked.
 use Rattle.std.proofs.Common.{◌≡◌, ◌⊎◌, inl, inr, ℕ, ◌==◌, Bool, true, false, not, ◌||◌, ◌&&◌, List, [], ◌∷◌, ◌++◌, refl, ap, ◌∙◌, sym, subst}
+use Rattle.course.specs.Called.{Calling}
 use Rattle.std.proofs.lemmas.List.{append-nil, append_assoc}
 use Rattle.std.specs.Prelude.{Option, None, Some, slice_get, nat_lt, if◌then◌else◌}
 use Rattle.contexts.specs.declared.parts.Contexts.{Contexts}
@@ -25,7 +26,7 @@ use Rattle.worker.specs.declared.types.Line.{Line}
 use Rattle.worker.specs.Plan.{Plan}
 use Rattle.worker.specs.Rooms.{Changes, moves, exchange_moves, at_place, at_some, in_line, in_exchange, put_back, with_lines, place_in, on_number}
 use Rattle.worker.specs.Steps.{Both, exchange_of_line, entered, entering, works, begins_with_head}
-use Rattle.line_laws.specs.Logs.{Calling, WriteLogs}
+use Rattle.line_laws.specs.Logs.{WriteLogs}
 use Rattle.line_laws.specs.Living.{requests_in}
 use Rattle.line_laws.proofs.Finding.{Seeks, missing, first, seeks, IsOnce, set_other, only_found}
 use Rattle.line_laws.proofs.Hearing.{Listens, same_listens}

@@ -1,5 +1,6 @@
 -- What holds of every line, over all turns of a worker.
 use Rattle.std.specs.Prelude.{◌≡◌, ℕ, Bool, ◌++◌, List, [], Some}
+use Rattle.course.specs.Called.{Calling}
 use Rattle.contexts.specs.declared.parts.Contexts.{Contexts}
 use Rattle.course.specs.declared.host.Callback.{Callback}
 use Rattle.exchange.specs.declared.types.Exchange.{Exchange}
@@ -13,7 +14,7 @@ use Rattle.worker.specs.Making.{new_worker}
 use Rattle.worker.specs.Plan.{Plan}
 use Rattle.worker.specs.State.{Standing, rules_of}
 use Rattle.worker.specs.Steps.{Both, both, exchange_on}
-use Rattle.line_laws.specs.Logs.{Calling, WriteLogs}
+use Rattle.line_laws.specs.Logs.{WriteLogs}
 use Rattle.line_laws.specs.Requests.{HasLived, GoesUpBy}
 use Rattle.line_laws.specs.Turns.{Done, Turns, Worked, new_room, sent_in}
 

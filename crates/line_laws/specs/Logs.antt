@@ -1,7 +1,7 @@
 -- Machines that write into the log, and send nothing else by themselves.
 use Rattle.std.specs.Prelude.{ℕ, List, [], ◌∷◌}
 use Rattle.contexts.specs.declared.parts.Contexts.{Contexts}
-use Rattle.course.specs.Called.{Called}
+use Rattle.course.specs.Called.{Called, Calling}
 use Rattle.course.specs.declared.host.Callback.{Callback}
 use Rattle.gate_io.specs.declared.event.Sent.{Sent}
 use Rattle.gate_io.specs.declared.event.Sent.TheVariants as to
@@ -24,10 +24,6 @@ abbrev pub OnlyLogs : {H : Type 0} → Program (Called H) → Type 0
 OnlyLogs (done c) = AreLogs c.lines
 OnlyLogs (ask vm call k) = (r : Reply) → OnlyLogs (k r)
 OnlyLogs (measure vm call k) = (r : MetricReply) → OnlyLogs (k r)
-
--- what callbacks do: of machines, a VM, a callback, its context and two numbers, the moment and the contexts
-abbrev pub Calling : (H : Type 0) → Type 0
-Calling H = H → ℕ → Callback → ℕ → ℕ → ℕ → ℕ → Contexts → Program (Called H)
 
 -- MACHINES WRITE LOGS: what a callback hands over to be sent are lines of the log
 abbrev pub WriteLogs : {H : Type 0} → Calling H → Type 0

@@ -1,5 +1,6 @@
 -- Turns of a worker, one behind the other.
 use Rattle.std.specs.Prelude.{◌≡◌, ℕ, Bool, false, List, [], ◌∷◌, ◌++◌, Option, None}
+use Rattle.course.specs.Called.{Calling}
 use Rattle.std.specs.List.{flat_map}
 use Rattle.contexts.specs.declared.parts.Contexts.{Contexts}
 use Rattle.course.specs.Course.{ends, Met, Reaches}
@@ -15,7 +16,6 @@ use Rattle.worker.specs.Steps.{Both}
 use Rattle.worker.specs.Turn.{Outcome, turn}
 use Rattle.worker.specs.Turned.{Whole}
 use Rattle.worker.specs.declared.room.Room.{Room}
-use Rattle.line_laws.specs.Logs.{Calling}
 
 -- what a worker begins with, whatever its contexts: no line is open, and nothing is in hand
 abbrev pub new_room : Contexts → Room

@@ -1,5 +1,6 @@
 -- Meanings, turn by turn.
 use Rattle.std.proofs.Common.{◌≡◌, ℕ, List, [], ◌∷◌, ◌++◌, Option, refl, sym, ap, ◌∙◌, subst}
+use Rattle.course.specs.Called.{Calling}
 use Rattle.course.proofs.Once.{once}
 use Rattle.course.specs.Course.{Course, ends, asks, measures, hears, then_do, Met, Reaches, calls_in, Goes}
 use Rattle.course.specs.Runs.{goes_from, goes_part, reaches_join, reaches_part, then_part}
@@ -15,7 +16,7 @@ use Rattle.worker.specs.Steps.{Both}
 use Rattle.worker.specs.Turn.{Outcome, outcome, turn}
 use Rattle.worker.specs.Turned.{one_turn, Whole}
 use Rattle.meaning.specs.Laws.{MeaningExamples, MeaningGoesOn, MeaningIsAFunction}
-use Rattle.meaning.specs.Meaning.{Calling, Means, Run, first_turn, last_turn, meaning, means, run}
+use Rattle.meaning.specs.Meaning.{Means, Run, first_turn, last_turn, meaning, means, run}
 
 -- a part, then a part, then a part
 then_then : {A B C : Type 0} (p : Course A) (f : A → Course B) (g : B → Course C) → then_do (then_do p f) g ≡ then_do p (λ a. then_do (f a) g)

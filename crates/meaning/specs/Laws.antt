@@ -1,5 +1,6 @@
 -- What holds of every meaning.
 use Rattle.std.specs.Prelude.{◌≡◌, ℕ, List, [], ◌∷◌, ◌++◌}
+use Rattle.course.specs.Called.{Calling}
 use Rattle.course.specs.Course.{ends, then_do, Met, Reaches, calls_in}
 use Rattle.course.specs.Once.{asked_in, replies_in}
 use Rattle.gate_io.specs.MemoryWorld.{stop_at}
@@ -9,7 +10,7 @@ use Rattle.worker.specs.State.{Standing}
 use Rattle.worker.specs.Steps.{Both}
 use Rattle.worker.specs.Turn.{turn}
 use Rattle.worker.specs.Turned.{one_turn}
-use Rattle.meaning.specs.Meaning.{Calling, Run, last_turn, meaning, means, run}
+use Rattle.meaning.specs.Meaning.{Run, last_turn, meaning, means, run}
 
 -- A MEANING IS A FUNCTION OF THE REPLIES: where the shared stores reply the same, the same is asked of them, and the run comes to the same.
 abbrev pub MeaningIsAFunction : (H : Type 0) → Type 0

@@ -1,24 +1,17 @@
 -- THE MEANING OF A RUN: what one worker does at events, one after the other.
 use Rattle.std.specs.Prelude.{◌≡◌, ℕ, List, [], ◌∷◌, ◌++◌, Option}
-use Rattle.contexts.specs.declared.parts.Contexts.{Contexts}
-use Rattle.course.specs.Called.{Called}
+use Rattle.course.specs.Called.{Calling}
 use Rattle.course.specs.Course.{Course, ends, then_do, Goes}
-use Rattle.course.specs.declared.host.Callback.{Callback}
 use Rattle.gate_io.specs.Told.{Gains}
 use Rattle.gate_io.specs.declared.event.Event.{Event}
 use Rattle.gate_io.specs.declared.passed.Passed.{Passed}
 use Rattle.outbox.specs.Turns.{OneTurn, Delivers, events_of}
 use Rattle.store_model.specs.Made.{Made}
-use Rattle.store_model.specs.Program.{Program}
 use Rattle.worker.specs.Plan.{Plan}
 use Rattle.worker.specs.State.{Standing, rules_of}
 use Rattle.worker.specs.Steps.{Both}
 use Rattle.worker.specs.Turn.{Outcome, turn}
 use Rattle.worker.specs.Turned.{one_turn}
-
--- what callbacks of machines do: of machines, a VM, a callback, its context and two numbers, the moment and the contexts
-abbrev pub Calling : Type 0 → Type 0
-Calling H = H → ℕ → Callback → ℕ → ℕ → ℕ → ℕ → Contexts → Program (Called H)
 
 -- what a run comes to: the state that it leaves, and its turns, each with its event and what it sends
 pub record Run (H : Type 0) : Type 0 where

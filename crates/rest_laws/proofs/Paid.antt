@@ -1,5 +1,6 @@
 -- All turns of a worker take no more steps than their events brought.
 use Rattle.std.proofs.Common.{◌≡◌, ℕ, ◌+◌, ◌*◌, ◌≤◌, Bool, true, false, List, [], ◌∷◌, ◌++◌, length, ap, ◌∙◌, sym, refl, subst, arith}
+use Rattle.course.specs.Called.{Calling}
 use Rattle.std.proofs.lemmas.List.{append-nil}
 use Rattle.std.specs.Prelude.{if◌then◌else◌}
 use Rattle.course.specs.Course.{ends, Met, Reaches}
@@ -12,7 +13,6 @@ use Rattle.worker.specs.Settling.{settling}
 use Rattle.worker.specs.State.{Setting, rules_of}
 use Rattle.worker.specs.Steps.{Both, both}
 use Rattle.worker.specs.Turn.{vms_in, starts, starts_of, ticks_due, deadlines, notices_of, agenda_of, at_moment, Outcome, outcome, comes_to, turn, turn_by, turned, most_steps}
-use Rattle.rest_laws.specs.Laws.{Calling}
 use Rattle.rest_laws.specs.Left.{left, byte_cost, jobs_left, parts_left, reading_left, bytes_of}
 use Rattle.rest_laws.specs.Paid.{starting, brought, all_brought, TakesBy, TakeAll, LivesArePaid}
 use Rattle.rest_laws.specs.Sizes.{OneTurn, first_state, turn_start, IsReady, Follow}

@@ -1,5 +1,6 @@
 -- A TURN COMES TO REST: each step leaves less to do, so that the steps come to an end.
 use Rattle.std.proofs.Common.{◌≡◌, ℕ, zero, suc, ◌<◌, Bool, true, false, List, [], ◌∷◌, sym, refl, subst, arith}
+use Rattle.course.specs.Called.{Calling}
 use Rattle.std.specs.Prelude.{Option, None, Some, is_some, position, if◌then◌else◌}
 use Rattle.course.proofs.Holds.{AllEnds, all_then, all_reached}
 use Rattle.worker.specs.declared.room.Room.{Room}
@@ -10,7 +11,7 @@ use Rattle.worker.specs.Plan.{Plan}
 use Rattle.worker.specs.Rooms.{moves, is_over, is_any, begins_or_rests, ends_or, frees_or, moves_or, is_released, next_part, next_of}
 use Rattle.worker.specs.Settling.{settling, settling_step, settling_rest, settling_none, rests}
 use Rattle.worker.specs.Steps.{Both, step}
-use Rattle.rest_laws.specs.Laws.{Calling, IsAtRest, StepsLeaveLess, StepsComeToRest, NothingIsLeft, RestIsRest}
+use Rattle.rest_laws.specs.Laws.{IsAtRest, StepsLeaveLess, StepsComeToRest, NothingIsLeft, RestIsRest}
 use Rattle.rest_laws.specs.Left.{left, AllFit, RoutesFit}
 use Rattle.rest_laws.proofs.Rooms.{IsLess}
 use Rattle.rest_laws.proofs.Steps.{step_less}

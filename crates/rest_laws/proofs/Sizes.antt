@@ -1,5 +1,6 @@
 -- How much is left to do at the start of a turn, by the size of its room.
 use Rattle.std.proofs.Common.{◌≡◌, ℕ, zero, suc, ◌+◌, ◌*◌, ◌^◌, ◌-◌, ◌<◌, ◌≤◌, Bool, true, false, List, [], ◌∷◌, ◌++◌, length, ap, sym, refl, subst, arith}
+use Rattle.course.specs.Called.{Calling}
 use Rattle.std.proofs.lemmas.Bool.{leb-true}
 use Rattle.std.specs.List.{list_any}
 use Rattle.std.specs.Prelude.{Option, None, Some, slice_get, nat_le, ◌==◌}
@@ -29,7 +30,6 @@ use Rattle.worker.specs.Settling.{settling}
 use Rattle.worker.specs.State.{Setting, rules_of}
 use Rattle.worker.specs.Steps.{Both, both}
 use Rattle.worker.specs.Turn.{is_of, roots_from, start_of, starts_of, first_vms, vms_in, starts, is_due_now, ticks_in, ticks_of, ticks_due, deadlines, registers_at, notice_of, notices_of, agenda_of, at_moment, Outcome, outcome, turn, turn_by, most_steps}
-use Rattle.rest_laws.specs.Laws.{Calling}
 use Rattle.rest_laws.specs.Left.{byte_cost, left, lines_left, open_left, reader_left, jobs_left, parts_left, reading_left, bytes_of, OpenFits, AllFit}
 use Rattle.rest_laws.specs.Moves.{for_each, moves_of, spare, spare_of, chains_left}
 use Rattle.rest_laws.specs.Sizes.{stages_size, reader_size, open_size, lines_size, vms_size, OneTurn, first_state, turn_start, start_size, IsReady, Follow, WorkersComeToRest, WholeTurnsComeToRest}

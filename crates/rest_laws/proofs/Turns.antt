@@ -1,5 +1,6 @@
 -- TURNS COME TO REST, and so does each room; above what is left to do the bound changes nothing.
 use Rattle.std.proofs.Common.{◌≡◌, ℕ, zero, suc, ◌+◌, ◌<◌, ◌≤◌, ◌++◌, ap, Bool, true, false, List, [], ◌∷◌, length, ◌∙◌, sym, refl, subst, arith}
+use Rattle.course.specs.Called.{Calling}
 use Rattle.std.proofs.lemmas.List.Elements.{All-head, All-tail}
 use Rattle.std.specs.Prelude.{Option, None, Some, All}
 use Rattle.course.specs.Course.{Course, ends, asks, measures, hears, then_do, Met, called, measured, heard, Reaches}
@@ -18,7 +19,7 @@ use Rattle.worker.specs.State.{Setting, rules_of}
 use Rattle.worker.specs.Steps.{Both, both, step}
 use Rattle.worker.specs.Turn.{Outcome, turn, turn_by, turned, comes_to, facing, most_steps}
 use Rattle.worker.proofs.More.{more_steps}
-use Rattle.rest_laws.specs.Laws.{Calling, BoundsChangeNothing, StepsArePaid, TurnsComeToRest, IsClear, AllClear, RoomsComeToRest}
+use Rattle.rest_laws.specs.Laws.{BoundsChangeNothing, StepsArePaid, TurnsComeToRest, IsClear, AllClear, RoomsComeToRest}
 use Rattle.rest_laws.specs.Left.{left, OpenFits, AllFit, RoutesFit}
 use Rattle.rest_laws.proofs.Rooms.{IsLess}
 use Rattle.rest_laws.proofs.Settling.{Settled, settles, settles_fitting, steps_come_to_rest}

@@ -1,14 +1,11 @@
 -- A TURN COMES TO REST, whatever the machines do, whatever the shared stores reply, and whatever is read.
 use Rattle.std.specs.Prelude.{◌≡◌, ◌<◌, ◌≤◌, ◌↔◌, ℕ, ◌+◌, true, false, List, [], ◌∷◌, Option, None, Some, position}
-use Rattle.contexts.specs.declared.parts.Contexts.{Contexts}
-use Rattle.course.specs.Called.{Called}
+use Rattle.course.specs.Called.{Calling}
 use Rattle.course.specs.Course.{ends, Met, Reaches}
-use Rattle.course.specs.declared.host.Callback.{Callback}
 use Rattle.exchange.specs.declared.types.Exchange.{Exchange}
 use Rattle.gate_config.specs.declared.config.Config.{Config}
 use Rattle.gate_io.specs.Events.{is_stop}
 use Rattle.gate_io.specs.declared.event.Event.{Event}
-use Rattle.store_model.specs.Program.{Program}
 use Rattle.worker.specs.declared.room.Room.{Room}
 use Rattle.worker.specs.declared.types.Line.{Line}
 use Rattle.worker.specs.Making.{first_room}
@@ -19,10 +16,6 @@ use Rattle.worker.specs.State.{Setting, rules_of}
 use Rattle.worker.specs.Steps.{Both, step}
 use Rattle.worker.specs.Turn.{Outcome, turn, facing, most_steps}
 use Rattle.rest_laws.specs.Left.{left, AllFit, RoutesFit}
-
--- what callbacks do: of machines, a VM, a callback, its context and two numbers, the moment and the contexts
-abbrev pub Calling : (H : Type 0) → Type 0
-Calling H = H → ℕ → Callback → ℕ → ℕ → ℕ → ℕ → Contexts → Program (Called H)
 
 -- everything is at rest
 abbrev pub IsAtRest : Room → Type 0

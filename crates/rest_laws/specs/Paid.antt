@@ -1,6 +1,7 @@
 -- WHAT THE STEPS OF A WORKER'S TURNS COST IS PAID by what its events bring: whatever clients, servers and filters do, all its turns together take no
 -- more steps than that.
 use Rattle.std.specs.Prelude.{◌≡◌, ◌≤◌, ℕ, ◌+◌, ◌*◌, Bool, true, false, List, [], ◌∷◌, length, if◌then◌else◌}
+use Rattle.course.specs.Called.{Calling}
 use Rattle.course.specs.Course.{ends, Reaches}
 use Rattle.gate_io.specs.Events.{is_stop}
 use Rattle.gate_io.specs.declared.event.Event.{Event}
@@ -9,7 +10,6 @@ use Rattle.worker.specs.Settling.{settling}
 use Rattle.worker.specs.State.{Setting, rules_of}
 use Rattle.worker.specs.Steps.{Both}
 use Rattle.worker.specs.Turn.{comes_to, vms_in}
-use Rattle.rest_laws.specs.Laws.{Calling}
 use Rattle.rest_laws.specs.Left.{left, bytes_of}
 use Rattle.rest_laws.specs.Sizes.{vms_size, OneTurn, first_state, turn_start, Follow}
 

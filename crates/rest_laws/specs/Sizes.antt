@@ -1,6 +1,7 @@
 -- HOW LARGE A ROOM IS: so many things are in it, each of which takes memory. What is left to do at the start of a turn is below a turn's number
 -- of steps, 2^64 - 1, for each room of at most 2^56 things.
 use Rattle.std.specs.Prelude.{◌≡◌, ◌≤◌, ℕ, zero, suc, ◌+◌, ◌*◌, ◌^◌, Bool, List, [], ◌∷◌, length, Option, None, Some}
+use Rattle.course.specs.Called.{Calling}
 use Rattle.contexts.specs.declared.parts.Contexts.{Contexts}
 use Rattle.contexts.specs.Reached.{vm_in}
 use Rattle.course.specs.Course.{ends, Met, Reaches}
@@ -20,7 +21,7 @@ use Rattle.worker.specs.State.{Setting, Standing, rules_of}
 use Rattle.worker.specs.Steps.{Both, both}
 use Rattle.worker.specs.Turn.{Outcome, turn, facing, most_steps, vms_in}
 use Rattle.worker.specs.Turned.{Whole}
-use Rattle.rest_laws.specs.Laws.{Calling, IsAtRest}
+use Rattle.rest_laws.specs.Laws.{IsAtRest}
 use Rattle.rest_laws.specs.Left.{left, bytes_of, AllFit}
 
 -- the stages of a chain, and the items that wait at them

@@ -1,5 +1,6 @@
 -- What the world of a worker receives.
 use Rattle.std.proofs.Common.{◌≡◌, ℕ, Bool, true, false, List, [], ◌∷◌, ◌++◌, map, Option, None, Some, refl, ap, sym, ◌∙◌, subst, inl, inr}
+use Rattle.course.specs.Called.{Calling}
 use Rattle.std.specs.Prelude.{◌==◌, if◌then◌else◌}
 use Rattle.std.proofs.lemmas.List.{append-nil}
 use Rattle.std.proofs.lemmas.Bool.{cases_Bool, OnTrue_at}
@@ -28,7 +29,7 @@ use Rattle.worker.specs.Steps.{Both}
 use Rattle.worker.specs.Turn.{Outcome, turn, turn_by}
 use Rattle.worker.specs.Turned.{one_turn, wanted}
 use Rattle.script_play.specs.Delivered.{DeliveredExamples, InItsWorld, Step, events_in, met_in, placed_step, sent_in, sent_of, steps_of, turns_in}
-use Rattle.script_play.specs.Replay.{Calling, Setup, first_worker}
+use Rattle.script_play.specs.Replay.{Setup, first_worker}
 
 -- at Stop it sends nothing
 abbrev IsQuiet : Step → Type 0

@@ -1,5 +1,6 @@
 -- One turn of a worker in the world of a script.
 use Rattle.std.proofs.Common.{◌≡◌, ℕ, ◌-◌, Bool, true, false, List, [], ◌∷◌, ◌++◌, length, set, get_or, arith, refl, sym, ap, ◌∙◌, subst, Some}
+use Rattle.course.specs.Called.{Calling}
 use Rattle.std.proofs.lemmas.List.{append-nil, append_cancel_left}
 use Rattle.std.proofs.lemmas.List.Elements.{All-set}
 use Rattle.std.specs.Bool.{OnTrue}
@@ -20,7 +21,7 @@ use Rattle.replay_script.proofs.Worlds.{plays_its_script}
 use Rattle.store_model.specs.Sequential.{Stores, Performs}
 use Rattle.worker.specs.State.{Setting, Standing}
 use Rattle.worker.specs.Turned.{one_turn, Whole, TookWhole}
-use Rattle.script_play.specs.Replay.{Advances, Calling, CanTurn, Seated, Turns, TurnsAt, for_worker}
+use Rattle.script_play.specs.Replay.{Advances, CanTurn, Seated, Turns, TurnsAt, for_worker}
 
 same_trace : (a b : List Passed) → Some a ≡ Some b → a ≡ b
 same_trace a b e = cc

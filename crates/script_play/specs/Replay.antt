@@ -1,7 +1,6 @@
 -- What a script gives: the turns of its workers at their events, one after another.
 use Rattle.std.specs.Prelude.{◌≡◌, ℕ, zero, suc, ◌-◌, ◌≤◌, Bool, replicate, List, [], ◌∷◌, ◌++◌, length, map, slice_index_or, slice_set, All, Option}
-use Rattle.contexts.specs.declared.parts.Contexts.{Contexts}
-use Rattle.course.specs.Called.{Called}
+use Rattle.course.specs.Called.{Calling}
 use Rattle.course.specs.Course.{ends, Goes}
 use Rattle.course.specs.declared.host.Callback.{Callback}
 use Rattle.gate_config.specs.declared.config.Config.{Config}
@@ -17,7 +16,6 @@ use Rattle.replay_script.specs.Prints.{Told, last_in, printed_by, tell}
 use Rattle.replay_script.specs.ScriptWorld.{Playing, fresh, nature, taken_since}
 use Rattle.replay_script.specs.Scripts.{events_of, workers_of}
 use Rattle.shared_store.specs.Fresh.{fresh_metrics, fresh_stores}
-use Rattle.store_model.specs.Program.{Program}
 use Rattle.store_model.specs.Sequential.{Stores, Performs}
 use Rattle.worker.specs.Making.{new_worker}
 use Rattle.worker.specs.Plan.{Plan}
@@ -25,10 +23,6 @@ use Rattle.worker.specs.State.{Standing, rules_of}
 use Rattle.worker.specs.Steps.{Both}
 use Rattle.worker.specs.Turn.{Outcome, outcome, turn}
 use Rattle.worker.specs.Turned.{one_turn}
-
--- what a callback of the machines does, by its VM, its context, two numbers, the moment and all contexts
-abbrev pub Calling : (H : Type 0) → Type 0
-Calling H = H → ℕ → Callback → ℕ → ℕ → ℕ → ℕ → Contexts → Program (Called H)
 
 -- What a script is played over: what a callback of the machines does, which callbacks they export, which VMs register queues; the
 -- configuration; and the machines as they are at the start.

@@ -1,6 +1,6 @@
 -- How serving ends, by how the fleet ended.
 use Rattle.std.proofs.Common.{◌≡◌, ℕ, List, Option, Result, Ok, Err, refl, subst, sym, inl, inr}
-use Rattle.fleet.specs.Lives.{Calling}
+use Rattle.course.specs.Called.{Calling}
 use Rattle.fleet.specs.Run.{AnyRose, EndedWell, Ran as FleetRan}
 use Rattle.fleet.specs.declared.run.FleetEnd.{FleetEnd}
 use Rattle.fleet.specs.declared.run.FleetEnd.TheVariants as fleet_ends

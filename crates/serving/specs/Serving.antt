@@ -1,6 +1,6 @@
 -- What serving comes to.
 use Rattle.std.specs.Prelude.{◌≡◌, ◌⊎◌, ℕ, List, [], ◌∷◌, All, Option, map, length, Result, Ok, Err}
-use Rattle.fleet.specs.Lives.{Calling}
+use Rattle.course.specs.Called.{Calling}
 use Rattle.fleet.specs.Run.{AnyRose, EndedBy, EndedWell}
 use Rattle.fleet.specs.declared.run.FleetEnd.{FleetEnd}
 use Rattle.fleet.specs.declared.run.FleetEnd.TheVariants as fleet_ends

@@ -1,21 +1,14 @@
 -- What holds of every turn, whatever the machines do.
 use Rattle.std.specs.Prelude.{◌≡◌, ℕ, ◌+◌, true, List}
-use Rattle.contexts.specs.declared.parts.Contexts.{Contexts}
-use Rattle.course.specs.Called.{Called}
+use Rattle.course.specs.Called.{Calling}
 use Rattle.course.specs.Course.{ends, Met, Reaches, calls_in}
 use Rattle.course.specs.Once.{asked_in, replies_in}
-use Rattle.course.specs.declared.host.Callback.{Callback}
 use Rattle.gate_io.specs.declared.event.Event.{Event}
-use Rattle.store_model.specs.Program.{Program}
 use Rattle.worker.specs.Plan.{Plan}
 use Rattle.worker.specs.Rooms.{next_of}
 use Rattle.worker.specs.Settling.{settling, rests}
 use Rattle.worker.specs.Steps.{Both}
 use Rattle.worker.specs.Turn.{Outcome, turn}
-
--- what callbacks do: of machines, a VM, a callback, its context and two numbers, the moment and the contexts
-abbrev pub Calling : (H : Type 0) → Type 0
-Calling H = H → ℕ → Callback → ℕ → ℕ → ℕ → ℕ → Contexts → Program (Called H)
 
 -- A TURN IS A FUNCTION OF THE REPLIES: where the shared stores reply the same, the same is asked of them, and the turn comes to the same.
 abbrev pub TurnsAreFunctionsOver : (H : Type 0) → Type 0

@@ -3,7 +3,7 @@ use Rattle.std.proofs.Common.{◌≡◌, ℕ, zero, suc, ◌==◌, Bool, true, f
 use Rattle.std.specs.Prelude.{Option, None, Some, nat_lt, slice_get, if◌then◌else◌}
 use Rattle.contexts.specs.declared.parts.Contexts.{Contexts}
 use Rattle.course.proofs.Holds.{AllEnds, all_then}
-use Rattle.course.specs.Called.{Called}
+use Rattle.course.specs.Called.{Called, Calling}
 use Rattle.course.specs.Course.{Course, ends, runs_then}
 use Rattle.course.specs.declared.host.Callback.{Callback}
 use Rattle.course.specs.declared.host.Callback.TheVariants as callbacks
@@ -32,9 +32,6 @@ use Rattle.worker.specs.Rooms.{is_dead, next_of, with_lines, answered_with, valu
 use Rattle.worker.specs.Settling.{settling, settling_step, settling_rest, settling_none, rests}
 use Rattle.worker.specs.Steps.{Both, both, Answered, answered, Then, goes_on_with, called_in, called_live, calls_live, acts_on, moved, moved_with, tells, made_with, ticks_with, tells_ready, notices, works, works_first, reads_in, reads_next, reading_on, nothing_more, unless_zero, done_with, deletes, rooting, creating, ticked, may_stream, callback_of, number_of, vm_length, plugin_length, step}
 use Rattle.worker.specs.Turn.{Outcome, comes_to, facing, most_steps, turn_by, turn}
-
-abbrev pub Calling : Type 0 → Type 0
-Calling H = H → ℕ → Callback → ℕ → ℕ → ℕ → ℕ → Contexts → Program (Called H)
 
 -- so is each end of a program
 abbrev pub AllOf : {A : Type 0} → (A → Type 0) → Program A → Type 0
