@@ -54,6 +54,7 @@ notes_then : (n : ℕ) (x y z : Exchange) (hub mid after : Hub) → Notes n x hu
 notes_then n x y z hub mid after a b = record {
   same = b.same ∙ a.same;
   asked = b.asked ∙ a.asked;
+  place = b.place ∙ a.place;
   staid = λ s. b.staid (a.staid s);
   filters = b.filters ∙ a.filters;
   entered = b.entered ∙ a.entered;
@@ -154,11 +155,12 @@ module _ (plan : Plan) (n : ℕ) (r : Reads) (other : NotDown n r) where
       by_up true up = up
       by_up false up = absurd (other is up)
 
-  simple : (x y : Exchange) (hub : Hub) → y.asked ≡ x.asked → (Staid x → Staid y) → y.filters ≡ x.filters → Still n (x, hub) (y, hub) → (is_over x ≡ true → is_over y ≡ true) → (IsPlain x → IsPlain y × IsKin x y)
+  simple : (x y : Exchange) (hub : Hub) → y.asked ≡ x.asked → y.place ≡ x.place → (Staid x → Staid y) → y.filters ≡ x.filters → Still n (x, hub) (y, hub) → (is_over x ≡ true → is_over y ≡ true) → (IsPlain x → IsPlain y × IsKin x y)
       → (is_some x.reader ≡ true → is_some y.reader ≡ true) → Notes n x hub y hub
-  simple x y hub asked staid filters still ends plain reads = record {
+  simple x y hub asked place staid filters still ends plain reads = record {
     same = refl;
     asked = asked;
+    place = place;
     staid = staid;
     filters = filters;
     entered = still.entered;
@@ -187,7 +189,7 @@ module _ (plan : Plan) (n : ℕ) (r : Reads) (other : NotDown n r) where
         change = with_reader new;
         is = (λ i. read_on (is_up is i) new);
         notes = λ x on.
-            simple x (with_reader new x) a.hub refl (λ s. s) refl (as_before x (with_reader new x) a.hub refl refl (sym (has is (is_up is) x on)) refl refl refl refl) (λ o. o) (λ p. (p, record { unfiltered = p.1; framed = refl; stays_over = λ o. o })) (λ o. refl);
+            simple x (with_reader new x) a.hub refl refl (λ s. s) refl (as_before x (with_reader new x) a.hub refl refl (sym (has is (is_up is) x on)) refl refl refl refl) (λ o. o) (λ p. (p, record { unfiltered = p.1; framed = refl; stays_over = λ o. o })) (λ o. refl);
       })
     where
       moved : (up : Bool) (l : Line) → moves l ≡ false → moves (read_on up new l) ≡ false
@@ -200,7 +202,7 @@ module _ (plan : Plan) (n : ℕ) (r : Reads) (other : NotDown n r) where
       (λ is. record {
         change = noted true item;
         is = (λ i. change_line (noted (is_up is i) item));
-        notes = λ x on. simple x (noted true item x) a.hub refl (λ s. s) refl (as_before x (noted true item x) a.hub refl refl refl refl refl refl refl) (λ o. o) (λ p. (p, record { unfiltered = p.1; framed = refl; stays_over = λ o. o })) (λ o. o);
+        notes = λ x on. simple x (noted true item x) a.hub refl refl (λ s. s) refl (as_before x (noted true item x) a.hub refl refl refl refl refl refl refl) (λ o. o) (λ p. (p, record { unfiltered = p.1; framed = refl; stays_over = λ o. o })) (λ o. o);
       })
     where
       alike : (up : Bool) (x : Exchange) → ((noted up item x).has_ended ≡ x.has_ended) × ((noted up item x).request ≡ x.request) × ((noted up item x).response ≡ x.response)
@@ -213,7 +215,7 @@ module _ (plan : Plan) (n : ℕ) (r : Reads) (other : NotDown n r) where
       (λ is. record {
         change = keeps_response h;
         is = refl;
-        notes = λ x on. simple x (keeps_response h x) a.hub refl (λ s. s) refl (as_before x (keeps_response h x) a.hub refl refl refl refl refl refl refl) (λ o. o) (λ p. (p, record { unfiltered = p.1; framed = refl; stays_over = λ o. o })) (λ o. o);
+        notes = λ x on. simple x (keeps_response h x) a.hub refl refl (λ s. s) refl (as_before x (keeps_response h x) a.hub refl refl refl refl refl refl refl) (λ o. o) (λ p. (p, record { unfiltered = p.1; framed = refl; stays_over = λ o. o })) (λ o. o);
       })
 
   contexts_beyond : (change : ℕ → Contexts → Contexts) (o : Option Exchange) (a : Room) → IsOnce (is_n n) a.lines → Beyond n a (in_contexts change o a)

@@ -133,7 +133,7 @@ pub shift_alike : (n : ℕ) (js ks : List Job) → Shift n js ks → Alike n Non
 shift_alike n js ks s = record { pend = ap (λ l. l ++ []) s.puts; refusing = s.refusing; none = s.none; once = s.once; first = λ e. e }
 
 pub quietly_becomes : (n : ℕ) (x y : Exchange) (hub after : Hub) → Quietly n x hub y after → Becomes n x hub y after
-quietly_becomes n x y hub after q = record { asked = q.asked; entered = q.entered; framed = q.framed; over = q.over; keeps = q.keeps }
+quietly_becomes n x y hub after q = record { asked = q.asked; place = q.place; entered = q.entered; framed = q.framed; over = q.over; keeps = q.keeps }
 
 -- what becomes of a head that is on its way
 abbrev pub FreshOn : ℕ → List Job → List Line → Hub → List Job → List Line → Hub → Type 0

@@ -6,6 +6,7 @@ use Rattle.contexts.specs.declared.parts.Contexts.{Contexts}
 use Rattle.exchange.specs.declared.types.Exchange.{Exchange}
 use Rattle.exchange.specs.declared.types.Filter.{Filter}
 use Rattle.exchange.specs.declared.types.Hub.{Hub}
+use Rattle.exchange.specs.declared.types.Request.{Request}
 use Rattle.exchange.specs.Heads.{path_of, route_in, is_bare, length_in}
 use Rattle.exchange.specs.Maps.{request_map, with_fields}
 use Rattle.exchange_laws.specs.Lives.{turns, is_over}
@@ -144,6 +145,8 @@ module _ (plan : Plan) (n : ℕ) (past : List Sent) where
         heard = p.heard;
         was = p.was;
         up = p.up;
+        place = p.place;
+        asked = p.asked;
         minor = p.minor;
         framed = p.framed;
         flow = subst (λ l. Flow n None l y got p.heard) (sym are) flow;
@@ -275,6 +278,8 @@ module _ (plan : Plan) (n : ℕ) (past : List Sent) where
     heard = p.heard ++ item ∷ [];
     was = hears h p.heard p.was;
     up = still_up n (x, hub) (noted false item x, hub) [] p.went _ (record { minor = refl; framed = refl; reader = refl; live = λ e. (e, refl); entered = refl; answered = λ a. a; sends = refl }) p.up;
+    place = p.place;
+    asked = ap (λ (q : Request). record q { whole = is_last item }) p.asked;
     minor = p.minor;
     framed = p.framed;
     flow = by_flow p.flow;
@@ -334,6 +339,8 @@ module _ (plan : Plan) (n : ℕ) (past : List Sent) where
         heard = head_item h ∷ [];
         was = was;
         up = record { left = []; outs = []; are = tt; is = refl; opened = refl; through = λ e. refl; idle = λ e. tt; sound = tt; left_sound = tt; unentered = λ e f. refl; answered = λ e. refl };
+        place = refl;
+        asked = refl;
         minor = refl;
         framed = refl;
         flow = flows (subst (λ l. Proper l (is_bare (length_in h.length))) (sym (batch_is n (head_item h ∷ []))) proper) (batch_is n (head_item h ∷ []));
@@ -481,7 +488,7 @@ module _ (plan : Plan) (n : ℕ) (past : List Sent) where
           on_passage h start base got p =
               passage_on n past (Some (client n b)) (Some (client n b)) [] [] a.lines (read new).lines x x a.hub a.hub h start base got (alike_itself n (Some (client n b)) [])
               (halts_listen n a.lines (read new).lines l (said new) why there (read_there new) halted)
-              (record { asked = refl; entered = refl; framed = refl; over = λ o. o; keeps = keeps_itself n (x, a.hub) }) p
+              (record { asked = refl; place = refl; entered = refl; framed = refl; over = λ o. o; keeps = keeps_itself n (x, a.hub) }) p
 
           read_tale : Tale plan n past (Some (client n b)) [] a.lines x a.hub → Tale plan n past (Some (client n b)) [] (read new).lines x a.hub
           read_tale (plainly t) =

@@ -33,7 +33,7 @@ use Rattle.line_laws.proofs.Lives.{behind_deed, lives_behind, came_of, came_join
 use Rattle.line_laws.proofs.Looks.{IsPlain, lives_join, plain_kept}
 use Rattle.line_laws.proofs.Phases.{Phase, fresh as fresh_phase, run, IsSound, run_join, sound_run}
 use Rattle.line_laws.proofs.Upward.{Up, Onward, put_in_goes}
-use Rattle.line_laws.proofs.Story.{IsFreshJobs, IsRefusing, NoEnter, OneEnter, batch_of, pending, Proper, Flow, flows, ceases, Passage, grows_past, Stream, fresh, going, doomed, Story}
+use Rattle.line_laws.proofs.Story.{asked_on, IsFreshJobs, IsRefusing, NoEnter, OneEnter, batch_of, pending, Proper, Flow, flows, ceases, Passage, grows_past, Stream, fresh, going, doomed, Story}
 
 -- ---- items as they go out
 
@@ -86,6 +86,8 @@ puts_passage n past now js ks lines later x hub a after h first base got sent pe
       heard = p.heard;
       was = listens h p.heard p.was;
       up = subst (λ (i : Phase). Up (put_in false a n x hub).0 [] (p.went ++ o.more) i) (sym (run_join fresh_phase got a)) o.goes;
+      place = kept.place ∙ p.place;
+      asked = asked_on x (put_in false a n x hub).0 first kept.asked p.asked;
       minor = ap (λ q. q.minor) kept.asked ∙ p.minor;
       framed = kept.framed ∙ p.framed;
       flow = by_flow p.flow;

@@ -93,6 +93,7 @@ further_notes : (n : ℕ) (stops : Bool) (bytes : List ℕ) (x : Exchange) (hub 
 further_notes n stops bytes x hub = record {
   same = refl;
   asked = refl;
+  place = refl;
   staid = λ s. s;
   filters = refl;
   entered = refl;
@@ -106,6 +107,7 @@ lost_notes : (n : ℕ) (x : Exchange) (hub : Hub) → Notes n x hub (lost_exchan
 lost_notes n x hub = record {
   same = refl;
   asked = refl;
+  place = refl;
   staid = λ s e. absurd (cc);
   filters = refl;
   entered = refl;

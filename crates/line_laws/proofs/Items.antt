@@ -5,7 +5,7 @@ use Rattle.filter_chain.specs.declared.item.Item.{Item}
 use Rattle.filter_chain.specs.declared.item.Item.TheVariants.{Head, Piece, Trailers}
 use Rattle.worker.specs.Steps.{begins_with_head, is_last}
 use Rattle.line_laws.proofs.Lives.{NoHead}
-use Rattle.line_laws.proofs.Phases.{Phase, fresh, inside, whole as all, run, IsSound}
+use Rattle.line_laws.proofs.Phases.{Phase, fresh, inside, bare, whole as all, run, IsSound}
 use Rattle.line_laws.proofs.Story.{is_whole, Proper}
 
 or_false : (b : Bool) → (b || false) ≡ b
@@ -128,6 +128,6 @@ body_sound (Trailers ∷ a) body = rest_sound a body all tt
 pub message_sound : (a : List Item) → IsMessage a → IsSound (run fresh a)
 message_sound [] message = tt
 message_sound (Head false ∷ a) message = body_sound a message
-message_sound (Head true ∷ a) message = rest_sound a message all tt
+message_sound (Head true ∷ a) message = rest_sound a message bare tt
 message_sound (Piece bytes end ∷ a) message = absurd message
 message_sound (Trailers ∷ a) message = absurd message

@@ -6,6 +6,8 @@ use Rattle.std.specs.List.{flat_map}
 use Rattle.std.specs.Prelude.{Option, None, Some, is_some}
 use Rattle.exchange.specs.declared.types.Exchange.{Exchange}
 use Rattle.exchange.specs.declared.types.Hub.{Hub}
+use Rattle.exchange.specs.declared.types.Request.{Request}
+use Rattle.exchange.specs.Heads.{is_bare, length_in, length_of, request_of}
 use Rattle.exchange.specs.Leaving.{goes_up}
 use Rattle.exchange_laws.specs.Lives.{is_over}
 use Rattle.exchange_laws.specs.Responses.{IsBody, IsMessage}
@@ -14,8 +16,9 @@ use Rattle.filter_chain.specs.declared.item.Item.{Item}
 use Rattle.filter_chain.specs.declared.item.Item.TheVariants as items
 use Rattle.filter_chain.specs.declared.stage.Stage.{Stage}
 use Rattle.gate_io.specs.declared.event.Sent.{Sent}
+use Rattle.h1_write.specs.Lines.{out_wire}
 use Rattle.h1_write.specs.Round.{Ending, last_bytes, last_trailers, body_items}
-use Rattle.http1_model.specs.Framing.{Framing, OutItem, item_wire, items_wire}
+use Rattle.http1_model.specs.Framing.{Framing, no_body, by_length, framing_of, OutItem, item_wire, items_wire}
 use Rattle.http1_model.specs.Framing as out
 use Rattle.http1_model.specs.Head.{Head}
 use Rattle.http1_model.specs.Unread.{Reading}
@@ -23,9 +26,11 @@ use Rattle.worker.specs.declared.types.Job.{Job}
 use Rattle.worker.specs.declared.types.Line.{Line}
 use Rattle.worker.specs.declared.types.Reads.{Reads}
 use Rattle.worker.specs.Plan.{Plan}
+use Rattle.worker.specs.Steps.{head_item}
+use Rattle.line_laws.specs.Heard.{items_heard, WasHeard}
 use Rattle.line_laws.specs.Requests.{is_whole, AreEmpty, IsAllOfOne, GoesUp, sends_nothing, sends_request, Part, IsPart, close_behind, traffic_of, AreParts, OneByOne}
 use Rattle.line_laws.proofs.Items.{message_front}
-use Rattle.line_laws.proofs.Phases.{Phase, fresh, inside, whole, run, IsSound, holds, chain}
+use Rattle.line_laws.proofs.Phases.{Phase, fresh, inside, bare, whole, broken, step, run, run_broken, IsSound, holds, chain}
 use Rattle.line_laws.proofs.Story.{IsRefusing, pending, Flow, flows, ceases, Passage}
 use Rattle.line_laws.proofs.Upward.{AreMade, is_any}
 
@@ -127,28 +132,56 @@ body_bytes framing minor (items.Trailers ∷ more) (out.piece went last ∷ outs
 
 -- ---- all that went up
 
+-- nothing comes behind a message that is whole
+whole_not : (p : Phase) (l : List Item) → run whole l ≡ p → (p ≡ whole → ⊥) → (p ≡ broken → ⊥) → ⊥
+whole_not p [] is w b = w (sym is)
+whole_not p (items.Head e ∷ l) is w b = b (sym is ∙ run_broken l)
+whole_not p (items.Piece bytes e ∷ l) is w b = b (sym is ∙ run_broken l)
+whole_not p (items.Trailers ∷ l) is w b = b (sym is ∙ run_broken l)
+
+bare_whole : (l : List Item) → run bare l ≡ whole → ⊥
+bare_whole [] is = cc
+bare_whole (items.Head e ∷ l) is = let never : broken ≡ whole = sym (run_broken l) ∙ is in cc
+bare_whole (items.Piece bytes e ∷ l) is = let never : broken ≡ whole = sym (run_broken l) ∙ is in cc
+bare_whole (items.Trailers ∷ l) is = let never : broken ≡ whole = sym (run_broken l) ∙ is in cc
+
+whole_bare : (l : List Item) → run whole l ≡ bare → ⊥
+whole_bare l is = whole_not bare l is (λ e. cc) (λ e. cc)
+
+inside_bare : (l : List Item) → run inside l ≡ bare → ⊥
+inside_bare [] is = cc
+inside_bare (items.Head e ∷ l) is = let never : broken ≡ bare = sym (run_broken l) ∙ is in cc
+inside_bare (items.Piece bytes false ∷ l) is = inside_bare l is
+inside_bare (items.Piece bytes true ∷ l) is = whole_bare l is
+inside_bare (items.Trailers ∷ l) is = whole_bare l is
+
+bare_sound : (l : List Item) → IsSound (run bare l) → IsSound (run whole l)
+bare_sound [] is = tt
+bare_sound (items.Head e ∷ l) is = is
+bare_sound (items.Piece bytes e ∷ l) is = is
+bare_sound (items.Trailers ∷ l) is = is
+
 -- behind a head with an end flag nothing comes
-record Behind (framing : Framing) (p : Phase) (outs : List OutItem) : Type 0 where
+record Behind (framing : Framing) (outs : List OutItem) : Type 0 where
   pieces : List (List ℕ)
   ending : Ending
   front : IsFront outs (body_items pieces ending)
-  full : p ≡ whole → (outs ≡ body_items pieces ending) ⊎ (outs ≡ [])
   bytes : traffic framing outs ≡ map byte (items_wire framing outs)
 
-behind_head : (framing : Framing) (minor : ℕ) (end : Bool) (more : List Item) (outs : List OutItem) → AreMade minor more outs → IsSound (run fresh (items.Head end ∷ more)) → Behind framing (run fresh (items.Head end ∷ more)) outs
+behind_head : (framing : Framing) (minor : ℕ) (end : Bool) (more : List Item) (outs : List OutItem) → AreMade minor more outs → IsSound (run fresh (items.Head end ∷ more)) → Behind framing outs
 behind_head framing minor false more outs are sound =
     let b : OfBody (run inside more) outs = body_made minor more outs are sound in
-    record { pieces = b.pieces; ending = b.ending; front = b.front; full = λ e. inl (b.full e); bytes = body_bytes framing minor more outs are sound }
+    record { pieces = b.pieces; ending = b.ending; front = b.front; bytes = body_bytes framing minor more outs are sound }
 behind_head framing minor true more outs are sound =
-    let none : outs ≡ [] = none_made minor more outs are sound in
-    subst (Behind framing (run whole more)) (sym none) (record { pieces = []; ending = last_bytes []; front = (body_items [] (last_bytes []), refl); full = λ e. inr refl; bytes = refl })
+    let none : outs ≡ [] = none_made minor more outs are (bare_sound more sound) in
+    subst (Behind framing) (sym none) (record { pieces = []; ending = last_bytes []; front = (body_items [] (last_bytes []), refl); bytes = refl })
 
 all_made : (h : Head) (first : Exchange) (t : List Traffic) (left : List Item) (outs : List OutItem) → AreMade h.minor left outs → t ≡ traffic (goes_up first) outs → IsSound (run fresh left) → GoesUp h first t
 all_made h first t [] [] are is sound = sends_nothing is
 all_made h first t [] (o ∷ outs) are is sound = absurd are
 all_made h first t (i ∷ left) [] are is sound = absurd are
 all_made h first t (items.Head end ∷ left) (out.head g ∷ outs) are is sound =
-    let b : Behind (goes_up first) (run fresh (items.Head end ∷ left)) outs = behind_head (goes_up first) h.minor end left outs are.1 sound in
+    let b : Behind (goes_up first) outs = behind_head (goes_up first) h.minor end left outs are.1 sound in
     sends_request (record {
       request = record { framing = goes_up first; head = g; pieces = b.pieces; ending = b.ending };
       made = record { fields = are.0.0; head = are.0.1; framing = refl };
@@ -177,48 +210,79 @@ all_made h first t (items.Trailers ∷ left) (o ∷ outs) are is sound = absurd 
     broken_stays (items.Piece b f ∷ l) e = broken_stays l e
     broken_stays (items.Trailers ∷ l) e = broken_stays l e
 
--- and where the phase is whole, all of it
+-- ---- all of it
+
+-- the traffic of a head and what comes behind it
+head_first : (framing : Framing) (g : Head) (outs : List OutItem) → traffic framing outs ≡ map byte (items_wire framing outs) → traffic framing (out.head g ∷ outs) ≡ opens ∷ map byte (items_wire framing (out.head g ∷ outs))
+head_first framing g outs bytes =
+    ap (λ s. (opens ∷ map byte (item_wire framing (out.head g))) ++ s) bytes ∙ ap (λ s. opens ∷ s) (sym (map-append byte (item_wire framing (out.head g)) (items_wire framing outs)))
+
+fresh_stays : (i : Item) (left : List Item) (p : Phase) → step fresh i ≡ broken → run fresh (i ∷ left) ≡ p → (p ≡ broken → ⊥) → ⊥
+fresh_stays i left p breaks is not = not (sym is ∙ (ap (λ (q : Phase). run q left) breaks ∙ run_broken left))
+
+-- where the phase is whole, the body came to its end
 whole_made : (h : Head) (first : Exchange) (t : List Traffic) (left : List Item) (outs : List OutItem) → AreMade h.minor left outs → t ≡ traffic (goes_up first) outs → run fresh left ≡ whole → IsAllOfOne h first t
 whole_made h first t [] outs are is all = absurd (cc)
 whole_made h first t (i ∷ left) [] are is all = absurd are
-whole_made h first t (items.Head end ∷ left) (out.head g ∷ outs) are is all =
-    let b : Behind (goes_up first) (run fresh (items.Head end ∷ left)) outs = behind_head (goes_up first) h.minor end left outs are.1 (subst IsSound (sym all) tt) in
+whole_made h first t (items.Head true ∷ left) (out.head g ∷ outs) are is all = absurd (bare_whole left all)
+whole_made h first t (items.Head false ∷ left) (out.head g ∷ outs) are is all =
+    let sound : IsSound (run inside left) = subst IsSound (sym all) tt in
+    let b : OfBody (run inside left) outs = body_made h.minor left outs are.1 sound in
     record {
       request = record { framing = goes_up first; head = g; pieces = b.pieces; ending = b.ending };
       made = record { fields = are.0.0; head = are.0.1; framing = refl };
-      is = by_full b.pieces b.ending (b.full all) b.bytes;
+      is = is ∙ (head_first (goes_up first) g outs (body_bytes (goes_up first) h.minor left outs are.1 sound) ∙ ap (λ (l : List OutItem). opens ∷ map byte (items_wire (goes_up first) (out.head g ∷ l))) (b.full all));
     }
-  where
-    by_full : (pieces : List (List ℕ)) (ending : Ending) → (outs ≡ body_items pieces ending) ⊎ (outs ≡ []) → traffic (goes_up first) outs ≡ map byte (items_wire (goes_up first) outs)
-        → (t ≡ opens ∷ map byte (items_wire (goes_up first) (out.head g ∷ body_items pieces ending))) ⊎ (t ≡ opens ∷ map byte (item_wire (goes_up first) (out.head g)))
-    by_full pieces ending (inl e) bytes =
-        inl (is ∙ (ap (λ s. (opens ∷ map byte (item_wire (goes_up first) (out.head g))) ++ s) bytes
-        ∙ (ap (λ s. opens ∷ s) (sym (map-append byte (item_wire (goes_up first) (out.head g)) (items_wire (goes_up first) outs))) ∙ ap (λ (l : List OutItem). opens ∷ map byte (items_wire (goes_up first) (out.head g ∷ l))) e)))
-    by_full pieces ending (inr e) bytes = inr (is ∙ (ap (λ (l : List OutItem). traffic (goes_up first) (out.head g ∷ l)) e ∙ append-nil (opens ∷ map byte (item_wire (goes_up first) (out.head g)))))
 whole_made h first t (items.Head end ∷ left) (out.interim g ∷ outs) are is all = absurd are.0
 whole_made h first t (items.Head end ∷ left) (out.piece went last ∷ outs) are is all = absurd are.0
 whole_made h first t (items.Head end ∷ left) (out.trailers fields ∷ outs) are is all = absurd are.0
-whole_made h first t (items.Piece bytes end ∷ left) (o ∷ outs) are is all = absurd (broken_stays left (subst IsSound (sym all) tt))
+whole_made h first t (items.Piece bytes end ∷ left) (o ∷ outs) are is all = absurd (fresh_stays (items.Piece bytes end) left whole refl all (λ e. cc))
+whole_made h first t (items.Trailers ∷ left) (o ∷ outs) are is all = absurd (fresh_stays items.Trailers left whole refl all (λ e. cc))
+
+-- a request without a body is written without chunks: its head is all of it
+bare_wire : (first : Exchange) (g : Head) → is_bare first.asked.length ≡ true → out_wire (record { framing = goes_up first; head = g; pieces = []; ending = last_bytes [] }) ≡ item_wire (goes_up first) (out.head g)
+bare_wire first g is =
+    subst (λ (f : Framing). out_wire (record { framing = f; head = g; pieces = []; ending = last_bytes [] }) ≡ item_wire f (out.head g)) (sym framed) (by_told first.asked.told)
   where
-    broken_stays : (l : List Item) → IsSound (run (run fresh (items.Piece bytes end ∷ [])) l) → ⊥
-    broken_stays [] e = e
-    broken_stays (items.Head f ∷ l) e = broken_stays l e
-    broken_stays (items.Piece b f ∷ l) e = broken_stays l e
-    broken_stays (items.Trailers ∷ l) e = broken_stays l e
-whole_made h first t (items.Trailers ∷ left) (o ∷ outs) are is all = absurd (broken_stays left (subst IsSound (sym all) tt))
-  where
-    broken_stays : (l : List Item) → IsSound (run (run fresh (items.Trailers ∷ [])) l) → ⊥
-    broken_stays [] e = e
-    broken_stays (items.Head f ∷ l) e = broken_stays l e
-    broken_stays (items.Piece b f ∷ l) e = broken_stays l e
-    broken_stays (items.Trailers ∷ l) e = broken_stays l e
+    framed : goes_up first ≡ framing_of true first.filters_requests false None first.asked.told (length_of first.asked.length)
+    framed = ap (λ b. framing_of b first.filters_requests false None first.asked.told (length_of first.asked.length)) is
+
+    by_told : (told : Option ℕ) → out_wire (record { framing = framing_of true first.filters_requests false None told (length_of first.asked.length); head = g; pieces = []; ending = last_bytes [] })
+        ≡ item_wire (framing_of true first.filters_requests false None told (length_of first.asked.length)) (out.head g)
+    by_told None = append-nil (item_wire no_body (out.head g))
+    by_told (Some n) = append-nil (item_wire (by_length n) (out.head g))
+
+bare_made : (h : Head) (first : Exchange) (t : List Traffic) (left : List Item) (outs : List OutItem) → AreMade h.minor left outs → t ≡ traffic (goes_up first) outs → run fresh left ≡ bare → is_bare first.asked.length ≡ true
+    → IsAllOfOne h first t
+bare_made h first t [] outs are is all lacks = absurd (cc)
+bare_made h first t (i ∷ left) [] are is all lacks = absurd are
+bare_made h first t (items.Head false ∷ left) (out.head g ∷ outs) are is all lacks = absurd (inside_bare left all)
+bare_made h first t (items.Head true ∷ left) (out.head g ∷ outs) are is all lacks =
+    let none : outs ≡ [] = none_made h.minor left outs are.1 (bare_sound left (subst IsSound (sym all) tt)) in
+    record {
+      request = record { framing = goes_up first; head = g; pieces = []; ending = last_bytes [] };
+      made = record { fields = are.0.0; head = are.0.1; framing = refl };
+      is = is ∙ (ap (λ (l : List OutItem). traffic (goes_up first) (out.head g ∷ l)) none ∙ (append-nil (opens ∷ map byte (item_wire (goes_up first) (out.head g))) ∙ ap (λ l. opens ∷ map byte l) (sym (bare_wire first g lacks))));
+    }
+bare_made h first t (items.Head end ∷ left) (out.interim g ∷ outs) are is all lacks = absurd are.0
+bare_made h first t (items.Head end ∷ left) (out.piece went last ∷ outs) are is all lacks = absurd are.0
+bare_made h first t (items.Head end ∷ left) (out.trailers fields ∷ outs) are is all lacks = absurd are.0
+bare_made h first t (items.Piece bytes end ∷ left) (o ∷ outs) are is all lacks = absurd (fresh_stays (items.Piece bytes end) left bare refl all (λ e. cc))
+bare_made h first t (items.Trailers ∷ left) (o ∷ outs) are is all lacks = absurd (fresh_stays items.Trailers left bare refl all (λ e. cc))
 
 -- stages that are empty hold no phase back
 empty_chain : (p : Phase) (stages : List Stage) → AreEmpty stages → chain p stages ≡ p
 empty_chain p [] are = refl
 empty_chain p (s ∷ stages) are = (λ i. run (holds (chain p stages) (are.0 i)) (are.1 i)) ∙ empty_chain p stages are.2
 
--- a message whose last item is there is whole
+-- the first of them is a head with an end flag
+abbrev begins_bare : List Item → Bool
+begins_bare [] = false
+begins_bare (items.Head end ∷ a) = end
+begins_bare (items.Piece bytes end ∷ a) = false
+begins_bare (items.Trailers ∷ a) = false
+
+-- a body whose last item is there is whole
 whole_body : (a : List Item) → IsBody a → is_whole a ≡ true → run inside a ≡ whole
 whole_body [] body all = absurd (cc)
 whole_body (items.Head end ∷ a) body all = absurd body
@@ -226,12 +290,27 @@ whole_body (items.Piece bytes false ∷ a) body all = whole_body a body all
 whole_body (items.Piece bytes true ∷ a) body all = ap (run whole) body
 whole_body (items.Trailers ∷ a) body all = ap (run whole) body
 
-whole_phase : (a : List Item) → IsMessage a → is_whole a ≡ true → run fresh a ≡ whole
+-- a message with its last item is whole: by its head alone, which says so, or with a body
+pub data IsWholeBy (a : List Item) : Type 0 where
+  by_head : begins_bare a ≡ true → run fresh a ≡ bare → IsWholeBy a
+  by_body : run fresh a ≡ whole → IsWholeBy a
+
+whole_phase : (a : List Item) → IsMessage a → is_whole a ≡ true → IsWholeBy a
 whole_phase [] message all = absurd (cc)
-whole_phase (items.Head false ∷ a) message all = whole_body a message all
-whole_phase (items.Head true ∷ a) message all = ap (run whole) message
+whole_phase (items.Head false ∷ a) message all = by_body (whole_body a message all)
+whole_phase (items.Head true ∷ a) message all = by_head refl (ap (run bare) message)
 whole_phase (items.Piece bytes end ∷ a) message all = absurd message
 whole_phase (items.Trailers ∷ a) message all = absurd message
+
+-- a head that was heard says so where its request has no body
+heard_bare : (h : Head) (got heard : List Item) (now : Reading) → WasHeard h heard now → IsFront got heard → begins_bare got ≡ true → is_bare (request_of h).length ≡ true
+heard_bare h [] heard now was front begins = absurd (cc)
+heard_bare h (items.Head end ∷ got) heard now was front begins =
+    let joined : items.Head end ∷ (got ++ front.0) ≡ head_item h ∷ items_heard was.acts = front.1 ∙ was.are in
+    let same : end ≡ is_bare (length_in h.length) = cc in
+    sym same ∙ begins
+heard_bare h (items.Piece bytes end ∷ got) heard now was front begins = absurd (cc)
+heard_bare h (items.Trailers ∷ got) heard now was front begins = absurd (cc)
 
 module _ (n : ℕ) (past : List Sent) (reading : Option Reads) (js : List Job) (lines : List Line) (x : Exchange) (hub : Hub) (h : Head) (first : Exchange) (base : List Traffic) (got : List Item)
     (p : Passage n past reading js lines x hub h first base got) where
@@ -251,16 +330,29 @@ module _ (n : ℕ) (past : List Sent) (reading : Option Reads) (js : List Job) (
       by_flow (ceases message none (inl over) front) = let never : ◌≡◌ {A = Bool} true false = sym over ∙ live in absurd (cc)
       by_flow (ceases message none (inr is) front) = absurd (subst (IsRefusing n) jobless is)
 
+  -- what came has the last item exactly where the exchange takes its request for read whole
+  pub read_whole : is_over x ≡ false → reading ≡ None → js ≡ [] → is_whole got ≡ x.asked.whole
+  read_whole live quiet jobless = by_flow p.flow
+    where
+      by_flow : Flow n reading js x got p.heard → is_whole got ≡ x.asked.whole
+      by_flow (flows proper same) = ap is_whole (sym (append-nil got) ∙ ap (λ l. got ++ l) (λ i. pending n (sym quiet i) (sym jobless i))) ∙ proper.2
+      by_flow (ceases message none (inl over) front) = let never : ◌≡◌ {A = Bool} true false = sym over ∙ live in absurd (cc)
+      by_flow (ceases message none (inr is) front) = absurd (subst (IsRefusing n) jobless is)
+
   -- ALL OF IT, where no stage has any
-  pub all_of : is_over x ≡ false → AreEmpty x.request → is_whole got ≡ true → IsAllOfOne h first p.went
-  all_of live empty all =
+  pub all_of : first.asked ≡ request_of h → is_over x ≡ false → AreEmpty x.request → is_whole got ≡ true → IsAllOfOne h first p.went
+  all_of asked live empty all =
       let message : IsMessage got = by_flow p.flow in
-      let phase : run fresh p.up.left ≡ whole = sym (empty_chain (run fresh p.up.left) x.request empty) ∙ (p.up.through live ∙ whole_phase got message all) in
-      whole_made h first p.went p.up.left p.up.outs (subst (λ m. AreMade m p.up.left p.up.outs) p.minor p.up.are) (p.up.is ∙ ap (λ f. traffic f p.up.outs) p.framed) phase
+      by_phase (whole_phase got message all) (sym (empty_chain (run fresh p.up.left) x.request empty) ∙ p.up.through live) (subst (λ m. AreMade m p.up.left p.up.outs) p.minor p.up.are) (p.up.is ∙ ap (λ f. traffic f p.up.outs) p.framed)
     where
       by_flow : Flow n reading js x got p.heard → IsMessage got
       by_flow (flows proper same) = message_front got (pending n reading js) proper.1
       by_flow (ceases message none is front) = message
+
+      by_phase : IsWholeBy got → run fresh p.up.left ≡ run fresh got → AreMade h.minor p.up.left p.up.outs → p.went ≡ traffic (goes_up first) p.up.outs → IsAllOfOne h first p.went
+      by_phase (by_head begins is) phase are went =
+          bare_made h first p.went p.up.left p.up.outs are went (phase ∙ is) (ap (λ (q : Request). is_bare q.length) asked ∙ heard_bare h got p.heard p.was.now p.was.was came_front begins)
+      by_phase (by_body is) phase are went = whole_made h first p.went p.up.left p.up.outs are went (phase ∙ is)
 
   -- AN EXCHANGE SENDS UP ONE MESSAGE
   pub goes_of : GoesUp h first p.went

@@ -19,10 +19,11 @@ use Rattle.filter_chain.specs.Chains.{limit, target, accepts, onto, given, put, 
 use Rattle.filter_chain.specs.Flow.{left_in}
 use Rattle.filter_chain.proofs.Picks.{ready_picks}
 
--- nothing of it, its head and no end, all of it; or it is none
+-- nothing of it, its head and no end, all of it: its head alone, or with a body; or it is none
 pub data Phase : Type 0 where
   fresh : Phase
   inside : Phase
+  bare : Phase
   whole : Phase
   broken : Phase
 
@@ -30,13 +31,20 @@ abbrev pub with_end : Bool → Phase
 with_end true = whole
 with_end false = inside
 
+abbrev pub headed : Bool → Phase
+headed true = bare
+headed false = inside
+
 abbrev pub step : Phase → Item → Phase
-step fresh (Head end) = with_end end
+step fresh (Head end) = headed end
 step fresh (Piece bytes end) = broken
 step fresh Trailers = broken
 step inside (Head end) = broken
 step inside (Piece bytes end) = with_end end
 step inside Trailers = whole
+step bare (Head end) = broken
+step bare (Piece bytes end) = broken
+step bare Trailers = broken
 step whole (Head end) = broken
 step whole (Piece bytes end) = broken
 step whole Trailers = broken
@@ -51,6 +59,7 @@ run p (i ∷ items) = run (step p i) items
 abbrev pub IsSound : Phase → Type 0
 IsSound fresh = Unit {0}
 IsSound inside = Unit {0}
+IsSound bare = Unit {0}
 IsSound whole = Unit {0}
 IsSound broken = ⊥
 
@@ -63,7 +72,7 @@ step_broken (Head end) = refl
 step_broken (Piece bytes end) = refl
 step_broken Trailers = refl
 
-run_broken : (items : List Item) → run broken items ≡ broken
+pub run_broken : (items : List Item) → run broken items ≡ broken
 run_broken [] = refl
 run_broken (i ∷ items) = ap (λ (p : Phase). run p items) (step_broken i) ∙ run_broken items
 
@@ -71,6 +80,7 @@ run_broken (i ∷ items) = ap (λ (p : Phase). run p items) (step_broken i) ∙ 
 pub sound_run : (p : Phase) (items : List Item) → IsSound (run p items) → IsSound p
 sound_run fresh items is = tt
 sound_run inside items is = tt
+sound_run bare items is = tt
 sound_run whole items is = tt
 sound_run broken items is = subst IsSound (run_broken items) is
 
@@ -116,6 +126,7 @@ held_run p (held.Body false) [] is = by_phase p is
     by_phase : (q : Phase) → IsSound (step q (Piece [] false)) → q ≡ step q (Piece [] false)
     by_phase fresh is = absurd is
     by_phase inside is = refl
+    by_phase bare is = absurd is
     by_phase whole is = absurd is
     by_phase broken is = absurd is
 held_run p (held.Body true) [] is = refl
@@ -124,6 +135,7 @@ held_run p (held.Body end) (b ∷ bytes) is = by_phase p
     by_phase : (q : Phase) → step q (Piece (b ∷ bytes) end) ≡ step q (Piece [] end)
     by_phase fresh = refl
     by_phase inside = refl
+    by_phase bare = refl
     by_phase whole = refl
     by_phase broken = refl
 held_run p (held.Trailers false) bytes is = refl
@@ -133,6 +145,7 @@ held_run p (held.Trailers true) (b ∷ bytes) is = by_phase p
     by_phase : (q : Phase) → step (step q (Piece (b ∷ bytes) false)) Trailers ≡ step q Trailers
     by_phase fresh = refl
     by_phase inside = refl
+    by_phase bare = refl
     by_phase whole = refl
     by_phase broken = refl
 
@@ -369,6 +382,7 @@ holds_next q held.Nothing (Piece bytes end) next free sound piece head trailers 
     by_phase : (r : Phase) → step r (Piece [] end) ≡ step r (Piece bytes end)
     by_phase fresh = refl
     by_phase inside = refl
+    by_phase bare = refl
     by_phase whole = refl
     by_phase broken = refl
 holds_next q held.Nothing Trailers next free sound piece head trailers = ap (holds q) (trailers refl)
@@ -379,6 +393,7 @@ holds_next q (held.Body false) (Head end) next free sound piece head trailers = 
     by_phase : (r : Phase) → IsSound (step (step r (Piece [] false)) (Head end)) → ⊥
     by_phase fresh is = is
     by_phase inside is = is
+    by_phase bare is = is
     by_phase whole is = is
     by_phase broken is = is
 holds_next q (held.Body true) i next free sound piece head trailers = absurd (by_item i sound)
@@ -390,6 +405,9 @@ holds_next q (held.Body true) i next free sound piece head trailers = absurd (by
     by_phase inside (Head end) is = is
     by_phase inside (Piece bytes end) is = is
     by_phase inside Trailers is = is
+    by_phase bare (Head end) is = is
+    by_phase bare (Piece bytes end) is = is
+    by_phase bare Trailers is = is
     by_phase whole (Head end) is = is
     by_phase whole (Piece bytes end) is = is
     by_phase whole Trailers is = is
@@ -404,6 +422,7 @@ holds_next q (held.Body false) (Piece bytes end) next free sound piece head trai
     by_phase : (r : Phase) → IsSound (step (step r (Piece [] false)) (Piece bytes end)) → step r (Piece [] end) ≡ step (step r (Piece [] false)) (Piece bytes end)
     by_phase fresh is = refl
     by_phase inside is = refl
+    by_phase bare is = refl
     by_phase whole is = refl
     by_phase broken is = refl
 holds_next q (held.Body false) Trailers next free sound piece head trailers = ap (holds q) (trailers refl) ∙ by_phase q sound
@@ -411,6 +430,7 @@ holds_next q (held.Body false) Trailers next free sound piece head trailers = ap
     by_phase : (r : Phase) → IsSound (step (step r (Piece [] false)) Trailers) → step r Trailers ≡ step (step r (Piece [] false)) Trailers
     by_phase fresh is = refl
     by_phase inside is = refl
+    by_phase bare is = refl
     by_phase whole is = refl
     by_phase broken is = refl
 

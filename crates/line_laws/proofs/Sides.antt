@@ -38,6 +38,7 @@ use Rattle.line_laws.proofs.Upward.{Keeps, still_keeps, aside_still}
 pub record Notes (n : ℕ) (x : Exchange) (hub : Hub) (y : Exchange) (after : Hub) : Type 0 where
   pub same : ups n after.sent ≡ ups n hub.sent
   pub asked : y.asked ≡ x.asked
+  pub place : y.place ≡ x.place
   pub staid : Staid x → Staid y
   pub filters : y.filters ≡ x.filters
   pub entered : y.is_entered ≡ x.is_entered
@@ -47,7 +48,7 @@ pub record Notes (n : ℕ) (x : Exchange) (hub : Hub) (y : Exchange) (after : Hu
   pub plain : IsPlain x → LivesUp n x hub y after
 
 pub notes_become : (n : ℕ) (x y : Exchange) (hub after : Hub) → Notes n x hub y after → Becomes n x hub y after
-notes_become n x y hub after q = record { asked = q.asked; entered = q.entered; framed = q.framed; over = q.over; keeps = q.keeps }
+notes_become n x y hub after q = record { asked = q.asked; place = q.place; entered = q.entered; framed = q.framed; over = q.over; keeps = q.keeps }
 
 pub note_up : (n : ℕ) (x y : Exchange) (hub after : Hub) → IsPlain y → IsKin x y → ups n after.sent ≡ ups n hub.sent → (is_some x.reader ≡ true → is_some y.reader ≡ true) → LivesUp n x hub y after
 note_up n x y hub after p kin same opened = record {
@@ -63,6 +64,7 @@ pub notes_itself : (n : ℕ) (x : Exchange) (hub after : Hub) → ups n after.se
 notes_itself n x hub after same = record {
   same = same;
   asked = refl;
+  place = refl;
   staid = λ s. s;
   filters = refl;
   entered = refl;

@@ -7,6 +7,7 @@ use Rattle.std.specs.Prelude.{Option, None, Some, is_some, find, if◌then◌els
 use Rattle.contexts.specs.declared.parts.Contexts.{Contexts}
 use Rattle.exchange.specs.declared.types.Exchange.{Exchange}
 use Rattle.exchange.specs.declared.types.Hub.{Hub}
+use Rattle.exchange.specs.declared.types.Request.{Request}
 use Rattle.exchange.specs.Leaving.{goes_up}
 use Rattle.exchange.specs.Maps.{request_map}
 use Rattle.exchange_laws.specs.Laws.{IsQuiet}
@@ -31,7 +32,7 @@ use Rattle.worker.specs.Rooms.{moves}
 use Rattle.worker.specs.Steps.{begins_with_head}
 use Rattle.line_laws.specs.Living.{requests_in, request_in, LivesBy}
 pub use Rattle.line_laws.specs.Requests.{is_whole}
-use Rattle.line_laws.specs.Requests.{IsBegun, Began, OneByOne, AreOf}
+use Rattle.line_laws.specs.Requests.{IsBegun, Began, OneByOne, AreOf, IsAskedAs}
 use Rattle.line_laws.proofs.Earlier.{behind}
 use Rattle.line_laws.proofs.Finding.{IsOnce}
 use Rattle.line_laws.proofs.Hearing.{HeardIn, Listens}
@@ -149,6 +150,9 @@ pub record Enters (n : ℕ) (reading : Option Reads) (js : List Job) (x : Exchan
   pub none : x.is_entered ≡ true → NoEnter n js
   pub first : begins_with_head (batch_of n reading) ≡ true → x.is_entered ≡ false
 
+pub asked_on : (x y first : Exchange) → y.asked ≡ x.asked → IsAskedAs x first → IsAskedAs y first
+asked_on x y first same is = subst (λ (q : Request). q ≡ record first.asked { whole = q.whole }) (sym same) is
+
 -- behind what was sent before it began, of an exchange that was the first when it began
 pub record Passage (n : ℕ) (past : List Sent) (reading : Option Reads) (js : List Job) (lines : List Line) (x : Exchange) (hub : Hub) (h : Head) (first : Exchange) (base : List Traffic) (got : List Item) : Type 0 where
   pub went : List Traffic
@@ -156,6 +160,8 @@ pub record Passage (n : ℕ) (past : List Sent) (reading : Option Reads) (js : L
   pub heard : List Item
   pub was : HeardIn n lines h heard
   pub up : Up x [] went (run fresh_phase got)
+  pub place : x.place ≡ first.place
+  pub asked : IsAskedAs x first
   pub minor : x.asked.minor ≡ h.minor
   pub framed : goes_up x ≡ goes_up first
   pub flow : Flow n reading js x got heard
@@ -175,6 +181,7 @@ alike_itself n reading js = record { pend = refl; refusing = λ e. e; none = λ 
 -- it becomes the other
 pub record Becomes (n : ℕ) (x : Exchange) (hub : Hub) (y : Exchange) (after : Hub) : Type 0 where
   pub asked : y.asked ≡ x.asked
+  pub place : y.place ≡ x.place
   pub entered : y.is_entered ≡ x.is_entered
   pub framed : goes_up y ≡ goes_up x
   pub over : is_over x ≡ true → is_over y ≡ true
@@ -196,6 +203,8 @@ passage_on n past reading now js ks lines later x y hub after h first base got a
       heard = p.heard;
       was = listens h p.heard p.was;
       up = o.goes;
+      place = b.place ∙ p.place;
+      asked = asked_on x y first b.asked p.asked;
       minor = ap (λ q. q.minor) b.asked ∙ p.minor;
       framed = b.framed ∙ p.framed;
       flow = by_flow p.flow;

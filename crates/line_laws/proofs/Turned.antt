@@ -193,6 +193,7 @@ own_becomes n deed x hub after own none sent =
     let k : Kept x (done_by n deed x hub).0 = kept_by n deed x hub own in
     record {
       asked = k.asked;
+      place = k.place;
       entered = k.entered;
       framed = k.framed;
       over = over_told x (done_by n deed x hub).0 k.told;

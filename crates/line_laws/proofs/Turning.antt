@@ -3,7 +3,7 @@ use Rattle.std.proofs.Common.{◌≡◌, ◌⊎◌, inl, inr, ℕ, zero, suc, �
 use Rattle.course.specs.Called.{Calling}
 use Rattle.std.proofs.lemmas.Grind.{flat_map-append}
 use Rattle.std.proofs.lemmas.List.{append-nil, append_assoc}
-use Rattle.std.specs.Prelude.{Option, None, Some, is_some, slice_get}
+use Rattle.std.specs.Prelude.{Option, None, Some, is_some, option_map, slice_get}
 use Rattle.std.specs.List.{list_any}
 use Rattle.contexts.specs.declared.parts.Context.{Context}
 use Rattle.contexts.specs.declared.parts.Contexts.{Contexts}
@@ -26,6 +26,7 @@ use Rattle.http1_model.specs.Framing.{OutItem, head_wire}
 use Rattle.http1_model.specs.Framing as out
 use Rattle.http1_model.specs.Head.{Head}
 use Rattle.http1_model.specs.Messages.{Due}
+use Rattle.http1_model.specs.Unread.{Reading}
 use Rattle.outbox.specs.Joined.{joined}
 use Rattle.worker.specs.declared.room.Room.{Room}
 use Rattle.worker.specs.declared.types.Job.{Job}
@@ -34,15 +35,16 @@ use Rattle.worker.specs.declared.types.Line.{Line}
 use Rattle.worker.specs.declared.types.Reads.{Reads}
 use Rattle.worker.specs.Plan.{Plan}
 use Rattle.worker.specs.Settling.{settling}
-use Rattle.worker.specs.Steps.{Both, both, exchange_of_line, exchange_on}
+use Rattle.worker.specs.Steps.{Both, both, exchange_of_line, exchange_on, line_in, line_reading}
 use Rattle.worker.specs.Turn.{Outcome, turn, turn_by, facing, agenda_of, starts, starts_of, start_of, roots_from, vms_in, is_of, ticks_in, ticks_of, ticks_due, deadlines, notice_of, notices_of, is_due_now, registers_at, most_steps, comes_to, emptied}
 use Rattle.line_laws.specs.Laws.{ExchangesLive, RequestsGoUpOneByOne}
 use Rattle.line_laws.specs.Logs.{WriteLogs}
 use Rattle.line_laws.specs.Living.{requests_in, request_in, LivesBy}
-use Rattle.line_laws.specs.Requests.{AreOf, OneByOne, is_whole, IsSoFar, IsOpen, GoesUpBy, HasLived}
+use Rattle.line_laws.specs.Requests.{AreOf, OneByOne, IsSoFar, IsOpen, GoesUpBy, HasLived}
 use Rattle.line_laws.specs.Turns.{Done, Turns, new_room, sent_in}
 use Rattle.line_laws.proofs.Earlier.{behind}
 use Rattle.line_laws.proofs.Ending.{Went, went, is_message, same_went, whole_reads_back}
+use Rattle.line_laws.proofs.Hearing.{text_in}
 use Rattle.line_laws.proofs.Joining.{ups_joined}
 use Rattle.line_laws.proofs.Kept.{by_bool}
 use Rattle.line_laws.proofs.Lives.{came_of, came_join, lives_with}
@@ -50,8 +52,8 @@ use Rattle.line_laws.proofs.Looks.{look, line_in_is, lives_join}
 use Rattle.line_laws.proofs.Readable.{readable}
 use Rattle.line_laws.proofs.Rooms.{AllParts}
 use Rattle.line_laws.proofs.Stepping.{settling_keeps}
-use Rattle.line_laws.proofs.Parts.{goes_of, all_of, came_front, all_came, no_parts}
-use Rattle.line_laws.proofs.Story.{IsFresh, IsRefusing, pending, Stream, fresh, going, doomed, Passage, Story, Tale, plainly, filtered, Idle, ExOk, LineOk, Known}
+use Rattle.line_laws.proofs.Parts.{goes_of, all_of, came_front, all_came, read_whole, no_parts}
+use Rattle.line_laws.proofs.Story.{Stream, Passage, Story, Tale, plainly, filtered, Idle, ExOk, LineOk, Known}
 
 -- ---- the parts of a turn
 
@@ -96,7 +98,7 @@ module _ (plan : Plan) (n : ℕ) (past now : List Sent) (hub after : Hub) (same 
   passage_past : (reading : Option Reads) (js : List Job) (lines : List Line) (x : Exchange) (h : Head) (first : Exchange) (base : List Traffic) (got : List Item) → Passage n past reading js lines x hub h first base got
       → Passage n now reading js lines x after h first base got
   passage_past reading js lines x h first base got p =
-      record { went = p.went; adds = same ∙ p.adds; heard = p.heard; was = p.was; up = p.up; minor = p.minor; framed = p.framed; flow = p.flow; enters = p.enters }
+      record { went = p.went; adds = same ∙ p.adds; heard = p.heard; was = p.was; up = p.up; place = p.place; asked = p.asked; minor = p.minor; framed = p.framed; flow = p.flow; enters = p.enters }
 
   story_past : (reading : Option Reads) (js : List Job) (lines : List Line) (x : Exchange) → Story plan n past reading js lines x hub → Story plan n now reading js lines x after
   story_past reading js lines x s =
@@ -231,7 +233,7 @@ new_known plan contexts n = record {
 
 -- ---- what went up
 
-so_far : (plan : Plan) (n : ℕ) (past : List Sent) (room : Room) (x : Exchange) → (s : Story plan n past room.reading room.jobs room.lines x room.hub) → IsSoFar room x s.head (requests_in s.deeds) s.passage.went
+so_far : (plan : Plan) (n : ℕ) (past : List Sent) (room : Room) (x : Exchange) → (s : Story plan n past room.reading room.jobs room.lines x room.hub) → IsSoFar x s.head (requests_in s.deeds) s.passage.went
 so_far plan n past room x s =
     let w : Went plan n past room.reading room.jobs room.lines x room.hub s = went plan n past room.reading room.jobs room.lines x room.hub s in
     let same : w.goes.went ≡ s.passage.went = same_went plan n past room.reading room.jobs room.lines x room.hub s in
@@ -245,51 +247,52 @@ so_far plan n past room x s =
       of = s.came;
       front = subst (λ (t : List Traffic). IsFront t (opens ∷ map byte (out_wire w.request))) same w.goes.front;
       all = λ live. sym same ∙ w.goes.all live;
-      read_whole = λ live quiet jobless. by_stream live quiet jobless s.stream;
       whole = λ live whole.
           subst (λ (t : List Traffic). (t ≡ opens ∷ map byte (out_wire w.request)) ⊎ (t ≡ opens ∷ map byte (head_wire w.request.framing w.request.head))) same (by_full w live (w.full whole));
     }
   where
-    none_left : room.reading ≡ None → room.jobs ≡ [] → pending n room.reading room.jobs ≡ []
-    none_left quiet jobless = λ i. pending n (quiet i) (jobless i)
-
-    by_stream : is_over x ≡ false → room.reading ≡ None → room.jobs ≡ [] → Stream n room.reading room.jobs room.lines x room.hub.contexts s.head.fields (requests_in s.deeds) → is_whole (requests_in s.deeds) ≡ x.asked.whole
-    by_stream live quiet jobless (fresh none is rests map proper) = absurd (subst (λ l. IsFresh n None l) jobless (subst (λ r. IsFresh n r room.jobs) quiet is))
-    by_stream live quiet jobless (going begins proper) = ap is_whole (sym (append-nil (requests_in s.deeds)) ∙ ap (λ l. requests_in s.deeds ++ l) (sym (none_left quiet jobless))) ∙ proper.2
-    by_stream live quiet jobless (doomed message none (inl over)) = let never : ◌≡◌ {A = Bool} true false = sym over ∙ live in absurd (cc)
-    by_stream live quiet jobless (doomed message none (inr is)) = absurd (subst (IsRefusing n) jobless is)
-
     by_full : (w : Went plan n past room.reading room.jobs room.lines x room.hub s) → is_over x ≡ false
         → (came_of n s.start s.start_hub s.deeds ≡ out_items w.request) ⊎ (came_of n s.start s.start_hub s.deeds ≡ out.head w.request.head ∷ [])
         → (w.goes.went ≡ opens ∷ map byte (out_wire w.request)) ⊎ (w.goes.went ≡ opens ∷ map byte (head_wire w.request.framing w.request.head))
     by_full w live (inl e) = inl (w.goes.whole live e)
     by_full w live (inr e) = inr (w.goes.all live ∙ (ap (traffic w.request.framing) e ∙ append-nil (opens ∷ map byte (head_wire w.request.framing w.request.head))))
 
-goes_up_by : (plan : Plan) (n : ℕ) (past : List Sent) (room : Room) → Known plan n past room → GoesUpBy plan room (exchange_on n room) (ups n (past ++ room.hub.sent))
-goes_up_by plan n past room k =
-    subst (λ (o : Option Line). GoesUpBy plan room (exchange_of_line o) (ups n (past ++ room.hub.sent))) (sym (line_in_is n room.lines)) (by_line (look n room.lines) k.line)
+text_is : (n : ℕ) (lines : List Line) (now : Reading) → text_in n lines ≡ Some now → line_reading false (line_in n lines) ≡ Some now
+text_is n lines now is = ap (line_reading false) (line_in_is n lines) ∙ (by_line (look n lines) ∙ is)
   where
-    by_exchange : (due : Due) (o : Option Exchange) → ExOk plan n past room.reading room.jobs room.lines due o room.hub → GoesUpBy plan room o (ups n (past ++ room.hub.sent))
+    by_line : (o : Option Line) → line_reading false o ≡ option_map (λ (l : Line). l.requests) o
+    by_line None = refl
+    by_line (Some l) = refl
+
+goes_up_by : (plan : Plan) (n : ℕ) (past : List Sent) (room : Room) → Known plan n past room → GoesUpBy plan n room (exchange_on n room) (ups n (past ++ room.hub.sent))
+goes_up_by plan n past room k =
+    subst (λ (o : Option Line). GoesUpBy plan n room (exchange_of_line o) (ups n (past ++ room.hub.sent))) (sym (line_in_is n room.lines)) (by_line (look n room.lines) k.line)
+  where
+    by_exchange : (due : Due) (o : Option Exchange) → ExOk plan n past room.reading room.jobs room.lines due o room.hub → GoesUpBy plan n room o (ups n (past ++ room.hub.sent))
     by_exchange due None ok = ok.idle
     by_exchange due (Some x) ok = by_tale ok.tale
       where
-        by_tale : Tale plan n past room.reading room.jobs room.lines x room.hub → IsOpen plan room x (ups n (past ++ room.hub.sent))
+        by_tale : Tale plan n past room.reading room.jobs room.lines x room.hub → IsOpen plan n room x (ups n (past ++ room.hub.sent))
         by_tale (plainly s) = record {
           before = ups n s.start_hub.sent;
           one_by_one = s.before;
           head = s.head;
           first = s.start;
           begun = s.began.begun;
+          place = s.passage.place;
+          asked = s.passage.asked;
           heard = s.passage.heard;
           now = s.passage.was.now;
+          reads = text_is n room.lines s.passage.was.now s.passage.was.at;
           was_heard = s.passage.was.was;
           came = requests_in s.deeds;
           came_first = came_front n past room.reading room.jobs room.lines x room.hub s.head s.start (ups n s.start_hub.sent) (requests_in s.deeds) s.passage;
           came_all = all_came n past room.reading room.jobs room.lines x room.hub s.head s.start (ups n s.start_hub.sent) (requests_in s.deeds) s.passage;
+          read_whole = read_whole n past room.reading room.jobs room.lines x room.hub s.head s.start (ups n s.start_hub.sent) (requests_in s.deeds) s.passage;
           went = s.passage.went;
           adds = s.passage.adds;
           goes = goes_of n past room.reading room.jobs room.lines x room.hub s.head s.start (ups n s.start_hub.sent) (requests_in s.deeds) s.passage;
-          all = all_of n past room.reading room.jobs room.lines x room.hub s.head s.start (ups n s.start_hub.sent) (requests_in s.deeds) s.passage;
+          all = all_of n past room.reading room.jobs room.lines x room.hub s.head s.start (ups n s.start_hub.sent) (requests_in s.deeds) s.passage (ap (λ (y : Exchange). y.asked) s.began.begun.is);
           exact = λ e. so_far plan n past room x s;
         }
         by_tale (filtered o) = record {
@@ -298,20 +301,24 @@ goes_up_by plan n past room k =
           head = o.head;
           first = o.start;
           begun = o.begun;
+          place = o.passage.place;
+          asked = o.passage.asked;
           heard = o.passage.heard;
           now = o.passage.was.now;
+          reads = text_is n room.lines o.passage.was.now o.passage.was.at;
           was_heard = o.passage.was.was;
           came = o.got;
           came_first = came_front n past room.reading room.jobs room.lines x room.hub o.head o.start o.base o.got o.passage;
           came_all = all_came n past room.reading room.jobs room.lines x room.hub o.head o.start o.base o.got o.passage;
+          read_whole = read_whole n past room.reading room.jobs room.lines x room.hub o.head o.start o.base o.got o.passage;
           went = o.passage.went;
           adds = o.passage.adds;
           goes = goes_of n past room.reading room.jobs room.lines x room.hub o.head o.start o.base o.got o.passage;
-          all = all_of n past room.reading room.jobs room.lines x room.hub o.head o.start o.base o.got o.passage;
+          all = all_of n past room.reading room.jobs room.lines x room.hub o.head o.start o.base o.got o.passage (ap (λ (y : Exchange). y.asked) o.begun.is);
           exact = λ e. absurd (o.filters e);
         }
 
-    by_line : (o : Option Line) → LineOk plan n past room.reading room.jobs room.lines o room.hub → GoesUpBy plan room (exchange_of_line o) (ups n (past ++ room.hub.sent))
+    by_line : (o : Option Line) → LineOk plan n past room.reading room.jobs room.lines o room.hub → GoesUpBy plan n room (exchange_of_line o) (ups n (past ++ room.hub.sent))
     by_line None ok = ok.1
     by_line (Some l) ok = by_exchange l.requests.due l.exchange ok.1
 
@@ -349,4 +356,4 @@ pub all_go_up_one_by_one : (H : Type 0) → RequestsGoUpOneByOne H
 all_go_up_one_by_one H calling plan contexts host ts to n logs turned =
     let k : Known plan n (sent_in ts) to.room = turns_keep calling logs plan [] (both host (new_room contexts)) ts to (new_known plan contexts) turned n in
     let none : to.room.hub.sent ≡ [] = turns_empty calling logs plan (both host (new_room contexts)) ts to refl turned in
-    subst (GoesUpBy plan to.room (exchange_on n to.room)) (ap (ups n) (append-nil (sent_in ts))) (subst (λ l. GoesUpBy plan to.room (exchange_on n to.room) (ups n (sent_in ts ++ l))) none (goes_up_by plan n (sent_in ts) to.room k))
+    subst (GoesUpBy plan n to.room (exchange_on n to.room)) (ap (ups n) (append-nil (sent_in ts))) (subst (λ l. GoesUpBy plan n to.room (exchange_on n to.room) (ups n (sent_in ts ++ l))) none (goes_up_by plan n (sent_in ts) to.room k))

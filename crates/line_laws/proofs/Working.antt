@@ -36,7 +36,7 @@ use Rattle.line_laws.proofs.Maps.{mark_map}
 use Rattle.line_laws.proofs.OnLines.{none_passes}
 use Rattle.line_laws.proofs.Rooms.{AllParts, Calm, calm_of, same_sent}
 use Rattle.line_laws.proofs.Calls.{IsCalm, works_calm, enters_plain}
-use Rattle.line_laws.proofs.Story.{puts_of, Tail, Rests, IsFreshJobs, IsRefusing, NoEnter, Flow, flows, ceases, Passage, Becomes, grows_past, passage_on, lives_up, pending, Proper, Matches, Stream, fresh, going, doomed, Tale, plainly, filtered, Busy, ExOk, LineOk, Known, LivesUp, story_on}
+use Rattle.line_laws.proofs.Story.{asked_on, puts_of, Tail, Rests, IsFreshJobs, IsRefusing, NoEnter, Flow, flows, ceases, Passage, Becomes, grows_past, passage_on, lives_up, pending, Proper, Matches, Stream, fresh, going, doomed, Tale, plainly, filtered, Busy, ExOk, LineOk, Known, LivesUp, story_on}
 use Rattle.line_laws.proofs.Calmed.{Shift, shift_alike, FreshOn, known_calm, other_on, stream_calm}
 use Rattle.line_laws.proofs.Beyond.{lives_then}
 use Rattle.line_laws.proofs.Phases.{run, fresh as fresh_phase}
@@ -286,6 +286,8 @@ module _ (plan : Plan) (n : ℕ) (past : List Sent) where
                     heard = q.heard;
                     was = listens h q.heard q.was;
                     up = o.goes;
+                    place = place ∙ q.place;
+                    asked = asked_on x (entered mid.dead x) start asked q.asked;
                     minor = ap (λ (a : _). a.minor) asked ∙ q.minor;
                     framed = framed ∙ q.framed;
                     flow = by_flow q.flow;
@@ -497,6 +499,8 @@ module _ (plan : Plan) (n : ℕ) (past : List Sent) where
                     heard = q.heard;
                     was = same_listens n mid.lines _ l (record l { exchange = Some (refused status n x mid.hub).0 }) at then_at refl h q.heard q.was;
                     up = o.goes;
+                    place = b.place ∙ q.place;
+                    asked = asked_on x (refused status n x mid.hub).0 start b.asked q.asked;
                     minor = ap (λ (a : _). a.minor) b.asked ∙ q.minor;
                     framed = b.framed ∙ q.framed;
                     flow = by_flow q.flow;

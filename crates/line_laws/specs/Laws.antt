@@ -32,7 +32,7 @@ ExchangesLive H =
 abbrev pub RequestsGoUpOneByOne : (H : Type 0) → Type 0
 RequestsGoUpOneByOne H =
     (calling : Calling H) (plan : Plan) (contexts : Contexts) (host : H) (turns : List (Done H)) (to : Both H) (n : ℕ) → WriteLogs calling
-    → Turns calling plan (both host (new_room contexts)) turns to → GoesUpBy plan to.room (exchange_on n to.room) (ups n (sent_in turns))
+    → Turns calling plan (both host (new_room contexts)) turns to → GoesUpBy plan n to.room (exchange_on n to.room) (ups n (sent_in turns))
 
 -- THE SAME OF A WORKER AND ITS CODE: from a worker that was made of a configuration, as `Worker::new` makes it, by whole turns as its code takes them, over
 -- shared stores of any kind.
@@ -40,11 +40,11 @@ abbrev pub WorkersGoUpOneByOne : (H S : Type 0) → (performs : S → List Made 
 WorkersGoUpOneByOne H S performs =
     (calling : Calling H) (exported : H → ℕ → Callback → Bool) (registering : H → ℕ → Bool) (config : Config) (who : ℕ) (seed : List ℕ) (host : H)
     (sent : List Sent) (to : Standing H) (n : ℕ) → WriteLogs calling → Worked calling performs (new_worker exported registering config who seed host) sent to
-    → GoesUpBy (rules_of to.setting) to.state.room (exchange_on n to.state.room) (ups n sent)
+    → GoesUpBy (rules_of to.setting) n to.state.room (exchange_on n to.state.room) (ups n sent)
 
 -- THE SAME OF THE PRODUCT: with the machines of its VMs, whatever these are.
 abbrev pub RequestsOfTheProductGoUp : (S : Type 0) → (performs : S → List Made → S → Type 0) → Type 0
 RequestsOfTheProductGoUp S performs =
     (config : Config) (who : ℕ) (seed : List ℕ) (host : Vms) (sent : List Sent) (to : Standing Vms) (n : ℕ)
     → Worked slots.calling performs (new_worker slots.exported_in slots.registering_in config who seed host) sent to
-    → GoesUpBy (rules_of to.setting) to.state.room (exchange_on n to.state.room) (ups n sent)
+    → GoesUpBy (rules_of to.setting) n to.state.room (exchange_on n to.state.room) (ups n sent)

@@ -25,7 +25,7 @@ use Rattle.http1_model.specs.Messages.{head as head_is_due}
 use Rattle.http1_model.specs.Target.{absolute}
 use Rattle.http1_model.specs.Unread.{Reading}
 use Rattle.worker.specs.Plan.{Plan}
-use Rattle.worker.specs.Steps.{exchange_for, is_last}
+use Rattle.worker.specs.Steps.{exchange_for, is_last, line_in, line_reading}
 use Rattle.worker.specs.declared.room.Room.{Room}
 use Rattle.line_laws.specs.Heard.{WasHeard}
 use Rattle.line_laws.specs.Living.{requests_in}
@@ -118,11 +118,11 @@ pub data GoesUp (h : Head) (first : Exchange) (t : List Traffic) : Type 0 where
   sends_nothing : t ≡ [] → GoesUp h first t
   sends_request : IsOneRequest h first t → GoesUp h first t
 
--- ALL OF IT: the whole message, or the head alone of one without a body
+-- ALL OF IT: the whole message, to the end of its body
 pub record IsAllOfOne (h : Head) (first : Exchange) (t : List Traffic) : Type 0 where
   pub request : OutRequest
   pub made : IsMadeOf h first request
-  pub is : (t ≡ opens ∷ map byte (out_wire request)) ⊎ (t ≡ opens ∷ map byte (head_wire request.framing request.head))
+  pub is : t ≡ opens ∷ map byte (out_wire request)
 
 -- no stage holds an item, or has one that waits
 abbrev pub AreEmpty : List Stage → Type 0
@@ -178,7 +178,7 @@ pub record OneByOne (plan : Plan) (total : List Traffic) : Type 0 where
   pub is : total ≡ flat_map traffic_of parts
 
 -- WHAT AN EXCHANGE WITHOUT FILTERS HAS SENT UP while it is open: a front of one connection and the bytes of one request, that of its head, exactly
-pub record IsSoFar (room : Room) (x : Exchange) (h : Head) (items : List Item) (went : List Traffic) : Type 0 where
+pub record IsSoFar (x : Exchange) (h : Head) (items : List Item) (went : List Traffic) : Type 0 where
   pub request : OutRequest
   pub sent_of : IsSentOf h request
   pub reads_back : ReadsBack h request
@@ -188,38 +188,46 @@ pub record IsSoFar (room : Room) (x : Exchange) (h : Head) (items : List Item) (
   pub came : List OutItem
   pub of : AreOf h items came
   pub front : IsFront went (opens ∷ map byte (out_wire request))
-  -- where it was neither answered nor has ended: all of that; and so the whole request, or its head where that has no body, once it was read whole and
-  -- nothing is in hand
+  -- where it was neither answered nor has ended: all of that; and so the whole request, or its head where that has no body, once its last item came
   pub all : is_over x ≡ false → went ≡ traffic request.framing came
-  pub read_whole : is_over x ≡ false → room.reading ≡ None → room.jobs ≡ [] → is_whole items ≡ x.asked.whole
   pub whole : is_over x ≡ false → is_whole items ≡ true
       → (went ≡ opens ∷ map byte (out_wire request)) ⊎ (went ≡ opens ∷ map byte (head_wire request.framing request.head))
 
+-- its request is that of the other, but for whether it was read whole
+abbrev pub IsAskedAs : Exchange → Exchange → Type 0
+IsAskedAs x first = x.asked ≡ record first.asked { whole = x.asked.whole }
+
 -- WHAT WENT UP ON A LINE WITH AN EXCHANGE: behind what the exchanges before it sent, what it sent itself
-pub record IsOpen (plan : Plan) (room : Room) (x : Exchange) (total : List Traffic) : Type 0 where
+pub record IsOpen (plan : Plan) (n : ℕ) (room : Room) (x : Exchange) (total : List Traffic) : Type 0 where
   pub before : List Traffic
   pub one_by_one : OneByOne plan before
   pub head : Head
   pub first : Exchange
   pub begun : IsBegun plan head first
-  -- what was heard of its request, and of that what came to its chain: all, where nothing is in hand, unless it was answered or has ended
+  -- that exchange is the one on the line: at the same place, and asked the same
+  pub place : x.place ≡ first.place
+  pub asked : IsAskedAs x first
+  -- what was heard of its request, by the reader of the line's client, which now reads so; and of that what came to its chain: all, where nothing is in
+  -- hand, unless it was answered or has ended; its last item is among them then exactly where the exchange takes its request for read whole
   pub heard : List Item
   pub now : Reading
+  pub reads : line_reading false (line_in n room.lines) ≡ Some now
   pub was_heard : WasHeard head heard now
   pub came : List Item
   pub came_first : IsFront came heard
   pub came_all : is_over x ≡ false → room.reading ≡ None → room.jobs ≡ [] → came ≡ heard
+  pub read_whole : is_over x ≡ false → room.reading ≡ None → room.jobs ≡ [] → is_whole came ≡ x.asked.whole
   pub went : List Traffic
   pub adds : total ≡ before ++ went
   pub goes : GoesUp head first went
   -- where it was neither answered nor has ended, its last item came, and no stage has anything of it: all of it
   pub all : is_over x ≡ false → AreEmpty x.request → is_whole came ≡ true → IsAllOfOne head first went
-  pub exact : x.filters ≡ [] → IsSoFar room x head came went
+  pub exact : x.filters ≡ [] → IsSoFar x head came went
 
 -- what went up on a line, by the exchange that is on it now
-abbrev pub GoesUpBy : Plan → Room → Option Exchange → List Traffic → Type 0
-GoesUpBy plan room None total = OneByOne plan total
-GoesUpBy plan room (Some x) total = IsOpen plan room x total
+abbrev pub GoesUpBy : Plan → ℕ → Room → Option Exchange → List Traffic → Type 0
+GoesUpBy plan n room None total = OneByOne plan total
+GoesUpBy plan n room (Some x) total = IsOpen plan n room x total
 
 -- THE LIFE OF AN EXCHANGE of a line, from its begin on: behind what the exchanges before it sent up, it began with the head of a request that was judged,
 -- and these fair deeds happened to it, of the worker, of its filters and of the machines, with these items of its request on the way
