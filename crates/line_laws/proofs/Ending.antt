@@ -50,7 +50,7 @@ use Rattle.line_laws.proofs.Suiting.{AreShort, suits_of}
 use Rattle.line_laws.proofs.Rooms.{AllFree}
 use Rattle.line_laws.proofs.Story.{puts_of, HasClose, Tail, Matches, pending, Stream, fresh, going, doomed, Story, Passage, Tale, plainly, filtered, Busy, ExOk, LineOk, Known}
 use Rattle.line_laws.proofs.Calmed.{free_puts, free_has, free_no, free_tail, free_none, none_once}
-use Rattle.line_laws.proofs.Parts.{goes_of, came_front, closes_so, one_part}
+use Rattle.line_laws.proofs.Parts.{begins_bare, goes_of, came_front, closes_so, one_part}
 use Rattle.line_laws.proofs.Sides.{ended_known}
 use Rattle.line_laws.proofs.Turned.{line_turn}
 use Rattle.line_laws.proofs.Closing.{line_as_is}
@@ -121,12 +121,18 @@ body_of h (items.Trailers ∷ rest) (out.head g ∷ outs) body are = absurd are.
 body_of h (items.Trailers ∷ rest) (out.interim g ∷ outs) body are = absurd are.0
 body_of h (items.Trailers ∷ rest) (out.piece went last ∷ outs) body are = absurd are.0
 
+-- a request without a body, of which the head says so
+pub record IsHeadAlone (items : List Item) (outs : List OutItem) (request : OutRequest) : Type 0 where
+  pub outs_are : outs ≡ out.head request.head ∷ []
+  pub begins : begins_bare items ≡ true
+  pub is : request ≡ record { framing = request.framing; head = request.head; pieces = []; ending = last_bytes [] }
+
 pub record OfRequest (h : Head) (framing : Framing) (items : List Item) (outs : List OutItem) : Type 0 where
   pub request : OutRequest
   pub framed : request.framing ≡ framing
   pub head : request.head ≡ sent_head h.fields (up_tail h.minor)
   pub front : IsFront outs (out_items request)
-  pub full : is_whole items ≡ true → (outs ≡ out_items request) ⊎ (outs ≡ out.head request.head ∷ [])
+  pub full : is_whole items ≡ true → (outs ≡ out_items request) ⊎ IsHeadAlone items outs request
   pub sized : is_whole items ≡ true → length (body_bytes request.pieces request.ending) ≡ size items
   pub short : AreShort items → list_all is_short (all_pieces request.pieces request.ending) ≡ true
 
@@ -147,13 +153,13 @@ with_body h framing rest outs b = record {
   short = λ e. b.short e.1;
 }
 
-without_body : (h : Head) (framing : Framing) (rest : List Item) → size rest ≡ 0 → OfRequest h framing rest (out.head (sent_as h) ∷ [])
-without_body h framing rest none = record {
+without_body : (h : Head) (framing : Framing) (rest : List Item) → begins_bare rest ≡ true → size rest ≡ 0 → OfRequest h framing rest (out.head (sent_as h) ∷ [])
+without_body h framing rest begins none = record {
   request = record { framing = framing; head = sent_as h; pieces = []; ending = last_bytes [] };
   framed = refl;
   head = refl;
   front = (body_items [] (last_bytes []), refl);
-  full = λ e. inr refl;
+  full = λ e. inr (record { outs_are = refl; begins = begins; is = refl });
   sized = λ e. sym none;
   short = λ e. empty_short;
 }
@@ -173,7 +179,7 @@ request_of_items h framing (i ∷ rest) [] message are = absurd are
 request_of_items h framing (items.Head false ∷ rest) (out.head g ∷ outs) message are = headed h framing (items.Head false ∷ rest) g outs are.0 (with_body h framing rest outs (body_of h rest outs message are.1))
 request_of_items h framing (items.Head true ∷ rest) (out.head g ∷ outs) message are =
     headed h framing (items.Head true ∷ rest) g outs are.0
-    (subst (λ l. OfRequest h framing (items.Head true ∷ rest) (out.head (sent_as h) ∷ l)) (sym (none_out h rest outs message are.1)) (without_body h framing (items.Head true ∷ rest) (ap (λ (l : List Item). 0 + size l) message)))
+    (subst (λ l. OfRequest h framing (items.Head true ∷ rest) (out.head (sent_as h) ∷ l)) (sym (none_out h rest outs message are.1)) (without_body h framing (items.Head true ∷ rest) refl (ap (λ (l : List Item). 0 + size l) message)))
 request_of_items h framing (items.Head end ∷ rest) (out.interim g ∷ outs) message are = absurd are.0
 request_of_items h framing (items.Head end ∷ rest) (out.piece went last ∷ outs) message are = absurd are.0
 request_of_items h framing (items.Head end ∷ rest) (out.trailers fields ∷ outs) message are = absurd are.0
@@ -189,7 +195,7 @@ pub record Went (plan : Plan) (n : ℕ) (past : List Sent) (reading : Option Rea
   pub front : IsFront (came_of n s.start s.start_hub s.deeds) (out_items request)
   pub sized : is_whole (requests_in s.deeds) ≡ true → length (body_bytes request.pieces request.ending) ≡ size (requests_in s.deeds)
   pub short : AreShort (requests_in s.deeds) → list_all is_short (all_pieces request.pieces request.ending) ≡ true
-  pub full : is_whole (requests_in s.deeds) ≡ true → (came_of n s.start s.start_hub s.deeds ≡ out_items request) ⊎ (came_of n s.start s.start_hub s.deeds ≡ out.head request.head ∷ [])
+  pub full : is_whole (requests_in s.deeds) ≡ true → (came_of n s.start s.start_hub s.deeds ≡ out_items request) ⊎ IsHeadAlone (requests_in s.deeds) (came_of n s.start s.start_hub s.deeds) request
 
 module _ (plan : Plan) (n : ℕ) (past : List Sent) (reading : Option Reads) (js : List Job) (lines : List Line) (x : Exchange) (hub : Hub) (s : Story plan n past reading js lines x hub) where
   pub is_message : IsMessage (requests_in s.deeds)
@@ -220,7 +226,7 @@ module _ (plan : Plan) (n : ℕ) (past : List Sent) (reading : Option Reads) (js
   pub same_went : went.goes.went ≡ s.passage.went
   same_went = append_cancel_left (ups n s.start_hub.sent) went.goes.went s.passage.went (sym went.goes.adds ∙ s.passage.adds)
 
-  came_so : IsFront (requests_in s.deeds) s.passage.heard
+  pub came_so : IsFront (requests_in s.deeds) s.passage.heard
   came_so = came_front n past reading js lines x hub s.head s.start (ups n s.start_hub.sent) (requests_in s.deeds) s.passage
 
   pub whole_reads_back : WholeReadsBack s.head (requests_in s.deeds) went.request

@@ -1,5 +1,5 @@
 -- What an exchange sent up is one message, whatever filters it has; and the exchanges one behind the other.
-use Rattle.std.proofs.Common.{◌≡◌, ◌⊎◌, inl, inr, ℕ, Bool, true, false, List, [], ◌∷◌, ◌++◌, map, refl, ap, ◌∙◌, sym, subst}
+use Rattle.std.proofs.Common.{◌≡◌, inl, inr, ℕ, Bool, true, false, List, [], ◌∷◌, ◌++◌, map, refl, ap, ◌∙◌, sym, subst}
 use Rattle.std.proofs.lemmas.Grind.{flat_map-append}
 use Rattle.std.proofs.lemmas.List.{append-nil, map-append}
 use Rattle.std.specs.List.{flat_map}
@@ -7,7 +7,7 @@ use Rattle.std.specs.Prelude.{Option, None, Some, is_some}
 use Rattle.exchange.specs.declared.types.Exchange.{Exchange}
 use Rattle.exchange.specs.declared.types.Hub.{Hub}
 use Rattle.exchange.specs.declared.types.Request.{Request}
-use Rattle.exchange.specs.Heads.{is_bare, length_in, length_of, request_of}
+use Rattle.exchange.specs.Heads.{is_bare, length_in, length_of, request_of, up_framing}
 use Rattle.exchange.specs.Leaving.{goes_up}
 use Rattle.exchange_laws.specs.Lives.{is_over}
 use Rattle.exchange_laws.specs.Responses.{IsBody, IsMessage}
@@ -240,15 +240,16 @@ whole_made h first t (items.Piece bytes end ∷ left) (o ∷ outs) are is all = 
 whole_made h first t (items.Trailers ∷ left) (o ∷ outs) are is all = absurd (fresh_stays items.Trailers left whole refl all (λ e. cc))
 
 -- a request without a body is written without chunks: its head is all of it
-bare_wire : (first : Exchange) (g : Head) → is_bare first.asked.length ≡ true → out_wire (record { framing = goes_up first; head = g; pieces = []; ending = last_bytes [] }) ≡ item_wire (goes_up first) (out.head g)
-bare_wire first g is =
-    subst (λ (f : Framing). out_wire (record { framing = f; head = g; pieces = []; ending = last_bytes [] }) ≡ item_wire f (out.head g)) (sym framed) (by_told first.asked.told)
+pub bare_wire : (filtered : Bool) (q : Request) (g : Head) → is_bare q.length ≡ true
+    → out_wire (record { framing = up_framing filtered q; head = g; pieces = []; ending = last_bytes [] }) ≡ item_wire (up_framing filtered q) (out.head g)
+bare_wire filtered q g is =
+    subst (λ (f : Framing). out_wire (record { framing = f; head = g; pieces = []; ending = last_bytes [] }) ≡ item_wire f (out.head g)) (sym framed) (by_told q.told)
   where
-    framed : goes_up first ≡ framing_of true first.filters_requests false None first.asked.told (length_of first.asked.length)
-    framed = ap (λ b. framing_of b first.filters_requests false None first.asked.told (length_of first.asked.length)) is
+    framed : up_framing filtered q ≡ framing_of true filtered false None q.told (length_of q.length)
+    framed = ap (λ b. framing_of b filtered false None q.told (length_of q.length)) is
 
-    by_told : (told : Option ℕ) → out_wire (record { framing = framing_of true first.filters_requests false None told (length_of first.asked.length); head = g; pieces = []; ending = last_bytes [] })
-        ≡ item_wire (framing_of true first.filters_requests false None told (length_of first.asked.length)) (out.head g)
+    by_told : (told : Option ℕ) → out_wire (record { framing = framing_of true filtered false None told (length_of q.length); head = g; pieces = []; ending = last_bytes [] })
+        ≡ item_wire (framing_of true filtered false None told (length_of q.length)) (out.head g)
     by_told None = append-nil (item_wire no_body (out.head g))
     by_told (Some n) = append-nil (item_wire (by_length n) (out.head g))
 
@@ -262,7 +263,7 @@ bare_made h first t (items.Head true ∷ left) (out.head g ∷ outs) are is all 
     record {
       request = record { framing = goes_up first; head = g; pieces = []; ending = last_bytes [] };
       made = record { fields = are.0.0; head = are.0.1; framing = refl };
-      is = is ∙ (ap (λ (l : List OutItem). traffic (goes_up first) (out.head g ∷ l)) none ∙ (append-nil (opens ∷ map byte (item_wire (goes_up first) (out.head g))) ∙ ap (λ l. opens ∷ map byte l) (sym (bare_wire first g lacks))));
+      is = is ∙ (ap (λ (l : List OutItem). traffic (goes_up first) (out.head g ∷ l)) none ∙ (append-nil (opens ∷ map byte (item_wire (goes_up first) (out.head g))) ∙ ap (λ l. opens ∷ map byte l) (sym (bare_wire first.filters_requests first.asked g lacks))));
     }
 bare_made h first t (items.Head end ∷ left) (out.interim g ∷ outs) are is all lacks = absurd are.0
 bare_made h first t (items.Head end ∷ left) (out.piece went last ∷ outs) are is all lacks = absurd are.0
@@ -276,7 +277,7 @@ empty_chain p [] are = refl
 empty_chain p (s ∷ stages) are = (λ i. run (holds (chain p stages) (are.0 i)) (are.1 i)) ∙ empty_chain p stages are.2
 
 -- the first of them is a head with an end flag
-abbrev begins_bare : List Item → Bool
+abbrev pub begins_bare : List Item → Bool
 begins_bare [] = false
 begins_bare (items.Head end ∷ a) = end
 begins_bare (items.Piece bytes end ∷ a) = false
@@ -303,7 +304,7 @@ whole_phase (items.Piece bytes end ∷ a) message all = absurd message
 whole_phase (items.Trailers ∷ a) message all = absurd message
 
 -- a head that was heard says so where its request has no body
-heard_bare : (h : Head) (got heard : List Item) (now : Reading) → WasHeard h heard now → IsFront got heard → begins_bare got ≡ true → is_bare (request_of h).length ≡ true
+pub heard_bare : (h : Head) (got heard : List Item) (now : Reading) → WasHeard h heard now → IsFront got heard → begins_bare got ≡ true → is_bare (request_of h).length ≡ true
 heard_bare h [] heard now was front begins = absurd (cc)
 heard_bare h (items.Head end ∷ got) heard now was front begins =
     let joined : items.Head end ∷ (got ++ front.0) ≡ head_item h ∷ items_heard was.acts = front.1 ∙ was.are in

@@ -13,6 +13,7 @@ use Rattle.course.specs.Course.{Course, ends, asks, measures, hears}
 use Rattle.course.proofs.Holds.{AllEnds, all_then, all_reached}
 use Rattle.exchange.specs.declared.types.Exchange.{Exchange}
 use Rattle.exchange.specs.declared.types.Hub.{Hub}
+use Rattle.exchange.specs.Heads.{is_bare, request_of, up_framing}
 use Rattle.exchange_laws.specs.Lives.{turns, is_over}
 use Rattle.exchange_laws.specs.Traffic.{Traffic, opens, byte, traffic, ups, IsFront}
 use Rattle.exchange_laws.proofs.Traffic.{ups_join}
@@ -22,8 +23,8 @@ use Rattle.gate_io.specs.declared.event.Sent.{Sent}
 use Rattle.gate_io.specs.declared.event.What.{What}
 use Rattle.gate_io.specs.Events.{is_stop}
 use Rattle.h1_write.specs.Lines.{out_items, out_wire}
-use Rattle.http1_model.specs.Framing.{OutItem, head_wire}
-use Rattle.http1_model.specs.Framing as out
+use Rattle.h1_write.specs.Round.{last_bytes}
+use Rattle.http1_model.specs.Framing.{Framing, head_wire}
 use Rattle.http1_model.specs.Head.{Head}
 use Rattle.http1_model.specs.Messages.{Due}
 use Rattle.http1_model.specs.Unread.{Reading}
@@ -43,7 +44,7 @@ use Rattle.line_laws.specs.Living.{requests_in, request_in, LivesBy}
 use Rattle.line_laws.specs.Requests.{AreOf, OneByOne, IsSoFar, IsOpen, GoesUpBy, HasLived}
 use Rattle.line_laws.specs.Turns.{Done, Turns, new_room, sent_in}
 use Rattle.line_laws.proofs.Earlier.{behind}
-use Rattle.line_laws.proofs.Ending.{Went, went, is_message, same_went, whole_reads_back}
+use Rattle.line_laws.proofs.Ending.{Went, went, IsHeadAlone, came_so, is_message, same_went, whole_reads_back}
 use Rattle.line_laws.proofs.Hearing.{text_in}
 use Rattle.line_laws.proofs.Joining.{ups_joined}
 use Rattle.line_laws.proofs.Kept.{by_bool}
@@ -52,7 +53,7 @@ use Rattle.line_laws.proofs.Looks.{look, line_in_is, lives_join}
 use Rattle.line_laws.proofs.Readable.{readable}
 use Rattle.line_laws.proofs.Rooms.{AllParts}
 use Rattle.line_laws.proofs.Stepping.{settling_keeps}
-use Rattle.line_laws.proofs.Parts.{goes_of, all_of, came_front, all_came, read_whole, no_parts}
+use Rattle.line_laws.proofs.Parts.{bare_wire, heard_bare, goes_of, all_of, came_front, all_came, read_whole, no_parts}
 use Rattle.line_laws.proofs.Story.{Stream, Passage, Story, Tale, plainly, filtered, Idle, ExOk, LineOk, Known}
 
 -- ---- the parts of a turn
@@ -247,15 +248,23 @@ so_far plan n past room x s =
       of = s.came;
       front = subst (λ (t : List Traffic). IsFront t (opens ∷ map byte (out_wire w.request))) same w.goes.front;
       all = λ live. sym same ∙ w.goes.all live;
-      whole = λ live whole.
-          subst (λ (t : List Traffic). (t ≡ opens ∷ map byte (out_wire w.request)) ⊎ (t ≡ opens ∷ map byte (head_wire w.request.framing w.request.head))) same (by_full w live (w.full whole));
+      whole = λ live whole. subst (λ (t : List Traffic). t ≡ opens ∷ map byte (out_wire w.request)) same (by_full w live (w.full whole));
     }
   where
+    alone : (framing : Framing) (g : Head) (bodies : Bool) → framing ≡ up_framing bodies (request_of s.head) → is_bare (request_of s.head).length ≡ true
+        → head_wire framing g ≡ out_wire (record { framing = framing; head = g; pieces = []; ending = last_bytes [] })
+    alone framing g bodies is lacks =
+        subst (λ (f : Framing). head_wire f g ≡ out_wire (record { framing = f; head = g; pieces = []; ending = last_bytes [] })) (sym is) (sym (bare_wire bodies (request_of s.head) g lacks))
+
     by_full : (w : Went plan n past room.reading room.jobs room.lines x room.hub s) → is_over x ≡ false
-        → (came_of n s.start s.start_hub s.deeds ≡ out_items w.request) ⊎ (came_of n s.start s.start_hub s.deeds ≡ out.head w.request.head ∷ [])
-        → (w.goes.went ≡ opens ∷ map byte (out_wire w.request)) ⊎ (w.goes.went ≡ opens ∷ map byte (head_wire w.request.framing w.request.head))
-    by_full w live (inl e) = inl (w.goes.whole live e)
-    by_full w live (inr e) = inr (w.goes.all live ∙ (ap (traffic w.request.framing) e ∙ append-nil (opens ∷ map byte (head_wire w.request.framing w.request.head))))
+        → (came_of n s.start s.start_hub s.deeds ≡ out_items w.request) ⊎ IsHeadAlone (requests_in s.deeds) (came_of n s.start s.start_hub s.deeds) w.request → w.goes.went ≡ opens ∷ map byte (out_wire w.request)
+    by_full w live (inl e) = w.goes.whole live e
+    by_full w live (inr e) =
+        let lacks : is_bare (request_of s.head).length ≡ true
+        = heard_bare s.head (requests_in s.deeds) s.passage.heard s.passage.was.now s.passage.was.was (came_so plan n past room.reading room.jobs room.lines x room.hub s) e.begins in
+        w.goes.all live
+        ∙ (ap (traffic w.request.framing) e.outs_are
+        ∙ (append-nil (opens ∷ map byte (head_wire w.request.framing w.request.head)) ∙ ap (λ l. opens ∷ map byte l) (alone w.request.framing w.request.head w.sent_of.filtered w.sent_of.framing lacks ∙ ap out_wire (sym e.is))))
 
 text_is : (n : ℕ) (lines : List Line) (now : Reading) → text_in n lines ≡ Some now → line_reading false (line_in n lines) ≡ Some now
 text_is n lines now is = ap (line_reading false) (line_in_is n lines) ∙ (by_line (look n lines) ∙ is)
@@ -281,6 +290,7 @@ goes_up_by plan n past room k =
           begun = s.began.begun;
           place = s.passage.place;
           asked = s.passage.asked;
+          framed = s.passage.framed;
           heard = s.passage.heard;
           now = s.passage.was.now;
           reads = text_is n room.lines s.passage.was.now s.passage.was.at;
@@ -303,6 +313,7 @@ goes_up_by plan n past room k =
           begun = o.begun;
           place = o.passage.place;
           asked = o.passage.asked;
+          framed = o.passage.framed;
           heard = o.passage.heard;
           now = o.passage.was.now;
           reads = text_is n room.lines o.passage.was.now o.passage.was.at;
@@ -335,6 +346,8 @@ lived plan n past room x k on none = by_line (look n room.lines) k.line (sym (ap
       deeds = s.deeds;
       came = came_of n s.start s.start_hub s.deeds;
       lives = lives_with n s.deeds s.start x s.start_hub (behind past room.hub) s.lives;
+      place = s.passage.place;
+      asked = s.passage.asked;
       message = is_message plan n past room.reading room.jobs room.lines x room.hub s;
       of = s.came;
     }

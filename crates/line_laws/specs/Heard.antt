@@ -22,8 +22,8 @@ items_heard (ends ∷ acts) = items_heard acts
 items_heard (hands p ∷ acts) = items_of p ++ items_heard acts
 items_heard (halts why ∷ acts) = items_heard acts
 
--- WHAT WAS HEARD: where the head of a request was due in the text of a client, its reader handed on this head, and behind it the other items; and now it
--- reads so
+-- WHAT WAS HEARD: where the head of a request was due in some text, its reader handed on this head, and behind it the other items; and now it reads so.
+-- (Whose reader it is, its last reading says, where that is one of a line; which text it had before is not said.)
 pub record WasHeard (h : Head) (items : List Item) (now : Reading) : Type 0 where
   pub first : Reading
   pub asked : first.asked ≡ None

@@ -26,9 +26,9 @@ ExchangesLive H =
     → Turns calling plan (both host (new_room contexts)) turns to → exchange_on n to.room ≡ Some x → x.filters ≡ []
     → HasLived plan n x (record to.room.hub { sent = sent_in turns ++ to.room.hub.sent })
 
--- REQUESTS GO UP ONE BY ONE: all that goes up on a line over the turns of a new worker is what its exchanges sent, one behind the other: each nothing, or
--- one connection with the head of one request and the items of its body as far as they went, and then the close; of one without filters the bytes of the
--- request of a judged head, exactly.
+-- REQUESTS GO UP ONE BY ONE: all that goes up on a line over the turns of a new worker can be cut into what exchanges sent, one behind the other: each
+-- nothing, or one connection with the head of one request and items of a body as far as they went, and then the close; of one without filters the bytes of
+-- the request of a judged head, exactly.
 abbrev pub RequestsGoUpOneByOne : (H : Type 0) → Type 0
 RequestsGoUpOneByOne H =
     (calling : Calling H) (plan : Plan) (contexts : Contexts) (host : H) (turns : List (Done H)) (to : Both H) (n : ℕ) → WriteLogs calling

@@ -1,6 +1,6 @@
 -- What goes up on a line, exchange by exchange.
 use Rattle.std.specs.List.{flat_map}
-use Rattle.std.specs.Prelude.{◌≡◌, ◌≤◌, ◌⊎◌, ℕ, Bool, true, false, ◌||◌, List, [], ◌∷◌, ◌++◌, map, length, Option, None, Some}
+use Rattle.std.specs.Prelude.{◌≡◌, ◌≤◌, ℕ, Bool, true, false, ◌||◌, List, [], ◌∷◌, ◌++◌, map, length, Option, None, Some}
 use Rattle.exchange.specs.declared.types.Exchange.{Exchange}
 use Rattle.exchange.specs.declared.types.Hub.{Hub}
 use Rattle.exchange.specs.Heads.{path_of, request_of, route_in, sent_head, up_framing, up_tail}
@@ -98,14 +98,15 @@ AreOf h (item ∷ items) (o ∷ outs) = IsOf h item o × AreOf h items outs
 
 -- ---- what an exchange sent up
 
--- A REQUEST ON ITS WAY UP: framed as the exchange frames it, with `via` and `connection: close` behind the fields of its head, whatever filters made of
--- these
+-- A REQUEST ON ITS WAY UP: framed as the exchange frames it, with `via` and `connection: close` behind some fields. What filters made of the fields of its
+-- head is not said, nor that they are fields that a reader takes.
 pub record IsMadeOf (h : Head) (first : Exchange) (q : OutRequest) : Type 0 where
   pub fields : Headers
   pub head : q.head ≡ sent_head fields (up_tail h.minor)
   pub framing : q.framing ≡ goes_up first
 
--- ONE CONNECTION AND ONE MESSAGE: the whole head of one request, and the items of its body as far as they went
+-- ONE CONNECTION AND ONE MESSAGE: the whole head of one request, and items of a body as far as they went, of which the last alone ends it. Which bytes its
+-- pieces hold is not said, nor that they are as many as a head tells.
 pub record IsOneRequest (h : Head) (first : Exchange) (t : List Traffic) : Type 0 where
   pub request : OutRequest
   pub made : IsMadeOf h first request
@@ -171,7 +172,7 @@ abbrev pub AreParts : Plan → List Part → Type 0
 AreParts plan [] = Unit {0}
 AreParts plan (p ∷ parts) = IsPart plan p × AreParts plan parts
 
--- ONE EXCHANGE BEHIND THE OTHER, each with what it sent up and the close of its connection
+-- ONE EXCHANGE BEHIND THE OTHER, each with what it sent up and the close of its connection. (That they are the exchanges of a line, each once, is not said.)
 pub record OneByOne (plan : Plan) (total : List Traffic) : Type 0 where
   pub parts : List Part
   pub are : AreParts plan parts
@@ -188,10 +189,9 @@ pub record IsSoFar (x : Exchange) (h : Head) (items : List Item) (went : List Tr
   pub came : List OutItem
   pub of : AreOf h items came
   pub front : IsFront went (opens ∷ map byte (out_wire request))
-  -- where it was neither answered nor has ended: all of that; and so the whole request, or its head where that has no body, once its last item came
+  -- where it was neither answered nor has ended: all of that; and so the whole request, once its last item came
   pub all : is_over x ≡ false → went ≡ traffic request.framing came
-  pub whole : is_over x ≡ false → is_whole items ≡ true
-      → (went ≡ opens ∷ map byte (out_wire request)) ⊎ (went ≡ opens ∷ map byte (head_wire request.framing request.head))
+  pub whole : is_over x ≡ false → is_whole items ≡ true → went ≡ opens ∷ map byte (out_wire request)
 
 -- its request is that of the other, but for whether it was read whole
 abbrev pub IsAskedAs : Exchange → Exchange → Type 0
@@ -204,9 +204,10 @@ pub record IsOpen (plan : Plan) (n : ℕ) (room : Room) (x : Exchange) (total : 
   pub head : Head
   pub first : Exchange
   pub begun : IsBegun plan head first
-  -- that exchange is the one on the line: at the same place, and asked the same
+  -- that exchange is the one on the line: at the same place, asked the same, and framed the same
   pub place : x.place ≡ first.place
   pub asked : IsAskedAs x first
+  pub framed : goes_up x ≡ goes_up first
   -- what was heard of its request, by the reader of the line's client, which now reads so; and of that what came to its chain: all, where nothing is in
   -- hand, unless it was answered or has ended; its last item is among them then exactly where the exchange takes its request for read whole
   pub heard : List Item
@@ -230,7 +231,9 @@ GoesUpBy plan n room None total = OneByOne plan total
 GoesUpBy plan n room (Some x) total = IsOpen plan n room x total
 
 -- THE LIFE OF AN EXCHANGE of a line, from its begin on: behind what the exchanges before it sent up, it began with the head of a request that was judged,
--- and these fair deeds happened to it, of the worker, of its filters and of the machines, with these items of its request on the way
+-- and these fair deeds happened to it, of the worker, of its filters and of the machines, with these items of its request on the way. (A deed that is none
+-- of its own functions leaves any exchange without stages of a request that is framed the same. So what ties it to its begin, besides what went up, is its
+-- place and its request.)
 pub record HasLived (plan : Plan) (n : ℕ) (x : Exchange) (after : Hub) : Type 0 where
   pub head : Head
   pub start : Exchange
@@ -240,5 +243,7 @@ pub record HasLived (plan : Plan) (n : ℕ) (x : Exchange) (after : Hub) : Type 
   pub deeds : List Deed
   pub came : List OutItem
   pub lives : Lives n start start_hub deeds came x after
+  pub place : x.place ≡ start.place
+  pub asked : IsAskedAs x start
   pub message : IsMessage (requests_in deeds)
   pub of : AreOf head (requests_in deeds) came

@@ -13,17 +13,18 @@ pub fn workers_begin_so()
 {}
 
 /// Whatever turns a new worker has had, whose machines send nothing but logs by themselves, an exchange without filters that is on a line began as
-/// exchanges begin, with a head that was judged, and has lived by what the laws of exchanges allow to happen to one.
+/// exchanges begin, with a head that was judged, and has lived by what the laws of exchanges allow to happen to one, with the same place and request.
 pub fn exchanges_live<H>()
     ensures { ExchangesLive H }
 {}
 
-/// Over the turns of a new worker, as they are defined: all that goes up on a line is what its exchanges sent, one behind the other. Of each, whatever
-/// filters it has, nothing goes up, or one connection is opened with the whole head of one request and the items of its body as far as they went, framed
-/// as the exchange frames it, and then that connection is closed; so no close comes without a connection. What came of it to its chain is a front of what
-/// the reader of the line's client handed on; where its last item came, it was neither answered nor has ended and no stage has anything of it, the whole
-/// message went up. Of one without filters it is the request of the head that was judged, exactly, with the pieces that came,
-/// which a reader takes as that one request where its last item came; and while it is open and was neither answered nor has ended, all that came.
+/// Over the turns of a new worker, as they are defined: all that goes up on a line can be cut into what exchanges sent, one behind the other. Of each,
+/// whatever filters it has, nothing goes up, or one connection is opened with the whole head of one request and items of a body as far as they went,
+/// framed as the exchange frames it, and then that connection is closed; so no close comes without a connection. What came of it to its chain is a front
+/// of what a reader handed on where its head was due: of the one that is open, the reader of the line's client, as it reads now. Where its last item
+/// came, it was neither answered nor has ended and no stage has anything of it, the whole message went up. Which fields and which bytes filters make is
+/// not said. Of one without filters it is the request of the head that was judged, exactly, with the pieces that came, which a reader takes as that one
+/// request where its last item came; and while it is open and was neither answered nor has ended, all that came.
 pub fn requests_go_up_one_by_one<H>()
     ensures { RequestsGoUpOneByOne H }
 {}
