@@ -1,26 +1,31 @@
 -- Worked turns of a new worker without machines: a GET, and two GETs that come at once.
-use Rattle.std.specs.Prelude.{◌≡◌, ◌≤◌, suc, ℕ, true, List, [], ◌∷◌, ◌++◌, map, codes}
+use Rattle.std.specs.Prelude.{◌≡◌, ◌≤◌, suc, ℕ, true, false, List, [], ◌∷◌, ◌++◌, map, None, codes}
 use Rattle.contexts.specs.Making.{no_contexts}
 use Rattle.exchange.specs.declared.types.Exchange.{Exchange}
+use Rattle.exchange_laws.specs.Lives.{is_over}
 use Rattle.exchange_laws.specs.Traffic.{Traffic, opens, byte, closes, ups}
 use Rattle.gate_base.specs.declared.level.Level.TheVariants.{Info}
 use Rattle.gate_io.specs.declared.event.Event.{Event}
 use Rattle.gate_io.specs.declared.event.Side.TheVariants.{Down, Up}
 use Rattle.gate_io.specs.declared.event.What.{What}
 use Rattle.gate_io.specs.declared.event.What.TheVariants as whats
-use Rattle.exchange.specs.Heads.{sent_head, up_tail}
+use Rattle.exchange.specs.Heads.{length_of, sent_head, up_tail}
+use Rattle.exchange.specs.Leaving.{goes_up}
 use Rattle.h1_write.specs.Lines.{OutRequest, out_wire}
 use Rattle.h1_write.specs.Round.{last_bytes}
+use Rattle.httparse.specs.Ascii.{crlf_bytes}
 use Rattle.http1_model.specs.Examples.{worked_head, worked_text, worked_wire, worked_response_text}
-use Rattle.http1_model.specs.Framing.{no_body}
+use Rattle.http1_model.specs.Framing.{no_body, by_chunks}
 use Rattle.http1_model.specs.Head.{Head}
+use Rattle.http1_model.specs.Length.{chunked}
 use Rattle.worker.specs.NoCalls.{no_calling}
 use Rattle.worker.specs.Plan.{Plan}
 use Rattle.worker.specs.Steps.{Both, both}
 use Rattle.worker.specs.declared.no_machines.NoMachines.{NoMachines}
+use Rattle.worker.specs.declared.room.Room.{Room}
 use Rattle.worker.specs.declared.types.Line.{Line}
 use Rattle.line_laws.specs.Logs.{WriteLogs}
-use Rattle.line_laws.specs.Requests.{IsJudged, HasRoom, GoesUp, Part, IsPart, traffic_of}
+use Rattle.line_laws.specs.Requests.{IsJudged, HasRoom, GoesUp, IsAllOfOne, AreEmpty, IsOpen, Part, IsPart, traffic_of}
 use Rattle.line_laws.specs.Turns.{Done, Turns, new_room, sent_in}
 
 -- one route, which takes every path and has no filters
@@ -62,13 +67,25 @@ openings (opens ∷ t) = suc (openings t)
 openings (byte b ∷ t) = openings t
 openings (closes ∷ t) = openings t
 
+-- the head alone of a POST that goes up in chunks
+abbrev pub posted_wire : List ℕ
+posted_wire =
+    codes "POST / HTTP/1.1" ++ crlf_bytes ++ codes "host: a" ++ crlf_bytes ++ codes "transfer-encoding: chunked" ++ crlf_bytes ++ codes "via: 1.1 wasmgate" ++ crlf_bytes ++ codes "connection: close" ++ crlf_bytes ++ crlf_bytes
+
 -- WHAT THE DEFINITIONS REFUSE: an exchange opens no second connection, closes none of which nothing went up, and sends nothing behind the close; and a head
--- that was not judged began none
+-- that was not judged began none. The head alone is not all of a request in chunks, whatever filters made of its fields; so it is not all that went up of
+-- one that was read whole, where nothing is in hand and no stage has anything of it. Without filters no second head goes up behind the head. And the request
+-- of an exchange with a body is not one that was heard without.
 pub record Refused : Type 0 where
   pub once : (h : Head) (first : Exchange) (t : List Traffic) → GoesUp h first t → openings t ≤ 1
   pub opened : (p : Part) → traffic_of p ≡ closes ∷ [] → ⊥
   pub last : (plan : Plan) (p : Part) (b : ℕ) → IsPart plan p → traffic_of p ≡ opens ∷ closes ∷ byte b ∷ [] → ⊥
   pub judged : (plan : Plan) (p : Part) → (IsJudged p.head → ⊥) → IsPart plan p → ⊥
+  pub alone : (h : Head) (first : Exchange) → goes_up first ≡ by_chunks → IsAllOfOne h first (opens ∷ map byte posted_wire) → ⊥
+  pub stuck : (plan : Plan) (n : ℕ) (room : Room) (x : Exchange) → goes_up x ≡ by_chunks → x.asked.whole ≡ true → is_over x ≡ false → AreEmpty x.request → room.reading ≡ None → room.jobs ≡ []
+      → IsOpen plan n room x (opens ∷ map byte posted_wire) → ⊥
+  pub second : (plan : Plan) (p : Part) → p.head ≡ worked_head → p.first.filters ≡ [] → IsPart plan p → p.went ≡ opens ∷ map byte (worked_wire ++ worked_wire) → ⊥
+  pub swapped : (plan : Plan) (n : ℕ) (room : Room) (x : Exchange) (total : List Traffic) → length_of x.asked.length ≡ chunked → (o : IsOpen plan n room x total) → o.head ≡ worked_head → ⊥
 
 pub record LineExamples : Type 0 where
   -- machines that are none write logs alone
