@@ -13,7 +13,8 @@ pub fn workers_begin_so()
 {}
 
 /// Whatever turns a new worker has had, whose machines send nothing but logs by themselves, an exchange without filters that is on a line began as
-/// exchanges begin, with a head that was judged, and has lived by what the laws of exchanges allow to happen to one, with the same place and request.
+/// exchanges begin, with a head that was judged, and has lived by what the laws of exchanges allow to happen to one, with the place and the request, but
+/// for whether that was read whole, of its begin.
 pub fn exchanges_live<H>()
     ensures { ExchangesLive H }
 {}
