@@ -40,21 +40,39 @@ not_alone [] is = cc
 not_alone (one ∷ []) is = cc
 not_alone (one ∷ two ∷ went) is = cc
 
--- behind the bytes comes the close, and nothing
-closes_last : (bytes : List ℕ) (b : ℕ) → map byte bytes ++ closes ∷ [] ≡ closes ∷ byte b ∷ [] → ⊥
-closes_last [] b is = cc
-closes_last (c ∷ bytes) b is = cc
+-- ---- behind a close comes nothing
 
-goes_last : (h : Head) (first : Exchange) (went : List Traffic) (b : ℕ) → GoesUp h first went → went ++ close_behind went ≡ opens ∷ closes ∷ byte b ∷ [] → ⊥
-goes_last h first went b (sends_nothing is) all =
-    let e : ◌≡◌ {A = List Traffic} [] (opens ∷ closes ∷ byte b ∷ []) = ap (λ t. t ++ close_behind t) (sym is) ∙ all in absurd (cc)
-goes_last h first went b (sends_request r) all =
+abbrev unclosed : List Traffic → Bool
+unclosed [] = true
+unclosed (opens ∷ t) = unclosed t
+unclosed (byte b ∷ t) = unclosed t
+unclosed (closes ∷ t) = false
+
+unclosed_bytes : (bytes : List ℕ) → unclosed (map byte bytes) ≡ true
+unclosed_bytes [] = refl
+unclosed_bytes (b ∷ bytes) = unclosed_bytes bytes
+
+tail_same : (a b : Traffic) (s t : List Traffic) → a ∷ s ≡ b ∷ t → s ≡ t
+tail_same a b s t is = cc
+
+none_there : (s t : List Traffic) → [] ≡ s ++ closes ∷ t → ⊥
+none_there [] t is = cc
+none_there (a ∷ s) t is = cc
+
+closes_last : (went s t : List Traffic) → unclosed went ≡ true → went ++ closes ∷ [] ≡ s ++ closes ∷ t → t ≡ []
+closes_last [] [] t runs is = sym (tail_same closes closes [] t is)
+closes_last [] (a ∷ s) t runs is = absurd (none_there s t (tail_same closes a [] (s ++ closes ∷ t) is))
+closes_last (opens ∷ went) [] t runs is = absurd (cc)
+closes_last (byte b ∷ went) [] t runs is = absurd (cc)
+closes_last (closes ∷ went) s t runs is = absurd (cc)
+closes_last (opens ∷ went) (a ∷ s) t runs is = closes_last went s t runs (tail_same opens a (went ++ closes ∷ []) (s ++ closes ∷ t) is)
+closes_last (byte b ∷ went) (a ∷ s) t runs is = closes_last went s t runs (tail_same (byte b) a (went ++ closes ∷ []) (s ++ closes ∷ t) is)
+
+goes_last : (h : Head) (first : Exchange) (went s t : List Traffic) → GoesUp h first went → went ++ close_behind went ≡ s ++ closes ∷ t → t ≡ []
+goes_last h first went s t (sends_nothing is) all = absurd (none_there s t (ap (λ l. l ++ close_behind l) (sym is) ∙ all))
+goes_last h first went s t (sends_request r) all =
     let bytes : List ℕ = items_wire r.request.framing (out.head r.request.head ∷ r.items) in
-    let e : opens ∷ (map byte bytes ++ closes ∷ []) ≡ opens ∷ closes ∷ byte b ∷ [] = ap (λ t. t ++ close_behind t) (sym r.is) ∙ all in
-    closes_last bytes b (tail_same _ _ e)
-  where
-    tail_same : (s t : List Traffic) → opens ∷ s ≡ opens ∷ t → s ≡ t
-    tail_same s t e = cc
+    closes_last (opens ∷ map byte bytes) s t (unclosed_bytes bytes) (ap (λ l. l ++ close_behind l) (sym r.is) ∙ all)
 
 -- ---- the head alone is not all of a request in chunks
 
@@ -142,16 +160,6 @@ head_alone h first framed all =
 
 -- ---- nor all that went up of one that was read whole
 
-abbrev unclosed : List Traffic → Bool
-unclosed [] = true
-unclosed (opens ∷ t) = unclosed t
-unclosed (byte b ∷ t) = unclosed t
-unclosed (closes ∷ t) = false
-
-unclosed_bytes : (bytes : List ℕ) → unclosed (map byte bytes) ≡ true
-unclosed_bytes [] = refl
-unclosed_bytes (b ∷ bytes) = unclosed_bytes bytes
-
 unclosed_both : (s t : List Traffic) → unclosed (s ++ t) ≡ true → (unclosed s ≡ true) × (unclosed t ≡ true)
 unclosed_both [] t is = (refl, is)
 unclosed_both (opens ∷ s) t is = unclosed_both s t is
@@ -206,7 +214,7 @@ pub refused : Refused
 refused = record {
   once = opens_once;
   opened = λ p is. not_alone p.went is;
-  last = λ plan p b part is. goes_last p.head p.first p.went b part.goes is;
+  last = λ plan p s t part is. goes_last p.head p.first p.went s t part.goes is;
   judged = λ plan p none part. none part.begun.judged;
   alone = head_alone;
   stuck = head_stuck;

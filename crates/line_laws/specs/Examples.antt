@@ -72,14 +72,14 @@ abbrev pub posted_wire : List ℕ
 posted_wire =
     codes "POST / HTTP/1.1" ++ crlf_bytes ++ codes "host: a" ++ crlf_bytes ++ codes "transfer-encoding: chunked" ++ crlf_bytes ++ codes "via: 1.1 wasmgate" ++ crlf_bytes ++ codes "connection: close" ++ crlf_bytes ++ crlf_bytes
 
--- WHAT THE DEFINITIONS REFUSE: an exchange opens no second connection, closes none of which nothing went up, and sends nothing behind the close; and a head
+-- WHAT THE DEFINITIONS REFUSE: an exchange opens no second connection, closes none of which nothing went up, and sends nothing behind a close; and a head
 -- that was not judged began none. The head alone is not all of a request in chunks, whatever filters made of its fields; so it is not all that went up of
 -- one that was read whole, where nothing is in hand and no stage has anything of it. Without filters no second head goes up behind the head. And the request
 -- of an exchange with a body is not one that was heard without.
 pub record Refused : Type 0 where
   pub once : (h : Head) (first : Exchange) (t : List Traffic) → GoesUp h first t → openings t ≤ 1
   pub opened : (p : Part) → traffic_of p ≡ closes ∷ [] → ⊥
-  pub last : (plan : Plan) (p : Part) (b : ℕ) → IsPart plan p → traffic_of p ≡ opens ∷ closes ∷ byte b ∷ [] → ⊥
+  pub last : (plan : Plan) (p : Part) (s t : List Traffic) → IsPart plan p → traffic_of p ≡ s ++ closes ∷ t → t ≡ []
   pub judged : (plan : Plan) (p : Part) → (IsJudged p.head → ⊥) → IsPart plan p → ⊥
   pub alone : (h : Head) (first : Exchange) → goes_up first ≡ by_chunks → IsAllOfOne h first (opens ∷ map byte posted_wire) → ⊥
   pub stuck : (plan : Plan) (n : ℕ) (room : Room) (x : Exchange) → goes_up x ≡ by_chunks → x.asked.whole ≡ true → is_over x ≡ false → AreEmpty x.request → room.reading ≡ None → room.jobs ≡ []
