@@ -24,9 +24,9 @@ use Rattle.chain_laws.proofs.Alike.{AreSame, goes_same}
 use Rattle.chain_laws.proofs.Holding.{all_there}
 use Rattle.chain_laws.proofs.Steps.{through_to, through_items, through_is}
 use Rattle.chain_laws.proofs.Targets.{by_bool, ahead, comes_in, goes_in}
-use Rattle.body_laws.specs.Deaths.{HoldNothing, AreDropped, DroppingDrops, IsCutShort, vm_at, lets_at, lets_of, PassFrom, MayLet, between, comes_to, DeathsAreDeeds, DeathsPass}
+use Rattle.body_laws.specs.Deaths.{HoldNothing, AreDropped, DroppingDrops, IsCutShort, vm_at, lets_at, lets_of, PassFrom, MayLet, between, CutIsAnothers, request_death, response_death, IsDeath, DeathsAreDeeds, DeathsPass}
 use Rattle.body_laws.specs.Apart.{AreAliens}
-use Rattle.body_laws.specs.Deeds.{Deed, lets, turns, Running, standing, done_by, came, AreDeeds, done_all}
+use Rattle.body_laws.specs.Deeds.{Deed, lets, turns, Running, standing, done_by, came, IsDeed, AreDeeds, done_all}
 use Rattle.body_laws.proofs.Apart.{Holds, same, next, Chained, lets as lets_by}
 use Rattle.body_laws.proofs.Deeds.{deed_does, gives_is, passed_is}
 use Rattle.body_laws.proofs.Moved.{left_across, across_with}
@@ -328,12 +328,29 @@ lets_came vm (suc k) stages more none = by_vm_ (vm_at stages k) (lets_came vm k 
     by_vm_ None later = later
     by_vm_ (Some of) later = by_own_ of (of == vm) later
 
-deaths_of_request : (n vm : ℕ) (w : Running) → w.exchange.has_ended ≡ false → fails_closed vm w.exchange ≡ false → MayLet false n vm w
+-- what may be let through may be so whatever stage of another VM is the last with a body callback
+raised_one : (response : Bool) (n count k : ℕ) (w : Running) → (suc k ≡ count → ⊥) → IsDeed response 0 (lets k) w → IsDeed response count (lets k) w
+raised_one response n count k w apart is = record { runs = is.runs; acts = ((apart, is.acts.0.1), tt); chain = is.chain }
+
+raised : (response : Bool) (n count vm : ℕ) (stages : List Stage) → CutIsAnothers count vm stages → (k : ℕ) (w : Running) → AreDeeds response n 0 (lets_of vm k stages) w
+    → AreDeeds response n count (lets_of vm k stages) w
+raised response n count vm stages cut zero w are = tt
+raised response n count vm stages cut (suc k) w are = by_vm_ (λ u more. raised response n count vm stages cut k u more) (vm_at stages k) refl are
+  where
+    by_own_ : ((u : Running) → AreDeeds response n 0 (lets_of vm k stages) u → AreDeeds response n count (lets_of vm k stages) u) → (of : ℕ) → vm_at stages k ≡ Some of → (b : Bool) → (of == vm) ≡ b → AreDeeds response n 0 ((if b then lets k ∷ [] else []) ++ lets_of vm k stages) w
+        → AreDeeds response n count ((if b then lets k ∷ [] else []) ++ lets_of vm k stages) w
+    by_own_ later of at true own are_ = (raised_one response n count k w (λ e. cc (sym own ∙ cut k of e at)) are_.0, later (done_by response n (lets k) w) are_.1)
+    by_own_ later of at false own are_ = later w are_
+
+    by_vm_ : ((u : Running) → AreDeeds response n 0 (lets_of vm k stages) u → AreDeeds response n count (lets_of vm k stages) u) → (o : Option ℕ) → vm_at stages k ≡ o → AreDeeds response n 0 (lets_at vm k o ++ lets_of vm k stages) w → AreDeeds response n count (lets_at vm k o ++ lets_of vm k stages) w
+    by_vm_ later None at are_ = later w are_
+    by_vm_ later (Some of) at are_ = by_own_ later of at (of == vm) refl are_
+
+deaths_of_request : (n count vm : ℕ) (w : Running) → w.exchange.has_ended ≡ false → fails_closed vm w.exchange ≡ false → CutIsAnothers count vm w.exchange.request → MayLet false n vm w
     → MayLet true n vm (record { due = None; exchange = (between vm n w.exchange w.hub).0; hub = (between vm n w.exchange w.hub).1 })
     → AreAliens (between vm n w.exchange w.hub).0.request (between vm n w.exchange w.hub).0.response
-    → AreThere (between vm n w.exchange w.hub).1.contexts (between vm n w.exchange w.hub).0.request
-    → (deeds : List Deed) × AreDeeds false n 0 deeds w × (came deeds ≡ []) × (comes_to false n deeds w ≡ dies vm n w.exchange w.hub)
-deaths_of_request n vm w runs fair own other alien there =
+    → AreThere (between vm n w.exchange w.hub).1.contexts (between vm n w.exchange w.hub).0.request → IsDeath false n count vm (request_death n vm w) w
+deaths_of_request n count vm w runs fair cut own other alien there =
     let mid : Exchange × Hub = between vm n w.exchange w.hub in
     let end : Exchange × Hub = opens_all vm n w.exchange w.hub in
     let ss : List Stage = mid.0.request in
@@ -343,7 +360,7 @@ deaths_of_request n vm w runs fair own other alien there =
     let chain_is : (done_all false n first w).exchange.request ≡ ss = ap (λ (xh : Exchange × Hub). xh.0.request) it.0 in
     let contexts_are : (done_all false n first w).hub.contexts ≡ mid.1.contexts = ap (λ (xh : Exchange × Hub). xh.1.contexts) it.0 in
     let holds : Holds ss (done_all false n first w).hub.contexts end.1.contexts = subst (λ (b : Contexts). Holds ss b end.1.contexts) (sym contexts_are) side.holds in
-    let last : AreDeeds false n 0 (turns end.0 end.1 ∷ []) (done_all false n first w)
+    let last : AreDeeds false n count (turns end.0 end.1 ∷ []) (done_all false n first w)
     = (
       record {
         runs = tt;
@@ -351,30 +368,30 @@ deaths_of_request n vm w runs fair own other alien there =
         chain = side.chain ∙ sym chain_is;
       },
       tt,
-    ) in (
-      first ++ turns end.0 end.1 ∷ [],
-      deeds_more false n 0 first (turns end.0 end.1 ∷ []) w own last,
-      lets_came vm (length w.exchange.request) w.exchange.request (turns end.0 end.1 ∷ []) refl,
-      ap (λ (u : Running). (u.exchange, u.hub)) (done_more false n first (turns end.0 end.1 ∷ []) w) ∙ sym (open_is n vm w.exchange w.hub runs fair),
-    )
+    ) in
+    record {
+      are = deeds_more false n count first (turns end.0 end.1 ∷ []) w (raised false n count vm w.exchange.request cut (length w.exchange.request) w own) last;
+      none_came = lets_came vm (length w.exchange.request) w.exchange.request (turns end.0 end.1 ∷ []) refl;
+      comes = ap (λ (u : Running). (u.exchange, u.hub)) (done_more false n first (turns end.0 end.1 ∷ []) w) ∙ sym (open_is n vm w.exchange w.hub runs fair);
+    }
 
-deaths_of_response : (n vm : ℕ) (w : Running) → w.exchange.has_ended ≡ false → fails_closed vm w.exchange ≡ false
+deaths_of_response : (n count vm : ℕ) (w : Running) → w.exchange.has_ended ≡ false → fails_closed vm w.exchange ≡ false → CutIsAnothers count vm w.exchange.response
     → MayLet false n vm (record { due = None; exchange = w.exchange; hub = w.hub })
     → MayLet true n vm (record w { exchange = (between vm n w.exchange w.hub).0; hub = (between vm n w.exchange w.hub).1 })
-    → AreAliens w.exchange.response w.exchange.request → AreThere w.hub.contexts w.exchange.response
-    → (deeds : List Deed) × AreDeeds true n 0 deeds w × (came deeds ≡ []) × (comes_to true n deeds w ≡ dies vm n w.exchange w.hub)
-deaths_of_response n vm w runs fair other own alien there =
+    → AreAliens w.exchange.response w.exchange.request → AreThere w.hub.contexts w.exchange.response → IsDeath true n count vm (response_death n vm w) w
+deaths_of_response n count vm w runs fair cut other own alien there =
     let mid : Exchange × Hub = between vm n w.exchange w.hub in
     let ss : List Stage = w.exchange.response in
     let side : IsAcross false ss w.exchange w.hub mid = across false n 0 vm ss (length w.exchange.request) (record { due = None; exchange = w.exchange; hub = w.hub }) alien other in
     let u : Running = record w { exchange = mid.0; hub = mid.1 } in
     let later : List Deed = lets_of vm (length mid.0.response) mid.0.response in
-    let it : Comes true n vm (length mid.0.response) u later = through true n 0 vm (length mid.0.response) u (passes_past vm mid.0.response) own in (
-      turns mid.0 mid.1 ∷ later,
-      (record { runs = tt; acts = ((side.holds.holds, side.holds.there there), tt); chain = side.chain }, own),
-      ap came (sym (append-nil later)) ∙ lets_came vm (length mid.0.response) mid.0.response [] refl,
-      it.0 ∙ sym (open_is n vm w.exchange w.hub runs fair),
-    )
+    let cut_mid : CutIsAnothers count vm mid.0.response = subst (CutIsAnothers count vm) (sym side.chain) cut in
+    let it : Comes true n vm (length mid.0.response) u later = through true n 0 vm (length mid.0.response) u (passes_past vm mid.0.response) own in
+    record {
+      are = (record { runs = tt; acts = ((side.holds.holds, side.holds.there there), tt); chain = side.chain }, raised true n count vm mid.0.response cut_mid (length mid.0.response) u own);
+      none_came = ap came (sym (append-nil later)) ∙ lets_came vm (length mid.0.response) mid.0.response [] refl;
+      comes = it.0 ∙ sym (open_is n vm w.exchange w.hub runs fair);
+    }
 
 pub deaths_are_deeds : DeathsAreDeeds
 deaths_are_deeds = record { request = deaths_of_request; response = deaths_of_response }

@@ -1,4 +1,4 @@
--- WHERE A VM OF THE ROUTE DIES: the exchange is answered 503, or the stages of the VM are let through.
+-- WHERE A VM OF THE ROUTE DIES: the exchange ends without a stage, or the stages of the VM are let through.
 use Rattle.std.specs.Prelude.{◌≡◌, ℕ, zero, suc, ◌==◌, Bool, true, false, List, [], ◌∷◌, ◌++◌, length, slice_get, Option, None, Some, option_map, if◌then◌else◌}
 use Rattle.contexts.specs.declared.parts.Contexts.{Contexts}
 use Rattle.exchange.specs.declared.types.Exchange.{Exchange}
@@ -9,7 +9,7 @@ use Rattle.filter_chain.specs.declared.stage.Stage.{Stage}
 use Rattle.filter_chain.specs.Chains.{bytes_at}
 use Rattle.chain_laws.specs.Acts.{AreThere}
 use Rattle.body_laws.specs.Apart.{AreAliens}
-use Rattle.body_laws.specs.Deeds.{Deed, lets, Running, came, AreDeeds, done_all}
+use Rattle.body_laws.specs.Deeds.{Deed, lets, turns, Running, came, AreDeeds, done_all}
 
 -- ---- answered
 
@@ -72,19 +72,40 @@ between vm n x hub = opens false vm n (length x.request) (x, hub)
 abbrev pub comes_to : Bool → ℕ → List Deed → Running → Exchange × Hub
 comes_to response n deeds w = ((done_all response n deeds w).exchange, (done_all response n deeds w).hub)
 
+-- the stage at this count, from 1, is of another VM
+abbrev pub CutIsAnothers : ℕ → ℕ → List Stage → Type 0
+CutIsAnothers count vm stages = (k of : ℕ) → suc k ≡ count → vm_at stages k ≡ Some of → (of == vm) ≡ false
+
+-- The deeds of a death: the direction's own stages of the VM are let through, and something becomes of the exchange by those of the other direction: for the
+-- request behind that, for the response before.
+abbrev pub request_death : ℕ → ℕ → Running → List Deed
+request_death n vm w =
+    lets_of vm (length w.exchange.request) w.exchange.request ++ turns (opens_all vm n w.exchange w.hub).0 (opens_all vm n w.exchange w.hub).1 ∷ []
+
+abbrev pub response_death : ℕ → ℕ → Running → List Deed
+response_death n vm w =
+    turns (between vm n w.exchange w.hub).0 (between vm n w.exchange w.hub).1
+    ∷ lets_of vm (length (between vm n w.exchange w.hub).0.response) (between vm n w.exchange w.hub).0.response
+
+-- these are deeds of the law, by which nothing comes, and they are what a death does to the exchange
+pub record IsDeath (response : Bool) (n count vm : ℕ) (deeds : List Deed) (w : Running) : Type 0 where
+  pub are : AreDeeds response n count deeds w
+  pub none_came : came deeds ≡ []
+  pub comes : comes_to response n deeds w ≡ dies vm n w.exchange w.hub
+
 -- A DEATH AS DEEDS of the law on bodies, as a direction sees it: its own stages of the VM are let through, and what becomes of those of the other direction
--- leaves it as it was.
+-- leaves it as it was. So for any last stage with a body callback that is of another VM.
 pub record DeathsAreDeeds : Type 0 where
-  pub request : (n vm : ℕ) (w : Running) → w.exchange.has_ended ≡ false → fails_closed vm w.exchange ≡ false → MayLet false n vm w
+  pub request : (n count vm : ℕ) (w : Running) → w.exchange.has_ended ≡ false → fails_closed vm w.exchange ≡ false → CutIsAnothers count vm w.exchange.request → MayLet false n vm w
       → MayLet true n vm (record { due = None; exchange = (between vm n w.exchange w.hub).0; hub = (between vm n w.exchange w.hub).1 })
       → AreAliens (between vm n w.exchange w.hub).0.request (between vm n w.exchange w.hub).0.response
       → AreThere (between vm n w.exchange w.hub).1.contexts (between vm n w.exchange w.hub).0.request
-      → (deeds : List Deed) × AreDeeds false n 0 deeds w × (came deeds ≡ []) × (comes_to false n deeds w ≡ dies vm n w.exchange w.hub)
-  pub response : (n vm : ℕ) (w : Running) → w.exchange.has_ended ≡ false → fails_closed vm w.exchange ≡ false
+      → IsDeath false n count vm (request_death n vm w) w
+  pub response : (n count vm : ℕ) (w : Running) → w.exchange.has_ended ≡ false → fails_closed vm w.exchange ≡ false → CutIsAnothers count vm w.exchange.response
       → MayLet false n vm (record { due = None; exchange = w.exchange; hub = w.hub })
       → MayLet true n vm (record w { exchange = (between vm n w.exchange w.hub).0; hub = (between vm n w.exchange w.hub).1 })
       → AreAliens w.exchange.response w.exchange.request → AreThere w.hub.contexts w.exchange.response
-      → (deeds : List Deed) × AreDeeds true n 0 deeds w × (came deeds ≡ []) × (comes_to true n deeds w ≡ dies vm n w.exchange w.hub)
+      → IsDeath true n count vm (response_death n vm w) w
 
 -- A VM DIES. An exchange that has ended stays as it is; one with a filter of the VM that fails closed is cut short; else the stages of the VM are let through,
 -- those of the request first.
