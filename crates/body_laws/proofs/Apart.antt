@@ -1,6 +1,7 @@
 -- What is done to one exchange passes by the stages of others.
-use Rattle.std.proofs.Common.{◌≡◌, ℕ, zero, suc, ◌-◌, ◌+◌, ◌==◌, Bool, true, false, not, ◌||◌, List, [], ◌∷◌, ◌++◌, length, refl, subst}
+use Rattle.std.proofs.Common.{◌≡◌, ℕ, zero, suc, ◌-◌, ◌+◌, ◌==◌, Bool, true, false, not, ◌||◌, List, [], ◌∷◌, ◌++◌, length, ap, ◌∙◌, sym, refl, subst}
 use Rattle.std.specs.Prelude.{if◌then◌else◌, Option, None, Some, slice_get, slice_set, drop}
+use Rattle.std.proofs.lemmas.List.{append_assoc, append-nil}
 use Rattle.contexts.specs.declared.parts.Contexts.{Contexts}
 use Rattle.contexts.specs.declared.parts.ExchangeView.{ExchangeView}
 use Rattle.contexts.specs.Reached.{view_at}
@@ -20,6 +21,7 @@ use Rattle.filter_chain.specs.declared.stage.Stage.{Stage}
 use Rattle.filter_chain.specs.Items.{holds_bytes, size, held_items}
 use Rattle.filter_chain.specs.Chains.{put, target, accepts, onto, handed, given, unless_over, bytes_held, without_held, let_go, opened, continued, continued_at, let_through, let_through_at, paused, paused_at, cleared, reached, with_more}
 use Rattle.filter_chain.specs.Flow.{NoneIs}
+use Rattle.gate_io.specs.declared.event.Sent.{Sent}
 use Rattle.http1_model.specs.Fields.{Pair}
 use Rattle.chain_laws.specs.Acts.{HoldSame, AreThere}
 use Rattle.body_laws.specs.Apart.{AreAliens, IsAlien, PassesBy, ExchangesPassBy}
@@ -132,27 +134,35 @@ abbrev pub By : List Stage → Hub → Exchange × Hub → Type 0
 By ss hub xh = PassesBy ss hub xh.0 xh.1
 
 stays : (ss : List Stage) (x : Exchange) (hub : Hub) → IsAlien ss x → By ss hub (x, hub)
-stays ss x hub alien = record { holds = hold_all hub.contexts ss; there = λ t. t; alien = alien }
+stays ss x hub alien = record { holds = hold_all hub.contexts ss; there = λ t. t; alien = alien; moment = refl; sent = ([], sym (append-nil hub.sent)) }
 
 pub and_then : (ss : List Stage) (y : Exchange) (hub mid after : Hub) (z : Exchange) → PassesBy ss hub y mid → PassesBy ss mid z after → PassesBy ss hub z after
-and_then ss y hub mid after z a b = record { holds = hold_then hub.contexts mid.contexts after.contexts ss a.holds b.holds; there = λ t. b.there (a.there t); alien = b.alien }
+and_then ss y hub mid after z a b = record {
+  holds = hold_then hub.contexts mid.contexts after.contexts ss a.holds b.holds;
+  there = λ t. b.there (a.there t);
+  alien = b.alien;
+  moment = b.moment ∙ a.moment;
+  sent = (a.sent.0 ++ b.sent.0, b.sent.1 ∙ (ap (λ (l : List Sent). l ++ b.sent.0) a.sent.1 ∙ append_assoc hub.sent a.sent.0 b.sent.0));
+}
 
-pub held_by : (ss : List Stage) (y : Exchange) (hub after : Hub) → Holds ss hub.contexts after.contexts → IsAlien ss y → PassesBy ss hub y after
-held_by ss y hub after holds alien = record { holds = holds.holds; there = holds.there; alien = alien }
+pub held_by : (ss : List Stage) (y : Exchange) (hub after : Hub) → Holds ss hub.contexts after.contexts → IsAlien ss y → after.moment ≡ hub.moment → after.sent ≡ hub.sent
+    → PassesBy ss hub y after
+held_by ss y hub after holds alien now said =
+    record { holds = holds.holds; there = holds.there; alien = alien; moment = now; sent = ([], said ∙ sym (append-nil hub.sent)) }
 
 leaves_by : (ss : List Stage) (response : Bool) (n : ℕ) (item : Item) (x : Exchange) (hub : Hub) → IsAlien ss x → By ss hub (leaves response n item (x, hub))
 leaves_by ss false n item x hub alien = by_bool (By ss hub) x.has_ended (x, hub) (up n item x hub) (λ e. stays ss x hub alien) (λ e. goes_up item)
   where
     goes_up : (i : Item) → By ss hub (up n i x hub)
-    goes_up (Head end) = record { holds = hold_all hub.contexts ss; there = λ t. t; alien = record { request = alien.request; response = alien.response } }
-    goes_up (Piece bytes end) = record { holds = hold_all hub.contexts ss; there = λ t. t; alien = alien }
-    goes_up Trailers = record { holds = hold_all hub.contexts ss; there = λ t. t; alien = alien }
+    goes_up (Head end) = record { holds = hold_all hub.contexts ss; there = λ t. t; alien = record { request = alien.request; response = alien.response }; moment = refl; sent = (_, refl) }
+    goes_up (Piece bytes end) = record { holds = hold_all hub.contexts ss; there = λ t. t; alien = alien; moment = refl; sent = (_, refl) }
+    goes_up Trailers = record { holds = hold_all hub.contexts ss; there = λ t. t; alien = alien; moment = refl; sent = (_, refl) }
 leaves_by ss true n item x hub alien = by_bool (By ss hub) x.has_ended (x, hub) (down n item x hub) (λ e. stays ss x hub alien) (λ e. goes_down item)
   where
     goes_down : (i : Item) → By ss hub (down n i x hub)
-    goes_down (Head end) = record { holds = hold_all hub.contexts ss; there = λ t. t; alien = record { request = alien.request; response = alien.response } }
-    goes_down (Piece bytes end) = record { holds = hold_all hub.contexts ss; there = λ t. t; alien = record { request = alien.request; response = alien.response } }
-    goes_down Trailers = record { holds = hold_all hub.contexts ss; there = λ t. t; alien = record { request = alien.request; response = alien.response } }
+    goes_down (Head end) = record { holds = hold_all hub.contexts ss; there = λ t. t; alien = record { request = alien.request; response = alien.response }; moment = refl; sent = (_, refl) }
+    goes_down (Piece bytes end) = record { holds = hold_all hub.contexts ss; there = λ t. t; alien = record { request = alien.request; response = alien.response }; moment = refl; sent = (_, refl) }
+    goes_down Trailers = record { holds = hold_all hub.contexts ss; there = λ t. t; alien = record { request = alien.request; response = alien.response }; moment = refl; sent = (_, refl) }
 
 left_by : (ss : List Stage) (response : Bool) (n : ℕ) (items : List Item) (x : Exchange) (hub : Hub) → IsAlien ss x → By ss hub (left response n items (x, hub))
 left_by ss response n [] x hub alien = stays ss x hub alien
@@ -170,12 +180,12 @@ drops ss x hub alien =
     (clears ss (cleared hub.contexts x.request) x.response alien.response)
 
 cut_off_by : (ss : List Stage) (x : Exchange) (hub : Hub) → IsAlien ss x → By ss hub (cut_off x hub)
-cut_off_by ss x hub alien = held_by ss (cut_off x hub).0 hub (cut_off x hub).1 (drops ss x hub alien) (record { request = tt; response = tt })
+cut_off_by ss x hub alien = held_by ss (cut_off x hub).0 hub (cut_off x hub).1 (drops ss x hub alien) (record { request = tt; response = tt }) refl refl
 
 directly_by : (ss : List Stage) (n status : ℕ) (fields : List Pair) (body : List ℕ) (x : Exchange) (hub : Hub) → IsAlien ss x → By ss hub (directly n status fields body x hub)
 directly_by ss n status fields body x hub alien =
     by_bool (By ss hub) (x.is_head_out || not (is_final status)) (cut_off x hub) _ (λ e. cut_off_by ss x hub alien)
-    (λ e. record { holds = (drops ss x hub alien).holds; there = (drops ss x hub alien).there; alien = record { request = tt; response = tt } })
+    (λ e. record { holds = (drops ss x hub alien).holds; there = (drops ss x hub alien).there; alien = record { request = tt; response = tt }; moment = refl; sent = (_, refl) })
 
 passed_down_by : (ss : List Stage) (n : ℕ) (p : Passed) (x : Exchange) (hub : Hub) → IsAlien ss x → By ss hub (passed_down n p x hub)
 passed_down_by ss n passed.Over x hub alien = directly_by ss n 500 [] [] x hub alien
@@ -212,7 +222,7 @@ through_by ss n status fields body x hub alien =
     let new : IsAlien ss y
     = record { request = tt; response = alien_drop ss x.response (length x.response - (if x.is_entered then reached x.request else 0)) alien.response } in
     let last : Exchange × Hub = through n status fields body x hub in
-    and_then ss y hub k last.1 last.0 (held_by ss y hub k here new)
+    and_then ss y hub k last.1 last.0 (held_by ss y hub k here new refl refl)
     (by_bool (By ss k) (is_bare y.told.length) (puts_down n (Head true) (y, k)) (puts_down n (Piece body true) (puts_down n (Head false) (y, k)))
     (λ e. puts_down_by ss n (Head true) y k new) (λ e. puts_two_by ss n (Head false) (Piece body true) y k new))
 
@@ -268,7 +278,7 @@ went_by ss response n x hub t chained alien =
     let k : Hub = with_held t.2 hub in
     let last : Exchange × Hub = passed_on response n t.0 y k in
     let new : IsAlien ss y = alien_with ss response t.1 x chained.alien alien in
-    and_then ss y hub k last.1 last.0 (held_by ss y hub k chained.holds new) (passed_on_by ss response n t.0 y k new)
+    and_then ss y hub k last.1 last.0 (held_by ss y hub k chained.holds new refl refl) (passed_on_by ss response n t.0 y k new)
 
 goes_on_by : (ss : List Stage) (response : Bool) (n k : ℕ) (x : Exchange) (hub : Hub) → IsAlien ss x → By ss hub (goes_on response n k x hub)
 goes_on_by ss response n k x hub alien =
@@ -290,7 +300,7 @@ resumes_by ss vm context response n x hub alien = by_place (stage_of vm context 
 acts_by : (ss : List Stage) (response : Bool) (k value n : ℕ) (x : Exchange) (hub : Hub) → IsAlien ss x → By ss hub (acts response k value n x hub)
 acts_by ss response k value n x hub alien =
     let h : Hub = pauses response k x hub in
-    let first : PassesBy ss hub x h = held_by ss x hub h (pauses_by ss hub.contexts k (chain_of response x) (alien_chain ss response x alien)) alien in
+    let first : PassesBy ss hub x h = held_by ss x hub h (pauses_by ss hub.contexts k (chain_of response x) (alien_chain ss response x alien)) alien refl refl in
     by_bool (By ss hub) (value == 0) (goes_on response n k x h) (x, h)
     (λ e. let last : Exchange × Hub = goes_on response n k x h in and_then ss x hub h last.1 last.0 first (goes_on_by ss response n k x h alien)) (λ e. first)
 

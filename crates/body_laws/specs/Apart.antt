@@ -1,5 +1,5 @@
 -- WHAT IS DONE TO ONE EXCHANGE leaves what the stages of others hold.
-use Rattle.std.specs.Prelude.{ℕ, Bool, List, [], ◌∷◌}
+use Rattle.std.specs.Prelude.{◌≡◌, ℕ, Bool, List, [], ◌∷◌, ◌++◌}
 use Rattle.exchange.specs.declared.types.Exchange.{Exchange}
 use Rattle.exchange.specs.declared.types.Hub.{Hub}
 use Rattle.exchange.specs.Answering.{answer}
@@ -7,6 +7,7 @@ use Rattle.exchange.specs.Passing.{put_in, acts, resumes, closed, dies, refused,
 use Rattle.filter_chain.specs.declared.stage.Stage.{Stage}
 use Rattle.filter_chain.specs.declared.item.Item.{Item}
 use Rattle.filter_chain.specs.Flow.{NoneIs}
+use Rattle.gate_io.specs.declared.event.Sent.{Sent}
 use Rattle.http1_model.specs.Fields.{Pair}
 use Rattle.chain_laws.specs.Acts.{HoldSame, AreThere}
 
@@ -19,11 +20,14 @@ pub record IsAlien (ss : List Stage) (x : Exchange) : Type 0 where
   pub request : AreAliens ss x.request
   pub response : AreAliens ss x.response
 
--- The stages hold what they held, and their contexts are there as they were; and the exchange is still one of other stages.
+-- The stages hold what they held, and their contexts are there as they were; the exchange is still one of other stages; the moment is the same, and what was
+-- sent before stays in front of what is sent.
 pub record PassesBy (ss : List Stage) (hub : Hub) (y : Exchange) (after : Hub) : Type 0 where
   pub holds : HoldSame hub.contexts after.contexts ss
   pub there : AreThere hub.contexts ss → AreThere after.contexts ss
   pub alien : IsAlien ss y
+  pub moment : after.moment ≡ hub.moment
+  pub sent : (more : List Sent) × (after.sent ≡ hub.sent ++ more)
 
 -- what an exchange does
 abbrev pub Does : Type 0

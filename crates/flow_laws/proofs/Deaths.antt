@@ -1,6 +1,7 @@
 -- What is done on all lines at once.
-use Rattle.std.proofs.Common.{◌≡◌, ℕ, zero, suc, ◌+◌, ◌==◌, Bool, true, false, not, List, [], ◌∷◌, length, cond, ap, ◌∙◌, sym, refl, subst}
+use Rattle.std.proofs.Common.{◌≡◌, ℕ, zero, suc, ◌+◌, ◌==◌, Bool, true, false, not, List, [], ◌∷◌, ◌++◌, length, cond, ap, ◌∙◌, sym, refl, subst}
 use Rattle.std.specs.List.{position_or_len}
+use Rattle.std.proofs.lemmas.List.{append_assoc, append-nil}
 use Rattle.std.specs.Prelude.{Option, None, Some, slice_get, nat_lt, if◌then◌else◌}
 use Rattle.exchange.specs.declared.types.Exchange.{Exchange}
 use Rattle.exchange.specs.declared.types.Hub.{Hub}
@@ -8,12 +9,13 @@ use Rattle.exchange.specs.Answering.{directly}
 use Rattle.exchange.specs.Passing.{chain_of, dies, fails_closed, gives_way, opens_at, opens, opens_all}
 use Rattle.filter_chain.specs.declared.stage.Stage.{Stage}
 use Rattle.gate_base.specs.declared.level.Level.TheVariants.{Critical}
+use Rattle.gate_io.specs.declared.event.Sent.{Sent}
 use Rattle.gate_io.specs.declared.event.Sent.TheVariants.{Log}
 use Rattle.worker.specs.declared.room.Room.{Room}
 use Rattle.worker.specs.declared.types.Line.{Line}
 use Rattle.worker.specs.Rooms.{marking, with_result, in_exchange, in_line, all_lines, with_lines, sending, death_text}
 use Rattle.contexts.specs.Reached.{vm_in}
-use Rattle.body_laws.specs.Apart.{IsAlien, PassesBy, Does, PassesAliens}
+use Rattle.body_laws.specs.Apart.{AreAliens, IsAlien, PassesBy, Does, PassesAliens}
 use Rattle.flow_laws.specs.Besides.{OthersAreAlien, IsWhole}
 use Rattle.flow_laws.specs.Deaths.{NoneOf, AllLinesLeave, IsReached, DeathsReach}
 use Rattle.flow_laws.specs.Rooms.{IsOn, Leaves}
@@ -40,12 +42,47 @@ one_holds does passes ss line hub alien = by_exchange line.exchange refl
         let by : PassesBy ss hub r.0 r.1 = passes ss line.number y hub (alien y is) in
         next ss hub.contexts r.1.contexts (marking r).1.contexts (record { holds = by.holds; there = by.there }) (by_vms ss r.1.contexts (marking r).1.contexts (marking_vms r))
 
+-- no stage is one of none
+none_alien : (ts : List Stage) → AreAliens [] ts
+none_alien [] = tt
+none_alien (t ∷ ts) = (tt, none_alien ts)
+
+-- the moment is the same, and what was sent stays in front
+record Later (b c : Hub) : Type 0 where
+  moment : c.moment ≡ b.moment
+  sent : (more : List Sent) × (c.sent ≡ b.sent ++ more)
+
+now : (b : Hub) → Later b b
+now b = record { moment = refl; sent = ([], sym (append-nil b.sent)) }
+
+and_later : (b c d : Hub) → Later b c → Later c d → Later b d
+and_later b c d one two = record {
+  moment = two.moment ∙ one.moment;
+  sent = (one.sent.0 ++ two.sent.0, two.sent.1 ∙ (ap (λ (l : List Sent). l ++ two.sent.0) one.sent.1 ∙ append_assoc b.sent one.sent.0 two.sent.0));
+}
+
+one_later : (does : Does) → PassesAliens does → (line : Line) (hub : Hub) → Later hub (in_line does line hub).1
+one_later does passes line hub = by_exchange line.exchange
+  where
+    by_exchange : (o : Option Exchange) → Later hub (in_exchange does line o hub).1
+    by_exchange None = now hub
+    by_exchange (Some y) =
+        let by : PassesBy [] hub (does line.number y hub).0 (does line.number y hub).1
+        = passes [] line.number y hub (record { request = none_alien y.request; response = none_alien y.response }) in
+        record { moment = by.moment; sent = by.sent }
+
+all_later : (does : Does) → PassesAliens does → (lines : List Line) (hub : Hub) → Later hub (all_lines does lines hub).1
+all_later does passes [] hub = now hub
+all_later does passes (line ∷ lines) hub =
+    let mid : Hub = (in_line does line hub).1 in
+    and_later hub mid (all_lines does lines mid).1 (one_later does passes line hub) (all_later does passes lines mid)
+
 -- the line of an exchange to which nothing is done
-own_is : (does : Does) (n : ℕ) (x : Exchange) (line : Line) (hub : Hub) → line.exchange ≡ Some x → line.number ≡ n → ((h : Hub) → does n x h ≡ (x, h))
+own_is : (does : Does) (n : ℕ) (x : Exchange) (line : Line) (hub : Hub) → line.exchange ≡ Some x → line.number ≡ n → does n x hub ≡ (x, hub)
     → in_line does line hub ≡ with_result line (marking (x, hub))
 own_is does n x line hub is number nothing =
     ap (λ (o : Option Exchange). in_exchange does line o hub) is
-    ∙ (ap (λ (m : ℕ). with_result line (marking (does m x hub))) number ∙ ap (λ (r : Exchange × Hub). with_result line (marking r)) (nothing hub))
+    ∙ (ap (λ (m : ℕ). with_result line (marking (does m x hub))) number ∙ ap (λ (r : Exchange × Hub). with_result line (marking r)) nothing)
 
 own_same : (x : Exchange) (line : Line) (hub : Hub) → line.exchange ≡ Some x → (with_result line (marking (x, hub))).0 ≡ line
 own_same x line hub is = λ i. record line { exchange = sym is i }
@@ -72,39 +109,40 @@ others_hold does passes ss (line ∷ lines) hub alien =
     next ss hub.contexts mid.contexts (all_lines does lines mid).1.contexts (one_holds does passes ss line hub (λ y is. alien 0 line y refl is))
     (others_hold does passes ss lines mid (λ p l y at is. alien (suc p) l y at is))
 
-own_there : (does : Does) (n : ℕ) (x : Exchange) (lines : List Line) (hub : Hub) (place : ℕ) (line : Line) → slice_get lines place ≡ Some line → line.exchange ≡ Some x → line.number ≡ n
-    → ((h : Hub) → does n x h ≡ (x, h)) → slice_get (all_lines does lines hub).0 place ≡ Some line
-own_there does n x [] hub place line at is number nothing = absurd (cc)
-own_there does n x (l ∷ lines) hub zero line at is number nothing =
+own_there : (does : Does) → PassesAliens does → (n : ℕ) (x : Exchange) (lines : List Line) (hub : Hub) (place : ℕ) (line : Line) → slice_get lines place ≡ Some line → line.exchange ≡ Some x
+    → line.number ≡ n → (at_moment : ℕ) → hub.moment ≡ at_moment → ((h : Hub) → h.moment ≡ at_moment → does n x h ≡ (x, h)) → slice_get (all_lines does lines hub).0 place ≡ Some line
+own_there does passes n x [] hub place line at is number at_moment same_moment nothing = absurd (cc)
+own_there does passes n x (l ∷ lines) hub zero line at is number at_moment same_moment nothing =
     let here : l ≡ line = (cc) in
     let has : l.exchange ≡ Some x = ap (λ (k : Line). k.exchange) here ∙ is in
     let no : l.number ≡ n = ap (λ (k : Line). k.number) here ∙ number in
-    ap (λ (k : Line). Some k) (ap (λ (r : Line × Hub). r.0) (own_is does n x l hub has no nothing) ∙ (own_same x l hub has ∙ here))
-own_there does n x (l ∷ lines) hub (suc place) line at is number nothing = own_there does n x lines (in_line does l hub).1 place line at is number nothing
+    ap (λ (k : Line). Some k) (ap (λ (r : Line × Hub). r.0) (own_is does n x l hub has no (nothing hub same_moment)) ∙ (own_same x l hub has ∙ here))
+own_there does passes n x (l ∷ lines) hub (suc place) line at is number at_moment same_moment nothing =
+    own_there does passes n x lines (in_line does l hub).1 place line at is number at_moment ((one_later does passes l hub).moment ∙ same_moment) nothing
 
 own_holds : (does : Does) → PassesAliens does → (ss : List Stage) (n : ℕ) (x : Exchange) (lines : List Line) (hub : Hub) (place : ℕ) (line : Line) → slice_get lines place ≡ Some line
-    → line.exchange ≡ Some x → line.number ≡ n → ((h : Hub) → does n x h ≡ (x, h))
+    → line.exchange ≡ Some x → line.number ≡ n → (at_moment : ℕ) → hub.moment ≡ at_moment → ((h : Hub) → h.moment ≡ at_moment → does n x h ≡ (x, h))
     → ((p : ℕ) (l : Line) (y : Exchange) → slice_get lines p ≡ Some l → l.exchange ≡ Some y → (p ≡ place → ⊥) → IsAlien ss y) → Holds ss hub.contexts (all_lines does lines hub).1.contexts
-own_holds does passes ss n x [] hub place line at is number nothing alien = absurd (cc)
-own_holds does passes ss n x (l ∷ lines) hub zero line at is number nothing alien =
+own_holds does passes ss n x [] hub place line at is number at_moment same_moment nothing alien = absurd (cc)
+own_holds does passes ss n x (l ∷ lines) hub zero line at is number at_moment same_moment nothing alien =
     let here : l ≡ line = (cc) in
     let has : l.exchange ≡ Some x = ap (λ (k : Line). k.exchange) here ∙ is in
     let no : l.number ≡ n = ap (λ (k : Line). k.number) here ∙ number in
     let mid : Hub = (in_line does l hub).1 in
-    let vms : mid.contexts.vms ≡ hub.contexts.vms = ap (λ (r : Line × Hub). r.1.contexts.vms) (own_is does n x l hub has no nothing) ∙ marking_vms (x, hub) in
+    let vms : mid.contexts.vms ≡ hub.contexts.vms = ap (λ (r : Line × Hub). r.1.contexts.vms) (own_is does n x l hub has no (nothing hub same_moment)) ∙ marking_vms (x, hub) in
     next ss hub.contexts mid.contexts (all_lines does lines mid).1.contexts (by_vms ss hub.contexts mid.contexts vms)
     (others_hold does passes ss lines mid (λ p k y at_ is_. alien (suc p) k y at_ is_ (λ e. cc e)))
-own_holds does passes ss n x (l ∷ lines) hub (suc place) line at is number nothing alien =
+own_holds does passes ss n x (l ∷ lines) hub (suc place) line at is number at_moment same_moment nothing alien =
     let mid : Hub = (in_line does l hub).1 in
     next ss hub.contexts mid.contexts (all_lines does lines mid).1.contexts (one_holds does passes ss l hub (λ y is_. alien 0 l y refl is_ (λ e. cc e)))
-    (own_holds does passes ss n x lines mid place line at is number nothing (λ p k y at_ is_ apart. alien (suc p) k y at_ is_ (λ e. apart (cc e))))
+    (own_holds does passes ss n x lines mid place line at is number at_moment ((one_later does passes l hub).moment ∙ same_moment) nothing (λ p k y at_ is_ apart. alien (suc p) k y at_ is_ (λ e. apart (cc e))))
 
 all_leave : (does : Does) → PassesAliens does → (response : Bool) (n : ℕ) (x : Exchange) (room : Room) (on : IsOn n room x) → OthersAreAlien (chain_of response x) on.place room
-    → IsWhole response x room → ((hub : Hub) → does n x hub ≡ (x, hub)) → Leaves response n x room x (with_lines room (all_lines does room.lines room.hub))
+    → IsWhole response x room → ((hub : Hub) → hub.moment ≡ room.hub.moment → does n x hub ≡ (x, hub)) → Leaves response n x room x (with_lines room (all_lines does room.lines room.hub))
 all_leave does passes response n x room on alien whole nothing =
     let r : List Line × Hub = all_lines does room.lines room.hub in
     let holds : Holds (chain_of response x) room.hub.contexts r.1.contexts
-    = own_holds does passes (chain_of response x) n x room.lines room.hub on.place on.line on.at on.exchange on.number nothing alien in
+    = own_holds does passes (chain_of response x) n x room.lines room.hub on.place on.line on.at on.exchange on.number room.hub.moment refl nothing alien in
     let one : position_or_len (λ (l : Line). l.number == n) r.0 ≡ position_or_len (λ (l : Line). l.number == n) room.lines = same_places does n room.lines room.hub in
     let two : length r.0 ≡ length room.lines = same_many does room.lines room.hub in
     record {
@@ -112,7 +150,7 @@ all_leave does passes response n x room on alien whole nothing =
         place = on.place;
         line = on.line;
         stands = (λ i. cond (nat_lt (one i) (two i)) (Some (one i)) None) ∙ on.stands;
-        at = own_there does n x room.lines room.hub on.place on.line on.at on.exchange on.number nothing;
+        at = own_there does passes n x room.lines room.hub on.place on.line on.at on.exchange on.number room.hub.moment refl nothing;
         number = on.number;
         exchange = on.exchange;
       };
@@ -159,7 +197,7 @@ all_lines_leave = record {
       let told : Room = sending (Log Critical (death_text (vm_in room.hub.contexts vm).name death) ∷ []) room in
       let told_on : IsOn n told x = record { place = on.place; line = on.line; stands = on.stands; at = on.at; number = on.number; exchange = on.exchange } in
       let l : Leaves response n x told x (with_lines told (all_lines (dies vm) told.lines told.hub))
-      = all_leave (dies vm) (exchanges_pass_by.dying vm) response n x told told_on alien whole (λ hub. dies_none vm n x hub closed request responses) in
+      = all_leave (dies vm) (exchanges_pass_by.dying vm) response n x told told_on alien whole (λ hub same_moment. dies_none vm n x hub closed request responses) in
       record {
         on = record { place = l.on.place; line = l.on.line; stands = l.on.stands; at = l.on.at; number = l.on.number; exchange = l.on.exchange };
         chain = refl;
@@ -204,6 +242,21 @@ reach_behind does passes ss (l ∷ lines) hub zero line at alien =
 reach_behind does passes ss (l ∷ lines) hub (suc place) line at alien =
     reach_behind does passes ss lines (in_line does l hub).1 place line at (λ p k y at_ is apart. alien (suc p) k y at_ is (λ e. apart (cc e)))
 
+front_later : (does : Does) → PassesAliens does → (lines : List Line) (hub : Hub) (place : ℕ) → Later hub (found_at does place lines hub)
+front_later does passes lines hub zero = now hub
+front_later does passes [] hub (suc place) = now hub
+front_later does passes (l ∷ lines) hub (suc place) =
+    let mid : Hub = (in_line does l hub).1 in
+    and_later hub mid (found_at does place lines mid) (one_later does passes l hub) (front_later does passes lines mid place)
+
+behind_later : (does : Does) → PassesAliens does → (lines : List Line) (hub : Hub) (place : ℕ) (line : Line) → slice_get lines place ≡ Some line
+    → Later (in_line does line (found_at does place lines hub)).1 (all_lines does lines hub).1
+behind_later does passes [] hub place line at = absurd (cc)
+behind_later does passes (l ∷ lines) hub zero line at =
+    let here : l ≡ line = (cc) in
+    subst (λ (k : Line). Later (in_line does k hub).1 (all_lines does lines (in_line does l hub).1).1) here (all_later does passes lines (in_line does l hub).1)
+behind_later does passes (l ∷ lines) hub (suc place) line at = behind_later does passes lines (in_line does l hub).1 place line at
+
 -- the line of the exchange itself
 own_line : (does : Does) (n : ℕ) (x : Exchange) (line : Line) (hub : Hub) → line.exchange ≡ Some x → line.number ≡ n → in_line does line hub ≡ with_result line (marking (does n x hub))
 own_line does n x line hub is number = ap (λ (o : Option Exchange). in_exchange does line o hub) is ∙ ap (λ (m : ℕ). with_result line (marking (does m x hub))) number
@@ -222,10 +275,16 @@ all_reach does passes response n x room on alien whole =
     let marked : Holds ss r.1.contexts (marking r).1.contexts = by_vms ss r.1.contexts (marking r).1.contexts (marking_vms r) in
     let one : position_or_len (λ (l : Line). l.number == n) all.0 ≡ position_or_len (λ (l : Line). l.number == n) room.lines = same_places does n room.lines room.hub in
     let two : length all.0 ≡ length room.lines = same_many does room.lines room.hub in
+    let soon : Later room.hub found = front_later does passes room.lines room.hub on.place in
+    let more : Later (with_result on.line (marking r)).1 all.1
+    = subst (λ (k : Line × Hub). Later k.1 all.1) own (behind_later does passes room.lines room.hub on.place on.line on.at) in
     record {
       found = found;
       holds = front.holds;
       there = front.there whole;
+      moment = soon.moment;
+      before = soon.sent;
+      sent = more.sent;
       on = record {
         place = on.place;
         line = (with_result on.line (marking r)).0;
@@ -241,7 +300,8 @@ pub deaths_reach : DeathsReach
 deaths_reach = record {
   on_all = all_reach;
   dying = λ vm death response n x room on alien whole.
-      let told : Room = sending (Log Critical (death_text (vm_in room.hub.contexts vm).name death) ∷ []) room in
+      let said : List Sent = Log Critical (death_text (vm_in room.hub.contexts vm).name death) ∷ [] in
+      let told : Room = sending said room in
       let told_on : IsOn n told x = record { place = on.place; line = on.line; stands = on.stands; at = on.at; number = on.number; exchange = on.exchange } in
       let l : IsReached (dies vm) response n x told (with_lines told (all_lines (dies vm) told.lines told.hub))
       = all_reach (dies vm) (exchanges_pass_by.dying vm) response n x told told_on alien whole in
@@ -249,6 +309,9 @@ deaths_reach = record {
         found = l.found;
         holds = l.holds;
         there = l.there;
+        moment = l.moment;
+        before = (said ++ l.before.0, l.before.1 ∙ append_assoc room.hub.sent said l.before.0);
+        sent = l.sent;
         on = record { place = l.on.place; line = l.on.line; stands = l.on.stands; at = l.on.at; number = l.on.number; exchange = l.on.exchange };
         behind = l.behind;
       };

@@ -169,18 +169,18 @@ asked_put ss h ts alien = by_ready (ready ts)
 asks_pass : (ss : List Stage) (of_response : Bool) (m : ℕ) (y : Exchange) (hub : Hub) (r : Asking × List Stage × Contexts) → IsAlien ss y → Put ss hub.contexts r
     → PassesBy ss hub (asks_chain of_response m y hub r).1 (asks_chain of_response m y hub r).2
 asks_pass ss of_response m y hub (Nothing, stages, h) alien p =
-    held_by ss (with_chain of_response stages y) hub (with_held h hub) p.holds (alien_with ss of_response stages y p.alien alien)
+    held_by ss (with_chain of_response stages y) hub (with_held h hub) p.holds (alien_with ss of_response stages y p.alien alien) refl refl
 asks_pass ss of_response m y hub (Asks ask, stages, h) alien p =
-    held_by ss (with_chain of_response stages y) hub (with_held h hub) p.holds (alien_with ss of_response stages y p.alien alien)
+    held_by ss (with_chain of_response stages y) hub (with_held h hub) p.holds (alien_with ss of_response stages y p.alien alien) refl refl
 asks_pass ss of_response m y hub (Over k, stages, h) alien p =
     let z : Exchange = with_chain of_response stages y in
     let mid : Hub = with_held h hub in
     let new : IsAlien ss z = alien_with ss of_response stages y p.alien alien in
-    let first : PassesBy ss hub z mid = held_by ss z hub mid p.holds new in
+    let first : PassesBy ss hub z mid = held_by ss z hub mid p.holds new refl refl in
     let r : Exchange × Hub = passed_on of_response m passed.Over z mid in
     let second : PassesBy ss mid r.0 r.1 = passed_on_by ss of_response m passed.Over z mid new in
     let last : Exchange × Hub = marking r in
-    let third : PassesBy ss r.1 last.0 last.1 = held_by ss last.0 r.1 last.1 (by_vms ss r.1.contexts last.1.contexts (marking_vms r)) second.alien in
+    let third : PassesBy ss r.1 last.0 last.1 = held_by ss last.0 r.1 last.1 (by_vms ss r.1.contexts last.1.contexts (marking_vms r)) second.alien refl refl in
     and_then ss z hub mid last.1 last.0 first (and_then ss r.0 mid r.1 last.1 last.0 second third)
 
 pub asking_elsewhere : AskingElsewhereLeaves

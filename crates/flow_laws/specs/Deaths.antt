@@ -1,10 +1,11 @@
 -- WHAT IS DONE ON ALL LINES AT ONCE, such as where a VM died.
-use Rattle.std.specs.Prelude.{◌≡◌, ℕ, ◌==◌, Bool, false, List, [], ◌∷◌}
+use Rattle.std.specs.Prelude.{◌≡◌, ℕ, ◌==◌, Bool, false, List, [], ◌∷◌, ◌++◌}
 use Rattle.course.specs.declared.host.Death.{Death}
 use Rattle.exchange.specs.declared.types.Exchange.{Exchange}
 use Rattle.exchange.specs.declared.types.Hub.{Hub}
 use Rattle.exchange.specs.Passing.{chain_of, fails_closed, dies}
 use Rattle.filter_chain.specs.declared.stage.Stage.{Stage}
+use Rattle.gate_io.specs.declared.event.Sent.{Sent}
 use Rattle.worker.specs.declared.room.Room.{Room}
 use Rattle.worker.specs.Rooms.{all_lines, with_lines, died}
 use Rattle.chain_laws.specs.Acts.{HoldSame, AreThere}
@@ -17,22 +18,25 @@ abbrev pub NoneOf : ℕ → List Stage → Type 0
 NoneOf vm [] = Unit {0}
 NoneOf vm (s ∷ ss) = ((s.vm == vm) ≡ false) × NoneOf vm ss
 
--- ON ALL LINES: what does nothing to the exchange itself leaves the direction as it was. So does the death of a VM that is none of its stages', where no
+-- ON ALL LINES: what does nothing to the exchange itself, as it is at this moment, leaves the direction as it was. So does the death of a VM that is none of its stages', where no
 -- filter of the exchange fails closed by it.
 pub record AllLinesLeave : Type 0 where
   pub on_all : (does : Does) → PassesAliens does → (response : Bool) (n : ℕ) (x : Exchange) (room : Room) (on : IsOn n room x) → OthersAreAlien (chain_of response x) on.place room
-      → IsWhole response x room → ((hub : Hub) → does n x hub ≡ (x, hub)) → Leaves response n x room x (with_lines room (all_lines does room.lines room.hub))
+      → IsWhole response x room → ((hub : Hub) → hub.moment ≡ room.hub.moment → does n x hub ≡ (x, hub)) → Leaves response n x room x (with_lines room (all_lines does room.lines room.hub))
   pub dying : (vm : ℕ) (death : Death) (response : Bool) (n : ℕ) (x : Exchange) (room : Room) (on : IsOn n room x) → OthersAreAlien (chain_of response x) on.place room
       → IsWhole response x room → fails_closed vm x ≡ false → NoneOf vm x.request → NoneOf vm x.response → Leaves response n x room x (died vm death room)
 
--- What is done on all lines reaches the exchange on one of them: it finds what all lines have in common as those in front left it, with the stages of the
--- direction holding what they held; and what is done behind it leaves what they hold then. What host calls are told of the exchange goes with it.
+-- What is done on all lines reaches the exchange on one of them: it finds something in common of which the moment is that of the room, the direction's stages
+-- hold what they held, and what was sent stands in front; and what is done behind it leaves what they hold then, and what it sent in its place.
 pub record IsReached (does : Does) (response : Bool) (n : ℕ) (x : Exchange) (room after : Room) : Type 0 where
   pub found : Hub
   pub holds : HoldSame room.hub.contexts found.contexts (chain_of response x)
   pub there : AreThere found.contexts (chain_of response x)
+  pub moment : found.moment ≡ room.hub.moment
+  pub before : (more : List Sent) × (found.sent ≡ room.hub.sent ++ more)
   pub on : IsOn n after (does n x found).0
   pub behind : HoldSame (does n x found).1.contexts after.hub.contexts (chain_of response x)
+  pub sent : (more : List Sent) × (after.hub.sent ≡ (does n x found).1.sent ++ more)
 
 -- A VM'S DEATH REACHES each exchange: it is done to it what `dies` is, whatever VM it is and whatever stages the exchange has.
 pub record DeathsReach : Type 0 where

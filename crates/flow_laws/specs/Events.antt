@@ -38,6 +38,6 @@ pub record EventsLeave : Type 0 where
   -- the stages of another exchange are made
   pub entering_other : (dead : List ℕ) (m : ℕ) (response : Bool) (n : ℕ) (x : Exchange) (room : Room) (on : IsOn n room x) → IsWhole response x room
       → (place_in m room.lines ≡ Some on.place → ⊥) → Leaves response n x room x (on_number (entering dead) m room)
-  -- responses are answered for that are due, and this one is not
+  -- responses are answered for that are due, and at this moment this one is not
   pub expiring : (response : Bool) (n : ℕ) (x : Exchange) (room : Room) (on : IsOn n room x) → OthersAreAlien (chain_of response x) on.place room → IsWhole response x room
-      → ((hub : Hub) → expires n x hub ≡ (x, hub)) → Leaves response n x room x (expires_all room)
+      → ((hub : Hub) → hub.moment ≡ room.hub.moment → expires n x hub ≡ (x, hub)) → Leaves response n x room x (expires_all room)

@@ -66,7 +66,7 @@ pub data MayJob {H : Type 0} (calling : Calling H) (response : Bool) (n count : 
       → TellsThen calling response n count x host ms room vm callbacks.Configure at (plugin_length plugin room.hub.contexts) (λ value z r. is_zero value ≡ false)
       → MayJob calling response n count x host ms room (jobs.Configure vm at plugin)
   tick : (vm at : ℕ) → Tells calling response n count x host ms (ticked vm at room).1 vm callbacks.Tick at 0 → MayJob calling response n count x host ms room (jobs.Tick vm at)
-  expire : (on : IsOn n room x) → OthersAreAlien (chain_of response x) on.place room → ((hub : Hub) → expires n x hub ≡ (x, hub)) → MayJob calling response n count x host ms room jobs.Expire
+  expire : (on : IsOn n room x) → OthersAreAlien (chain_of response x) on.place room → ((hub : Hub) → hub.moment ≡ room.hub.moment → expires n x hub ≡ (x, hub)) → MayJob calling response n count x host ms room jobs.Expire
   happen : (w : What) (on : IsOn n room x) → OthersAreAlien (chain_of response x) on.place room → LosesNone w n on.place room → MayJob calling response n count x host ms room (jobs.Happen w)
   create : (number k : ℕ) → ((f : Filter) → filter_at number k room.lines ≡ Some f → is_drawn_out f.vm room.hub.contexts ≡ false)
       → ((c : NewContext) (y : Exchange) → (creating number k room).0 ≡ Some c → IsOn n (creating number k room).1 y
