@@ -27,7 +27,7 @@ use Rattle.body_laws.specs.Deeds.{Deed, comes, calls, answers, resumes, lets, tu
 use Rattle.chain_laws.specs.PassThrough.{bare_all, bare_in, Thinner, IsInOrder, PassesThrough}
 use Rattle.body_laws.specs.Exchanges.{GoesOn}
 use Rattle.flow_laws.specs.Rooms.{IsOn, running, Leaves, Wakes, Other, wakes, leaves, Meanwhile, nothing, other, Others, quiet_room, IsAsked, asked_exchange, question, stage_own, IsMove, affected, moved_exchange, moved_room, IsPut, Part, moves, puts as puts_part, others, Run, rests, goes, other_deeds, effect_deeds, part_deeds, run_deeds, part_items, run_items, part_buffers, run_buffers}
-use Rattle.flow_laws.specs.Workers.{IsIdleRun, MeanwhileRuns, WorkersPassBodies, LastStagesPass, UnchangedPass, RunGoesOn, RunsGoOn}
+use Rattle.flow_laws.specs.Workers.{AreIdle, IsIdleRun, MeanwhileRuns, WorkersPassBodies, LastStagesPass, UnchangedPass, RunGoesOn, RunsGoOn}
 use Rattle.body_laws.proofs.Deeds.{deed_does, are_written, passed_as, exchanges_pass}
 use Rattle.chain_laws.proofs.Holding.{hold_then, hold_by_vms, there_by_vms}
 use Rattle.flow_laws.proofs.Lines.{with_exchange, on_set, on_number_is, on_context_is, marking_vms}
@@ -331,6 +331,10 @@ run_told {H} {response} {n} {count} (goes {x} {y} {z} {room} {mid} {after} part 
 
 -- ---- THE LAWS
 
+pub run_buffers_are : {H : Type 0} (response : Bool) (n count : ℕ) (x y : Exchange) (room after : Room) (run : Run H response n count x room y after) → IsSound count (standing response (running None x room))
+    → (k : ℕ) → buffers_by response n k (run_deeds run) (running None x room) ≡ run_buffers k run
+run_buffers_are response n count x y room after run sound k = (run_told run sound).lefts k
+
 pub workers_pass : (H : Type 0) → WorkersPassBodies H
 workers_pass H = λ response n count x y room after run new within.
     let told : Told response n count (run_deeds run) (running None x room) (running None y after) (run_items run) (λ k. run_buffers k run)
@@ -406,11 +410,16 @@ runs_go_on H = record {
       (exchanges_pass.unchanged_goes_on response n w (run_deeds run) sound told.are);
 }
 
+idle_more : {response : Bool} {n count : ℕ} {due : Option Ask} {x : Exchange} {room : Room} {y : Exchange} {after : Room} (o : Other response n count due x room y after) (deeds : List Deed) → AreIdle deeds
+    → AreIdle (other_deeds o ++ deeds)
+idle_more (wakes w) deeds idle = (tt, (tt, idle))
+idle_more (leaves l) deeds idle = (tt, idle)
+
 pub meanwhile_runs : (H : Type 0) → MeanwhileRuns H
 meanwhile_runs H response n count x y room after m = run_of m
   where
     run_of : {x y : Exchange} {room after : Room} → Meanwhile response n count x room y after → (run : Run H response n count x room y after) × IsIdleRun run
-    run_of (nothing x room) = (rests x room, record { items = refl; buffers = λ k. refl })
+    run_of (nothing x room) = (rests x room, record { items = refl; buffers = λ k. refl; deeds = tt })
     run_of (other {x} {y} {z} {room} {mid} {after} o later) =
         let r : (run : Run H response n count y mid z after) × IsIdleRun run = run_of later in
-        (goes (others y mid o) r.0, record { items = r.1.items; buffers = λ k. r.1.buffers k })
+        (goes (others y mid o) r.0, record { items = r.1.items; buffers = λ k. r.1.buffers k; deeds = idle_more o (run_deeds r.0) r.1.deeds })

@@ -17,40 +17,43 @@ use Rattle.worker.specs.Rooms.{next_of, marking, on_number}
 use Rattle.worker.specs.Steps.{Both, both, step}
 use Rattle.worker.specs.Turn.{emptied, facing}
 use Rattle.flow_laws.specs.Besides.{IsWhole}
-use Rattle.body_laws.specs.Deeds.{left_by}
+use Rattle.body_laws.specs.Deeds.{Deed, turns, left_by}
 use Rattle.chain_laws.specs.PassThrough.{IsInOrder, PassesThrough}
-use Rattle.flow_laws.specs.Rooms.{IsOn, running, Leaves, leaves, Meanwhile, nothing, other, IsMove, IsPut, moved_exchange, moved_room, moves, puts, others, Run, rests, goes, run_deeds, part_items, run_items, run_buffers}
+use Rattle.chain_laws.proofs.Through.{new_keeps}
+use Rattle.flow_laws.specs.Rooms.{IsOn, running, Leaves, leaves, Meanwhile, nothing, other, IsMove, IsPut, moved_exchange, moved_room, moves, puts, others, Run, rests, goes, part_deeds, run_deeds, part_items, run_items, run_buffers}
 use Rattle.flow_laws.specs.Stepping.{in_hand}
 use Rattle.flow_laws.specs.Steps.{MoveEnds}
-use Rattle.flow_laws.specs.Turns.{MayStep, moves_own, puts_own, is_beside, Steps, no_step, one_step, next_turn, HavePassed, TurnsPassBodies, HaveGoneOn, TurnsGoOn}
+use Rattle.flow_laws.specs.Turns.{MayStep, moves_own, puts_own, is_beside, IsOf, AreOf, Steps, no_step, one_step, next_turn, HavePassed, TurnsPassBodies, HaveGoneOn, TurnsGoOn}
 use Rattle.chain_laws.specs.Sound.{IsSound}
 use Rattle.body_laws.specs.Deeds.{standing}
 use Rattle.flow_laws.specs.Workers.{IsIdleRun, RunGoesOn}
 use Rattle.flow_laws.proofs.Jobs.{jobs_leave}
 use Rattle.flow_laws.proofs.Lines.{on_set, on_number_is}
 use Rattle.flow_laws.proofs.Moving.{moves_are, puts_are}
-use Rattle.flow_laws.proofs.Rooms.{other_on, moved_on, meanwhile_runs, workers_pass, last_stages, unchanged_bodies, runs_go_on}
+use Rattle.flow_laws.proofs.Rooms.{other_on, moved_on, run_buffers_are, meanwhile_runs, workers_pass, last_stages, unchanged_bodies, runs_go_on}
 use Rattle.flow_laws.proofs.Stepping.{steps_beside}
 
 -- ---- the run of a step
 
-record Went (H : Type 0) (response : Bool) (n count : ℕ) (x : Exchange) (room after : Room) (items : List Item) : Type 0 where
+record Went (H : Type 0) (response : Bool) (n count : ℕ) (x : Exchange) (room after : Room) (items : List Item) (Of : List Deed → Type 0) : Type 0 where
   last : Exchange
   on : IsOn n after last
   run : Run H response n count x room last after
   put : run_items run ≡ items
+  of : Of (run_deeds run)
 
 meanwhile_on : {response : Bool} {n count : ℕ} {x y : Exchange} {room after : Room} → Meanwhile response n count x room y after → IsOn n room x → IsOn n after y
 meanwhile_on (nothing x room) on = on
 meanwhile_on {response} {n} {count} (other {x} {y} {z} {room} {mid} {after} o later) on = meanwhile_on later (other_on response n count None x room y mid o)
 
-went_as : (H : Type 0) (response : Bool) (n count : ℕ) (x : Exchange) (room after end : Room) (items : List Item) → after ≡ end → Went H response n count x room end items
-    → Went H response n count x room after items
-went_as H response n count x room after end items is w = subst (λ (r : Room). Went H response n count x room r items) (sym is) w
+went_as : (H : Type 0) (response : Bool) (n count : ℕ) (x : Exchange) (room after end : Room) (items : List Item) (Of : List Deed → Type 0) → after ≡ end
+    → Went H response n count x room end items Of → Went H response n count x room after items Of
+went_as H response n count x room after end items Of is w = subst (λ (r : Room). Went H response n count x room r items Of) (sym is) w
 
 -- it puts what was read, with its job in hand
 put_went : (H : Type 0) (response : Bool) (n count : ℕ) (x : Exchange) (room : Room) (items : List Item) (later : List Job) → IsOn n room x → IsWhole response x room
-    → IsPut response n count items x (in_hand later room) → Went H response n count x room (on_number (put_in response items) n (in_hand later room)) items
+    → (is : IsPut response n count items x (in_hand later room))
+    → Went H response n count x room (on_number (put_in response items) n (in_hand later room)) items (λ deeds. deeds ≡ turns x (in_hand later room).hub ∷ part_deeds {H = H} (puts items is))
 put_went H response n count x room items later on whole is =
     let mid : Room = in_hand later room in
     let after : Room = on_number (put_in response items) n mid in
@@ -61,66 +64,78 @@ put_went H response n count x room items later on whole is =
       on = subst (λ (r : Room). IsOn n r y) (sym (on_number_is (put_in response items) n mid x is.on)) (on_set n mid x is.on (marking (put_in response items n x mid.hub)));
       run = goes (others x mid (leaves l)) (goes (puts items is) (rests y after));
       put = append-nil items;
+      of = ap (λ (l : List Deed). turns x mid.hub ∷ l) (append-nil (part_deeds {H = H} (puts items is)));
     }
 
 step_went : {H : Type 0} (calling : Calling H) (plan : Plan) (response : Bool) (n count : ℕ) (x : Exchange) (b m : Both H) (ms : List Met) (nx : Next) (items : List Item) → IsOn n b.room x
-    → IsWhole response x b.room → MayStep calling response n count x b ms nx items → Reaches (step calling plan nx b.host b.room) ms (ends m) → Went H response n count x b.room m.room items
+    → IsWhole response x b.room → (may : MayStep calling response n count x b ms nx items) → Reaches (step calling plan nx b.host b.room) ms (ends m)
+    → Went H response n count x b.room m.room items (IsOf may)
 step_went {H} calling plan response n count x b m ms _ _ on whole (moves_own q may) reaches =
     let end : MoveEnds calling b.host q ms m = moves_are H calling plan response n x b.room q b.host ms m reaches in
     let c : Called H = end.end in
     let move : IsMove count c q = may c end.reached in
     let is : m.room ≡ moved_room move = ap (λ (d : Both H). d.room) (end.moves count move) in
-    went_as H response n count x b.room m.room (moved_room move) [] is
+    went_as H response n count x b.room m.room (moved_room move) [] (IsOf {calling = calling} {b = b} {ms = ms} (moves_own q may)) is
     (record {
       last = moved_exchange move;
       on = moved_on response n count c x b.room q move;
       run = goes (moves c q move) (rests (moved_exchange move) (moved_room move));
       put = refl;
+      of = (c, end.reached, append-nil (part_deeds (moves c q move)));
     })
 step_went {H} calling plan response n count x b m ms _ _ on whole (puts_own items later is put) reaches = by_met ms (subst (λ (k : Course (Both H)). Reaches k ms (ends m)) (puts_are H calling plan response n items later b.host b.room is) reaches)
   where
-    by_met : (ns : List Met) → Reaches (ends (both b.host (on_number (put_in response items) n (in_hand later b.room)))) ns (ends m) → Went H response n count x b.room m.room items
+    by_met : (ns : List Met) → Reaches (ends (both b.host (on_number (put_in response items) n (in_hand later b.room)))) ns (ends m) → Went H response n count x b.room m.room items (λ deeds. deeds ≡ turns x (in_hand later b.room).hub ∷ part_deeds {H = H} (puts items put))
     by_met [] same =
         let is_m : m ≡ both b.host (on_number (put_in response items) n (in_hand later b.room)) = sym (cc) in
-        went_as H response n count x b.room m.room (on_number (put_in response items) n (in_hand later b.room)) items (ap (λ (d : Both H). d.room) is_m)
+        went_as H response n count x b.room m.room (on_number (put_in response items) n (in_hand later b.room)) items (λ deeds. deeds ≡ turns x (in_hand later b.room).hub ∷ part_deeds {H = H} (puts items put)) (ap (λ (d : Both H). d.room) is_m)
         (put_went H response n count x b.room items later on whole put)
     by_met (c ∷ ns) same = absurd same
 step_went {H} calling plan response n count x b m ms _ _ on whole (is_beside nx may) reaches =
     let w : (y : Exchange) × Meanwhile response n count x b.room y m.room = steps_beside H calling plan response n count x b m ms nx on whole may reaches in
     let r : (run : Run H response n count x b.room w.0 m.room) × IsIdleRun run = meanwhile_runs H response n count x w.0 b.room m.room w.1 in
-    record { last = w.0; on = meanwhile_on w.1 on; run = r.0; put = r.1.items }
+    record { last = w.0; on = meanwhile_on w.1 on; run = r.0; put = r.1.items; of = r.1.deeds }
 
 -- ---- runs, one behind the other
 
 run_join : {H : Type 0} {response : Bool} {n count : ℕ} {x y z : Exchange} {room mid after : Room} (one : Run H response n count x room y mid) (two : Run H response n count y mid z after)
-    → (run : Run H response n count x room z after) × (run_items run ≡ run_items one ++ run_items two)
-run_join (rests x room) two = (two, refl)
+    → (run : Run H response n count x room z after) × (run_items run ≡ run_items one ++ run_items two) × (run_deeds run ≡ run_deeds one ++ run_deeds two)
+run_join (rests x room) two = (two, refl, refl)
 run_join (goes part one) two =
-    let later = run_join one two in
-    (goes part later.0, ap (λ (l : List Item). part_items part ++ l) later.1 ∙ sym (append_assoc (part_items part) (run_items one) (run_items two)))
+    let later = run_join one two in (
+      goes part later.0,
+      ap (λ (l : List Item). part_items part ++ l) later.1 ∙ sym (append_assoc (part_items part) (run_items one) (run_items two)),
+      ap (λ (l : List Deed). part_deeds part ++ l) later.2 ∙ sym (append_assoc (part_deeds part) (run_deeds one) (run_deeds two)),
+    )
 
-steps_went : {H : Type 0} (calling : Calling H) (plan : Plan) (response : Bool) (n count : ℕ) (x : Exchange) (b e : Both H) (items : List Item) → Steps calling plan response n count x b items e
-    → IsOn n b.room x → Went H response n count x b.room e.room items
-steps_went {H} calling plan response n count _ _ _ _ (no_step x b) on = record { last = x; on = on; run = rests x b.room; put = refl }
+steps_went : {H : Type 0} (calling : Calling H) (plan : Plan) (response : Bool) (n count : ℕ) (x : Exchange) (b e : Both H) (items : List Item)
+    (steps : Steps calling plan response n count x b items e) → IsOn n b.room x → Went H response n count x b.room e.room items (AreOf steps)
+steps_went {H} calling plan response n count _ _ _ _ (no_step x b) on = record { last = x; on = on; run = rests x b.room; put = refl; of = refl }
 steps_went {H} calling plan response n count _ _ _ _ (one_step x b m e items more ms there whole may reaches later) on =
-    let first : Went H response n count x b.room m.room items = step_went calling plan response n count x b m ms (next_of b.room) items there whole may reaches in
-    let rest : Went H response n count first.last m.room e.room more = steps_went calling plan response n count first.last m e more (later first.last first.on) first.on in
-    let r : (run : Run H response n count x b.room rest.last e.room) × (run_items run ≡ run_items first.run ++ run_items rest.run) = run_join first.run rest.run in
-    record { last = rest.last; on = rest.on; run = r.0; put = r.1 ∙ (λ i. first.put i ++ rest.put i) }
+    let first : Went H response n count x b.room m.room items (IsOf may) = step_went calling plan response n count x b m ms (next_of b.room) items there whole may reaches in
+    let rest : Went H response n count first.last m.room e.room more (AreOf (later first.last first.on)) = steps_went calling plan response n count first.last m e more (later first.last first.on) first.on in
+    let r = run_join first.run rest.run in
+    record {
+      last = rest.last;
+      on = rest.on;
+      run = r.0;
+      put = r.1 ∙ (λ i. first.put i ++ rest.put i);
+      of = (run_deeds first.run, run_deeds rest.run, r.2, first.of, (first.last, first.on, rest.of));
+    }
 steps_went {H} calling plan response n count _ _ _ _ (next_turn x b e items event there whole later) on =
     let mid : Room = facing plan event (emptied b.room) in
     let l : Leaves response n x b.room x mid = jobs_leave.facing_next plan event response n x b.room there whole in
-    let rest : Went H response n count x mid e.room items = steps_went calling plan response n count x (both b.host mid) e items later l.on in
-    record { last = rest.last; on = rest.on; run = goes (others x mid (leaves l)) rest.run; put = rest.put }
+    let rest : Went H response n count x mid e.room items (AreOf later) = steps_went calling plan response n count x (both b.host mid) e items later l.on in
+    record { last = rest.last; on = rest.on; run = goes (others x mid (leaves l)) rest.run; put = rest.put; of = (run_deeds rest.run, refl, rest.of) }
 
 -- ---- THE LAW
 
 pub turns_pass : (H : Type 0) → TurnsPassBodies H
 turns_pass H calling plan response n count x b e items steps on new within order = by_count count steps within
   where
-    by_count : (c : ℕ) → Steps calling plan response n c x b items e → c ≤ length (chain_of response x) → HavePassed response n c x b items e
+    by_count : (c : ℕ) (steps_ : Steps calling plan response n c x b items e) → c ≤ length (chain_of response x) → HavePassed steps_
     by_count zero steps_ within_ =
-        let w : Went H response n 0 x b.room e.room items = steps_went calling plan response n 0 x b e items steps_ on in
+        let w : Went H response n 0 x b.room e.room items (AreOf steps_) = steps_went calling plan response n 0 x b e items steps_ on in
         let left : List Item = left_by response n (run_deeds w.run) (running None x b.room) in
         let inside : List ℕ = flow e.room.hub.contexts (chain_of response w.last) in
         record {
@@ -128,6 +143,8 @@ turns_pass H calling plan response n count x b e items steps on new within order
           on = w.on;
           run = w.run;
           put = w.put;
+          of = w.of;
+          buffers = run_buffers_are response n 0 x w.last b.room e.room w.run (new_keeps 0 (standing response (running None x b.room)) new within_);
           deeds = workers_pass H response n 0 x w.last b.room e.room w.run new within_;
           last_stage = λ k is. absurd (cc is);
           unchanged = λ is.
@@ -135,7 +152,7 @@ turns_pass H calling plan response n count x b e items steps on new within order
               (unchanged_bodies H response n x w.last b.room e.room w.run new (subst IsInOrder (sym w.put) order));
         }
     by_count (suc j) steps_ within_ =
-        let w : Went H response n (suc j) x b.room e.room items = steps_went calling plan response n (suc j) x b e items steps_ on in
+        let w : Went H response n (suc j) x b.room e.room items (AreOf steps_) = steps_went calling plan response n (suc j) x b e items steps_ on in
         let left : List Item = left_by response n (run_deeds w.run) (running None x b.room) in
         let inside : List ℕ = flow e.room.hub.contexts (drop (suc j) (chain_of response w.last)) in
         let law : PassesThrough items (run_buffers j w.run) left inside (chain_of response w.last)
@@ -146,6 +163,8 @@ turns_pass H calling plan response n count x b e items steps on new within order
           on = w.on;
           run = w.run;
           put = w.put;
+          of = w.of;
+          buffers = run_buffers_are response n (suc j) x w.last b.room e.room w.run (new_keeps (suc j) (standing response (running None x b.room)) new within_);
           deeds = workers_pass H response n (suc j) x w.last b.room e.room w.run new within_;
           last_stage = λ k is.
               let same : j ≡ k = (cc is) in
@@ -156,25 +175,29 @@ turns_pass H calling plan response n count x b e items steps on new within order
 pub turns_go_on : (H : Type 0) → TurnsGoOn H
 turns_go_on H calling plan response n count x b e items steps on sound = by_count count steps sound
   where
-    by_count : (c : ℕ) → Steps calling plan response n c x b items e → IsSound c (standing response (running None x b.room)) → HaveGoneOn response n c x b items e
+    by_count : (c : ℕ) (steps_ : Steps calling plan response n c x b items e) → IsSound c (standing response (running None x b.room)) → HaveGoneOn steps_
     by_count zero steps_ sound_ =
-        let w : Went H response n 0 x b.room e.room items = steps_went calling plan response n 0 x b e items steps_ on in
+        let w : Went H response n 0 x b.room e.room items (AreOf steps_) = steps_went calling plan response n 0 x b e items steps_ on in
         record {
           last = w.last;
           on = w.on;
           run = w.run;
           put = w.put;
+          of = w.of;
+          buffers = run_buffers_are response n 0 x w.last b.room e.room w.run sound_;
           last_stage = λ k is. absurd (cc is);
           unchanged = λ is.
               subst (λ (l : List Item). RunGoesOn w.run (joined l)) w.put ((runs_go_on H).unchanged response n x w.last b.room e.room w.run sound_);
         }
     by_count (suc j) steps_ sound_ =
-        let w : Went H response n (suc j) x b.room e.room items = steps_went calling plan response n (suc j) x b e items steps_ on in
+        let w : Went H response n (suc j) x b.room e.room items (AreOf steps_) = steps_went calling plan response n (suc j) x b e items steps_ on in
         record {
           last = w.last;
           on = w.on;
           run = w.run;
           put = w.put;
+          of = w.of;
+          buffers = run_buffers_are response n (suc j) x w.last b.room e.room w.run sound_;
           last_stage = λ k is.
               let same : j ≡ k = (cc is) in
               subst (λ (i : ℕ). RunGoesOn w.run (run_buffers i w.run)) same ((runs_go_on H).last_stage response n j x w.last b.room e.room w.run sound_);

@@ -17,13 +17,13 @@ use Rattle.worker.specs.Rooms.{next_of}
 use Rattle.worker.specs.Steps.{Both, both, step}
 use Rattle.worker.specs.Turn.{emptied, facing}
 use Rattle.flow_laws.specs.Besides.{IsWhole}
-use Rattle.body_laws.specs.Deeds.{standing, left_by}
+use Rattle.body_laws.specs.Deeds.{Deed, turns, standing, left_by, buffers_by}
 use Rattle.chain_laws.specs.PassThrough.{IsInOrder, IsNew, PassesThrough}
 use Rattle.chain_laws.specs.Sound.{IsSound}
-use Rattle.flow_laws.specs.Rooms.{IsOn, running, IsAsked, IsMove, IsPut, Run, run_deeds, run_items, run_buffers}
+use Rattle.flow_laws.specs.Rooms.{IsOn, running, IsAsked, IsMove, IsPut, moves, puts, part_deeds, Run, run_deeds, run_items, run_buffers}
 use Rattle.flow_laws.specs.Stepping.{in_hand, MayBeside}
 use Rattle.flow_laws.specs.Steps.{callback_program}
-use Rattle.flow_laws.specs.Workers.{AreTheDeeds, RunGoesOn}
+use Rattle.flow_laws.specs.Workers.{AreIdle, AreTheDeeds, RunGoesOn}
 
 -- What a step may be, and the items that it puts into the chain of the direction: a move of the direction, each end of whose callback is a move of the
 -- law; a put of what was read; or a step beside.
@@ -44,13 +44,36 @@ pub data Steps {H : Type 0} (calling : Calling H) (plan : Plan) (response : Bool
   next_turn : (x : Exchange) (b e : Both H) (items : List Item) (event : Event) → IsOn n b.room x → IsWhole response x b.room
       → Steps calling plan response n count x (both b.host (facing plan event (emptied b.room))) items e → Steps calling plan response n count x b items e
 
+-- ---- the deeds that these steps are
+
+-- Of a move: what the callback that ended so was, its effects, and its action; of a put: the job is taken in hand, and what was read comes; of a step beside:
+-- stages go on, or something else becomes of the exchange.
+abbrev pub IsOf : {H : Type 0} {calling : Calling H} {response : Bool} {n count : ℕ} {x : Exchange} {b : Both H} {ms : List Met} {nx : Next} {items : List Item}
+    → MayStep calling response n count x b ms nx items → List Deed → Type 0
+IsOf {H} {calling} {response} {n} {count} {x} {b} {ms} (moves_own q may) deeds =
+    (c : Called H) × (reached : Reaches (runs_then (callback_program calling b.host q) ends) ms (ends c)) × (deeds ≡ part_deeds (moves c q (may c reached)))
+IsOf {H} {calling} {response} {n} {count} {x} {b} {ms} (puts_own items later is put) deeds = deeds ≡ turns x (in_hand later b.room).hub ∷ part_deeds {H = H} (puts items put)
+IsOf {H} {calling} {response} {n} {count} {x} {b} {ms} (is_beside nx may) deeds = AreIdle deeds
+
+-- those of each step, one behind the other, and between turns what becomes of what all lines have in common
+abbrev pub AreOf : {H : Type 0} {calling : Calling H} {plan : Plan} {response : Bool} {n count : ℕ} {x : Exchange} {b e : Both H} {items : List Item}
+    → Steps calling plan response n count x b items e → List Deed → Type 0
+AreOf (no_step x b) deeds = deeds ≡ []
+AreOf {H} {calling} {plan} {response} {n} {count} (one_step x b m e items more ms on whole may reaches later) deeds =
+    (first : List Deed) × (rest : List Deed) × (deeds ≡ first ++ rest) × IsOf may first × ((y : Exchange) × (there : IsOn n m.room y) × AreOf (later y there) rest)
+AreOf {H} {calling} {plan} {response} {n} {count} (next_turn x b e items event on whole later) deeds =
+    (rest : List Deed) × (deeds ≡ turns x (facing plan event (emptied b.room)).hub ∷ rest) × AreOf later rest
+
 -- What passed: these are deeds of the law on exchanges, from the state at first to that behind, and the exchange writes what leaves the chain; and with what
--- is held and waits then it is as that law says.
-pub record HavePassed {H : Type 0} (response : Bool) (n count : ℕ) (x : Exchange) (b : Both H) (items : List Item) (e : Both H) : Type 0 where
+-- is held and waits then it is as that law says. The deeds are those of the steps, and what a stage's body callbacks left is what they left by these.
+pub record HavePassed {H : Type 0} {calling : Calling H} {plan : Plan} {response : Bool} {n count : ℕ} {x : Exchange} {b : Both H} {items : List Item} {e : Both H}
+    (steps : Steps calling plan response n count x b items e) : Type 0 where
   pub last : Exchange
   pub on : IsOn n e.room last
   pub run : Run H response n count x b.room last e.room
   pub put : run_items run ≡ items
+  pub of : AreOf steps (run_deeds run)
+  pub buffers : (k : ℕ) → buffers_by response n k (run_deeds run) (running None x b.room) ≡ run_buffers k run
   pub deeds : AreTheDeeds run
   -- where this count is that of the last stage with a body callback, from 1: what its body callbacks left
   pub last_stage : (k : ℕ) → count ≡ suc k
@@ -63,18 +86,21 @@ pub record HavePassed {H : Type 0} (response : Bool) (n count : ℕ) (x : Exchan
 -- BODIES PASS THROUGH TURNS, from an exchange whose stages were made and through which nothing passed yet. (Every callback that comes returns; the law is
 -- silent on runs in which a VM dies, be it one of others.)
 abbrev pub TurnsPassBodies : Type 0 → Type 0
-TurnsPassBodies H = (calling : Calling H) (plan : Plan) (response : Bool) (n count : ℕ) (x : Exchange) (b e : Both H) (items : List Item) → Steps calling plan response n count x b items e
-    → IsOn n b.room x → IsNew (standing response (running None x b.room)) → count ≤ length (chain_of response x) → IsInOrder items → HavePassed response n count x b items e
+TurnsPassBodies H = (calling : Calling H) (plan : Plan) (response : Bool) (n count : ℕ) (x : Exchange) (b e : Both H) (items : List Item) (steps : Steps calling plan response n count x b items e)
+    → IsOn n b.room x → IsNew (standing response (running None x b.room)) → count ≤ length (chain_of response x) → IsInOrder items → HavePassed steps
 
 -- TURNS GO ON from any state between steps in which the direction is sound, so behind the death of a VM too: these are deeds of the law on exchanges.
-pub record HaveGoneOn {H : Type 0} (response : Bool) (n count : ℕ) (x : Exchange) (b : Both H) (items : List Item) (e : Both H) : Type 0 where
+pub record HaveGoneOn {H : Type 0} {calling : Calling H} {plan : Plan} {response : Bool} {n count : ℕ} {x : Exchange} {b : Both H} {items : List Item} {e : Both H}
+    (steps : Steps calling plan response n count x b items e) : Type 0 where
   pub last : Exchange
   pub on : IsOn n e.room last
   pub run : Run H response n count x b.room last e.room
   pub put : run_items run ≡ items
+  pub of : AreOf steps (run_deeds run)
+  pub buffers : (k : ℕ) → buffers_by response n k (run_deeds run) (running None x b.room) ≡ run_buffers k run
   pub last_stage : (k : ℕ) → count ≡ suc k → RunGoesOn run (run_buffers k run)
   pub unchanged : count ≡ 0 → RunGoesOn run (joined items)
 
 abbrev pub TurnsGoOn : Type 0 → Type 0
-TurnsGoOn H = (calling : Calling H) (plan : Plan) (response : Bool) (n count : ℕ) (x : Exchange) (b e : Both H) (items : List Item) → Steps calling plan response n count x b items e
-    → IsOn n b.room x → IsSound count (standing response (running None x b.room)) → HaveGoneOn response n count x b items e
+TurnsGoOn H = (calling : Calling H) (plan : Plan) (response : Bool) (n count : ℕ) (x : Exchange) (b e : Both H) (items : List Item) (steps : Steps calling plan response n count x b items e)
+    → IsOn n b.room x → IsSound count (standing response (running None x b.room)) → HaveGoneOn steps

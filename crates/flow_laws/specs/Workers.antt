@@ -1,11 +1,11 @@
 -- BODIES PASS THROUGH WORKERS.
-use Rattle.std.specs.Prelude.{◌≡◌, ◌<◌, ◌≤◌, ℕ, suc, Bool, List, [], ◌++◌, length, drop, None}
+use Rattle.std.specs.Prelude.{◌≡◌, ◌<◌, ◌≤◌, ℕ, suc, Bool, List, [], ◌∷◌, ◌++◌, length, drop, None}
 use Rattle.exchange.specs.declared.types.Exchange.{Exchange}
 use Rattle.exchange.specs.Passing.{chain_of}
 use Rattle.filter_chain.specs.Flow.{flow}
 use Rattle.filter_chain.specs.Items.{joined}
 use Rattle.worker.specs.declared.room.Room.{Room}
-use Rattle.body_laws.specs.Deeds.{standing, left_by, AreDeeds, AreWritten, done_all}
+use Rattle.body_laws.specs.Deeds.{Deed, comes, calls, answers, resumes, lets, turns, standing, left_by, AreDeeds, AreWritten, done_all}
 use Rattle.chain_laws.specs.PassThrough.{bare_all, bare_in, Thinner, IsInOrder, IsNew, PassesThrough}
 use Rattle.chain_laws.specs.Sound.{IsSound}
 use Rattle.flow_laws.specs.Rooms.{running, Meanwhile, Run, run_deeds, run_items, run_buffers}
@@ -50,10 +50,24 @@ pub record RunsGoOn (H : Type 0) : Type 0 where
   pub unchanged : (response : Bool) (n : ℕ) (x y : Exchange) (room after : Room) (run : Run H response n 0 x room y after) → IsSound 0 (standing response (running None x room))
       → RunGoesOn run (joined (run_items run))
 
+-- a stage goes on, or something else becomes of the exchange
+abbrev pub IsIdle : Deed → Type 0
+IsIdle (comes item) = ⊥
+IsIdle (calls after) = ⊥
+IsIdle (answers value) = ⊥
+IsIdle (resumes vm context) = Unit {0}
+IsIdle (lets k) = ⊥
+IsIdle (turns y after) = Unit {0}
+
+abbrev pub AreIdle : List Deed → Type 0
+AreIdle [] = Unit {0}
+AreIdle (deed ∷ deeds) = IsIdle deed × AreIdle deeds
+
 -- what resumes stages of the direction, or leaves that as it was, is a run by which nothing is put and no callback of the direction comes
 pub record IsIdleRun {H : Type 0} {response : Bool} {n count : ℕ} {x y : Exchange} {room after : Room} (run : Run H response n count x room y after) : Type 0 where
   pub items : run_items run ≡ []
   pub buffers : (k : ℕ) → run_buffers k run ≡ []
+  pub deeds : AreIdle (run_deeds run)
 
 abbrev pub MeanwhileRuns : Type 0 → Type 0
 MeanwhileRuns H = (response : Bool) (n count : ℕ) (x y : Exchange) (room after : Room) → Meanwhile response n count x room y after
