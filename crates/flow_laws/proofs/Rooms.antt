@@ -27,7 +27,7 @@ use Rattle.body_laws.specs.Deeds.{Deed, comes, calls, answers, resumes, lets, tu
 use Rattle.chain_laws.specs.PassThrough.{bare_all, bare_in, Thinner, IsInOrder, PassesThrough}
 use Rattle.body_laws.specs.Exchanges.{GoesOn}
 use Rattle.flow_laws.specs.Rooms.{IsOn, running, Leaves, Wakes, Other, wakes, leaves, Meanwhile, nothing, other, Others, quiet_room, IsAsked, asked_exchange, question, stage_own, IsMove, affected, moved_exchange, moved_room, IsPut, Part, moves, puts as puts_part, others, Run, rests, goes, other_deeds, effect_deeds, part_deeds, run_deeds, part_items, run_items, part_buffers, run_buffers}
-use Rattle.flow_laws.specs.Workers.{AreIdle, IsIdleRun, MeanwhileRuns, WorkersPassBodies, LastStagesPass, UnchangedPass, RunGoesOn, RunsGoOn}
+use Rattle.flow_laws.specs.Workers.{AreIdle, IsIdleRun, MeanwhileRuns, WorkersPassBodies, LastStagesPass, UnchangedPass, RunGoesOn, RunsGoOn, OwnPartsSend}
 use Rattle.body_laws.proofs.Deeds.{deed_does, are_written, passed_as, exchanges_pass}
 use Rattle.chain_laws.proofs.Holding.{hold_then, hold_by_vms, there_by_vms}
 use Rattle.flow_laws.proofs.Lines.{with_exchange, on_set, on_number_is, on_context_is, marking_vms}
@@ -423,3 +423,18 @@ meanwhile_runs H response n count x y room after m = run_of m
     run_of (other {x} {y} {z} {room} {mid} {after} o later) =
         let r : (run : Run H response n count y mid z after) × IsIdleRun run = run_of later in
         (goes (others y mid o) r.0, record { items = r.1.items; buffers = λ k. r.1.buffers k; deeds = idle_more o (run_deeds r.0) r.1.deeds })
+
+-- ---- what is sent
+
+number_sends : (change : Changes) (n : ℕ) (x : Exchange) (room : Room) → IsOn n room x → (on_number change n room).hub.sent ≡ (change n x room.hub).1.sent
+number_sends change n x room on = ap (λ (r : Room). r.hub.sent) (on_number_is change n room x on)
+
+pub own_parts_send : (H : Type 0) → OwnPartsSend H
+own_parts_send H = record {
+  moves = λ response n count x room c q m.
+      number_sends (acts response q.ask.stage (action_of m.value)) n m.behind (affected c q)
+      (others_on response n count (Some q.ask) q.stage.vm (stage_own q) c.contexts.effects (asked_exchange q) (quiet_room c (question q)) m.behind m.effects);
+  puts = λ response n items x room on. number_sends (put_in response items) n x room on;
+  wakes = λ response n count due x room y after w.
+      ap (λ (r : Room). r.hub.sent) (w.room_is ∙ on_context_is (passing.resumes w.vm w.context response) w.vm w.context n room x w.on w.line);
+}

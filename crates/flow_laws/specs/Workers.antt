@@ -1,14 +1,20 @@
 -- BODIES PASS THROUGH WORKERS.
-use Rattle.std.specs.Prelude.{◌≡◌, ◌<◌, ◌≤◌, ℕ, suc, Bool, List, [], ◌∷◌, ◌++◌, length, drop, None}
+use Rattle.std.specs.Prelude.{◌≡◌, ◌<◌, ◌≤◌, ℕ, suc, Bool, List, [], ◌∷◌, ◌++◌, length, drop, Option, None}
+use Rattle.course.specs.Called.{Called}
 use Rattle.exchange.specs.declared.types.Exchange.{Exchange}
-use Rattle.exchange.specs.Passing.{chain_of}
+use Rattle.exchange.specs.Passing.{chain_of, put_in, acts}
+use Rattle.exchange.specs.Passing as passing
+use Rattle.filter_chain.specs.declared.item.Ask.{Ask}
+use Rattle.filter_chain.specs.declared.item.Item.{Item}
 use Rattle.filter_chain.specs.Flow.{flow}
 use Rattle.filter_chain.specs.Items.{joined}
 use Rattle.worker.specs.declared.room.Room.{Room}
+use Rattle.worker.specs.Rooms.{on_number}
+use Rattle.worker.specs.Steps.{action_of}
 use Rattle.body_laws.specs.Deeds.{Deed, comes, calls, answers, resumes, lets, turns, standing, left_by, AreDeeds, AreWritten, done_all}
 use Rattle.chain_laws.specs.PassThrough.{bare_all, bare_in, Thinner, IsInOrder, IsNew, PassesThrough}
 use Rattle.chain_laws.specs.Sound.{IsSound}
-use Rattle.flow_laws.specs.Rooms.{running, Meanwhile, Run, run_deeds, run_items, run_buffers}
+use Rattle.flow_laws.specs.Rooms.{IsOn, running, Wakes, Meanwhile, IsAsked, IsMove, affected, moved_room, Run, run_deeds, run_items, run_buffers}
 
 -- what a worker does are deeds of the law on exchanges: from the exchange and what all lines have in common to those behind it
 pub record AreTheDeeds {H : Type 0} {response : Bool} {n count : ℕ} {x y : Exchange} {room after : Room} (run : Run H response n count x room y after) : Type 0 where
@@ -72,3 +78,13 @@ pub record IsIdleRun {H : Type 0} {response : Bool} {n count : ℕ} {x y : Excha
 abbrev pub MeanwhileRuns : Type 0 → Type 0
 MeanwhileRuns H = (response : Bool) (n count : ℕ) (x y : Exchange) (room after : Room) → Meanwhile response n count x room y after
     → (run : Run H response n count x room y after) × IsIdleRun run
+
+-- WHAT THE EXCHANGE SENDS IS WHAT IS SENT behind its own moves, its puts, and where a stage of it goes on: the lines then have in common what it left, but for
+-- what host calls are told of it.
+pub record OwnPartsSend (H : Type 0) : Type 0 where
+  pub moves : (response : Bool) (n count : ℕ) (x : Exchange) (room : Room) (c : Called H) (q : IsAsked response n x room) (m : IsMove count c q)
+      → (moved_room m).hub.sent ≡ (acts response q.ask.stage (action_of m.value) n m.behind (affected c q).hub).1.sent
+  pub puts : (response : Bool) (n : ℕ) (items : List Item) (x : Exchange) (room : Room) → IsOn n room x
+      → (on_number (put_in response items) n room).hub.sent ≡ (put_in response items n x room.hub).1.sent
+  pub wakes : (response : Bool) (n count : ℕ) (due : Option Ask) (x : Exchange) (room : Room) (y : Exchange) (after : Room) (w : Wakes response n count due x room y after)
+      → after.hub.sent ≡ (passing.resumes w.vm w.context response n x room.hub).1.sent

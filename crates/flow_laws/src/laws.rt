@@ -11,7 +11,7 @@ ghost use Rattle.flow_laws.specs.RoomExamples.{RoomExample};
 ghost use Rattle.flow_laws.specs.Stepping.{StepsBeside};
 ghost use Rattle.flow_laws.specs.Steps.{MovesAreSteps, PutsAreSteps};
 ghost use Rattle.flow_laws.specs.Turns.{TurnsGoOn, TurnsPassBodies};
-ghost use Rattle.flow_laws.specs.Workers.{LastStagesPass, MeanwhileRuns, RunsGoOn, UnchangedPass, WorkersPassBodies};
+ghost use Rattle.flow_laws.specs.Workers.{LastStagesPass, MeanwhileRuns, OwnPartsSend, RunsGoOn, UnchangedPass, WorkersPassBodies};
 
 /// Of one direction of the exchange on a line: what left its chain, and what is held and waits then, is what was to pass, whole and in order, whatever
 /// the machines are and whatever its worker does meanwhile of moves of the direction, puts of what was read, and what else resumes a stage of the
@@ -22,6 +22,7 @@ pub fn workers_pass_bodies<H>()
     ensures unchanged { UnchangedPass H }
     ensures meanwhile { MeanwhileRuns H }
     ensures goes_on { RunsGoOn H }
+    ensures sends { OwnPartsSend H }
 {}
 
 /// A worker's step that moves a direction comes to the end of a callback of the stage that is asked, and then to the room behind that move; one

@@ -1,4 +1,4 @@
-use Rattle.flow_laws.proofs.Rooms.{last_stages, meanwhile_runs, runs_go_on, unchanged_bodies, workers_pass}
+use Rattle.flow_laws.proofs.Rooms.{last_stages, meanwhile_runs, own_parts_send, runs_go_on, unchanged_bodies, workers_pass}
 use Rattle.flow_laws.proofs.laws.workers_pass_bodies.Goals as goal
 
 pub returns-clause-deeds : goal.returns-clause-deeds
@@ -15,3 +15,6 @@ returns-clause-meanwhile g c = meanwhile_runs _
 
 pub returns-clause-goes_on : goal.returns-clause-goes_on
 returns-clause-goes_on g c = runs_go_on _
+
+pub returns-clause-sends : goal.returns-clause-sends
+returns-clause-sends g c = own_parts_send _
