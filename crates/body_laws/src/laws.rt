@@ -7,7 +7,7 @@ ghost use Rattle.body_laws.specs.Moved.{EffectsMoveOn};
 
 /// Of one direction of an exchange, whatever happens to it while it runs and is not answered, where callbacks for bodies and trailers answer Continue: what
 /// left its chain, and what is behind the last stage with a body callback then, is what those callbacks left, and where no buffer is changed what was read,
-/// whole and in order; and the exchange writes each item that leaves, behind what was sent before. A stage whose VM died is let through, and the law goes on.
+/// whole and in order; and by each deed of its own the exchange writes the items that leave, behind what was sent before. A stage whose VM died is let through, and the law goes on.
 pub fn exchanges_pass_bodies()
     ensures { ExchangesPassBodies }
 {}

@@ -38,7 +38,7 @@ pub record IsReached (does : Does) (response : Bool) (n : ℕ) (x : Exchange) (r
   pub behind : HoldSame (does n x found).1.contexts after.hub.contexts (chain_of response x)
   pub sent : (more : List Sent) × (after.hub.sent ≡ (does n x found).1.sent ++ more)
 
--- A VM'S DEATH REACHES each exchange: it is done to it what `dies` is, whatever VM it is and whatever stages the exchange has.
+-- WHERE A VM DIED: what is called then does to each exchange what `dies` is, whatever VM it is and whatever stages the exchange has.
 pub record DeathsReach : Type 0 where
   pub on_all : (does : Does) → PassesAliens does → (response : Bool) (n : ℕ) (x : Exchange) (room : Room) (on : IsOn n room x) → OthersAreAlien (chain_of response x) on.place room
       → IsWhole response x room → IsReached does response n x room (with_lines room (all_lines does room.lines room.hub))

@@ -37,7 +37,7 @@ running due x room = record { due = due; exchange = x; hub = room.hub }
 
 -- ---- what else a worker does
 
--- it leaves the direction as it was: its chain, and what the stages of that hold
+-- it leaves the direction as it was: its chain, and what the stages of that hold (whatever is sent)
 pub record Leaves (response : Bool) (n : ℕ) (x : Exchange) (room : Room) (y : Exchange) (after : Room) : Type 0 where
   pub on : IsOn n after y
   pub chain : chain_of response y ≡ chain_of response x

@@ -64,7 +64,7 @@ AreOf {H} {calling} {plan} {response} {n} {count} (one_step x b m e items more m
 AreOf {H} {calling} {plan} {response} {n} {count} (next_turn x b e items event on whole later) deeds =
     (rest : List Deed) × (deeds ≡ turns x (facing plan event (emptied b.room)).hub ∷ rest) × AreOf later rest
 
--- What passed: these are deeds of the law on exchanges, from the state at first to that behind, and the exchange writes what leaves the chain; and with what
+-- What passed: these are deeds of the law on exchanges, from the state at first to that behind, and the exchange writes what leaves the chain by them; and with what
 -- is held and waits then it is as that law says. The deeds are those of the steps, and what a stage's body callbacks left is what they left by these.
 pub record HavePassed {H : Type 0} {calling : Calling H} {plan : Plan} {response : Bool} {n count : ℕ} {x : Exchange} {b : Both H} {items : List Item} {e : Both H}
     (steps : Steps calling plan response n count x b items e) : Type 0 where
@@ -89,7 +89,7 @@ abbrev pub TurnsPassBodies : Type 0 → Type 0
 TurnsPassBodies H = (calling : Calling H) (plan : Plan) (response : Bool) (n count : ℕ) (x : Exchange) (b e : Both H) (items : List Item) (steps : Steps calling plan response n count x b items e)
     → IsOn n b.room x → IsNew (standing response (running None x b.room)) → count ≤ length (chain_of response x) → IsInOrder items → HavePassed steps
 
--- TURNS GO ON from any state between steps in which the direction is sound, so behind the death of a VM too: these are deeds of the law on exchanges.
+-- TURNS GO ON from any state between steps in which the direction is sound, be it behind the death of a VM: these are deeds of the law on exchanges.
 pub record HaveGoneOn {H : Type 0} {calling : Calling H} {plan : Plan} {response : Bool} {n count : ℕ} {x : Exchange} {b : Both H} {items : List Item} {e : Both H}
     (steps : Steps calling plan response n count x b items e) : Type 0 where
   pub last : Exchange

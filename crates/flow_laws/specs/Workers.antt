@@ -20,7 +20,7 @@ use Rattle.flow_laws.specs.Rooms.{IsOn, running, Wakes, Meanwhile, IsAsked, IsMo
 pub record AreTheDeeds {H : Type 0} {response : Bool} {n count : ℕ} {x y : Exchange} {room after : Room} (run : Run H response n count x room y after) : Type 0 where
   pub are : AreDeeds response n count (run_deeds run) (running None x room)
   pub last : done_all response n (run_deeds run) (running None x room) ≡ running None y after
-  -- what leaves the chain by them the exchange writes, each item of it
+  -- what leaves the chain by a deed of the exchange it writes, each item of it (of what is sent between such deeds nothing is said)
   pub written : IsInOrder (run_items run) → AreWritten response n (run_deeds run) (running None x room)
 
 -- THE PASSED BYTES OF A DIRECTION of the exchange on a line, whatever its worker does meanwhile that is among this: moves of the direction, whose

@@ -15,7 +15,7 @@ ghost use Rattle.flow_laws.specs.Workers.{LastStagesPass, MeanwhileRuns, OwnPart
 
 /// Of one direction of the exchange on a line: what left its chain, and what is held and waits then, is what was to pass, whole and in order, whatever
 /// the machines are and whatever its worker does meanwhile of moves of the direction, puts of what was read, and what else resumes a stage of the
-/// direction or leaves that as it was.
+/// direction or leaves that as it was. Behind each part of its own what the exchange sends is sent; of what else is sent nothing is said.
 pub fn workers_pass_bodies<H>()
     ensures deeds { WorkersPassBodies H }
     ensures last_stage { LastStagesPass H }
@@ -63,8 +63,8 @@ pub fn jobs_leave_directions<H>()
 {}
 
 /// What is done on all lines and does nothing to the exchange itself leaves a direction as it was; so the death of a VM that is none of its stages'.
-/// The death of any VM reaches the exchange: it is answered or its stages are let through, as `deaths_cut_or_pass` of `body_laws` says, with what the
-/// direction's stages held before, and what is done on other lines leaves what they hold.
+/// Where a VM died the function that is called then reaches the exchange: it ends without stages or they are let through, as `deaths_cut_or_pass` of
+/// `body_laws` says, with what the direction's stages held before; and what is done on other lines leaves what they hold, and what was sent.
 pub fn deaths_on_lines()
     ensures others { AllLinesLeave }
     ensures reach { DeathsReach }
@@ -94,8 +94,8 @@ pub fn steps_beside<H>()
 
 /// Over all steps of a worker, in turns one behind the other, of one direction of an exchange: what left its chain, and what its stages hold and what waits at
 /// them behind the last stage with a body callback, is what the body callbacks of that stage left, or where no buffer is changed what was put; what left and
-/// what is in the chain is the head, the pieces and the end or the trailers that were put, in order; once the end has left, all has; and the exchange, which
-/// had not ended, writes each item that leaves. From any state between steps the same goes on (`goes_on`), with stages that were let through too. In each step
+/// what is in the chain is the head, the pieces and the end or the trailers that were put, in order; once the end has left, all has. The deeds that
+/// tell this are those of the steps, and by each of its own the exchange, which had not ended, writes each item that leaves. From any state between steps the same goes on (`goes_on`), with stages that were let through too. In each step
 /// every callback returns, those for bodies and trailers of the direction with Continue; the exchange is neither answered nor closed; no stage is in two
 /// chains, the contexts of the direction's stages are there, and callbacks of others leave what these hold as it was.
 pub fn turns_pass_bodies<H>()

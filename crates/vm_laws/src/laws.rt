@@ -45,7 +45,8 @@ pub fn callbacks_change_their_own()
 
 /// Over a worker's whole life, turn by turn and step by step, whatever modules do, stores reply and lines bring: machines that stand at the numbers of their
 /// contexts stay there, what says which callbacks are exported stays of the module that runs, and a VM whose callback trapped or spent its fuel is never run
-/// again. So the laws on callbacks hold of every callback of a life.
+/// again. That a callback changes and asks for its own is so of every callback of such a life; what else is said of callbacks holds of it where its premises are
+/// these two.
 pub fn lives_keep_places()
     ensures { LivesKeepPlaces }
 {}
