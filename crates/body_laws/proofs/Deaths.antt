@@ -90,12 +90,30 @@ dropping_drops x hub request response =
     }
 
 cut_short : (n : ℕ) (x : Exchange) (hub : Hub) → AreThere hub.contexts x.request → AreThere hub.contexts x.response
-    → IsCutShort x (directly n 503 [] [] x hub).0 (directly n 503 [] [] x hub).1
+    → IsCutShort n x hub (directly n 503 [] [] x hub).0 (directly n 503 [] [] x hub).1
 cut_short n x hub request response =
     let dropped : AreDropped x (none_held x hub).contexts = dropping_drops x hub request response in
-    by_bool (λ (r : Exchange × Hub). IsCutShort x r.0 r.1) (x.is_head_out || not (is_final 503)) _ _
-    (λ is. record { ended = refl; request = refl; response = refl; requests = dropped.requests; responses = dropped.responses })
-    (λ is. record { ended = refl; request = refl; response = refl; requests = dropped.requests; responses = dropped.responses })
+    by_bool (λ (r : Exchange × Hub). IsCutShort n x hub r.0 r.1) (x.is_head_out || not (is_final 503)) _ _
+    (λ is.
+    record {
+      ended = refl;
+      request = refl;
+      response = refl;
+      requests = dropped.requests;
+      responses = dropped.responses;
+      answered = λ none. absurd (cc (sym is ∙ ap (λ (b : Bool). b || not (is_final 503)) none));
+      silent = λ out. refl;
+    })
+    (λ is.
+    record {
+      ended = refl;
+      request = refl;
+      response = refl;
+      requests = dropped.requests;
+      responses = dropped.responses;
+      answered = λ none. refl;
+      silent = λ out. absurd (cc (sym is ∙ ap (λ (b : Bool). b || not (is_final 503)) out));
+    })
 
 closed_is : (n vm : ℕ) (x : Exchange) (hub : Hub) → x.has_ended ≡ false → fails_closed vm x ≡ true → dies vm n x hub ≡ directly n 503 [] [] x hub
 closed_is n vm x hub runs closed = λ i. if runs i then (x, hub) else if closed i then directly n 503 [] [] x hub else opens_all vm n x hub
@@ -231,7 +249,7 @@ pub deaths_pass : DeathsPass
 deaths_pass = record {
   ended = λ n vm x hub is. ap (λ (b : Bool). if b then (x, hub) else if fails_closed vm x then directly n 503 [] [] x hub else opens_all vm n x hub) is;
   closed = λ n vm x hub runs closed request response.
-      subst (λ (r : Exchange × Hub). IsCutShort x r.0 r.1) (sym (closed_is n vm x hub runs closed)) (cut_short n x hub request response);
+      subst (λ (r : Exchange × Hub). IsCutShort n x hub r.0 r.1) (sym (closed_is n vm x hub runs closed)) (cut_short n x hub request response);
   open_ = open_is;
   let_through = λ response n count vm w are.
       let law = through response n count vm (length (chain_of response w.exchange)) w (passes_past vm (chain_of response w.exchange)) are in

@@ -1,12 +1,15 @@
--- WHERE A VM OF THE ROUTE DIES: the exchange ends without a stage, or the stages of the VM are let through.
-use Rattle.std.specs.Prelude.{◌≡◌, ℕ, zero, suc, ◌==◌, Bool, true, false, List, [], ◌∷◌, ◌++◌, length, slice_get, Option, None, Some, option_map, if◌then◌else◌}
+-- WHERE A VM OF THE ROUTE DIES: the exchange is answered 503 and ends without a stage, or the stages of the VM are let through.
+use Rattle.std.specs.Prelude.{◌≡◌, ℕ, zero, suc, ◌==◌, Bool, true, false, not, List, [], ◌∷◌, ◌++◌, length, slice_get, Option, None, Some, option_map, if◌then◌else◌}
 use Rattle.contexts.specs.declared.parts.Contexts.{Contexts}
 use Rattle.exchange.specs.declared.types.Exchange.{Exchange}
 use Rattle.exchange.specs.declared.types.Hub.{Hub}
-use Rattle.exchange.specs.Answering.{none_held}
+use Rattle.exchange.specs.Answering.{none_held, stays_open}
+use Rattle.exchange.specs.Leaving.{sending}
 use Rattle.exchange.specs.Passing.{chain_of, fails_closed, opens, opens_all, dies}
 use Rattle.filter_chain.specs.declared.stage.Stage.{Stage}
 use Rattle.filter_chain.specs.Chains.{bytes_at}
+use Rattle.gate_io.specs.declared.event.Side.TheVariants.{Down}
+use Rattle.http1_model.specs.LocalReply.{local_reply_of}
 use Rattle.chain_laws.specs.Acts.{AreThere}
 use Rattle.body_laws.specs.Apart.{AreAliens}
 use Rattle.body_laws.specs.Deeds.{Deed, lets, turns, Running, came, AreDeeds, done_all}
@@ -18,13 +21,15 @@ abbrev pub HoldNothing : Contexts → List Stage → Type 0
 HoldNothing h [] = Unit {0}
 HoldNothing h (s ∷ ss) = (bytes_at h s ≡ []) × HoldNothing h ss
 
--- The exchange has ended, and no stage is left; what its stages held is dropped.
-pub record IsCutShort (x : Exchange) (y : Exchange) (after : Hub) : Type 0 where
+-- The exchange has ended, and no stage is left; what its stages held is dropped. Where no response head went down, the answer 503 goes down; else nothing does.
+pub record IsCutShort (n : ℕ) (x : Exchange) (hub : Hub) (y : Exchange) (after : Hub) : Type 0 where
   pub ended : y.has_ended ≡ true
   pub request : y.request ≡ []
   pub response : y.response ≡ []
   pub requests : HoldNothing after.contexts x.request
   pub responses : HoldNothing after.contexts x.response
+  pub answered : x.is_head_out ≡ false → after.sent ≡ hub.sent ++ sending n Down (local_reply_of 503 [] [] x.asked.is_head (not (stays_open x)) hub.moment)
+  pub silent : x.is_head_out ≡ true → after.sent ≡ hub.sent
 
 -- what the stages of an exchange held is dropped
 pub record AreDropped (x : Exchange) (after : Contexts) : Type 0 where
@@ -112,7 +117,7 @@ pub record DeathsAreDeeds : Type 0 where
 pub record DeathsPass : Type 0 where
   pub ended : (n vm : ℕ) (x : Exchange) (hub : Hub) → x.has_ended ≡ true → dies vm n x hub ≡ (x, hub)
   pub closed : (n vm : ℕ) (x : Exchange) (hub : Hub) → x.has_ended ≡ false → fails_closed vm x ≡ true → AreThere hub.contexts x.request → AreThere hub.contexts x.response
-      → IsCutShort x (dies vm n x hub).0 (dies vm n x hub).1
+      → IsCutShort n x hub (dies vm n x hub).0 (dies vm n x hub).1
   pub open_ : (n vm : ℕ) (x : Exchange) (hub : Hub) → x.has_ended ≡ false → fails_closed vm x ≡ false → dies vm n x hub ≡ opens_all vm n x hub
   pub let_through : (response : Bool) (n count vm : ℕ) (w : Running) → AreDeeds response n count (lets_of vm (length (chain_of response w.exchange)) (chain_of response w.exchange)) w
       → AreLetThrough response n vm w
