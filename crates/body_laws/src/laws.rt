@@ -12,8 +12,8 @@ pub fn exchanges_pass_bodies()
     ensures { ExchangesPassBodies }
 {}
 
-/// Where a VM dies, an exchange that has ended stays as it is. One with a filter of the VM that fails closed ends: no stage is left, and what they held is
-/// dropped. In any other the stages of the VM are let through, those of the request first and the one nearest to the exit first, and pass everything then:
+/// Where a VM dies, an exchange that has ended stays as it is. One with a filter of the VM that fails closed ends, with 503 where no head went down: no stage
+/// is left, and what they held is dropped. In any other the stages of the VM are let through, those of the request first and the one nearest to the exit first, and pass everything then:
 /// the deeds of the law on bodies.
 pub fn deaths_cut_or_pass()
     ensures deaths { DeathsPass }

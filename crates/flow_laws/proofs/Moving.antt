@@ -21,6 +21,7 @@ use Rattle.worker.specs.declared.types.Own.TheVariants as owns
 use Rattle.worker.specs.Moves.{asks_stage, asks_chain, asks_with, asks_in, asks_back, asks_at}
 use Rattle.worker.specs.Rooms.{with_lines, answered_with, valued}
 use Rattle.worker.specs.Steps.{Both, both, Answered, answered, acts_on, goes_on_with, moved_with, move_at, works_first}
+use Rattle.flow_laws.specs.Deaths.{DeathsEndMoves}
 use Rattle.flow_laws.specs.Elsewhere.{asked_program}
 use Rattle.flow_laws.specs.Rooms.{IsAsked, asked_exchange, question}
 use Rattle.flow_laws.specs.Steps.{told_count, callback_program, MovesAreSteps, PutsAreSteps}
@@ -115,3 +116,14 @@ moves_are H = λ calling plan response n x room q host ms b reaches.
 
 pub puts_are : (H : Type 0) → PutsAreSteps H
 puts_are H = λ calling plan response n items later host room is. ap (λ (l : List Job). works_first calling plan l host room) is
+
+pub deaths_end_moves : (H : Type 0) → DeathsEndMoves H
+deaths_end_moves H = λ calling plan place host room a lines hub ms b asks_ reaches.
+    let room1 : Room = with_lines room (lines, hub) in
+    let end : Ran (asked_program calling host a room1) (behind_it a room1) ms b = move_ran calling place host room a lines hub ms b asks_ reaches in (
+      end.end,
+      end.reached,
+      λ death is.
+          end.is
+          ∙ ap (λ (e : CallEnd). both end.end.host (acts_on a (valued e) (answered_with a.vm (owns.Stage a.context a.response) e end.end.lines end.end.contexts room1))) is,
+    )

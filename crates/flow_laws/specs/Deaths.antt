@@ -1,5 +1,8 @@
 -- WHAT IS DONE ON ALL LINES AT ONCE, such as where a VM died.
-use Rattle.std.specs.Prelude.{◌≡◌, ℕ, ◌==◌, Bool, false, List, [], ◌∷◌, ◌++◌}
+use Rattle.std.specs.Prelude.{◌≡◌, ℕ, ◌==◌, Bool, false, List, [], ◌∷◌, ◌++◌, Some, slice_get}
+use Rattle.course.specs.Called.{Called}
+use Rattle.course.specs.Course.{ends, runs_then, Met, Reaches}
+use Rattle.course.specs.declared.host.CallEnd.TheVariants as call_ends
 use Rattle.course.specs.declared.host.Death.{Death}
 use Rattle.exchange.specs.declared.types.Exchange.{Exchange}
 use Rattle.exchange.specs.declared.types.Hub.{Hub}
@@ -7,11 +10,19 @@ use Rattle.exchange.specs.Passing.{chain_of, fails_closed, dies}
 use Rattle.filter_chain.specs.declared.stage.Stage.{Stage}
 use Rattle.gate_io.specs.declared.event.Sent.{Sent}
 use Rattle.worker.specs.declared.room.Room.{Room}
+use Rattle.worker.specs.declared.types.Asked.{Asked}
+use Rattle.worker.specs.declared.types.Line.{Line}
+use Rattle.worker.specs.declared.types.Next.TheVariants as next
+use Rattle.worker.specs.Moves.{asks_at}
+use Rattle.worker.specs.Plan.{Plan}
+use Rattle.worker.specs.Steps.{Both, both, step}
 use Rattle.worker.specs.Rooms.{all_lines, with_lines, died}
 use Rattle.chain_laws.specs.Acts.{HoldSame, AreThere}
 use Rattle.body_laws.specs.Apart.{Does, PassesAliens}
 use Rattle.flow_laws.specs.Besides.{OthersAreAlien, IsWhole}
-use Rattle.flow_laws.specs.Rooms.{IsOn, Leaves}
+use Rattle.flow_laws.specs.Rooms.{IsOn, Leaves, quiet_room}
+use Rattle.flow_laws.specs.Elsewhere.{asked_program}
+use Rattle.flow_laws.specs.Steps.{Calling}
 
 -- none of the stages is of the VM
 abbrev pub NoneOf : ℕ → List Stage → Type 0
@@ -44,3 +55,10 @@ pub record DeathsReach : Type 0 where
       → IsWhole response x room → IsReached does response n x room (with_lines room (all_lines does room.lines room.hub))
   pub dying : (vm : ℕ) (death : Death) (response : Bool) (n : ℕ) (x : Exchange) (room : Room) (on : IsOn n room x) → OthersAreAlien (chain_of response x) on.place room
       → IsWhole response x room → IsReached (dies vm) response n x room (died vm death room)
+
+-- A MOVE WHOSE CALLBACK DIED ends so: its lines are in the log, none of its effects is done, and that is done on all lines.
+abbrev pub DeathsEndMoves : Type 0 → Type 0
+DeathsEndMoves H = (calling : Calling H) (plan : Plan) (place : ℕ) (host : H) (room : Room) (a : Asked) (lines : List Line) (hub : Hub) (ms : List Met) (b : Both H)
+    → asks_at place (slice_get room.lines place) room.lines room.hub ≡ (Some a, lines, hub) → Reaches (step calling plan (next.Move place) host room) ms (ends b)
+    → (c : Called H) × Reaches (runs_then (asked_program calling host a (with_lines room (lines, hub))) ends) ms (ends c)
+    × ((death : Death) → c.end ≡ call_ends.Died death → b ≡ both c.host (died a.vm death (quiet_room c (with_lines room (lines, hub)))))

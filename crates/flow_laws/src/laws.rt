@@ -1,7 +1,7 @@
 // What flows through one direction of an exchange. The functions have nothing to do: their contracts are the laws.
 ghost use Rattle.flow_laws.specs.Besides.{OtherLinesLeave, OtherDirectionLeaves, QuietStepsLeave};
 ghost use Rattle.flow_laws.specs.Contexts.{CallsAreRuns, ContextsLeave};
-ghost use Rattle.flow_laws.specs.Deaths.{AllLinesLeave, DeathsReach};
+ghost use Rattle.flow_laws.specs.Deaths.{AllLinesLeave, DeathsEndMoves, DeathsReach};
 ghost use Rattle.flow_laws.specs.Effects.{AskingElsewhereLeaves, CallbacksAreRuns, MildEffectsAreOthers};
 ghost use Rattle.flow_laws.specs.Elsewhere.{OtherDirectionMoves, OtherLinesMove};
 ghost use Rattle.flow_laws.specs.Events.{EventsLeave};
@@ -26,10 +26,11 @@ pub fn workers_pass_bodies<H>()
 {}
 
 /// A worker's step that moves a direction comes to the end of a callback of the stage that is asked, and then to the room behind that move; one
-/// that puts what was read puts it.
+/// that puts what was read puts it. One that moves a line, and whose callback died, ends in what is done on all lines then.
 pub fn moves_are_steps<H>()
     ensures moves { MovesAreSteps H }
     ensures puts { PutsAreSteps H }
+    ensures deaths { DeathsEndMoves H }
 {}
 
 /// What a worker does on other lines, in the other direction of the exchange, and in steps that touch no line, leaves a direction as it was, where no
