@@ -8,12 +8,13 @@ use Rattle.vm_host.specs.declared.slots.Vms.{Vms}
 use Rattle.vm_host.specs.Slots.{calling}
 use Rattle.vm_laws.specs.Apart.{IsApart}
 use Rattle.vm_laws.specs.Apart as programs
-use Rattle.vm_laws.specs.Lives.{Lives, no_turn, one_turn, Goes, no_step, one_step, next_turn, IsNoMore, StaysForLife, LivesKeepPlaces}
+use Rattle.vm_laws.specs.Lives.{Lives, no_turn, one_turn, Goes, no_step, one_step, next_turn, IsNoMore, StaysForLife, BeginsSo, LivesKeepPlaces}
 use Rattle.vm_laws.specs.OwnChanges.{ArePlaced}
 use Rattle.vm_laws.specs.Silent.{AreTied}
 use Rattle.vm_laws.proofs.Apart.{apart}
 use Rattle.vm_laws.proofs.Ends.{all_weaker}
 use Rattle.vm_laws.proofs.Lasting.{AllOf, KeptBy, step_so, turn_so}
+use Rattle.vm_laws.proofs.MadeVms.{in_place}
 use Rattle.vm_laws.proofs.OwnChanges.{change_their_own, places_stay}
 use Rattle.vm_laws.proofs.OwnEffects.{effects_own}
 use Rattle.vm_laws.proofs.Silent.{dead_are_silent, ties_stay}
@@ -70,6 +71,12 @@ stays_by b e stays = record {
   silent = λ vm name context first second now contexts gone. dead_are_silent e.host vm name context first second now contexts (stays (IsNoMore vm) (gone_kept vm) gone);
 }
 
+begins_by : (b e : Both Vms) → StaysForLife b e → BeginsSo b e
+begins_by b e stays = record {
+  placed = λ entries is. stays.placed (subst ArePlaced (sym is) (in_place.placed entries));
+  tied = λ entries is. stays.tied (subst AreTied (sym is) (in_place.tied entries));
+}
+
 pub lives_keep : LivesKeepPlaces
 lives_keep = record {
   turns = λ plan b e life. stays_by b e (λ P kept is. life_so P kept plan b e life is);
@@ -80,4 +87,6 @@ lives_keep = record {
     asks = λ placed vm name context first second now contexts.
         effects_own e.host vm name context first second now contexts (goes_so ArePlaced placed_kept plan b e goes placed);
   };
+  begins = λ plan b e life. begins_by b e (stays_by b e (λ P kept is. life_so P kept plan b e life is));
+  goes = λ plan b e goes. begins_by b e (stays_by b e (λ P kept is. goes_so P kept plan b e goes is));
 }

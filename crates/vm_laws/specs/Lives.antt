@@ -3,10 +3,12 @@ use Rattle.std.specs.Prelude.{◌≡◌, ℕ, List, None}
 use Rattle.contexts.specs.declared.parts.Contexts.{Contexts}
 use Rattle.course.specs.Course.{ends, Met, Reaches}
 use Rattle.course.specs.declared.host.Callback.{Callback}
+use Rattle.gate_config.specs.declared.entries.VmEntry.{VmEntry}
 use Rattle.gate_io.specs.declared.event.Event.{Event}
 use Rattle.vm_host.specs.declared.slots.Vms.{Vms}
 use Rattle.vm_host.specs.Slots.{slot_in, calling}
 use Rattle.vm_laws.specs.Apart.{AllEnds}
+use Rattle.vm_laws.specs.MadeVms.{made_vms}
 use Rattle.vm_laws.specs.OwnChanges.{ArePlaced, ChangesItsOwn}
 use Rattle.vm_laws.specs.OwnEffects.{AsksForItsOwn}
 use Rattle.vm_laws.specs.Silent.{IsSilent, AreTied}
@@ -47,7 +49,14 @@ pub record CallsAreOwn (b e : Both Vms) : Type 0 where
   pub asks : ArePlaced b.host → (vm : ℕ) (name : Callback) (context first second now : ℕ) (contexts : Contexts)
       → AllEnds (AsksForItsOwn vm contexts) (calling e.host vm name context first second now contexts)
 
+-- a life that begins with the machines of a configuration
+pub record BeginsSo (b e : Both Vms) : Type 0 where
+  pub placed : (entries : List VmEntry) → b.host ≡ made_vms entries → ArePlaced e.host
+  pub tied : (entries : List VmEntry) → b.host ≡ made_vms entries → AreTied e.host
+
 pub record LivesKeepPlaces : Type 0 where
   pub turns : (plan : Plan) (b e : Both Vms) → Lives plan b e → StaysForLife b e
   pub steps : (plan : Plan) (b e : Both Vms) → Goes plan b e → StaysForLife b e
   pub calls : (plan : Plan) (b e : Both Vms) → Goes plan b e → CallsAreOwn b e
+  pub begins : (plan : Plan) (b e : Both Vms) → Lives plan b e → BeginsSo b e
+  pub goes : (plan : Plan) (b e : Both Vms) → Goes plan b e → BeginsSo b e
