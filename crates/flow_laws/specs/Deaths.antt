@@ -1,6 +1,6 @@
 -- WHAT IS DONE ON ALL LINES AT ONCE, such as where a VM died.
 use Rattle.std.specs.Prelude.{◌≡◌, ℕ, ◌==◌, Bool, false, List, [], ◌∷◌, ◌++◌, Some, slice_get}
-use Rattle.course.specs.Called.{Called}
+use Rattle.course.specs.Called.{Called, Calling}
 use Rattle.course.specs.Course.{ends, runs_then, Met, Reaches}
 use Rattle.course.specs.declared.host.CallEnd.TheVariants as call_ends
 use Rattle.course.specs.declared.host.Death.{Death}
@@ -22,7 +22,6 @@ use Rattle.body_laws.specs.Apart.{Does, PassesAliens}
 use Rattle.flow_laws.specs.Besides.{OthersAreAlien, IsWhole}
 use Rattle.flow_laws.specs.Rooms.{IsOn, Leaves, quiet_room}
 use Rattle.flow_laws.specs.Elsewhere.{asked_program}
-use Rattle.flow_laws.specs.Steps.{Calling}
 
 -- none of the stages is of the VM
 abbrev pub NoneOf : ℕ → List Stage → Type 0
