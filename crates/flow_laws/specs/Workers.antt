@@ -42,7 +42,7 @@ UnchangedPass H = (response : Bool) (n : ℕ) (x y : Exchange) (room after : Roo
     (flow after.hub.contexts (chain_of response y)) (chain_of response y)
 
 -- From any state between steps in which the direction is sound: what left and what is held and waits then is what was held and waited, and what was to pass;
--- in order; what left the exchange writes; and the direction is sound then. So the law goes on behind the death of a VM.
+-- in order; what left by its deeds the exchange writes; and the direction is sound then, so that the law goes on.
 pub record RunGoesOn {H : Type 0} {response : Bool} {n count : ℕ} {x y : Exchange} {room after : Room} (run : Run H response n count x room y after) (whole : List ℕ) : Type 0 where
   pub bytes : joined (left_by response n (run_deeds run) (running None x room)) ++ flow after.hub.contexts (drop count (chain_of response y))
       ≡ flow room.hub.contexts (drop count (chain_of response x)) ++ whole
