@@ -20,7 +20,7 @@ use Rattle.filter_chain.specs.Flow.{left_in}
 use Rattle.filter_chain.specs.Chains.{bytes_at, cleared, opened, let_through, with_more}
 use Rattle.chain_laws.specs.Acts.{HoldSame, AreThere, unless_at}
 use Rattle.chain_laws.specs.Acts as at_chain
-use Rattle.chain_laws.proofs.Alike.{AreSame, goes_same}
+use Rattle.chain_laws.proofs.Alike.{AreSame, same_all, goes_same}
 use Rattle.chain_laws.proofs.Holding.{all_there}
 use Rattle.chain_laws.proofs.Steps.{through_to, through_items, through_is}
 use Rattle.chain_laws.proofs.Targets.{by_bool, ahead, comes_in, goes_in}
@@ -123,6 +123,33 @@ open_is n vm x hub runs fair = λ i. if runs i then (x, hub) else if fair i then
 
 -- ---- what is let through
 
+pub same_next : (ss ts us : List Stage) → AreSame ss ts → AreSame ts us → AreSame ss us
+same_next [] [] [] one two = tt
+same_next [] [] (u ∷ us) one two = absurd two
+same_next [] (t ∷ ts) us one two = absurd one
+same_next (s ∷ ss) [] us one two = absurd one
+same_next (s ∷ ss) (t ∷ ts) [] one two = absurd two
+same_next (s ∷ ss) (t ∷ ts) (u ∷ us) one two = (
+  record { vm = two.0.vm ∙ one.0.vm; context = two.0.context ∙ one.0.context; response = two.0.response ∙ one.0.response },
+  same_next ss ts us one.1 two.1,
+)
+
+pub same_back : (ss ts : List Stage) → AreSame ss ts → AreSame ts ss
+same_back [] [] same = tt
+same_back [] (t ∷ ts) same = absurd same
+same_back (s ∷ ss) [] same = absurd same
+same_back (s ∷ ss) (t ∷ ts) same = (record { vm = sym same.0.vm; context = sym same.0.context; response = sym same.0.response }, same_back ss ts same.1)
+
+pub hold_same : (b c : Contexts) (ss ts : List Stage) → AreSame ss ts → HoldSame b c ss → HoldSame b c ts
+hold_same b c [] [] same holds = tt
+hold_same b c [] (t ∷ ts) same holds = absurd same
+hold_same b c (s ∷ ss) [] same holds = absurd same
+hold_same b c (s ∷ ss) (t ∷ ts) same holds = (
+  (λ i. bytes_at c (record t { vm = same.0.vm i; context = same.0.context i; response = same.0.response i }))
+      ∙ (holds.0 ∙ (λ i. bytes_at b (record t { vm = sym same.0.vm i; context = sym same.0.context i; response = sym same.0.response i }))),
+  hold_same b c ss ts same.1 holds.1,
+)
+
 vms_same : (ss ts : List Stage) (k : ℕ) → AreSame ss ts → vm_at ts k ≡ vm_at ss k
 vms_same [] [] k same = refl
 vms_same [] (t ∷ ts) k same = absurd same
@@ -166,6 +193,7 @@ abbrev Comes : Bool → ℕ → ℕ → ℕ → Running → List Deed → Type 0
 Comes response n vm k w deeds =
     (((done_all response n deeds w).exchange, (done_all response n deeds w).hub) ≡ opens response vm n k (w.exchange, w.hub))
     × PassFrom vm zero (chain_of response (opens response vm n k (w.exchange, w.hub)).0)
+    × AreSame (chain_of response w.exchange) (chain_of response (opens response vm n k (w.exchange, w.hub)).0)
 
 -- the stage at a place is there, or not
 there_is : (ss : List Stage) (k of : ℕ) → vm_at ss k ≡ Some of → (s : Stage) × (slice_get ss k ≡ Some s) × (s.vm ≡ of)
@@ -185,8 +213,12 @@ module _ (response : Bool) (n count vm : ℕ) where
 
   comes_by : (k : ℕ) (w : Running) (deeds : List Deed) (u : Exchange × Hub) → opens response vm n (suc k) (w.exchange, w.hub) ≡ opens response vm n k u
       → ((done_all response n deeds w).exchange, (done_all response n deeds w).hub) ≡ opens response vm n k u → PassFrom vm zero (chain_of response (opens response vm n k u).0)
-      → Comes response n vm (suc k) w deeds
-  comes_by k w deeds u is one two = (one ∙ sym is, subst (λ (r : Exchange × Hub). PassFrom vm zero (chain_of response r.0)) (sym is) two)
+      → AreSame (chain_of response w.exchange) (chain_of response (opens response vm n k u).0) → Comes response n vm (suc k) w deeds
+  comes_by k w deeds u is one two three = (
+    one ∙ sym is,
+    subst (λ (r : Exchange × Hub). PassFrom vm zero (chain_of response r.0)) (sym is) two,
+    subst (λ (r : Exchange × Hub). AreSame (chain_of response w.exchange) (chain_of response r.0)) (sym is) three,
+  )
 
   none_there : (k : ℕ) (w : Running) → Later k → vm_at (chain_of response w.exchange) k ≡ None → AreDeeds response n count (lets_of vm k (chain_of response w.exchange)) w
       → Comes response n vm (suc k) w (lets_of vm k (chain_of response w.exchange))
@@ -194,7 +226,7 @@ module _ (response : Bool) (n count vm : ℕ) where
       let ss : List Stage = chain_of response w.exchange in
       let law : Comes response n vm k w (lets_of vm k ss) = later w (passes_none vm ss k at) are in
       comes_by k w (lets_of vm k ss) (w.exchange, w.hub)
-      (ap (λ (o : Option Stage). opens response vm n k (opens_at response vm n k o w.exchange w.hub)) (nothing_at ss k at)) law.0 law.1
+      (ap (λ (o : Option Stage). opens response vm n k (opens_at response vm n k o w.exchange w.hub)) (nothing_at ss k at)) law.0 law.1 law.2
 
   another_there : (k of : ℕ) (w : Running) → Later k → vm_at (chain_of response w.exchange) k ≡ Some of → (of == vm) ≡ false → PassFrom vm (suc k) (chain_of response w.exchange)
       → AreDeeds response n count (lets_of vm k (chain_of response w.exchange)) w → Comes response n vm (suc k) w (lets_of vm k (chain_of response w.exchange))
@@ -205,7 +237,7 @@ module _ (response : Bool) (n count vm : ℕ) where
       comes_by k w (lets_of vm k ss) (w.exchange, w.hub)
       (ap (λ (o : Option Stage). opens response vm n k (opens_at response vm n k o w.exchange w.hub)) s.1
       ∙ ap (λ (b : Bool). opens response vm n k (if b then gives_way response n k w.exchange w.hub else (w.exchange, w.hub))) (ap (λ (v : ℕ). v == vm) s.2 ∙ apart))
-      law.0 law.1
+      law.0 law.1 law.2
 
   its_own : (k of : ℕ) (w : Running) → Later k → vm_at (chain_of response w.exchange) k ≡ Some of → (of == vm) ≡ true → PassFrom vm (suc k) (chain_of response w.exchange)
       → AreDeeds response n count (lets k ∷ lets_of vm k (chain_of response w.exchange)) w → Comes response n vm (suc k) w (lets k ∷ lets_of vm k (chain_of response w.exchange))
@@ -227,7 +259,7 @@ module _ (response : Bool) (n count vm : ℕ) where
       comes_by k w (lets k ∷ lets_of vm k ss) (gives_way response n k w.exchange w.hub)
       (ap (λ (o : Option Stage). opens response vm n k (opens_at response vm n k o w.exchange w.hub)) s.1
       ∙ ap (λ (b : Bool). opens response vm n k (if b then gives_way response n k w.exchange w.hub else (w.exchange, w.hub))) (ap (λ (v : ℕ). v == vm) s.2 ∙ own))
-      law_here.0 law_here.1
+      law_here.0 law_here.1 (same_next ss (chain_of response next.exchange) (chain_of response (opens response vm n k (next.exchange, next.hub)).0) same law_here.2)
 
   by_own : (k of : ℕ) (w : Running) → Later k → vm_at (chain_of response w.exchange) k ≡ Some of → (b : Bool) → (of == vm) ≡ b → PassFrom vm (suc k) (chain_of response w.exchange)
       → AreDeeds response n count ((if b then lets k ∷ [] else []) ++ lets_of vm k (chain_of response w.exchange)) w
@@ -242,7 +274,7 @@ module _ (response : Bool) (n count vm : ℕ) where
   by_vm k w later (Some of) at pass are = by_own k of w later at (of == vm) refl pass are
 
   through : (k : ℕ) → Later k
-  through zero w pass are = (refl, pass)
+  through zero w pass are = (refl, pass, same_all (chain_of response w.exchange))
   through (suc k) w pass are = by_vm k w (through k) (vm_at (chain_of response w.exchange) k) refl pass are
 
 pub deaths_pass : DeathsPass
@@ -413,3 +445,58 @@ deaths_of_response n count vm w runs fair cut other own alien there =
 
 pub deaths_are_deeds : DeathsAreDeeds
 deaths_are_deeds = record { request = deaths_of_request; response = deaths_of_response }
+
+-- ---- the stages are those of the same contexts behind a death
+
+lets_due : (response : Bool) (n vm k : ℕ) (stages : List Stage) (w : Running) → w.due ≡ None → (done_all response n (lets_of vm k stages) w).due ≡ None
+lets_due response n vm zero stages w none = none
+lets_due response n vm (suc k) stages w none = by_vm_ (λ u un. lets_due response n vm k stages u un) (vm_at stages k)
+  where
+    by_own_ : ((u : Running) → u.due ≡ None → (done_all response n (lets_of vm k stages) u).due ≡ None) → (b : Bool)
+        → (done_all response n ((if b then lets k ∷ [] else []) ++ lets_of vm k stages) w).due ≡ None
+    by_own_ later true = later (done_by response n (lets k) w) (ap (unless_at k) none)
+    by_own_ later false = later w none
+
+    by_vm_ : ((u : Running) → u.due ≡ None → (done_all response n (lets_of vm k stages) u).due ≡ None) → (o : Option ℕ) → (done_all response n (lets_at vm k o ++ lets_of vm k stages) w).due ≡ None
+    by_vm_ later None = later w none
+    by_vm_ later (Some of) = by_own_ later (of == vm)
+
+-- what a death leaves of a direction's stages
+pub record Left (response : Bool) (n vm : ℕ) (deeds : List Deed) (w : Running) : Type 0 where
+  pub same : AreSame (chain_of response w.exchange) (chain_of response (dies vm n w.exchange w.hub).0)
+  pub due : (done_all response n deeds w).due ≡ None
+
+pub left_of_request : (n vm : ℕ) (w : Running) → w.due ≡ None → w.exchange.has_ended ≡ false → fails_closed vm w.exchange ≡ false → MayLet false n vm w
+    → MayLet true n vm (record { due = None; exchange = (between vm n w.exchange w.hub).0; hub = (between vm n w.exchange w.hub).1 })
+    → AreAliens (between vm n w.exchange w.hub).0.request (between vm n w.exchange w.hub).0.response → Left false n vm (request_death n vm w) w
+left_of_request n vm w none runs fair own other alien =
+    let mid : Exchange × Hub = between vm n w.exchange w.hub in
+    let end : Exchange × Hub = opens_all vm n w.exchange w.hub in
+    let first : List Deed = lets_of vm (length w.exchange.request) w.exchange.request in
+    let it : Comes false n vm (length w.exchange.request) w first = through false n 0 vm (length w.exchange.request) w (passes_past vm w.exchange.request) own in
+    let side : IsAcross true mid.0.request mid.0 mid.1 end
+    = across true n 0 vm mid.0.request (length mid.0.response) (record { due = None; exchange = mid.0; hub = mid.1 }) alien other in
+    record {
+      same =
+          subst (AreSame w.exchange.request) (sym (ap (λ (xh : Exchange × Hub). xh.0.request) (open_is n vm w.exchange w.hub runs fair)))
+          (subst (AreSame w.exchange.request) (sym side.chain) it.2);
+      due = ap (λ (u : Running). u.due) (done_more false n first (turns end.0 end.1 ∷ []) w) ∙ lets_due false n vm (length w.exchange.request) w.exchange.request w none;
+    }
+
+pub left_of_response : (n vm : ℕ) (w : Running) → w.due ≡ None → w.exchange.has_ended ≡ false → fails_closed vm w.exchange ≡ false
+    → MayLet false n vm (record { due = None; exchange = w.exchange; hub = w.hub })
+    → MayLet true n vm (record w { exchange = (between vm n w.exchange w.hub).0; hub = (between vm n w.exchange w.hub).1 }) → AreAliens w.exchange.response w.exchange.request
+    → Left true n vm (response_death n vm w) w
+left_of_response n vm w none runs fair other own alien =
+    let mid : Exchange × Hub = between vm n w.exchange w.hub in
+    let side : IsAcross false w.exchange.response w.exchange w.hub mid
+    = across false n 0 vm w.exchange.response (length w.exchange.request) (record { due = None; exchange = w.exchange; hub = w.hub }) alien other in
+    let u : Running = record w { exchange = mid.0; hub = mid.1 } in
+    let later : List Deed = lets_of vm (length mid.0.response) mid.0.response in
+    let it : Comes true n vm (length mid.0.response) u later = through true n 0 vm (length mid.0.response) u (passes_past vm mid.0.response) own in
+    record {
+      same =
+          subst (AreSame w.exchange.response) (sym (ap (λ (xh : Exchange × Hub). xh.0.response) (open_is n vm w.exchange w.hub runs fair)))
+          (subst (λ (ss : List Stage). AreSame ss (opens true vm n (length mid.0.response) mid).0.response) side.chain it.2);
+      due = lets_due true n vm (length mid.0.response) mid.0.response u none;
+    }

@@ -17,8 +17,15 @@ use Rattle.worker.specs.Rooms.{marking, with_result, in_exchange, in_line, all_l
 use Rattle.contexts.specs.Reached.{vm_in}
 use Rattle.body_laws.specs.Apart.{AreAliens, IsAlien, PassesBy, Does, PassesAliens}
 use Rattle.flow_laws.specs.Besides.{OthersAreAlien, IsWhole}
-use Rattle.flow_laws.specs.Deaths.{NoneOf, AllLinesLeave, IsReached, DeathsReach}
-use Rattle.flow_laws.specs.Rooms.{IsOn, Leaves}
+use Rattle.flow_laws.specs.Deaths.{NoneOf, AllLinesLeave, IsReached, DeathsReach, at_rest, MayDie, death_deeds, DeathsGoOn}
+use Rattle.flow_laws.specs.Rooms.{IsOn, running, Leaves}
+use Rattle.chain_laws.specs.Acts.{AreThere}
+use Rattle.chain_laws.specs.Sound.{IsSound}
+use Rattle.chain_laws.proofs.Alike.{there_same}
+use Rattle.body_laws.specs.Deaths.{IsDeath}
+use Rattle.body_laws.specs.Deeds.{Deed, turns, Running, standing, AreDeeds, done_all}
+use Rattle.body_laws.proofs.Deaths.{deaths_are_deeds, same_back, hold_same, Left, left_of_request, left_of_response}
+use Rattle.flow_laws.proofs.Rooms.{deeds_more, done_more, came_more, deeds_keep}
 use Rattle.body_laws.proofs.Apart.{Holds, same, next, by_vms, exchanges_pass_by}
 use Rattle.flow_laws.proofs.Lines.{marking_vms}
 
@@ -294,6 +301,7 @@ all_reach does passes response n x room on alien whole =
         exchange = refl;
       };
       behind = (next ss r.1.contexts (marking r).1.contexts all.1.contexts marked later).holds;
+      stays = (next ss r.1.contexts (marking r).1.contexts all.1.contexts marked later).there;
     }
 
 pub deaths_reach : DeathsReach
@@ -314,5 +322,50 @@ deaths_reach = record {
         sent = l.sent;
         on = record { place = l.on.place; line = l.on.line; stands = l.on.stands; at = l.on.at; number = l.on.number; exchange = l.on.exchange };
         behind = l.behind;
+        stays = l.stays;
       };
 }
+
+-- ---- as deeds of a worker
+
+death_law : (response : Bool) (n count vm : ℕ) (x : Exchange) (hub : Hub) → x.has_ended ≡ false → fails_closed vm x ≡ false → MayDie response n count vm x hub
+    → IsDeath response n count vm (death_deeds response n vm x hub) (at_rest x hub)
+death_law false n count vm x hub runs fair may = deaths_are_deeds.request n count vm (at_rest x hub) runs fair may.0 may.1 may.2 may.3 may.4
+death_law true n count vm x hub runs fair may = deaths_are_deeds.response n count vm (at_rest x hub) runs fair may.0 may.1 may.2 may.3 may.4
+
+death_left : (response : Bool) (n count vm : ℕ) (x : Exchange) (hub : Hub) → x.has_ended ≡ false → fails_closed vm x ≡ false → MayDie response n count vm x hub
+    → Left response n vm (death_deeds response n vm x hub) (at_rest x hub)
+death_left false n count vm x hub runs fair may = left_of_request n vm (at_rest x hub) refl runs fair may.1 may.2 may.3
+death_left true n count vm x hub runs fair may = left_of_response n vm (at_rest x hub) refl runs fair may.1 may.2 may.3
+
+pub deaths_go_on : DeathsGoOn
+deaths_go_on response n count vm x room after r sound runs fair may =
+    let w : Running = running None x room in
+    let deeds : List Deed = death_deeds response n vm x r.found in
+    let law : IsDeath response n count vm deeds (at_rest x r.found) = death_law response n count vm x r.found runs fair may in
+    let side : Left response n vm deeds (at_rest x r.found) = death_left response n count vm x r.found runs fair may in
+    let end : Exchange × Hub = dies vm n x r.found in
+    let mid : Running = done_all response n deeds (at_rest x r.found) in
+    let is : mid ≡ at_rest end.0 end.1 = λ i. record { due = side.due i; exchange = (law.comes i).0; hub = (law.comes i).1 } in
+    let first : AreDeeds response n count (turns x r.found ∷ deeds) w = (record { runs = tt; acts = ((r.holds, r.there), tt); chain = refl }, law.are) in
+    let sound_mid : IsSound count (standing response (at_rest end.0 end.1))
+    = subst (λ (u : Running). IsSound count (standing response u)) is (deeds_keep response n count (turns x r.found ∷ deeds) w first sound) in
+    let ss : List Stage = chain_of response x in
+    let ts : List Stage = chain_of response end.0 in
+    let there : AreThere after.hub.contexts ts
+    = there_same after.hub.contexts ss ts side.same (r.stays (there_same end.1.contexts ts ss (same_back ss ts side.same) sound_mid.there)) in
+    let last : AreDeeds response n count (turns end.0 after.hub ∷ []) mid
+    = subst (AreDeeds response n count (turns end.0 after.hub ∷ [])) (sym is)
+    (record { runs = tt; acts = ((hold_same end.1.contexts after.hub.contexts ss ts side.same r.behind, there), tt); chain = refl }, tt) in
+    let are : AreDeeds response n count (turns x r.found ∷ deeds ++ turns end.0 after.hub ∷ []) w
+    = deeds_more response n count (turns x r.found ∷ deeds) (turns end.0 after.hub ∷ []) w first last in
+    let ends_so : done_all response n (turns x r.found ∷ deeds ++ turns end.0 after.hub ∷ []) w ≡ running None end.0 after
+    = done_more response n (turns x r.found ∷ deeds) (turns end.0 after.hub ∷ []) w ∙ ap (done_all response n (turns end.0 after.hub ∷ [])) is in
+    record {
+      are = are;
+      none_came = came_more deeds (turns end.0 after.hub ∷ []) ∙ (λ i. law.none_came i ++ []);
+      last = ends_so;
+      sound =
+          subst (λ (u : Running). IsSound count (standing response u)) ends_so
+          (deeds_keep response n count (turns x r.found ∷ deeds ++ turns end.0 after.hub ∷ []) w are sound);
+    }

@@ -44,16 +44,16 @@ record Told (response : Bool) (n count : ℕ) (deeds : List Deed) (w v : Running
   cames : came deeds ≡ items
   lefts : (k : ℕ) → buffers_by response n k deeds w ≡ buffers k
 
-deeds_more : (response : Bool) (n count : ℕ) (a b : List Deed) (w : Running) → AreDeeds response n count a w → AreDeeds response n count b (done_all response n a w)
+pub deeds_more : (response : Bool) (n count : ℕ) (a b : List Deed) (w : Running) → AreDeeds response n count a w → AreDeeds response n count b (done_all response n a w)
     → AreDeeds response n count (a ++ b) w
 deeds_more response n count [] b w first later = later
 deeds_more response n count (deed ∷ a) b w first later = (first.0, deeds_more response n count a b (done_by response n deed w) first.1 later)
 
-done_more : (response : Bool) (n : ℕ) (a b : List Deed) (w : Running) → done_all response n (a ++ b) w ≡ done_all response n b (done_all response n a w)
+pub done_more : (response : Bool) (n : ℕ) (a b : List Deed) (w : Running) → done_all response n (a ++ b) w ≡ done_all response n b (done_all response n a w)
 done_more response n [] b w = refl
 done_more response n (deed ∷ a) b w = done_more response n a b (done_by response n deed w)
 
-came_more : (a b : List Deed) → came (a ++ b) ≡ came a ++ came b
+pub came_more : (a b : List Deed) → came (a ++ b) ≡ came a ++ came b
 came_more [] b = refl
 came_more (comes item ∷ a) b = ap (λ (l : List Item). item ∷ l) (came_more a b)
 came_more (calls after ∷ a) b = came_more a b
@@ -83,7 +83,7 @@ told_none : (response : Bool) (n count : ℕ) (w : Running) → Told response n 
 told_none response n count w = record { are = tt; last = refl; cames = refl; lefts = λ k. refl }
 
 -- what holds between acts holds behind deeds
-deeds_keep : (response : Bool) (n count : ℕ) (deeds : List Deed) (w : Running) → AreDeeds response n count deeds w → IsSound count (standing response w)
+pub deeds_keep : (response : Bool) (n count : ℕ) (deeds : List Deed) (w : Running) → AreDeeds response n count deeds w → IsSound count (standing response w)
     → IsSound count (standing response (done_all response n deeds w))
 deeds_keep response n count [] w are keeps = keeps
 deeds_keep response n count (deed ∷ deeds) w are keeps =

@@ -1,5 +1,5 @@
 -- WHAT IS DONE ON ALL LINES AT ONCE, such as where a VM died.
-use Rattle.std.specs.Prelude.{◌≡◌, ℕ, ◌==◌, Bool, false, List, [], ◌∷◌, ◌++◌, Some, slice_get}
+use Rattle.std.specs.Prelude.{◌≡◌, ℕ, ◌==◌, Bool, true, false, List, [], ◌∷◌, ◌++◌, None, Some, slice_get}
 use Rattle.course.specs.Called.{Called, Calling}
 use Rattle.course.specs.Course.{ends, runs_then, Met, Reaches}
 use Rattle.course.specs.declared.host.CallEnd.TheVariants as call_ends
@@ -18,9 +18,12 @@ use Rattle.worker.specs.Plan.{Plan}
 use Rattle.worker.specs.Steps.{Both, both, step}
 use Rattle.worker.specs.Rooms.{all_lines, with_lines, died}
 use Rattle.chain_laws.specs.Acts.{HoldSame, AreThere}
-use Rattle.body_laws.specs.Apart.{Does, PassesAliens}
+use Rattle.chain_laws.specs.Sound.{IsSound}
+use Rattle.body_laws.specs.Apart.{AreAliens, Does, PassesAliens}
+use Rattle.body_laws.specs.Deaths.{MayLet, between, CutIsAnothers, request_death, response_death}
+use Rattle.body_laws.specs.Deeds.{Deed, turns, Running, standing, came, AreDeeds, done_all}
 use Rattle.flow_laws.specs.Besides.{OthersAreAlien, IsWhole}
-use Rattle.flow_laws.specs.Rooms.{IsOn, Leaves, quiet_room}
+use Rattle.flow_laws.specs.Rooms.{IsOn, running, Leaves, quiet_room}
 use Rattle.flow_laws.specs.Elsewhere.{asked_program}
 
 -- none of the stages is of the VM
@@ -46,6 +49,7 @@ pub record IsReached (does : Does) (response : Bool) (n : ℕ) (x : Exchange) (r
   pub before : (more : List Sent) × (found.sent ≡ room.hub.sent ++ more)
   pub on : IsOn n after (does n x found).0
   pub behind : HoldSame (does n x found).1.contexts after.hub.contexts (chain_of response x)
+  pub stays : AreThere (does n x found).1.contexts (chain_of response x) → AreThere after.hub.contexts (chain_of response x)
   pub sent : (more : List Sent) × (after.hub.sent ≡ (does n x found).1.sent ++ more)
 
 -- WHERE A VM DIED: what is called then does to each exchange what `dies` is, whatever VM it is and whatever stages the exchange has.
@@ -54,6 +58,38 @@ pub record DeathsReach : Type 0 where
       → IsWhole response x room → IsReached does response n x room (with_lines room (all_lines does room.lines room.hub))
   pub dying : (vm : ℕ) (death : Death) (response : Bool) (n : ℕ) (x : Exchange) (room : Room) (on : IsOn n room x) → OthersAreAlien (chain_of response x) on.place room
       → IsWhole response x room → IsReached (dies vm) response n x room (died vm death room)
+
+-- ---- a death as deeds of a worker
+
+abbrev pub at_rest : Exchange → Hub → Running
+at_rest x hub = record { due = None; exchange = x; hub = hub }
+
+-- what a death may do to the exchange, as a direction of it sees that: the last stage with a body callback is of another VM, nothing that is let through is
+-- too much, no stage is in both chains, and the contexts are there
+abbrev pub MayDie : Bool → ℕ → ℕ → ℕ → Exchange → Hub → Type 0
+MayDie false n count vm x hub =
+    CutIsAnothers count vm x.request × MayLet false n vm (at_rest x hub) × MayLet true n vm (at_rest (between vm n x hub).0 (between vm n x hub).1)
+    × AreAliens (between vm n x hub).0.request (between vm n x hub).0.response × AreThere (between vm n x hub).1.contexts (between vm n x hub).0.request
+MayDie true n count vm x hub =
+    CutIsAnothers count vm x.response × MayLet false n vm (at_rest x hub) × MayLet true n vm (at_rest (between vm n x hub).0 (between vm n x hub).1)
+    × AreAliens x.response x.request × AreThere hub.contexts x.response
+
+abbrev pub death_deeds : Bool → ℕ → ℕ → Exchange → Hub → List Deed
+death_deeds false n vm x hub = request_death n vm (at_rest x hub)
+death_deeds true n vm x hub = response_death n vm (at_rest x hub)
+
+-- WHERE A VM DIED, that is deeds of the law on exchanges, from the exchange and what all lines had in common to those behind it, and the direction is sound
+-- behind them: so the law on turns goes on there.
+pub record IsDeathOn (response : Bool) (n count : ℕ) (deeds : List Deed) (x : Exchange) (room : Room) (y : Exchange) (after : Room) : Type 0 where
+  pub are : AreDeeds response n count deeds (running None x room)
+  pub none_came : came deeds ≡ []
+  pub last : done_all response n deeds (running None x room) ≡ running None y after
+  pub sound : IsSound count (standing response (running None y after))
+
+abbrev pub DeathsGoOn : Type 0
+DeathsGoOn = (response : Bool) (n count vm : ℕ) (x : Exchange) (room after : Room) (r : IsReached (dies vm) response n x room after) → IsSound count (standing response (running None x room))
+    → x.has_ended ≡ false → fails_closed vm x ≡ false → MayDie response n count vm x r.found
+    → IsDeathOn response n count (turns x r.found ∷ death_deeds response n vm x r.found ++ turns (dies vm n x r.found).0 after.hub ∷ []) x room (dies vm n x r.found).0 after
 
 -- A MOVE WHOSE CALLBACK DIED ends so: its lines are in the log, none of its effects is done, and that is done on all lines.
 abbrev pub DeathsEndMoves : Type 0 → Type 0

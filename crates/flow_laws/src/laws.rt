@@ -1,7 +1,7 @@
 // What flows through one direction of an exchange. The functions have nothing to do: their contracts are the laws.
 ghost use Rattle.flow_laws.specs.Besides.{OtherLinesLeave, OtherDirectionLeaves, QuietStepsLeave};
 ghost use Rattle.flow_laws.specs.Contexts.{CallsAreRuns, ContextsLeave};
-ghost use Rattle.flow_laws.specs.Deaths.{AllLinesLeave, DeathsEndMoves, DeathsReach};
+ghost use Rattle.flow_laws.specs.Deaths.{AllLinesLeave, DeathsEndMoves, DeathsGoOn, DeathsReach};
 ghost use Rattle.flow_laws.specs.Effects.{AskingElsewhereLeaves, CallbacksAreRuns, MildEffectsAreOthers};
 ghost use Rattle.flow_laws.specs.Elsewhere.{OtherDirectionMoves, OtherLinesMove};
 ghost use Rattle.flow_laws.specs.Events.{EventsLeave};
@@ -66,9 +66,11 @@ pub fn jobs_leave_directions<H>()
 /// What is done on all lines and does nothing to the exchange itself leaves a direction as it was; so the death of a VM that is none of its stages'.
 /// Where a VM died the function that is called then reaches the exchange: it ends without stages or they are let through, as `deaths_cut_or_pass` of
 /// `body_laws` says, with what the direction's stages held before; and what is done on other lines leaves what they hold, and what was sent.
+/// Where the exchange goes on, that is deeds of the law on exchanges, and the direction is sound behind them.
 pub fn deaths_on_lines()
     ensures others { AllLinesLeave }
     ensures reach { DeathsReach }
+    ensures deeds { DeathsGoOn }
 {}
 
 /// Contexts of others come and go, and that leaves a direction as it was. A callback of no stage is what the law takes a worker to do besides, where
