@@ -131,7 +131,7 @@ impl Gate for UntilAnswered {
         if worker.get() != 1 {
             return;
         }
-        for _ in 0..10_000_000u32 {
+        for _ in 0..10_000_000_000u64 {
             if self.answered.load(Ordering::SeqCst) == 1 {
                 return;
             }
