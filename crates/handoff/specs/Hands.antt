@@ -28,17 +28,13 @@ new_rights queue = record { queue = queue; lines = [] }
 abbrev pub Untaken : {L : Type 0} → (L → ℕ) → List ℕ → List L → Type 0
 Untaken line offered items = (taken : List ℕ) × (offered ≡ taken ++ map line items)
 
--- at one moment 128 of the lines offered were not taken
+-- there are 128 lines whose numbers are the last of those offered: so at least 128 were offered
 abbrev pub WasFull : {L : Type 0} → (L → ℕ) → List ℕ → Type 0
 WasFull line offered = Held 128 (Untaken line offered)
 
--- these lines were taken, of all that were offered
+-- these lines were taken, of all that were offered: of the empty list it says nothing
 abbrev pub Took : {L : Type 0} → (L → ℕ) → List ℕ → List L → Type 0
 Took line taken items = (offered : List ℕ) × (offered ≡ taken ++ map line items)
-
--- at one moment all lines that were offered had been taken
-abbrev pub WasEmpty : {L : Type 0} → (L → ℕ) → List ℕ → Type 0
-WasEmpty line taken = Held 0 (Took line taken)
 
 -- what was offered is what was taken, in order and each once, and then what the queue holds
 abbrev pub IsInOrder : {L : Type 0} → (L → ℕ) → List ℕ → List ℕ → List L → Type 0
