@@ -41,10 +41,9 @@ fn put_lowered(bytes: &mut Vec<u8>, text: &[u8]) -> Result<(), OutOfMemory>
     ensures ok { OnOk result (bytes.new.items ≡ bytes.old.items ++ lowercase text.now) }
     ensures err { OnErr result (bytes.new.items ≡ bytes.old.items) }
 {
-    bytes.reserve(text.len())?;
-    for byte in text {
-        bytes.push_reserved(byte.to_ascii_lowercase());
-    }
+    let start = bytes.len();
+    bytes.extend_from_slice(text)?;
+    bytes.slice_mut(start..).make_ascii_lowercase();
     Ok(())
 }
 
