@@ -1,6 +1,7 @@
 pub mod ListedLengths
 pub mod Lists
 pub mod Measured
+pub mod Noting
 pub mod Origin
 pub mod Reading
 pub mod Short

@@ -1,12 +1,10 @@
 -- The fields that `httparse` has read are such as a list takes.
-use Rattle.std.proofs.Common.{◌≡◌, ℕ, ◌+◌, ◌<◌, ◌≤◌, zero, suc, true, List, [], ◌∷◌, ◌++◌, length, map, take, drop, All, sym, ap, ◌∙◌, subst, arith}
-use Rattle.std.proofs.lemmas.List.{length-append}
+use Rattle.std.proofs.Common.{◌≡◌, ℕ, ◌≤◌, zero, suc, List, [], ◌∷◌, length, map, take, drop, All, sym, subst, arith}
 use Rattle.std.proofs.lemmas.List.Elements.{All-head, All-tail}
-use Rattle.header_maps.specs.Judged.{is_field_name, is_field_value}
 use Rattle.httparse.specs.declared.spans.HeaderSpan.{HeaderSpan}
 use Rattle.httparse.specs.declared.spans.RequestSpans.{RequestSpans}
 use Rattle.httparse.specs.declared.spans.ResponseSpans.{ResponseSpans}
-use Rattle.httparse.specs.Grammar.{LineEnd, Field, IsField, field_value, print_field, print_section, print_request, print_response}
+use Rattle.httparse.specs.Grammar.{LineEnd, Field, IsField, print_field, print_section, print_request, print_response}
 use Rattle.httparse.specs.Spans.{header_bytes, name_and_value, IsRequestOf, IsResponseOf}
 use Rattle.http1_model.specs.Fields.{Pair}
 use Rattle.http1_model.proofs.GrammarLines.{request_parts, request_prints, response_parts, response_prints}

@@ -2,6 +2,7 @@ pub mod Cuts
 pub mod Held
 pub mod Lengths
 pub mod Measures
+pub mod Noted
 pub mod Seen
 pub mod Spans
 pub mod Targets

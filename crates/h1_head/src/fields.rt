@@ -22,6 +22,63 @@ pub enum Lines<'t> {
     Many,
 }
 
+impl<'t> Lines<'t> {
+    ghost use Rattle.std.specs.Prelude.{◌∷◌, ◌++◌, []};
+
+    /// These, and one line more behind them, of this value.
+    fn and(self, value: &'t [u8]) -> Self
+        ensures { (values : List (List ℕ)) → AreLines values self.entry → AreLines (values ++ value.now ∷ []) result }
+    {
+        match self {
+            Lines::Absent => Lines::One(value),
+            Lines::One(_) => Lines::Many,
+            Lines::Many => Lines::Many,
+        }
+    }
+}
+
+/// The lines of those fields that say what a head is: looked up in one walk over its fields.
+#[derive(Clone, Copy)]
+pub struct Noted<'t> {
+    pub host: Lines<'t>,
+    pub connection: Lines<'t>,
+    pub lengths: Lines<'t>,
+    pub codings: Lines<'t>,
+}
+
+impl<'t> Noted<'t> {
+    ghost use Rattle.std.specs.Prelude.{◌∷◌, ◌++◌, []};
+    ghost use Rattle.http1_model.specs.Fields.{Pair};
+    ghost use Rattle.h1_head.specs.Noted.{AreNoted};
+
+    /// Those of no fields.
+    fn none() -> Self
+        ensures { AreNoted [] result }
+    {
+        Noted {
+            host: Lines::Absent,
+            connection: Lines::Absent,
+            lengths: Lines::Absent,
+            codings: Lines::Absent,
+        }
+    }
+
+    /// Notes one field more, behind those that were noted.
+    fn note(&mut self, name: &[u8], value: &'t [u8])
+        ensures { (fields : List Pair) → AreNoted fields self.old → AreNoted (fields ++ (name.now, value.now) ∷ []) self.new }
+    {
+        if is_same_word(name, b"host") {
+            self.host = self.host.and(value);
+        } else if is_same_word(name, b"connection") {
+            self.connection = self.connection.and(value);
+        } else if is_same_word(name, b"content-length") {
+            self.lengths = self.lengths.and(value);
+        } else if is_same_word(name, b"transfer-encoding") {
+            self.codings = self.codings.and(value);
+        }
+    }
+}
+
 /// What the Connection fields of a head say, looked up once a head: their lines, and between which lengths all names lie that they list.
 #[derive(Clone, Copy)]
 pub struct Connection<'t> {
@@ -59,8 +116,10 @@ pub fn is_hop_name(name: &[u8]) -> bool
 }
 
 impl<'t> Fields<'t> {
+    ghost use Rattle.std.specs.Prelude.{codes};
     ghost use Rattle.http1_model.specs.Listed.{with_fields};
     ghost use Rattle.h1_head.specs.Held.{fields_of};
+    ghost use Rattle.h1_head.specs.Noted.{AreNoted};
     ghost use Rattle.h1_head.specs.Seen.{dropped_from, passing_in, IsListed};
 
     /// The name and the value that a field's spans cover.
@@ -74,24 +133,16 @@ impl<'t> Fields<'t> {
         (span.name.of(self.text), span.value.of(self.text))
     }
 
-    /// The field lines of a name, in any case of letters.
-    pub fn lines_of(&self, name: &[u8]) -> Lines<'t>
-        ensures { AreLines (values_of (lowercase name.now) (fields_of self.now)) result }
+    /// The lines of those fields that say what the head is.
+    pub fn noted(&self) -> Noted<'t>
+        ensures { AreNoted (fields_of self.now) result }
     {
-        let mut found: Option<&'t [u8]> = None;
+        let mut noted = Noted::none();
         for span in self.spans {
-            let (field, value) = self.pair_at(span);
-            if is_same_word(field, name) {
-                if found.is_some() {
-                    return Lines::Many;
-                }
-                found = Some(value);
-            }
+            let (name, value) = self.pair_at(span);
+            noted.note(name, value);
         }
-        match found {
-            Some(value) => Lines::One(value),
-            None => Lines::Absent,
-        }
+        noted
     }
 
     /// The values of the field lines of a name, in any case of letters, in order.
@@ -135,36 +186,76 @@ impl<'t> Fields<'t> {
         lengths
     }
 
-    /// What the Connection fields say.
-    fn connection(&self) -> Connection<'t>
-        ensures { IsConnectionOf (fields_of self.now) result }
+    /// Lengths between which all names lie that the Connection fields list, whose lines were looked up.
+    fn lengths_by(&self, lines: Lines<'t>) -> Lengths
+        requires { AreLines (values_of (codes "connection") (fields_of self.now)) lines }
+        ensures { (name : List ℕ) → is_listed name (fields_of self.now) ≡ true → IsBetween result (length name) }
     {
-        Connection {
-            lines: self.lines_of(b"connection"),
-            lengths: self.listed_lengths(),
+        match lines {
+            Lines::Absent => Lengths::none(),
+            Lines::One(value) => Lengths::none().with_members(value),
+            Lines::Many => self.listed_lengths(),
         }
     }
 
-    /// Whether a Connection field lists a name, in any case of letters, by what these fields say; a name that is shorter or longer than all
-    /// that they list is looked for no further.
-    fn is_among(&self, connection: Connection<'t>, name: &[u8]) -> bool
-        requires { IsConnectionOf (fields_of self.now) connection }
+    /// What the Connection fields say, whose lines were looked up.
+    pub fn connection(&self, lines: Lines<'t>) -> Connection<'t>
+        requires { AreLines (values_of (codes "connection") (fields_of self.now)) lines }
+        ensures { IsConnectionOf (fields_of self.now) result }
+    {
+        let lengths = self.lengths_by(lines);
+        Connection { lines, lengths }
+    }
+
+    /// The values of the Connection fields, in order, whose lines were looked up.
+    pub fn connection_values(
+        &self,
+        alloc: Global,
+        lines: Lines<'t>,
+    ) -> Result<Members<Octets>, OutOfMemory>
+        requires { AreLines (values_of (codes "connection") (fields_of self.now)) lines }
+        ensures { IfOk result (λ values. values ≡ values_of (codes "connection") (fields_of self.now)) }
+    {
+        match lines {
+            Lines::Absent => Ok(Members::new(alloc)),
+            Lines::One(value) => {
+                let mut values = Members::new(alloc);
+                values.push(Octets::from_slice(alloc, value)?)?;
+                Ok(values)
+            }
+            Lines::Many => self.values_of(alloc, b"connection"),
+        }
+    }
+
+    /// Whether a Connection field lists a name, in any case of letters, by the lines of these fields.
+    fn is_listed_by(&self, lines: Lines<'t>, name: &[u8]) -> bool
+        requires { AreLines (values_of (codes "connection") (fields_of self.now)) lines }
         ensures { result ≡ is_listed (lowercase name.now) (fields_of self.now) }
     {
-        if !connection.lengths.has(name.len()) {
-            return false;
-        }
-        match connection.lines {
+        match lines {
             Lines::Absent => false,
             Lines::One(value) => lists(value, name),
             Lines::Many => self.is_listed(name),
         }
     }
 
+    /// Whether a Connection field lists a name, in any case of letters, by what these fields say; a name that is shorter or longer than all
+    /// that they list is looked for no further.
+    #[inline(always)]
+    pub fn is_among(&self, connection: &Connection<'t>, name: &[u8]) -> bool
+        requires { IsConnectionOf (fields_of self.now) connection.now }
+        ensures { result ≡ is_listed (lowercase name.now) (fields_of self.now) }
+    {
+        if !connection.lengths.has(name.len()) {
+            return false;
+        }
+        self.is_listed_by(connection.lines, name)
+    }
+
     /// Whether a field of this name, in any case of letters, is dropped, by what the Connection fields say; `host` may pass, as
     /// in a response.
-    fn is_dropped(&self, host_passes: bool, connection: Connection<'t>, name: &[u8]) -> bool
-        requires { IsConnectionOf (fields_of self.now) connection }
+    fn is_dropped(&self, host_passes: bool, connection: &Connection<'t>, name: &[u8]) -> bool
+        requires { IsConnectionOf (fields_of self.now) connection.now }
         ensures { result ≡ dropped_from host_passes (fields_of self.now) (lowercase name.now) }
     {
         let is_hop = if host_passes {
@@ -175,12 +266,17 @@ impl<'t> Fields<'t> {
         is_hop || self.is_among(connection, name)
     }
 
-    /// The list with the fields that pass put last, in order; `host` may pass, as in a response.
-    pub fn passing(&self, host_passes: bool, list: HeaderList) -> Result<HeaderList, HeaderEnd>
+    /// The list with the fields that pass put last, in order, by what the Connection fields say; `host` may pass, as in a response.
+    pub fn passing(
+        &self,
+        host_passes: bool,
+        connection: &Connection<'t>,
+        list: HeaderList,
+    ) -> Result<HeaderList, HeaderEnd>
+        requires { IsConnectionOf (fields_of self.now) connection.now }
         ensures { IsListed (with_fields list (passing_in host_passes (fields_of self.now))) result }
     {
         let mut list = list;
-        let connection = self.connection();
         for span in self.spans {
             let (name, value) = self.pair_at(span);
             if !self.is_dropped(host_passes, connection, name) {

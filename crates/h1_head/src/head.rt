@@ -71,25 +71,6 @@ pub struct Head {
     pub connection: Members<Octets>,
 }
 
-impl Head {
-    ghost use Rattle.http1_model.specs.Head.{has_length_field, is_origin};
-    ghost use Rattle.h1_head.specs.Seen.{seen_head};
-
-    /// Whether the head was received with a Content-Length or a Transfer-Encoding field.
-    pub fn has_length_field(&self) -> bool
-        ensures { result ≡ has_length_field (seen_head self.now) }
-    {
-        self.told.is_some() || matches!(self.length, Length::Chunked)
-    }
-
-    /// Whether it is a request's, with a target that begins with `/`.
-    pub fn is_origin(&self) -> bool
-        ensures { result ≡ is_origin (seen_head self.now).form }
-    {
-        matches!(self.form, Some(TargetForm::Origin))
-    }
-}
-
 /// What a text spells where a head is due.
 #[derive(Debug, Drop)]
 pub enum HeadStep {

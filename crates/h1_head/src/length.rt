@@ -3,9 +3,11 @@ ghost use Rattle.std.specs.Prelude.{◌≡◌, ◌<◌, ◌∷◌, length, IfSom
 ghost use Rattle.http1_model.specs.Fields.{members, values_of};
 ghost use Rattle.http1_model.specs.Length.{number_of, told_measure, request_measure, response_measure, bodied};
 ghost use Rattle.h1_head.specs.Held.{fields_of};
+ghost use Rattle.h1_head.specs.Noted.{AreNoted};
+ghost use Rattle.h1_head.specs.Spans.{AreLines};
 ghost use Rattle.h1_head.specs.Measures.{rest_members, agreed, AreTold, seen_measure, seen_measure_result};
 
-use crate::fields::{Fields, Lines};
+use crate::fields::{Fields, Lines, Noted};
 use crate::head::Length;
 use crate::members::{first_member, is_same_word, trim};
 
@@ -91,6 +93,18 @@ fn told_length(fields: &Fields) -> Told
     }
 }
 
+/// What the Content-Length lines of a head tell, which were looked up.
+fn told_by(fields: &Fields, lines: Lines) -> Told
+    requires { AreLines (values_of (codes "content-length") (fields_of fields.now)) lines }
+    ensures { AreTold (values_of (codes "content-length") (fields_of fields.now)) result }
+{
+    match lines {
+        Lines::Absent => Told::Absent,
+        Lines::One(_) => told_length(fields),
+        Lines::Many => told_length(fields),
+    }
+}
+
 /// A body of so many bytes, which is none where they are 0.
 fn exact_measure(n: u64) -> Measure
     ensures { told_measure (Some n) ≡ Ok (seen_measure result) }
@@ -107,14 +121,14 @@ fn exact_measure(n: u64) -> Measure
 }
 
 /// The length of a request's body, or the number of a refusal (RFC 9112 section 6).
-pub fn request_measure(fields: &Fields, minor: u8) -> Result<Measure, u16>
+pub fn request_measure(fields: &Fields, noted: &Noted, minor: u8) -> Result<Measure, u16>
+    requires { AreNoted (fields_of fields.now) noted.now }
     ensures { seen_measure_result result ≡ request_measure minor
         (values_of (codes "transfer-encoding") (fields_of fields.now))
         (values_of (codes "content-length") (fields_of fields.now)) }
 {
-    let codings = fields.lines_of(b"transfer-encoding");
-    let told = told_length(fields);
-    match (codings, told) {
+    let told = told_by(fields, noted.lengths);
+    match (noted.codings, told) {
         (Lines::Absent, Told::Absent) => Ok(Measure {
             length: Length::Nothing,
             told: None,
@@ -136,12 +150,13 @@ pub fn request_measure(fields: &Fields, minor: u8) -> Result<Measure, u16>
 }
 
 /// The length of a response's body where its status lets it have one, or the number of a refusal (RFC 9112 section 6).
-pub fn response_measure(fields: &Fields, minor: u8) -> Result<Measure, u16>
+pub fn response_measure(fields: &Fields, noted: &Noted, minor: u8) -> Result<Measure, u16>
+    requires { AreNoted (fields_of fields.now) noted.now }
     ensures { seen_measure_result result ≡ response_measure minor
         (values_of (codes "transfer-encoding") (fields_of fields.now))
         (values_of (codes "content-length") (fields_of fields.now)) }
 {
-    match request_measure(fields, minor) {
+    match request_measure(fields, noted, minor) {
         Ok(
             Measure {
                 length: Length::Nothing,

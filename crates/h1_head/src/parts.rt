@@ -4,11 +4,12 @@ ghost use Rattle.std.specs.Prelude.{◌≡◌, Option, None, Err, IfOk};
 ghost use Rattle.header_maps.specs.Headers.{Headers};
 ghost use Rattle.http1_model.specs.Head.{measured};
 ghost use Rattle.h1_head.specs.Held.{fields_of};
+ghost use Rattle.h1_head.specs.Lengths.{IsConnectionOf};
 ghost use Rattle.h1_head.specs.Measures.{seen_measure_result};
 ghost use Rattle.h1_head.specs.Seen.{seen_answer, IsListed};
 ghost use Rattle.h1_head.specs.Targets.{seen_form};
 
-use crate::fields::Fields;
+use crate::fields::{Connection, Fields};
 use crate::head::{Head, TargetForm};
 use crate::length::Measure;
 use gate_base::OutOfMemory;
@@ -38,8 +39,10 @@ pub fn measured(
     form: Option<TargetForm>,
     minor: u8,
     fields: &Fields,
+    connection: &Connection,
     measure: Result<Measure, u16>,
 ) -> Result<Answer, OutOfMemory>
+    requires { IsConnectionOf (fields_of fields.now) connection.now }
     ensures { IfOk result (λ answer. seen_answer answer ≡
         measured list (option_map seen_form form) minor (fields_of fields.now) (seen_measure_result measure)) }
 {
@@ -47,7 +50,7 @@ pub fn measured(
         Ok(measure) => measure,
         Err(number) => return Ok(Err(number)),
     };
-    let connection = fields.values_of(alloc, b"connection")?;
+    let values = fields.connection_values(alloc, connection.lines)?;
     Ok(Ok(Head {
         fields: list,
         tail: HeaderList::new(alloc),
@@ -55,7 +58,7 @@ pub fn measured(
         minor,
         length,
         told,
-        close: fields.is_listed(b"close"),
-        connection,
+        close: fields.is_among(connection, b"close"),
+        connection: values,
     }))
 }

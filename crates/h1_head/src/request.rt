@@ -11,11 +11,13 @@ ghost use Rattle.http1_model.specs.Target.{is_visible};
 ghost use Rattle.httparse.specs.Grammar.{RequestHead, ReadsRequest};
 ghost use Rattle.httparse.specs.Spans.{IsRequestWithin, IsRequestOf, header_bytes};
 ghost use Rattle.h1_head.specs.Held.{fields_of};
-ghost use Rattle.h1_head.specs.Spans.{IsRead};
+ghost use Rattle.h1_head.specs.Lengths.{IsConnectionOf};
+ghost use Rattle.h1_head.specs.Noted.{AreNoted};
+ghost use Rattle.h1_head.specs.Spans.{AreLines, IsRead};
 ghost use Rattle.h1_head.specs.Seen.{seen_answer, IsHost, IsListed};
 ghost use Rattle.h1_head.specs.Targets.{seen_target};
 
-use crate::fields::{Fields, Lines};
+use crate::fields::{Connection, Fields, Lines, Noted};
 use crate::length::request_measure;
 use crate::parts::{Answer, FIELD_LIMIT, measured, refusal_of};
 use crate::target::{Target, is_visible, target_of};
@@ -34,10 +36,10 @@ fn is_all_visible(value: &[u8]) -> bool
 
 /// The value of Host, or nothing in a head of HTTP/1.0 without one; none where the Host lines are wrong
 /// (RFC 9112 section 3.2).
-fn host_value<'t>(fields: &Fields<'t>, minor: u8) -> Option<&'t [u8]>
-    ensures { IsHost minor (values_of (codes "host") (fields_of fields.now)) (option_copied result) }
+fn host_value<'t>(lines: Lines<'t>, minor: u8) -> Option<&'t [u8]>
+    ensures { (hosts : List (List ℕ)) → AreLines hosts lines.entry → IsHost minor hosts (option_copied result) }
 {
-    match fields.lines_of(b"host") {
+    match lines {
         Lines::Absent if minor == 0 => Some(&[]),
         Lines::One(host) if is_all_visible(host) => Some(host),
         _ => None,
@@ -51,7 +53,9 @@ fn request_list(
     target: &Target,
     host: &[u8],
     fields: &Fields,
+    connection: &Connection,
 ) -> Result<HeaderList, HeaderEnd>
+    requires connection { IsConnectionOf (fields_of fields.now) connection.now }
     requires method { length method.now ≤ byte_limit }
     requires host { length host.now ≤ byte_limit }
     requires authority { IfSome (seen_target target.now).authority (λ a. length a ≤ byte_limit) }
@@ -64,7 +68,7 @@ fn request_list(
     };
     let scheme = target.scheme.as_bytes();
     let list = HeaderList::request(alloc, method, scheme, authority, target.path.as_slice())?;
-    fields.passing(false, list)
+    fields.passing(false, connection, list)
 }
 
 /// A head by what its target gives.
@@ -74,8 +78,10 @@ fn targeted(
     target: &[u8],
     minor: u8,
     fields: &Fields,
+    noted: &Noted,
     host: &[u8],
 ) -> Result<Answer, OutOfMemory>
+    requires noted { AreNoted (fields_of fields.now) noted.now }
     requires host { host.now ≡ host_of (values_of (codes "host") (fields_of fields.now)) }
     requires method { length method.now ≤ head_limit }
     requires target { length target.now ≤ head_limit }
@@ -85,12 +91,21 @@ fn targeted(
     let Some(target) = target_of(alloc, method, target)? else {
         return Ok(Err(400));
     };
-    let list = match request_list(alloc, method, &target, host, fields) {
+    let connection = fields.connection(noted.connection);
+    let list = match request_list(alloc, method, &target, host, fields, &connection) {
         Ok(list) => list,
         Err(end) => return Ok(Err(refusal_of(end, 400)?)),
     };
-    let measure = request_measure(fields, minor);
-    measured(alloc, list, Some(target.form), minor, fields, measure)
+    let measure = request_measure(fields, noted, minor);
+    measured(
+        alloc,
+        list,
+        Some(target.form),
+        minor,
+        fields,
+        &connection,
+        measure,
+    )
 }
 
 /// What a gateway makes of a head of these parts.
@@ -109,8 +124,9 @@ fn judged(
     if method == b"CONNECT".as_slice() {
         return Ok(Err(501));
     }
-    match host_value(fields, minor) {
-        Some(host) => targeted(alloc, method, target, minor, fields, host),
+    let noted = fields.noted();
+    match host_value(noted.host, minor) {
+        Some(host) => targeted(alloc, method, target, minor, fields, &noted, host),
         None => Ok(Err(400)),
     }
 }

@@ -7,10 +7,11 @@ ghost use Rattle.http1_model.specs.Listed.{response_list};
 ghost use Rattle.httparse.specs.Grammar.{ResponseHead, ReadsResponse};
 ghost use Rattle.httparse.specs.Spans.{IsResponseWithin, IsResponseOf, header_bytes};
 ghost use Rattle.h1_head.specs.Held.{fields_of};
+ghost use Rattle.h1_head.specs.Lengths.{IsConnectionOf};
 ghost use Rattle.h1_head.specs.Spans.{IsRead};
 ghost use Rattle.h1_head.specs.Seen.{seen_answer, IsListed};
 
-use crate::fields::Fields;
+use crate::fields::{Connection, Fields};
 use crate::length::{bodied, response_measure};
 use crate::parts::{Answer, FIELD_LIMIT, measured, refusal_of};
 use gate_base::OutOfMemory;
@@ -20,14 +21,20 @@ use httparse::spans::{EMPTY_HEADER_SPAN, HeaderSpan, ResponseSpans, parse_respon
 use std::alloc::Global;
 
 /// The header list of a response or of an interim head. 101 is none, since no upgrade is asked for.
-fn response_list(alloc: Global, status: u16, fields: &Fields) -> Result<HeaderList, HeaderEnd>
+fn response_list(
+    alloc: Global,
+    status: u16,
+    fields: &Fields,
+    connection: &Connection,
+) -> Result<HeaderList, HeaderEnd>
+    requires { IsConnectionOf (fields_of fields.now) connection.now }
     ensures { IsListed (response_list status (fields_of fields.now)) result }
 {
     if status == 101 {
         return Err(HeaderEnd::BadValue);
     }
     let list = HeaderList::response(alloc, status)?;
-    fields.passing(true, list)
+    fields.passing(true, connection, list)
 }
 
 /// Whether a response has no body, whatever its fields tell (RFC 9112 section 6.3).
@@ -48,15 +55,17 @@ fn response_judged(
     ensures { IfOk result (λ answer.
         seen_answer answer ≡ response_judged to_head minor status (fields_of fields.now)) }
 {
-    let list = match response_list(alloc, status, fields) {
+    let noted = fields.noted();
+    let connection = fields.connection(noted.connection);
+    let list = match response_list(alloc, status, fields, &connection) {
         Ok(list) => list,
         Err(end) => return Ok(Err(refusal_of(end, 502)?)),
     };
     let measure = bodied(
         is_without_body(to_head, status),
-        response_measure(fields, minor),
+        response_measure(fields, &noted, minor),
     );
-    measured(alloc, list, None, minor, fields, measure)
+    measured(alloc, list, None, minor, fields, &connection, measure)
 }
 
 /// The head that a text begins with, if it has one of at most so many fields as there are spans for.

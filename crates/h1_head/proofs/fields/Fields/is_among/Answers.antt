@@ -4,4 +4,4 @@ use Rattle.h1_head.proofs.fields.Fields.is_among.Goals as goal
 
 pub returns-then-not-has : goal.returns-then-not-has
 returns-then-not-has c =
-    unlisted_by_length c.args.connection.lengths c.has.result c.args.name.now (fields_of c.args.self.now) c.requires.lengths c.has.ensures c.if-not-has.true
+    unlisted_by_length c.args.connection.now.lengths c.has.result c.args.name.now (fields_of c.args.self.now) c.requires.lengths c.has.ensures c.if-not-has.true

@@ -1,5 +1,4 @@
-use Rattle.std.proofs.Common.{List, ℕ, Option, Bor, option_copied, ap, sym, ◌∙◌, inr}
-use Rattle.http1_model.specs.Fields.{members}
+use Rattle.std.proofs.Common.{List, ℕ, Option, Bor, option_copied, ap, ◌∙◌, inr}
 use Rattle.h1_head.specs.Measures.{rest_members}
 use Rattle.h1_head.proofs.ListedLengths.{member_noted, none_left}
 use Rattle.h1_head.proofs.lengths.Lengths.with_members.Goals as goal
