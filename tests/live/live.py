@@ -145,6 +145,16 @@ class Upstream:
         if path == "/part-close":
             s.sendall(answer(b"x" * 1000)[:500])
             return
+        if path == "/answer-reset":
+            s.sendall(answer(b"whole"))
+            time.sleep(0.1)
+            reset(s)
+            return
+        if path == "/early-body":
+            # Answers a request of which the body has not come, and reads it then.
+            s.sendall(answer(b"early"))
+            reader.body(fields)
+            return
         if path == "/early":
             # Answers before the request is whole, stays open, and sends more.
             s.sendall(answer(b"early"))
@@ -316,6 +326,38 @@ def resets(gateway, upstream):
                 pass
 
 
+def reset_behind(gateway, upstream):
+    """A server that resets behind its whole answer takes nothing from it, and the line goes on."""
+    with gateway.connect() as s:
+        reader = Reader(s)
+        for n in range(3):
+            get(s, reader, "/answer-reset", b"whole")
+            time.sleep(0.2 * (n % 2))
+            get(s, reader, "/behind/%d" % n, b"/behind/%d" % n)
+
+
+def early_answer(gateway, upstream):
+    """An answer that comes before the request is whole goes down at once, and the line is closed behind it."""
+    with gateway.connect() as s:
+        reader = Reader(s)
+        s.sendall(request("/early-body", b"b" * 30000)[:10000])
+        first, fields = reader.head()
+        expect((status_of(first), fields.get("connection")), ("200", "close"))
+        expect(reader.body(fields), b"early")
+        expect(reader.rest(), b"")
+
+
+def client_closes(gateway, upstream):
+    """Clients that close in mid-response, with all read that has come and with some of it unread, end their own lines alone."""
+    for n in range(10):
+        s = gateway.connect()
+        s.sendall(request("/big/1000000"))
+        s.recv(1000 if n % 2 else 65536)
+        s.close()
+    with gateway.connect() as s:
+        get(s, Reader(s), "/still-there", b"/still-there")
+
+
 def client_resets(gateway, upstream):
     """Clients that reset in mid-response end their own lines alone."""
     for _ in range(10):
@@ -410,6 +452,30 @@ def stalled(gateway, upstream):
     first, fields = reader.head()
     expect(len(reader.body(fields)), 20000000)
     slow.close()
+
+
+def several_stalled(gateway, upstream):
+    """Twelve clients that do not read keep nobody else waiting, whose lines are older, between them and newer, and each gets all once it reads."""
+    size = 6000000
+    slow, beside = [], []
+    for n in range(12):
+        if n % 4 == 0:
+            beside.append(gateway.connect())
+        s = gateway.connect()
+        s.sendall(request("/big/%d" % size))
+        slow.append(s)
+    beside.append(gateway.connect())
+    settled(gateway)
+    for n in range(20):
+        for k, s in enumerate(beside):
+            get(s, Reader(s), "/among/%d/%d" % (n, k), b"/among/%d/%d" % (n, k))
+    for s in slow[::-1]:
+        reader = Reader(s)
+        first, fields = reader.head()
+        expect(reader.body(fields) == b"0123456789" * (size // 10), True)
+        get(s, reader, "/unstalled", b"/unstalled")
+    for s in slow + beside:
+        s.close()
 
 
 def descriptors(gateway, upstream):
@@ -581,14 +647,18 @@ GROUPS = [
             (with_body, 1),
             (pipelined, 1),
             (resets, 3),
+            (reset_behind, 1),
+            (early_answer, 1),
             (half_closed, 1),
             (byte_by_byte, 1),
             (to_the_end, 1),
             (malformed, 1),
             (stray, 1),
             (stalled, 2),
+            (several_stalled, 16),
             (descriptors, 21),
             (client_resets, 11),
+            (client_closes, 11),
             (by_curl, 1),
             (remembers_nothing, 45),
         ],
