@@ -4,9 +4,9 @@ ghost use Rattle.wasm_syntax.specs.Opcodes.{opcode_of};
 ghost use Rattle.wasm_syntax.specs.declared.opcode.Opcode.TheVariants as opcode;
 
 use crate::lists::copied;
-use gate_base::{Members, OutOfMemory};
+use gate_base::OutOfMemory;
 use std::alloc::Global;
-use wasm_syntax::{Expression, Instr};
+use wasm_syntax::{Expression, Instr, Labels};
 
 /// A copy of an instruction.
 fn copy_instr(alloc: Global, instr: &Instr) -> Result<Instr, OutOfMemory>
@@ -14,7 +14,7 @@ fn copy_instr(alloc: Global, instr: &Instr) -> Result<Instr, OutOfMemory>
 {
     match instr {
         Instr::BrTable { labels, default } => Ok(Instr::BrTable {
-            labels: copied(alloc, labels)?,
+            labels: Labels::new(alloc, copied(alloc, labels.indices())?)?,
             default: *default,
         }),
         _ => Ok(copy_small(instr)),
@@ -145,9 +145,10 @@ fn copy_small(instr: &Instr) -> Instr
 pub(crate) fn copy_expression(alloc: Global, instrs: &Expression) -> Result<Expression, OutOfMemory>
     ensures { IfOk result (λ copy. copy ≡ instrs.now) }
 {
-    let mut copy = Members::new(alloc);
+    let mut copy = Expression::new(alloc);
     for instr in instrs.as_slice() {
         copy.push(copy_instr(alloc, instr)?)?;
     }
+    copy.settle();
     Ok(copy)
 }

@@ -157,7 +157,7 @@ fn copy_code(alloc: Global, code: &Code) -> Result<Code, OutOfMemory>
     ensures { IfOk result (λ copy. copy ≡ code.now) }
 {
     Ok(Code {
-        locals: copied(alloc, &code.locals)?,
+        locals: code.locals.copy(alloc)?,
         body: copy_expression(alloc, &code.body)?,
     })
 }

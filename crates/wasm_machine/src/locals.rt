@@ -11,7 +11,7 @@ use crate::stack::Stack;
 use gate_base::OutOfMemory;
 use std::alloc::Global;
 use std::marker::Model;
-use wasm_syntax::{Value, ValueType};
+use wasm_syntax::{LocalList, Value, ValueType};
 
 /// The locals of all frames, those of the innermost last, with room for so many. Clauses see them in their
 /// order, and the room. Most locals that a frame begins with are zeros, and a frame may have thousands of which it uses few: so
@@ -140,17 +140,17 @@ impl Locals {
     }
 
     /// A zero for each of these types.
-    pub(crate) fn clear(&mut self, types: &[ValueType])
-        requires few { length types.now ≤ 4096 }
-        requires room { length self.old.members + length types.now ≤ self.old.room }
+    pub(crate) fn clear(&mut self, types: &LocalList)
+        requires { length self.old.members + length types.now ≤ self.old.room }
         ensures { self.new ≡ held (self.old.members ++ zeros types.now) self.old.room }
     {
-        if types.is_empty() {
+        let count = types.len() as usize;
+        if count == 0 {
             return;
         }
-        reach(&mut self.values, self.types.len() + types.len());
-        append(&mut self.types, types);
-        mark(&mut self.given, types.len());
+        reach(&mut self.values, self.types.len() + count);
+        types.put_at(&mut self.types);
+        mark(&mut self.given, count);
     }
 }
 

@@ -2,7 +2,7 @@
 
 ghost use Rattle.std.specs.Prelude.{◌≡◌, ◌≤◌, ◌<◌, ◌-◌, ◌++◌, ◌∷◌, [], true, length, reverse, drop, IfOk, Some, None, if◌then◌else◌};
 ghost use Rattle.wasm_syntax.specs.Opcodes.{shape_of, prefixed_instr as instr_of};
-ghost use Rattle.wasm_syntax.specs.Items.{byte_as};
+ghost use Rattle.wasm_syntax.specs.Items.{byte_as, u32 as u32_format, vector as vector_format};
 ghost use Rattle.wasm_syntax.specs.Format.{bounded};
 ghost use Rattle.wasm_syntax.specs.Grammar.{is_placed, has_room, open_after, opcode_said, opcode_judged, memory_argument as memory_argument_format, reserved as reserved_format, operands as operands_format, instruction as instruction_format, expression as expression_format};
 ghost use Rattle.wasm_reader.specs.Steps.{AreWithin, Reads};
@@ -17,7 +17,7 @@ use crate::types::Numbers;
 use gate_base::{Members, OutOfMemory};
 use std::alloc::Global;
 use wasm_syntax::{
-    Expression, Instr, MemoryArgument, Opcode, OpcodeByte, Open, Prefixed, opcode_at,
+    Expression, Instr, Labels, MemoryArgument, Opcode, OpcodeByte, Open, Prefixed, opcode_at,
 };
 
 /// The blocks that are open, the innermost last.
@@ -158,6 +158,16 @@ fn prefixed_instr(which: Prefixed) -> Instr
     }
 }
 
+/// Reads the labels of a `br_table`, without the one for every other operand.
+fn labels(alloc: Global, b: &[u8], at: usize, k: Bounds) -> Result<(Labels, usize), ReadEnd>
+    requires place { at ≤ length b.now }
+    requires bounds { AreWithin b.now k }
+    ensures { Reads (vector_format u32_format) b.now at k result }
+{
+    let (labels, at) = vector::<u32, Numbers>(alloc, b, at, k)?;
+    Ok((Labels::new(alloc, labels)?, at))
+}
+
 /// The instruction that holds what was read.
 macro_rules! holding {
     ($read:expr, $instr:ident) => {
@@ -193,7 +203,7 @@ fn operands(
         Opcode::Br => holding!(index(b, at, k), Br),
         Opcode::BrIf => holding!(index(b, at, k), BrIf),
         Opcode::BrTable => {
-            let (labels, at) = vector::<u32, Numbers>(alloc, b, at, k)?;
+            let (labels, at) = labels(alloc, b, at, k)?;
             let (default, at) = index(b, at, k)?;
             Ok((Instr::BrTable { labels, default }, at))
         }
@@ -342,7 +352,7 @@ pub(crate) fn expression(
     requires bounds { AreWithin b.now k }
     ensures { Reads expression_format b.now at k result }
 {
-    let mut body = Members::new(alloc);
+    let mut body = Expression::new(alloc);
     let mut blocks = Members::new(alloc);
     let mut place = at;
     // Each instruction takes a byte at least, so there are no more of them than bytes.
@@ -352,6 +362,7 @@ pub(crate) fn expression(
         body.push(instr)?;
         place = behind;
         if !goes_on(&mut blocks, opcode)? {
+            body.settle();
             return Ok((body, place));
         }
     }

@@ -1,6 +1,6 @@
 //! Locals, and the code of functions.
 
-ghost use Rattle.std.specs.Prelude.{◌≡◌, ◌≤◌, ◌-◌, ◌+◌, ◌++◌, length, replicate, OnOk, IfOk};
+ghost use Rattle.std.specs.Prelude.{◌≤◌, ◌-◌, ◌+◌, length, IfOk};
 ghost use Rattle.wasm_syntax.specs.Grammar.{local_group as local_group_format, local_groups as local_groups_format, function_body as function_body_format, code as code_format};
 ghost use Rattle.wasm_reader.specs.Steps.{AreWithin, Reads};
 
@@ -9,9 +9,8 @@ use crate::ends::{Bounds, ReadEnd};
 use crate::items::{OVER_LIMIT, count, index, value_type};
 use crate::rules::Rule;
 use crate::sizes::sized;
-use gate_base::OutOfMemory;
 use std::alloc::Global;
-use wasm_syntax::{Code, ValueType, ValueTypes};
+use wasm_syntax::{Code, LocalList, LocalRuns, ValueType};
 
 /// Reads how many locals of one type a group declares, where so many were declared before.
 #[tactic(auto, unfolding(wasm_syntax::specs::Grammar::local_group))]
@@ -38,16 +37,6 @@ fn local_group(
     Ok(((n, of), behind))
 }
 
-/// Puts so many locals of one type at the end.
-fn declare(locals: &mut ValueTypes, n: u32, of: ValueType) -> Result<(), OutOfMemory>
-    ensures { OnOk result (locals.new ≡ locals.old ++ replicate n of) }
-{
-    for _ in 0..n {
-        locals.push(of)?;
-    }
-    Ok(())
-}
-
 /// Reads so many groups of locals.
 fn local_groups(
     alloc: Global,
@@ -55,17 +44,18 @@ fn local_groups(
     at: usize,
     k: Bounds,
     groups: u32,
-) -> Result<(ValueTypes, usize), ReadEnd>
+) -> Result<(LocalRuns, usize), ReadEnd>
     requires place { at ≤ length b.now }
     requires bounds { AreWithin b.now k }
-    ensures { Reads (local_groups_format groups 0) b.now at k result }
+    ensures reads { Reads (local_groups_format groups 0) b.now at k result }
+    ensures few { IfOk result (λ x. length x.0 ≤ 4096) }
 {
-    let mut locals = ValueTypes::new(alloc);
+    let mut locals = LocalRuns::new(alloc);
     let mut before = 0;
     let mut place = at;
     for _ in 0..groups {
         let ((n, of), behind) = local_group(b, place, k, before)?;
-        declare(&mut locals, n, of)?;
+        locals.declare(n, of)?;
         before += n;
         place = behind;
     }
@@ -81,7 +71,8 @@ impl Rule<Code> for Bodies {
     #[tactic(auto, unfolding(wasm_syntax::specs::Grammar::function_body))]
     fn read(alloc: Global, b: &[u8], at: usize, k: Bounds) -> Result<(Code, usize), ReadEnd> {
         let (groups, at) = count(b, at, k, 65536)?;
-        let (locals, at) = local_groups(alloc, b, at, k, groups)?;
+        let (runs, at) = local_groups(alloc, b, at, k, groups)?;
+        let locals = LocalList::of(alloc, runs)?;
         let (body, at) = expression(alloc, b, at, k)?;
         Ok((Code { locals, body }, at))
     }

@@ -26,3 +26,4 @@ pub mod WorkedValidity
 pub mod OperandTable
 pub mod MemoryLaws
 pub mod SignLaws
+pub mod RunLists

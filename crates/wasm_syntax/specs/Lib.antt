@@ -28,3 +28,5 @@ pub mod Stores
 pub mod StoreExamples
 pub mod OperandRows
 pub mod Extensions
+pub mod LocalRuns
+pub mod LocalLists

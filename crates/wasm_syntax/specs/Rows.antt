@@ -19,7 +19,7 @@ row_of instr.Else = row.Else
 row_of instr.End = row.End
 row_of (instr.Br x) = row.Br x
 row_of (instr.BrIf x) = row.BrIf x
-row_of (instr.BrTable labels default) = row.BrTable default
+row_of (instr.BrTable default labels) = row.BrTable default
 row_of instr.Return = row.Return
 row_of (instr.Call x) = row.Call x
 row_of (instr.CallIndirect x) = row.CallIndirect x
@@ -124,5 +124,5 @@ row_of instr.MemoryFill = row.BulkMemory
 
 -- the labels of a `br_table` but its last; none of every other
 abbrev pub labels_of : Instr → List ℕ
-labels_of (instr.BrTable labels default) = labels
+labels_of (instr.BrTable default labels) = labels
 labels_of i = []

@@ -1,10 +1,12 @@
 //! Instructions (WebAssembly Core 1.0 section 5.4, and of Core 2.0 sign extension, `memory.copy` and `memory.fill`).
 
-ghost use Rattle.std.specs.Prelude.{◌≡◌};
+ghost use Rattle.std.specs.Prelude.{◌≡◌, ◌++◌, ◌∷◌, [], length, IfOk, OnOk, OnErr};
 
 use crate::opcode::Opcode;
 use crate::types::ValueType;
-use gate_base::Members;
+use gate_base::{Members, OutOfMemory};
+use std::alloc::Global;
+use std::marker::Model;
 
 /// What a block leaves.
 #[derive(Clone, Copy, Debug, PartialEq, Eq)]
@@ -36,8 +38,93 @@ pub enum Open {
 /// A list of indices.
 pub type Indices = Members<u32>;
 
-/// The instructions of a body, an initial value or an offset, the last `End` included.
-pub type Expression = Members<Instr>;
+/// The labels of a `br_table`. They are kept apart, so that other instructions take no room for them. Clauses see the list.
+#[derive(Debug, Drop)]
+pub struct Labels {
+    kept: Box<Indices>,
+}
+
+impl Model for Labels {
+    ghost use Rattle.std.specs.Prelude.{List, ℕ};
+
+    ghost Value = { List ℕ };
+
+    ghost view = { λ a. a.kept.value };
+}
+
+impl Labels {
+    /// These.
+    pub fn new(alloc: Global, labels: Indices) -> Result<Labels, OutOfMemory>
+        ensures { IfOk result (λ kept. kept ≡ labels) }
+    {
+        Ok(Labels {
+            kept: Box::new(alloc, labels)?,
+        })
+    }
+
+    /// The labels in order.
+    pub fn indices(&self) -> &Indices
+        ensures { result.now ≡ self.now }
+    {
+        &self.kept
+    }
+}
+
+/// The instructions of a body, an initial value or an offset, the last `End` included. Clauses see the list.
+#[derive(Debug, Drop)]
+pub struct Expression {
+    instrs: Vec<Instr>,
+}
+
+impl Model for Expression {
+    ghost use Rattle.std.specs.Prelude.{List};
+    ghost use Rattle.wasm_syntax.specs.declared.instr.Instr.{Instr as Instrs};
+
+    ghost Value = { List Instrs };
+
+    ghost view = { λ a. a.instrs.items };
+}
+
+impl Expression {
+    /// No instruction.
+    pub fn new(alloc: Global) -> Self
+        ensures { result ≡ [] }
+    {
+        Expression {
+            instrs: Vec::new(alloc),
+        }
+    }
+
+    /// Puts an instruction at the end.
+    pub fn push(&mut self, instr: Instr) -> Result<(), OutOfMemory>
+        ensures ok { OnOk result (self.new ≡ self.old ++ instr ∷ []) }
+        ensures err { OnErr result (self.new ≡ self.old) }
+    {
+        self.instrs.push(instr)?;
+        Ok(())
+    }
+
+    /// How many instructions there are.
+    pub fn len(&self) -> usize
+        ensures { result ≡ length self.now }
+    {
+        self.instrs.len()
+    }
+
+    /// Gives back the memory that was taken for more instructions.
+    pub fn settle(&mut self)
+        ensures { self.new ≡ self.old }
+    {
+        self.instrs.shrink_to_fit();
+    }
+
+    /// The instructions in order.
+    pub fn as_slice(&self) -> &[Instr]
+        ensures { result.now ≡ self.now }
+    {
+        self.instrs.as_slice()
+    }
+}
 
 /// An instruction, one variant an opcode, or a number behind the byte 0xFC. Nested instructions stand in one flat list, in which
 /// `Else` and `End` are members, the last `End` of the whole included.
@@ -61,8 +148,8 @@ pub enum Instr {
     Br(u32),
     /// `br_if` (0x0D): the label.
     BrIf(u32),
-    /// `br_table` (0x0E): the labels, and the one for every other operand.
-    BrTable { labels: Indices, default: u32 },
+    /// `br_table` (0x0E): the label for an operand that has none of its own, and the labels. In this order an instruction takes 16 bytes.
+    BrTable { default: u32, labels: Labels },
     /// `return` (0x0F).
     Return,
     /// `call` (0x10): the index of the function.

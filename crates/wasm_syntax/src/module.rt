@@ -1,7 +1,8 @@
 //! Modules (WebAssembly Core 1.0 section 2.5). Custom sections are not kept.
 
 use crate::instr::{Expression, Indices};
-use crate::types::{FunctionType, GlobalType, Limits, ValueTypes};
+use crate::locals::LocalList;
+use crate::types::{FunctionType, GlobalType, Limits};
 use gate_base::{Members, Octets, Text};
 
 /// What is imported.
@@ -74,7 +75,7 @@ pub struct Element {
 #[derive(Debug, Drop)]
 pub struct Code {
     /// The types of its locals, parameters left out.
-    pub locals: ValueTypes,
+    pub locals: LocalList,
     /// Its instructions, the last `End` included.
     pub body: Expression,
 }

@@ -176,7 +176,7 @@ impl Instr {
         ensures { result.now ≡ labels_of self.now }
     {
         match self {
-            Instr::BrTable { labels, .. } => labels.as_slice(),
+            Instr::BrTable { labels, .. } => labels.indices().as_slice(),
             _ => &[],
         }
     }

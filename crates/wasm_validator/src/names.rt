@@ -7,7 +7,7 @@ ghost use Rattle.wasm_validator.specs.Checking.{and_then};
 ghost use Rattle.wasm_validator.specs.Scopes.{context_in};
 
 use crate::scope::Scope;
-use wasm_syntax::{BlockType, FunctionType, GlobalType, Module, ValueType, ValueTypes};
+use wasm_syntax::{BlockType, FunctionType, GlobalType, LocalList, Module, ValueType};
 
 /// What a body may name.
 #[derive(Clone, Copy)]
@@ -17,7 +17,7 @@ pub(crate) struct Names<'a> {
     /// The type of the function.
     pub(crate) function: &'a FunctionType,
     /// The types of its locals, parameters left out.
-    pub(crate) locals: &'a ValueTypes,
+    pub(crate) locals: &'a LocalList,
 }
 
 impl Names<'_> {
@@ -29,7 +29,7 @@ impl Names<'_> {
         let parameters = self.function.parameters.as_slice();
         match parameters.get(x) {
             Some(t) => Some(*t),
-            None => self.locals.as_slice().get(x - parameters.len()).copied(),
+            None => self.locals.get((x - parameters.len()) as u32),
         }
     }
 

@@ -13,7 +13,7 @@ use Rattle.wasm_syntax.proofs.Written.{unsigned_bytes_more, unsigned_bytes_last}
 use Rattle.wasm_syntax.proofs.Shortest.{unsigned_shortest}
 use Rattle.wasm_writer.specs.declared.locals.Group.{Group}
 use Rattle.wasm_writer.specs.Written.{size_bytes, vector_bytes, value_type_bytes, expression_bytes, group, groups_from, groups_of, group_bytes, body_bytes, code_bytes}
-use Rattle.wasm_writer.proofs.Groups.{groups_end, one_more, another}
+use Rattle.wasm_writer.proofs.Groups.{groups_end, one_more, another, same_run, other_run}
 use Rattle.wasm_writer.proofs.Forms.{IsWritten, front_bytes, back_bytes, bytes_join, two_written, equal_written, regroup, ungroup}
 use Rattle.wasm_writer.proofs.Items.{size_is_number, size_written, monotone, bounded_written, agreed_written, counted_written, sized_written}
 use Rattle.wasm_writer.proofs.Grammar.{value_type_written, expression_written}
@@ -30,15 +30,6 @@ same_or I32 I32 = inl refl
 same_or I32 I64 = inr (λ e. absurd cc)
 same_or I64 I32 = inr (λ e. absurd cc)
 same_or I64 I64 = inl refl
-
--- ---- so many of one type in front
-
-same_run : (k n : ℕ) (t : ValueType) (ts : List ValueType) → groups_from n t (replicate k t ++ ts) ≡ groups_from (n + k) t ts
-same_run zero n t ts = ap (λ (m : ℕ). groups_from m t ts) (omega arith)
-same_run (suc k) n t ts = one_more n t (replicate k t ++ ts) ∙ (same_run k (n + 1) t ts ∙ ap (λ (m : ℕ). groups_from m t ts) (omega arith))
-
-other_run : (k n : ℕ) (t u : ValueType) (ts : List ValueType) → (u ≡ t → ⊥) → groups_from n t (replicate (suc k) u ++ ts) ≡ group n t ∷ groups_from (suc k) u ts
-other_run k n t u ts ne = another n t u (replicate k u ++ ts) ne ∙ ap (λ (l : List Group). group n t ∷ l) (same_run k 1 u ts ∙ ap (λ (m : ℕ). groups_from m u ts) (omega arith))
 
 -- ---- the groups are those of the locals
 

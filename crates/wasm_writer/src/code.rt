@@ -46,7 +46,7 @@ fn write_operands(alloc: Global, out: &mut Octets, i: &Instr) -> Result<(), OutO
         | Instr::GlobalGet(n)
         | Instr::GlobalSet(n) => write_u32(out, *n),
         Instr::BrTable { labels, default } => {
-            vector::<u32, Numbers>(alloc, out, labels)?;
+            vector::<u32, Numbers>(alloc, out, labels.indices())?;
             write_u32(out, *default)
         }
         Instr::CallIndirect(n) => {

@@ -1,56 +1,47 @@
 //! Locals, and the code of functions.
 
 ghost use Rattle.std.specs.Prelude.{◌≡◌, ◌++◌, OnOk, IfOk};
-ghost use Rattle.wasm_writer.specs.Written.{groups_from, groups_of, group_bytes, body_bytes, code_bytes};
+ghost use Rattle.wasm_writer.specs.Written.{groups_of, group_bytes, body_bytes, code_bytes};
 
 use crate::code::write_expression;
 use crate::rules::{Form, sized, vector, write_size};
 use crate::types::write_value_type;
 use gate_base::{Members, Octets, OutOfMemory};
 use std::alloc::Global;
-use wasm_syntax::{Code, ValueType};
+use wasm_syntax::{Code, LocalList, ValueType};
 
 /// Neighbouring locals of one type.
 #[derive(Clone, Copy, Debug, PartialEq, Eq)]
 pub(crate) struct Group {
     /// How many there are.
-    pub(crate) count: usize,
+    pub(crate) count: u32,
     /// Their type.
     pub(crate) of: ValueType,
 }
 
-/// The groups of a local and those behind it.
-fn groups_from_first(
-    alloc: Global,
-    first: ValueType,
-    others: &[ValueType],
-) -> Result<Members<Group>, OutOfMemory>
-    ensures { IfOk result (λ gs. gs ≡ groups_from 1 first others.now) }
+/// The groups of a function's locals.
+fn groups_in(alloc: Global, locals: &LocalList) -> Result<Members<Group>, OutOfMemory>
+    ensures { IfOk result (λ gs. gs ≡ groups_of locals.now) }
 {
     let mut groups = Members::new(alloc);
-    let mut of = first;
-    let mut count = 1;
-    for t in others {
-        if *t == of {
-            count += 1;
+    if locals.len() == 0 {
+        return Ok(groups);
+    }
+    let (mut count, mut of) = locals.run(0);
+    let mut at = count;
+    while at < locals.len() {
+        let (n, t) = locals.run(at);
+        if t == of {
+            count += n;
         } else {
             groups.push(Group { count, of })?;
-            of = *t;
-            count = 1;
+            count = n;
+            of = t;
         }
+        at += n;
     }
     groups.push(Group { count, of })?;
     Ok(groups)
-}
-
-/// The groups of a function's locals.
-fn groups_in(alloc: Global, locals: &[ValueType]) -> Result<Members<Group>, OutOfMemory>
-    ensures { IfOk result (λ gs. gs ≡ groups_of locals.now) }
-{
-    match locals {
-        [] => Ok(Members::new(alloc)),
-        [first, others @ ..] => groups_from_first(alloc, *first, others),
-    }
 }
 
 /// A group of locals.
@@ -60,7 +51,7 @@ impl Form<Group> for LocalGroups {
     ghost bytes = { group_bytes };
 
     fn write(_alloc: Global, out: &mut Octets, x: &Group) -> Result<(), OutOfMemory> {
-        write_size(out, x.count)?;
+        write_size(out, x.count as usize)?;
         write_value_type(out, x.of)
     }
 }
@@ -70,7 +61,7 @@ impl Form<Group> for LocalGroups {
 fn write_body(alloc: Global, out: &mut Octets, code: &Code) -> Result<(), OutOfMemory>
     ensures { OnOk result (out.new ≡ out.old ++ body_bytes code.now) }
 {
-    let groups = groups_in(alloc, code.locals.as_slice())?;
+    let groups = groups_in(alloc, &code.locals)?;
     vector::<Group, LocalGroups>(alloc, out, &groups)?;
     write_expression(alloc, out, &code.body)
 }

@@ -19,7 +19,7 @@ returns-in_err-instr c =
 pub returns-then-not-branch : goal.returns-then-not-branch
 returns-then-not-branch c = (
   c.in_ok-instr.ensures.0,
-  rw c.in_ok-push.ensures.ok (link_stops instruction (λ blocks i. open_after blocks (opcode_of i)) c.loop.body (length c.args.b.now - c.loop.counter) (reverse c.loop.blocks) (fence_of c.args.b.now c.args.k) (drop c.loop.place c.args.b.now)
+  rw (c.settle.ensures, c.in_ok-push.ensures.ok) (link_stops instruction (λ blocks i. open_after blocks (opcode_of i)) c.loop.body (length c.args.b.now - c.loop.counter) (reverse c.loop.blocks) (fence_of c.args.b.now c.args.k) (drop c.loop.place c.args.b.now)
       c.in_ok-instr.instr (drop c.in_ok-instr.behind c.args.b.now) (expression.reads (fence_of c.args.b.now c.args.k) (drop c.args.at c.args.b.now)) (omega arith) c.in_ok-instr.ensures.1
       (closes (reverse c.loop.blocks) _ c.in_ok-instr.instr c.opcode-opcode.result c.in_ok-goes_on.field-0 c.opcode-opcode.ensures c.in_ok-goes_on.ensures c.if-not-branch.true) c.loop.invariant.1),
 )
