@@ -1,7 +1,8 @@
 -- The worked examples, by computation.
-use Rattle.std.proofs.Common.{◌≡◌, ℕ, List, true, false, refl, ap, bytes_eq, codes, lit≤}
+use Rattle.std.proofs.Common.{◌≡◌, ℕ, zero, suc, List, All, true, false, refl, ap, bytes_eq, codes, lit≤, arith}
+use Rattle.header_maps.specs.Places.{IsWithin}
 use Rattle.http_header.specs.Token.{is_token_byte}
-use Rattle.header_maps.specs.Examples.{OperationExamples, FaultExamples, StatusExamples, SetExamples, KeptExamples}
+use Rattle.header_maps.specs.Examples.{OperationExamples, FaultExamples, StatusExamples, SetExamples, KeptExamples, PlaceExamples, worked_places}
 
 pub operation_examples : OperationExamples
 operation_examples = record {
@@ -95,4 +96,19 @@ kept_examples = record {
   };
   late_pseudo = λ h. no_truth (ap (λ (x : List ℕ). bytes_eq x (codes ":status")) h.shape.0.name_is);
   upper_case = λ h. no_truth h.shape.kept;
+}
+
+-- a place at an end, as a list says it
+place_examples_within : All (IsWithin 7) worked_places
+place_examples_within zero d l = ((lit≤ tt, lit≤ tt), (lit≤ tt, lit≤ tt))
+place_examples_within (suc zero) d l = ((lit≤ tt, lit≤ tt), (lit≤ tt, lit≤ tt))
+place_examples_within (suc (suc k)) d l = absurd (omega arith)
+
+pub place_examples : PlaceExamples
+place_examples = record {
+  pairs = refl;
+  within = place_examples_within;
+  short_buffer = λ h. let first = h 0 (record { name = 0; name_end = 0; value = 0; value_end = 0 }) (lit≤ tt) in absurd (omega (arith, first.1.1));
+  put = refl;
+  put_later = refl;
 }

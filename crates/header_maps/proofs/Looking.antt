@@ -1,11 +1,11 @@
 -- Steps of loops that look for the pairs of a name.
-use Rattle.std.proofs.Common.{◌≡◌, ℕ, ◌+◌, ◌<◌, ◌≤◌, Bool, true, false, not, cond, List, [], ◌∷◌, ◌++◌, length, take, drop, get_or, suc, refl, sym, ◌∙◌, ap, arith, zero, Option, Some, None, nat_lt, length-append, length-drop}
+use Rattle.std.proofs.Common.{◌≡◌, ℕ, ◌+◌, ◌<◌, ◌≤◌, Bool, true, false, List, [], ◌∷◌, ◌++◌, length, take, drop, get_or, suc, refl, sym, ◌∙◌, ap, arith, zero, Some, None, nat_lt, length-append}
 use Rattle.std.specs.List.{position, position_or_len, remove}
 use Rattle.std.proofs.Math.Seq.{take-append_seam, drop-append_seam}
 use Rattle.std.proofs.lemmas.List.{drop_more, drop_all, length-take-le}
 use Rattle.std.proofs.lemmas.Bool.Decides.{nat_tests}
 use Rattle.header_maps.specs.Operations.{without}
-use Rattle.header_maps.specs.Pairs.{Pair, is_named, is_not_named}
+use Rattle.header_maps.specs.Pairs.{Pair, is_named}
 
 below : (i n : ℕ) → i < n → nat_lt i n ≡ true
 below i n l = grind (arith, nat_tests)

@@ -1,5 +1,5 @@
 -- Worked examples: what the definitions say of lists that are written out.
-use Rattle.std.specs.Prelude.{◌≡◌, ℕ, true, false, List, [], ◌∷◌, ◌++◌, replicate, codes, None, Some}
+use Rattle.std.specs.Prelude.{◌≡◌, ℕ, true, false, List, [], ◌∷◌, ◌++◌, replicate, codes, None, Some, All}
 use Rattle.header_maps.specs.declared.kind.ListKind.TheVariants.{Response, Plain}
 use Rattle.header_maps.specs.Faults.{bad_name, bad_value, too_many, add_fault, replace_fault, remove_fault, set_fault, response_fault}
 use Rattle.header_maps.specs.Headers.{Headers}
@@ -7,6 +7,8 @@ use Rattle.header_maps.specs.Judged.{is_path}
 use Rattle.header_maps.specs.Kept.{IsHeaders}
 use Rattle.header_maps.specs.Operations.{no_headers, request_headers, response_headers, get_of, first_of, added, removed, replaced, all_set, size_of}
 use Rattle.header_maps.specs.Pairs.{Pair}
+use Rattle.header_maps.specs.Places.{pairs_in, put_at, IsWithin}
+use Rattle.header_maps.specs.declared.texts.Place.{Place}
 
 -- a request with three fields, two of one name
 abbrev pub worked_fields : List Pair
@@ -91,3 +93,17 @@ pub record KeptExamples : Type 0 where
   pub request : IsHeaders worked_request
   pub late_pseudo : IsHeaders (record { kind = Response; pairs = (codes "a", []) ∷ (codes ":status", codes "200") ∷ [] }) → ⊥
   pub upper_case : IsHeaders (record { kind = Plain; pairs = (codes "A", []) ∷ [] }) → ⊥
+
+-- a buffer with two pairs, behind whose first name stands a value that another one was put in place of
+abbrev pub worked_places : List Place
+worked_places =
+    record { name = 0; name_end = 1; value = 5; value_end = 7 }
+    ∷ record { name = 2; name_end = 4; value = 4; value_end = 5 }
+    ∷ []
+
+pub record PlaceExamples : Type 0 where
+  pub pairs : pairs_in (codes "a1bc289") worked_places ≡ (codes "a", codes "89") ∷ (codes "bc", codes "2") ∷ []
+  pub within : All (IsWithin 7) worked_places
+  pub short_buffer : All (IsWithin 6) worked_places → ⊥
+  pub put : put_at ((codes "a", codes "1") ∷ (codes "bc", codes "2") ∷ []) 0 (codes "89") ≡ pairs_in (codes "a1bc289") worked_places
+  pub put_later : put_at ((codes "a", codes "1") ∷ (codes "bc", codes "2") ∷ []) 1 [] ≡ (codes "a", codes "1") ∷ (codes "bc", []) ∷ []

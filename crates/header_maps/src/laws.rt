@@ -1,5 +1,5 @@
 // What holds of the field operations, each as the contract of a function.
-ghost use Rattle.header_maps.specs.Examples.{OperationExamples, FaultExamples, StatusExamples, SetExamples, KeptExamples};
+ghost use Rattle.header_maps.specs.Examples.{OperationExamples, FaultExamples, StatusExamples, SetExamples, KeptExamples, PlaceExamples};
 ghost use Rattle.header_maps.specs.Laws.{JudgedAlike, StatusReadBack, AddedIsFound, RemovedIsAbsent, ReplacedInPlace, SetGivesBack, SetKeepsGiven};
 
 /// Names and values of fields are judged as `http_header` judges them.
@@ -44,4 +44,5 @@ pub fn worked_examples()
     ensures statuses { StatusExamples }
     ensures sets { SetExamples }
     ensures kept { KeptExamples }
+    ensures places { PlaceExamples }
 {}

@@ -1,4 +1,4 @@
-use Rattle.std.proofs.Common.{◌≡◌, ◌<◌, ◌≤◌, ◌++◌, List, take, drop, length, ap, sym, subst, ◌∙◌, arith}
+use Rattle.std.proofs.Common.{◌<◌, ◌≤◌, ◌++◌, List, take, drop, length, ap, sym, subst, ◌∙◌, arith}
 use Rattle.http_header.specs.Token.{lowercase}
 use Rattle.header_maps.specs.Operations.{without}
 use Rattle.header_maps.specs.Pairs.{Pair, is_named}

@@ -1,6 +1,6 @@
-use Rattle.std.proofs.Common.{◌≡◌, ◌<◌, ℕ, List, length, sym, arith, ap, ◌∙◌, true, false, Some}
+use Rattle.std.proofs.Common.{◌<◌, ℕ, List, length, sym, arith, ap, ◌∙◌, Some}
 use Rattle.http_header.specs.Token.{lowercase}
-use Rattle.header_maps.specs.Pairs.{Pair, joined_behind}
+use Rattle.header_maps.specs.Pairs.{Pair}
 use Rattle.header_maps.proofs.Setting.{joined_yes, joined_no}
 use Rattle.header_maps.proofs.pairs.joined_values.Goals as goal
 use Rattle.header_maps.proofs.pairs.joined_values.Goals.{then-is_same_word+in_ok-joined_with, else-is_same_word}

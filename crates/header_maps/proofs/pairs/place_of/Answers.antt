@@ -1,4 +1,4 @@
-use Rattle.std.proofs.Common.{◌≡◌, ◌<◌, ◌≤◌, length, ap, sym, ◌∙◌, arith}
+use Rattle.std.proofs.Common.{◌<◌, ◌≤◌, length, ap, sym, ◌∙◌, arith}
 use Rattle.http_header.specs.Token.{lowercase}
 use Rattle.header_maps.specs.Pairs.{Pair, is_named}
 use Rattle.header_maps.proofs.Looking.{found_here, found_nowhere}

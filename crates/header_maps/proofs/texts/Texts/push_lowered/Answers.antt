@@ -1,4 +1,4 @@
-use Rattle.std.proofs.Common.{◌≡◌, List, ap, sym, ◌∙◌, arith}
+use Rattle.std.proofs.Common.{◌∙◌, arith}
 use Rattle.std.proofs.lemmas.Grind.{common_steps}
 use Rattle.header_maps.proofs.Places.{pairs_kept, pairs_more, within_more}
 use Rattle.header_maps.proofs.texts.Texts.push_lowered.Goals as goal

@@ -1,7 +1,7 @@
-use Rattle.std.proofs.Common.{◌≡◌, ◌<◌, ◌-◌, ◌+◌, ◌++◌, List, ℕ, take, drop, get_or, length, ap, sym, ◌∙◌, arith, refl, length-append}
-use Rattle.std.specs.Prelude.{slice_range, vec_len}
-use Rattle.std.proofs.Math.Seq.{take-append_seam, drop-append_seam}
-use Rattle.std.proofs.lemmas.List.{length-map, take_all}
+use Rattle.std.proofs.Common.{◌≡◌, ◌<◌, ◌++◌, List, ℕ, take, get_or, length, ap, ◌∙◌, arith}
+use Rattle.std.specs.Prelude.{slice_range}
+use Rattle.std.proofs.Math.Seq.{take-append_seam}
+use Rattle.std.proofs.lemmas.List.{length-map}
 use Rattle.header_maps.specs.Pairs.{Pair}
 use Rattle.header_maps.specs.Places.{pair_in, put_at}
 use Rattle.header_maps.specs.declared.texts.Place.{Place}
