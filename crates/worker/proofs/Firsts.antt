@@ -14,7 +14,7 @@ less_suc k n = grind (arith, nat_tests)
 zero_less : (n : ℕ) → nat_lt 0 (suc n) ≡ true
 zero_less n = grind (arith, nat_tests)
 
-low_or_high : (k n : ℕ) → k < n ⊎ n ≤ k
+pub low_or_high : (k n : ℕ) → k < n ⊎ n ≤ k
 low_or_high k n = by (nat_lt k n) refl
   where
     by : (b : Bool) → nat_lt k n ≡ b → k < n ⊎ n ≤ k
@@ -65,3 +65,18 @@ module _ {X : Type 0} (p : X → Bool) where
           let one : slice_get xs n ≡ Some y = subst (λ (i : ℕ). slice_get xs i ≡ Some y) same at in
           let equal : x ≡ y = (cc) in
           subst (λ (z : X). p z ≡ false) equal passes_not
+
+  -- where none is found, each fails
+  pub fails_none : (xs : List X) (k : ℕ) (x : X) → position p xs ≡ None → slice_get xs k ≡ Some x → p x ≡ false
+  fails_none [] k x none there = absurd (cc)
+  fails_none (y ∷ ys) k x none there = by (λ n. fails_none ys n x) (p y) refl k there
+    where
+      lower : (n : ℕ) (b : Bool) → cond b (Some (1 + n)) None ≡ None → cond b (Some n) None ≡ None
+      lower n true is = absurd (cc)
+      lower n false is = refl
+
+      by : ((n : ℕ) → position p ys ≡ None → slice_get ys n ≡ Some x → p x ≡ false) → (b : Bool) → p y ≡ b → (k : ℕ) → slice_get (y ∷ ys) k ≡ Some x → p x ≡ false
+      by rest true is k there = let found = here y ys is in absurd (cc)
+      by rest false is zero there = let same : y ≡ x = (cc) in subst (λ (z : X). p z ≡ false) same is
+      by rest false is (suc k) there =
+          rest k (lower (position_or_len p ys) (nat_lt (position_or_len p ys) (length ys)) (sym (later y ys is) ∙ none)) there

@@ -8,3 +8,4 @@ pub mod More
 pub mod Alone
 pub mod TurnLaws
 pub mod Firsts
+pub mod Stirs

@@ -1,4 +1,5 @@
 pub mod Plan
+pub mod Stirring
 pub mod Rooms
 pub mod Changes
 pub mod Moves

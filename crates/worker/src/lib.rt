@@ -12,6 +12,7 @@ mod making_worker;
 mod no_machines;
 mod room;
 mod sides;
+mod span;
 mod turning;
 mod types;
 mod wanted;

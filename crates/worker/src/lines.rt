@@ -8,6 +8,7 @@ ghost use Rattle.worker.specs.Moves.{count_of, asks_at, asks_line, asks_exchange
 ghost use Rattle.exchange.specs.Maps.{request_map, response_map, request_trailers, response_trailers};
 ghost use Rattle.exchange.specs.Passing.{dies, expires, chain_of, passed_on};
 
+use crate::span::Span;
 use crate::types::{Asked, Change, Line};
 use exchange::{
     Exchange, Filter, Hub, act, answer, close, die, expire, is_due, mark, pair_count, pass_on,
@@ -25,15 +26,20 @@ use std::marker::Model;
 #[derive(Drop)]
 pub struct Lines {
     pub(crate) list: Vec<Line>,
+    /// Nothing is due on lines at other places, so that an event costs no more for lines on which nothing happens.
+    pub(crate) due: Span,
 }
 
 impl Model for Lines {
     ghost use Rattle.std.specs.Prelude.{List};
     ghost use Rattle.worker.specs.declared.types.Line.{Line};
+    ghost use Rattle.worker.specs.Stirring.{StirsWithin};
 
     ghost Value = { List Line };
 
     ghost view = { λ l. l.list.items };
+
+    ghost invariant = { λ l. StirsWithin l.due l.list.items };
 }
 
 fn has_filter(filters: &[Filter], vm: VmNo, context: ContextId) -> bool
@@ -233,11 +239,13 @@ fn expire_each(alloc: Global, lines: Vec<Line>, hub: &mut Hub) -> Result<Vec<Lin
 
 impl Lines {
     /// No line is open.
+    #[tactic(auto, using(crate::proofs::Stirs::stirs_all))]
     pub fn new(alloc: Global) -> Self
         ensures { result ≡ [] }
     {
         Lines {
             list: Vec::new(alloc),
+            due: Span::all(),
         }
     }
 
@@ -275,14 +283,34 @@ impl Lines {
     pub fn moving(&self) -> Option<usize>
         ensures { result ≡ position moves self.now }
     {
-        self.list.iter().position(is_moving)
+        for at in self.due.start()..self.due.end(self.list.len()) {
+            if is_moving(&self.list[at]) {
+                return Some(at);
+            }
+        }
+        None
     }
 
     /// The lowest line on which an end is due.
     pub fn ending(&self) -> Option<usize>
         ensures { result ≡ position is_over self.now }
     {
-        self.list.iter().position(is_over)
+        for at in self.due.start()..self.due.end(self.list.len()) {
+            if is_over(&self.list[at]) {
+                return Some(at);
+            }
+        }
+        None
+    }
+
+    /// Forgets where something was due, where nothing is.
+    #[tactic(auto, using(crate::proofs::Stirs::stirs_calm))]
+    pub fn calm(&mut self)
+        ensures { self.new ≡ self.old }
+    {
+        if self.moving().is_none() && self.ending().is_none() {
+            self.due = Span::none();
+        }
     }
 
     /// Whether a response is due on some line.
@@ -293,6 +321,7 @@ impl Lines {
     }
 
     /// Something is done to the exchange of the line at a place.
+    #[tactic(auto, using(crate::proofs::Stirs::stirs_set))]
     pub fn change(
         &mut self,
         alloc: Global,
@@ -308,10 +337,12 @@ impl Lines {
         if place >= self.list.len() {
             return Ok(());
         }
+        self.due = self.due.with(place);
         change_line(alloc, what, &mut self.list[place], hub)
     }
 
     /// The stage that is to be asked on the line at a place.
+    #[tactic(auto, using(crate::proofs::Stirs::stirs_set))]
     pub fn ask(
         &mut self,
         alloc: Global,
@@ -323,50 +354,59 @@ impl Lines {
         if place >= self.list.len() {
             return Ok(None);
         }
+        self.due = self.due.with(place);
         ask_line(alloc, &mut self.list[place], hub)
     }
 
     /// The exchange of the line at a place, whose end has come.
+    #[tactic(auto, using(crate::proofs::Stirs::stirs_set))]
     pub fn end(&mut self, place: usize) -> Option<(LineNo, Exchange)>
         ensures { ended_at place (slice_get self.old place) self.old ≡ (result, self.new) }
     {
         if place >= self.list.len() {
             return None;
         }
+        self.due = self.due.with(place);
         end_line(&mut self.list[place])
     }
 
     /// A VM died: all lines are answered or let through.
+    #[tactic(auto, using(crate::proofs::Stirs::stirs_all))]
     pub fn die(&mut self, alloc: Global, hub: &mut Hub, vm: VmNo) -> Result<(), OutOfMemory>
         ensures { OnOk result (all_lines (dies vm) self.old hub.old ≡ (self.new, hub.new)) }
     {
+        self.due = Span::all();
         let old = std::mem::replace(&mut self.list, Vec::new(alloc));
         self.list = die_all(alloc, vm, old, hub)?;
         Ok(())
     }
 
     /// Responses that are due are answered for.
+    #[tactic(auto, using(crate::proofs::Stirs::stirs_all))]
     pub fn expire(&mut self, alloc: Global, hub: &mut Hub) -> Result<(), OutOfMemory>
         ensures { OnOk result (all_lines expires self.old hub.old ≡ (self.new, hub.new)) }
     {
+        self.due = Span::all();
         let old = std::mem::replace(&mut self.list, Vec::new(alloc));
         self.list = expire_each(alloc, old, hub)?;
         Ok(())
     }
 
     /// A line is there no more.
+    #[tactic(auto, using(crate::proofs::Stirs::stirs_all))]
     pub fn remove(&mut self, place: Option<usize>)
         ensures { self.new ≡ drops_at self.old place }
     {
         if let Some(place) = place {
             if place < self.list.len() {
+                self.due = Span::all();
                 let _ = self.list.remove(place);
             }
         }
     }
 
     /// A line more.
-    #[tactic(auto, using(crate::proofs::Places::place_within))]
+    #[tactic(auto, using(crate::proofs::Stirs::stirs_all, crate::proofs::Places::place_within))]
     pub fn open(&mut self, alloc: Global, number: LineNo) -> Result<(), OutOfMemory>
         ensures { OnOk result (self.new ≡ insert self.old (place_for number self.old) (new_line number)) }
     {
@@ -377,6 +417,7 @@ impl Lines {
             is_gone: false,
             exchange: None,
         };
+        self.due = Span::all();
         self.list.insert(place, line)?;
         Ok(())
     }

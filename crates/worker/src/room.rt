@@ -598,6 +598,7 @@ impl Room {
     pub(crate) fn begin_first(&mut self, alloc: Global) -> Result<(), OutOfMemory>
         ensures { OnOk result (self.new ≡ first_begun self.old.agenda self.old) }
     {
+        self.lines.calm();
         match self.agenda.pop_first() {
             None => Ok(()),
             Some(job) => {

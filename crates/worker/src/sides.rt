@@ -117,6 +117,15 @@ fn note(up: bool, item: &Item, x: &mut Exchange)
     }
 }
 
+/// The same of the exchange that is open on a line.
+fn note_line(line: &mut Line, up: bool, item: &Item)
+    ensures { line.new ≡ change_line (noted up item.now) line.old }
+{
+    if let Some(x) = &mut line.exchange {
+        note(up, item, x);
+    }
+}
+
 /// Whether an item is the last one of a message.
 pub(crate) fn is_last(item: &Item) -> bool
     ensures { result ≡ is_last item.now }
@@ -135,6 +144,15 @@ fn keep_response(head: &Head, x: &mut Exchange)
 {
     x.told = response_of(x.is_head_up, head);
     x.is_headed = true;
+}
+
+/// The same of the exchange that is open on a line.
+fn keep_response_on(line: &mut Line, head: &Head)
+    ensures { line.new ≡ change_line (keeps_response (seen_head head.now)) line.old }
+{
+    if let Some(x) = &mut line.exchange {
+        keep_response(head, x);
+    }
 }
 
 /// The client of an exchange is gone.
@@ -220,6 +238,15 @@ fn put_filter(x: &mut Exchange, k: usize, f: Filter)
     }
 }
 
+/// The same of the exchange that is open on a line.
+fn put_filter_on(line: &mut Line, k: usize, f: Filter)
+    ensures { line.new ≡ change_line (with_filter k f) line.old }
+{
+    if let Some(x) = &mut line.exchange {
+        put_filter(x, k, f);
+    }
+}
+
 impl Lines {
     /// The line of a number.
     pub fn line(&self, number: LineNo) -> Option<&Line>
@@ -239,6 +266,7 @@ impl Lines {
     }
 
     /// The stages of the exchange of the line at a place are made.
+    #[tactic(auto, using(crate::proofs::Stirs::stirs_set))]
     pub(crate) fn enter(
         &mut self,
         alloc: Global,
@@ -254,10 +282,12 @@ impl Lines {
         if place >= self.list.len() {
             return Ok(());
         }
+        self.due = self.due.with(place);
         enter_line(alloc, dead, &mut self.list[place], hub)
     }
 
     /// What the reader of a side of a line says next, if there is one.
+    #[tactic(auto, using(crate::proofs::Stirs::stirs_set))]
     pub(crate) fn hear(&mut self, number: LineNo, up: bool) -> Result<Option<Step>, OutOfMemory>
         ensures { IfOk result (λ s. HearsOn up number (line_reading up (line_in number self.old)) self.old s self.new) }
     {
@@ -267,11 +297,12 @@ impl Lines {
         if place >= self.list.len() {
             return Ok(None);
         }
-        let heard = hear_line(&mut self.list[place], up)?;
-        Ok(heard)
+        self.due = self.due.with(place);
+        hear_line(&mut self.list[place], up)
     }
 
     /// What is kept of an item that was read.
+    #[tactic(auto, using(crate::proofs::Stirs::stirs_set))]
     pub(crate) fn note(&mut self, number: LineNo, up: bool, item: &Item)
         ensures { self.new ≡ on_line (change_line (noted up item.now)) number self.old }
     {
@@ -281,12 +312,12 @@ impl Lines {
         if place >= self.list.len() {
             return;
         }
-        if let Some(x) = &mut self.list[place].exchange {
-            note(up, item, x);
-        }
+        self.due = self.due.with(place);
+        note_line(&mut self.list[place], up, item);
     }
 
     /// What is kept of the head of a response.
+    #[tactic(auto, using(crate::proofs::Stirs::stirs_set))]
     pub(crate) fn keep_response(&mut self, number: LineNo, head: &Head)
         ensures { self.new ≡ on_line (change_line (keeps_response (seen_head head.now))) number self.old }
     {
@@ -296,12 +327,12 @@ impl Lines {
         if place >= self.list.len() {
             return;
         }
-        if let Some(x) = &mut self.list[place].exchange {
-            keep_response(head, x);
-        }
+        self.due = self.due.with(place);
+        keep_response_on(&mut self.list[place], head);
     }
 
     /// A filter's context is known.
+    #[tactic(auto, using(crate::proofs::Stirs::stirs_set))]
     pub(crate) fn note_filter(&mut self, number: LineNo, k: usize, f: Filter)
         ensures { self.new ≡ on_line (change_line (with_filter k f)) number self.old }
     {
@@ -311,12 +342,12 @@ impl Lines {
         if place >= self.list.len() {
             return;
         }
-        if let Some(x) = &mut self.list[place].exchange {
-            put_filter(x, k, f);
-        }
+        self.due = self.due.with(place);
+        put_filter_on(&mut self.list[place], k, f);
     }
 
     /// An exchange begins on a line.
+    #[tactic(auto, using(crate::proofs::Stirs::stirs_set))]
     pub(crate) fn begin(&mut self, number: LineNo, x: Exchange)
         ensures { self.new ≡ on_line (with_exchange x) number self.old }
     {
@@ -324,11 +355,13 @@ impl Lines {
             return;
         };
         if place < self.list.len() {
+            self.due = self.due.with(place);
             self.list[place].exchange = Some(x);
         }
     }
 
     /// The client of a line is gone.
+    #[tactic(auto, using(crate::proofs::Stirs::stirs_set))]
     pub(crate) fn lose(&mut self, number: LineNo)
         ensures { self.new ≡ on_line lost number self.old }
     {
@@ -338,10 +371,12 @@ impl Lines {
         if place >= self.list.len() {
             return;
         }
+        self.due = self.due.with(place);
         lose_line(&mut self.list[place]);
     }
 
     /// A side of a line has more, or has ended.
+    #[tactic(auto, using(crate::proofs::Stirs::stirs_set))]
     pub(crate) fn come(
         &mut self,
         number: LineNo,
@@ -357,6 +392,7 @@ impl Lines {
         if place >= self.list.len() {
             return Ok(());
         }
+        self.due = self.due.with(place);
         line_further(&mut self.list[place], up, ends, bytes)
     }
 }
