@@ -1,5 +1,5 @@
 -- Turns, by how they end.
-use Rattle.std.proofs.Common.{◌≡◌, ℕ, Bool, true, false, List, [], ◌∷◌, ◌++◌, refl, ap, sym, subst, ◌∙◌, Option, Ok, Err}
+use Rattle.std.proofs.Common.{◌≡◌, ℕ, Bool, true, false, List, [], ◌∷◌, ◌++◌, refl, ap, sym, subst, Option, Ok, Err}
 use Rattle.std.specs.Prelude.{IsTrue}
 use Rattle.contexts.specs.declared.parts.Contexts.{Contexts}
 use Rattle.course.specs.Called.{Called}
@@ -77,22 +77,24 @@ module _ {H S : Type 0} (calling : H → ℕ → Callback → ℕ → ℕ → �
       })
 
   -- another turn, in which all was offered
-  pub went : {E : Type 0} (s t : S) (takes_whole : Bool) (old mid new : Option (List Passed)) (from to : Standing H) (wants : Wants) (event : Event) (sent : List Sent)
-      → wants ≡ wanted from → (event.what ≡ Stop → ⊥) → to.took ≡ true → to.state.room.hub.sent ≡ []
+  pub went : {E : Type 0} (s t : S) (takes_whole : Bool) (old mid new : Option (List Passed)) (from to : Standing H) (wants : Wants) (event : Event) (kept sent : List Sent)
+      → wants ≡ wanted from → (event.what ≡ Stop → ⊥) → to.took ≡ true → to.state.room.hub.sent ≡ [] → kept ≡ cleared event.what from.waiting
       → Goes performs s (settling calling (rules_of from.setting) most_steps from.state.host (facing (rules_of from.setting) event from.state.room)) (ends (both to.state.host (filled sent to.state.room))) t
-      → Gains old (asking wants (Ok event)) mid → Offered {E = E} takes_whole mid [] (cleared event.what from.waiting ++ joined sent) (Ok tt) new to.waiting
+      → Gains old (asking wants (Ok event)) mid → Offered {E = E} takes_whole mid [] (kept ++ joined sent) (Ok tt) new to.waiting
       → Whole calling performs false s old from to t new
-  went s t takes_whole old mid new from to wants event sent wants_are other took empty goes given offered = record {
-    event = event;
-    is_stop = is_no_stop event.what other;
-    sent = joined sent;
-    goes = went_to s t from event to.state.host to.state.room sent (is_no_stop event.what other) empty goes;
-    steps = Asked wants ∷ Gave event ∷ offered.steps;
-    told = told_of_turn old mid new wants event offered.steps given offered.told;
-    asks = λ i. wants_are i ∷ offered.delivered.not_asked i;
-    hands_over = handed_over takes_whole mid new from.waiting (one_turn event (joined sent)) wants (cleared event.what from.waiting ++ joined sent) to.waiting (is_no_stop event.what other) refl offered;
-    took = took;
-  }
+  went {E = E} s t takes_whole old mid new from to wants event kept sent wants_are other took empty kept_is goes given offered_so =
+      let offered = subst (λ (w : List Sent). Offered {E = E} takes_whole mid [] (w ++ joined sent) (Ok tt) new to.waiting) kept_is offered_so in
+      record {
+        event = event;
+        is_stop = is_no_stop event.what other;
+        sent = joined sent;
+        goes = went_to s t from event to.state.host to.state.room sent (is_no_stop event.what other) empty goes;
+        steps = Asked wants ∷ Gave event ∷ offered.steps;
+        told = told_of_turn old mid new wants event offered.steps given offered.told;
+        asks = λ i. wants_are i ∷ offered.delivered.not_asked i;
+        hands_over = handed_over takes_whole mid new from.waiting (one_turn event (joined sent)) wants (cleared event.what from.waiting ++ joined sent) to.waiting (is_no_stop event.what other) refl offered;
+        took = took;
+      }
 
   -- memory ran out before anything was handed over
   pub unanswered : (s t : S) (old new : Option (List Passed)) (from to : Standing H) (wants : Wants) (event : Event)
@@ -112,19 +114,21 @@ module _ {H S : Type 0} (calling : H → ℕ → Callback → ℕ → ℕ → �
 
   -- memory ran out as it was handed over
   pub partly_sent : {E : Type 0} (e : E) (s t : S) (takes_whole : Bool) (old mid new : Option (List Passed)) (from to : Standing H) (host : H) (room : Room) (waiting : List Sent) (wants : Wants)
-      (event : Event) (sent : List Sent)
-      → wants ≡ wanted from → (event.what ≡ Stop → ⊥) → to.took ≡ true → room.hub.sent ≡ []
+      (event : Event) (kept sent : List Sent)
+      → wants ≡ wanted from → (event.what ≡ Stop → ⊥) → to.took ≡ true → room.hub.sent ≡ [] → kept ≡ cleared event.what from.waiting
       → Goes performs s (settling calling (rules_of from.setting) most_steps from.state.host (facing (rules_of from.setting) event from.state.room)) (ends (both host (filled sent room))) t
-      → Gains old (asking wants (Ok event)) mid → Offered {E = E} takes_whole mid [] (cleared event.what from.waiting ++ joined sent) (Err e) new waiting
+      → Gains old (asking wants (Ok event)) mid → Offered {E = E} takes_whole mid [] (kept ++ joined sent) (Err e) new waiting
       → PartlySent calling performs s old from to t new
-  partly_sent e s t takes_whole old mid new from to host room waiting wants event sent wants_are other took empty goes given offered = record {
-    event = event;
-    goes_on = is_no_stop event.what other;
-    end = outcome (both host room) (joined sent);
-    goes = went_to s t from event host room sent (is_no_stop event.what other) empty goes;
-    taken = offered.steps;
-    rest = offered.rest;
-    delivered = offered.delivered;
-    told = subst (λ (w : Wants). Gains old (Asked w ∷ Gave event ∷ offered.steps) new) wants_are (told_of_turn old mid new wants event offered.steps given offered.told);
-    took = took;
-  }
+  partly_sent {E = E} e s t takes_whole old mid new from to host room waiting wants event kept sent wants_are other took empty kept_is goes given offered_so =
+      let offered = subst (λ (w : List Sent). Offered {E = E} takes_whole mid [] (w ++ joined sent) (Err e) new waiting) kept_is offered_so in
+      record {
+        event = event;
+        goes_on = is_no_stop event.what other;
+        end = outcome (both host room) (joined sent);
+        goes = went_to s t from event host room sent (is_no_stop event.what other) empty goes;
+        taken = offered.steps;
+        rest = offered.rest;
+        delivered = offered.delivered;
+        told = subst (λ (w : Wants). Gains old (Asked w ∷ Gave event ∷ offered.steps) new) wants_are (told_of_turn old mid new wants event offered.steps given offered.told);
+        took = took;
+      }

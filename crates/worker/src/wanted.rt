@@ -1,8 +1,10 @@
 // What a worker asks of its world.
 ghost use Rattle.worker.specs.Plan.{plan_of};
-ghost use Rattle.std.specs.Prelude.{◌≡◌, ◌≤◌, true, false, None, Some, IfOk, option_copied, length};
+ghost use Rattle.std.specs.Prelude.{◌≡◌, ◌≤◌, [], true, false, None, Some, OnOk, option_copied, if◌then◌else◌, length};
 ghost use Rattle.std.specs.Option.{option_map};
 ghost use Rattle.worker.specs.Steps.{line_reading, at_most_last};
+ghost use Rattle.gate_io.specs.declared.event.Side.TheVariants.{Down, Up};
+ghost use Rattle.worker.specs.Turn.{vms_in};
 ghost use Rattle.worker.specs.Wants.{has_room, reads_more, is_wanted, wanted_of, earlier, due_of, with_ticks, ticks_up_to, due_on, with_lines, looks_one, looks, with_notices, due_in, wants_of};
 
 use crate::agenda::{contexts_of, registers_at, vm_of, vms_in};
@@ -10,11 +12,10 @@ use crate::room::Room;
 use crate::types::{Line, Rules};
 use contexts::{Context, Tick};
 use exchange::Exchange;
-use gate_base::{LineList, Members, OutOfMemory};
+use gate_base::{LineList, OutOfMemory};
 use gate_io::{Side, Wants};
 use h1_stream::MessageReader;
 use outbox::Outbox;
-use std::alloc::Global;
 
 /// So many bytes of a side's text that are unread are enough.
 const ENOUGH: usize = 65_536;
@@ -22,11 +23,12 @@ const ENOUGH: usize = 65_536;
 /// How often notices are looked for, in nanoseconds.
 const NOTICE_PERIOD: u64 = 50_000_000;
 
-/// Whether less than 65,536 bytes wait on a side of a line.
+/// Whether less than 65,536 bytes wait on a side of a line. It is not looked for where nothing waits at all.
+#[tactic(auto, using(crate::proofs::Places::room_in_none))]
 fn has_room(outbox: &Outbox, side: Side, line: &Line) -> bool
     ensures { result ≡ has_room outbox.now side line.now }
 {
-    !outbox.is_full(line.number, side)
+    outbox.waiting().is_empty() || !outbox.is_full(line.number, side)
 }
 
 /// Whether less than 65,536 bytes of a text are unread.
@@ -55,35 +57,14 @@ fn reader_of(line: &Line, up: bool) -> Option<&MessageReader>
     }
 }
 
-/// Whether bytes of a side of a line are taken.
-fn is_wanted(outbox: &Outbox, side: Side, line: &Line) -> bool
-    ensures { result ≡ is_wanted side outbox.now line.now }
+/// Whether bytes of the sides of a line are taken, its client's and its server's.
+fn are_wanted(outbox: &Outbox, line: &Line) -> (bool, bool)
+    ensures down { result.0 ≡ is_wanted Down outbox.now line.now }
+    ensures up { result.1 ≡ is_wanted Up outbox.now line.now }
 {
-    match side {
-        Side::Down => {
-            (has_room(outbox, Side::Down, line) && has_room(outbox, Side::Up, line))
-                && reads_more(reader_of(line, false))
-        }
-        Side::Up => has_room(outbox, Side::Down, line) && reads_more(reader_of(line, true)),
-    }
-}
-
-/// The lines of which bytes of a side are taken.
-fn wanted_of(
-    alloc: Global,
-    outbox: &Outbox,
-    side: Side,
-    lines: &[Line],
-) -> Result<LineList, OutOfMemory>
-    ensures { IfOk result (λ numbers. numbers ≡ wanted_of side outbox.now lines.now) }
-{
-    let mut numbers = Members::new(alloc);
-    for line in lines {
-        if is_wanted(outbox, side, line) {
-            numbers.push(line.number)?;
-        }
-    }
-    Ok(numbers)
+    let is_open = has_room(outbox, Side::Down, line);
+    let down = (is_open && has_room(outbox, Side::Up, line)) && reads_more(reader_of(line, false));
+    (down, is_open && reads_more(reader_of(line, true)))
 }
 
 /// The earlier of two moments, of which each may be none.
@@ -151,15 +132,39 @@ fn due_on(x: &Option<Exchange>) -> Option<u64>
     }
 }
 
-/// The earliest of a moment and of responses.
-fn with_lines(due: Option<u64>, lines: &[Line]) -> Option<u64>
-    ensures { result ≡ with_lines due lines.now }
+/// Takes all numbers out of a list, which keeps its memory.
+fn empty(numbers: &mut LineList)
+    ensures { numbers.new ≡ [] }
 {
+    while let Some(_) = numbers.pop() {}
+}
+
+/// What lines want, each looked at once: of which bytes are taken, and the earliest of a moment and of their responses.
+fn wants_on(
+    outbox: &Outbox,
+    due: Option<u64>,
+    lines: &[Line],
+    wants: &mut Wants,
+) -> Result<(), OutOfMemory>
+    ensures down { OnOk result (wants.new.down ≡ wanted_of Down outbox.now lines.now) }
+    ensures up { OnOk result (wants.new.up ≡ wanted_of Up outbox.now lines.now) }
+    ensures due { OnOk result (wants.new.due ≡ with_lines due lines.now) }
+{
+    empty(&mut wants.down);
+    empty(&mut wants.up);
     let mut first = due;
     for line in lines {
+        let wanted = are_wanted(outbox, line);
+        if wanted.0 {
+            wants.down.push(line.number)?;
+        }
+        if wanted.1 {
+            wants.up.push(line.number)?;
+        }
         first = earlier(first, due_on(&line.exchange));
     }
-    first
+    wants.due = first;
+    Ok(())
 }
 
 /// Whether a VM looks for notices.
@@ -194,30 +199,27 @@ fn with_notices(rules: &Rules, room: &Room, due: Option<u64>) -> Option<u64>
     earlier(due, Some(room.hub.moment.saturating_add(NOTICE_PERIOD)))
 }
 
-/// The moment at which something falls due.
-fn due_in(rules: &Rules, room: &Room) -> Option<u64>
-    ensures { result ≡ due_in (plan_of rules.now) room.now }
+/// The moment at which something falls due, where that of roots and responses is this one.
+fn due_by(rules: &Rules, room: &Room, due: Option<u64>) -> Option<u64>
+    ensures { result ≡ if room.now.is_begun then with_notices (plan_of rules.now) room.now due else None }
 {
     if !room.is_begun {
         return None;
     }
-    let ticks = ticks_up_to(room, vms_in(room));
-    let due = with_lines(ticks, room.lines.as_slice());
     with_notices(rules, room, due)
 }
 
-/// What the worker wants.
+/// What the worker wants, in the memory of what it wanted before.
 pub(crate) fn wants_of(
-    alloc: Global,
     rules: &Rules,
     room: &Room,
     outbox: &Outbox,
-) -> Result<Wants, OutOfMemory>
-    ensures { IfOk result (λ wants. wants ≡ wants_of (plan_of rules.now) room.now outbox.now) }
+    wants: &mut Wants,
+) -> Result<(), OutOfMemory>
+    ensures { OnOk result (wants.new ≡ wants_of (plan_of rules.now) room.now outbox.now) }
 {
-    Ok(Wants {
-        down: wanted_of(alloc, outbox, Side::Down, room.lines.as_slice())?,
-        up: wanted_of(alloc, outbox, Side::Up, room.lines.as_slice())?,
-        due: due_in(rules, room),
-    })
+    let ticks = ticks_up_to(room, vms_in(room));
+    wants_on(outbox, ticks, room.lines.as_slice(), wants)?;
+    wants.due = due_by(rules, room, wants.due);
+    Ok(())
 }

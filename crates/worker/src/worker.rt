@@ -1,8 +1,10 @@
 // A worker, and its turns.
 ghost use Rattle.worker.specs.Plan.{plan_of};
-ghost use Rattle.std.specs.Prelude.{◌≡◌, ◌≤◌, IsTrue, length, [], IfOk, OnOk};
+ghost use Rattle.std.specs.Prelude.{◌≡◌, ◌≤◌, ◌++◌, IsTrue, length, [], IfOk, OnOk};
 ghost use Rattle.course.specs.Course.{Ends};
 ghost use Rattle.gate_io.specs.Told.{Rose};
+ghost use Rattle.outbox.specs.Delivery.{Offered};
+ghost use Rattle.outbox.specs.Joined.{joined};
 ghost use Rattle.worker.specs.Filled.{filled, event_of};
 ghost use Rattle.worker.specs.Making.{new_worker};
 ghost use Rattle.worker.specs.Settling.{settling};
@@ -18,9 +20,9 @@ use crate::turning::settle;
 use crate::types::Rules;
 use crate::wanted::wants_of;
 use course::Host;
-use gate_base::{OutOfMemory, WorkerNo};
+use gate_base::{Members, OutOfMemory, WorkerNo};
 use gate_config::Config;
-use gate_io::{Event, Sent, What, World, WorldEnd};
+use gate_io::{Event, Sent, Wants, What, World, WorldEnd};
 use outbox::Outbox;
 use queue::Queue;
 use std::alloc::Global;
@@ -51,6 +53,8 @@ pub struct Worker<H> {
     room: Room,
     outbox: Outbox,
     took: bool,
+    /// What it asked its world for, of which the memory is used again.
+    wants: Wants,
 }
 
 impl<H> Model for Worker<H> {
@@ -98,6 +102,11 @@ impl<H: Host + Drop> Worker<H> {
             room,
             outbox: Outbox::new(alloc),
             took: false,
+            wants: Wants {
+                down: Members::new(alloc),
+                up: Members::new(alloc),
+                due: None,
+            },
         })
     }
 
@@ -126,10 +135,10 @@ impl<H: Host + Drop> Worker<H> {
         ensures whole { IsTrue (W.nature world.old).takes_whole → result ≡ Turn.Went → TookWhole (W.trace world.old) (W.trace world.new) }
         ensures turned { Turned H.calling S.performs shared.old (W.trace world.old) self.old result self.new shared.new (W.trace world.new) }
     {
-        let Ok(wants) = wants_of(alloc, &self.rules, &self.room, &self.outbox) else {
+        let Ok(()) = wants_of(&self.rules, &self.room, &self.outbox, &mut self.wants) else {
             return Turn::OutOfMemory;
         };
-        let event = match world.next(alloc, &wants) {
+        let event = match world.next(alloc, &self.wants) {
             Ok(event) => event,
             Err(WorldEnd::Failed) => return Turn::WorldFault,
             Err(WorldEnd::OutOfMemory) => return Turn::OutOfMemory,
@@ -138,19 +147,20 @@ impl<H: Host + Drop> Worker<H> {
         if let What::Stop = event.what {
             return Turn::Stopped;
         }
+        self.outbox.clear(&event.what);
         let Ok(sent) = react(
             alloc,
             &self.rules,
             &mut self.host,
             &mut self.room,
-            &event,
+            event,
             shared,
         ) else {
             return Turn::OutOfMemory;
         };
-        match self.outbox.deliver(alloc, world, &event.what, sent) {
+        match deliver(alloc, &mut self.outbox, world, sent) {
             Ok(()) => Turn::Went,
-            Err(_) => Turn::OutOfMemory,
+            Err(_) => return Turn::OutOfMemory,
         }
     }
 }
@@ -161,7 +171,7 @@ fn react<H: Host, S: Shared>(
     rules: &Rules,
     host: &mut H,
     room: &mut Room,
-    event: &Event,
+    event: Event,
     shared: &mut S,
 ) -> Result<Vec<Sent>, OutOfMemory>
     requires needs { H.needs host.old ≤ S.stores shared.old }
@@ -169,12 +179,25 @@ fn react<H: Host, S: Shared>(
     ensures needs { H.needs host.new ≡ H.needs host.old }
     ensures stores { S.stores shared.new ≡ S.stores shared.old }
     ensures empty { IfOk result (λ sent. room.new.hub.sent ≡ []) }
-    ensures run { Ends S.performs shared.old (settling H.calling (plan_of rules.now) most_steps host.old (facing (plan_of rules.now) event.entry.now room.old)) (λ sent. both host.new (filled sent.items room.new)) result shared.new }
+    ensures run { Ends S.performs shared.old (settling H.calling (plan_of rules.now) most_steps host.old (facing (plan_of rules.now) event room.old)) (λ sent. both host.new (filled sent.items room.new)) result shared.new }
 {
-    let what = event.what.copy(alloc)?;
-    face(alloc, rules, event.now, what, room)?;
+    face(alloc, rules, event.now, event.what, room)?;
     settle(alloc, host, rules, room, u64::MAX, shared)?;
     Ok(take_sent(alloc, room))
+}
+
+/// Delivers what a turn sends, where what its event ended was dropped.
+fn deliver<W: World>(
+    alloc: Global,
+    outbox: &mut Outbox,
+    world: &mut W,
+    sent: Vec<Sent>,
+) -> Result<(), OutOfMemory>
+    ensures nature { W.nature world.new ≡ W.nature world.old }
+    ensures faults { W.faults world.old ≤ W.faults world.new }
+    ensures offered { Offered (W.nature world.old).takes_whole (W.trace world.old) [] (outbox.old ++ joined sent.items) result (W.trace world.new) outbox.new }
+{
+    outbox.deliver(alloc, world, &What::Clock, sent)
 }
 
 /// The parts of a turn are to come.

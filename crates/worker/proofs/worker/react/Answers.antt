@@ -1,33 +1,25 @@
-use Rattle.std.proofs.Common.{◌≡◌, ◌∙◌, sym, ap}
+use Rattle.std.proofs.Common.{◌≡◌, sym, ap}
 use Rattle.course.specs.Course.{ends}
 use Rattle.course.specs.Runs.{cut_short, goes_still, goes_from, goes_as}
-use Rattle.gate_io.specs.declared.event.What.{What}
 use Rattle.worker.specs.declared.room.Room.{Room}
-use Rattle.worker.specs.Filled.{event_of}
 use Rattle.worker.specs.Plan.{plan_of}
 use Rattle.worker.specs.Settling.{settling}
 use Rattle.worker.specs.Steps.{both}
 use Rattle.worker.specs.Turn.{facing, most_steps}
 use Rattle.worker.proofs.worker.react.Goals as goal
 
-pub returns-in_err-what-clause-run : goal.returns-in_err-what-clause-run
-returns-in_err-what-clause-run g c =
-    cut_short _ c.from_residual.result c.from_residual.ensures.0 (goes_still g.S.Shared.performs _ _ _ (g.met.S.Shared.nothing c.args.shared.now))
-
 pub returns-in_err-face-clause-run : goal.returns-in_err-face-clause-run
 returns-in_err-face-clause-run g c =
-    cut_short _ c.from_residual-in_err-face.result c.from_residual-in_err-face.ensures.0 (goes_still g.S.Shared.performs _ _ _ (g.met.S.Shared.nothing c.args.shared.now))
+    cut_short _ c.from_residual.result c.from_residual.ensures.0 (goes_still g.S.Shared.performs _ _ _ (g.met.S.Shared.nothing c.args.shared.now))
 
 pub returns-in_err-settle-clause-run : goal.returns-in_err-settle-clause-run
 returns-in_err-settle-clause-run g c =
-    let face_is : c.face.new.room ≡ facing (plan_of c.args.rules.now) c.args.event.now c.args.room.now
-    = c.in_ok-face.ensures ∙ ap (λ (w : What). facing (plan_of c.args.rules.now) (event_of c.args.event.now.now w) c.args.room.now) c.in_ok-what.ensures in
+    let face_is : c.face.new.room ≡ facing (plan_of c.args.rules.now) c.args.event c.args.room.now = c.in_ok-face.ensures in
     cut_short _ c.from_residual-in_err-settle.result c.from_residual-in_err-settle.ensures.0
     (goes_from (ap (λ (r : Room). settling g.H.Host.calling (plan_of c.args.rules.now) most_steps c.args.host.now r) (sym face_is)) c.in_err-settle.ensures.run.1)
 
 pub returns-clause-run : goal.returns-clause-run
 returns-clause-run g c =
-    let face_is : c.face.new.room ≡ facing (plan_of c.args.rules.now) c.args.event.now c.args.room.now
-    = c.in_ok-face.ensures ∙ ap (λ (w : What). facing (plan_of c.args.rules.now) (event_of c.args.event.now.now w) c.args.room.now) c.in_ok-what.ensures in
+    let face_is : c.face.new.room ≡ facing (plan_of c.args.rules.now) c.args.event c.args.room.now = c.in_ok-face.ensures in
     goes_as (goes_from (ap (λ (r : Room). settling g.H.Host.calling (plan_of c.args.rules.now) most_steps c.args.host.now r) (sym face_is)) c.in_ok-settle.ensures.run)
     (λ i. ends (both c.settle.new.host (sym c.take_sent.ensures.room i)))
