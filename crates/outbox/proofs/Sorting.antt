@@ -126,6 +126,27 @@ least_at least [] at member below is sorted = absurd (omega (arith, below))
 least_at least (s ∷ sent) zero member below is sorted = let same = ap rank_of is in omega (arith, same, sorted.0)
 least_at least (s ∷ sent) (suc at) member below is sorted = let more = least_at (rank_of s) sent at member (omega (arith, below)) is sorted.2 in omega (arith, more, sorted.0)
 
+-- where the last member is of a rank up to this one, all are
+pub up_to_last : (most least : ℕ) (sent : List Sent) (at : ℕ) (member : Sent) → suc at ≡ length sent → member ≡ get_or sent at member → IsSortedFrom least sent → rank_of member ≤ most → AreUpTo most (take (length sent) sent)
+up_to_last most least [] at member last is sorted low = tt
+up_to_last most least (s ∷ sent) zero member last is sorted low = (let same = ap rank_of is in omega (arith, same, low), up_to_none sent (omega (arith, last)))
+  where
+    up_to_none : (sent : List Sent) → length sent ≡ 0 → AreUpTo most (take (length sent) sent)
+    up_to_none [] none = tt
+    up_to_none (s ∷ sent) none = absurd (omega (arith, none))
+up_to_last most least (s ∷ sent) (suc at) member last is sorted low =
+    let next : suc at ≡ length sent = omega (arith, last) in
+    (let more = least_at (rank_of s) sent at member (omega (arith, next)) is sorted.2 in omega (arith, more, low), up_to_last most (rank_of s) sent at member next is sorted.2 low)
+
+none_behind : (least : ℕ) (sent : List Sent) → IsSortedFrom least (drop (length sent) sent)
+none_behind least [] = tt
+none_behind least (s ∷ sent) = none_behind least sent
+
+-- so that they end with it
+pub ends_last : (most : ℕ) (sent : List Sent) (at : ℕ) (member : Sent) → suc at ≡ length sent → member ≡ get_or sent at member → IsSorted sent → rank_of member ≤ most → IsEndOf most (length sent) sent
+ends_last most sent at member last is sorted low =
+    record { within = omega arith; up_to = up_to_last most 0 sent at member last is sorted low; above = none_behind (most + 1) sent }
+
 -- nothing waits where the last member up to the rank of a place is of a lower one
 pub none_at : (place : Place) (least : ℕ) (sent : List Sent) (at : ℕ) (member : Sent) → at < length sent → member ≡ get_or sent at member → IsSortedFrom least sent → rank_of member < rank place
     → IsSortedFrom (rank place + 1) (drop (suc at) sent) → marks_at place sent ≡ []

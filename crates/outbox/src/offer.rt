@@ -7,7 +7,7 @@ ghost use Rattle.outbox.specs.Sorted.{rank, rank_of, IsSorted, IsEndOf};
 ghost use Rattle.outbox.specs.declared.place.Place.TheVariants.{Peer};
 
 use crate::place::{place_of, rank_of};
-use crate::sorted::{end_of, put_behind, waits_before};
+use crate::sorted::{end_near_last, put_behind, waits_before};
 use gate_base::{LineNo, Octets, OutOfMemory};
 use gate_io::{Sent, Side, World};
 use std::alloc::Global;
@@ -98,7 +98,8 @@ pub fn offer<W: World>(
     ensures offered { Offered (W.nature world.old).takes_whole (W.trace world.old) left.old.items (left.old.items ++ member ∷ []) result (W.trace world.new) left.new.items }
     ensures sorted { OnOk result (IsSorted left.new.items) }
 {
-    let end = end_of(left, rank_of(&member));
+    // What waited is offered in the order of places, so that what is left of it goes to the end.
+    let end = end_near_last(left, rank_of(&member));
     if waits_before(left, end, &place_of(&member)) {
         put_behind(left, end, member)
     } else {

@@ -17,6 +17,18 @@ pub fn end_of(members: &[Sent], most: u64) -> usize
     members.partition_point(|member| rank_of(member) <= most)
 }
 
+/// The same, where that is likely to be all of them.
+pub fn end_near_last(members: &[Sent], most: u64) -> usize
+    requires { IsSorted members.now }
+    ensures { IsEndOf most result members.now }
+{
+    let count = members.len();
+    if count > 0 && rank_of(&members[count - 1]) <= most {
+        return count;
+    }
+    end_of(members, most)
+}
+
 /// Whether something waits for a place, where so many members are of its rank or a lower one.
 pub fn waits_before(members: &[Sent], end: usize, place: &Place) -> bool
     requires sorted { IsSorted members.now }
