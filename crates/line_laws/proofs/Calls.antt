@@ -31,7 +31,7 @@ use Rattle.filter_chain.specs.declared.stage.Stage as chain_stage
 use Rattle.filter_chain.specs.declared.item.Asking.{Asking}
 use Rattle.filter_chain.specs.declared.item.Asking.TheVariants.{Nothing, Over, Asks}
 use Rattle.filter_chain.specs.declared.item.Passed.TheVariants as passed
-use Rattle.filter_chain.specs.Chains.{asked}
+use Rattle.filter_chain.specs.Chains.{asked, ready}
 use Rattle.gate_io.specs.declared.event.Side.{Side}
 use Rattle.gate_io.specs.declared.event.Side.TheVariants.{Down}
 use Rattle.http1_model.specs.Fields.{Pair}
@@ -47,13 +47,13 @@ use Rattle.worker.specs.declared.types.Own.{Own}
 use Rattle.worker.specs.declared.types.Own.TheVariants.{Nobody, Stage}
 use Rattle.worker.specs.Moves.{asks_at, asks_line, asks_in, asks_exchange, asks_chain, asks_as, asks_response}
 use Rattle.worker.specs.Plan.{Plan}
-use Rattle.worker.specs.Rooms.{marking, all_lines, with_lines, place_in, with_contexts, died, is_dead}
+use Rattle.worker.specs.Rooms.{exchange_moves, moves, marking, all_lines, with_lines, place_in, with_contexts, died, is_dead}
 use Rattle.worker.specs.Steps.{Both, both, Answered, answered, Then, goes_on_with, nothing_more, called_in, called_live, calls_live, in_front, unless_zero, has_vm, done_with, deletes, acts_on, is_drawn_out, may_root, root_jobs, rooting, with_filter, may_stream, with_stream, streaming, creating_filter, filter_at, creating, is_live, new_stage, entered, ticked_at, ticked, is_due_tick, is_late, expires_all, noticed, moved, move_at, tells, made_one, made_with, roots, streams, ticks, tells_ready, takes_notice, notices, works, callback_of, number_of, vm_length, plugin_length}
 use Rattle.line_laws.specs.Logs.{WriteLogs}
 use Rattle.line_laws.proofs.Finding.{IsOnce}
 use Rattle.line_laws.proofs.Kept.{Kept, Staid, over_told, by_bool, kept_itself, passed_on_kept}
 use Rattle.line_laws.proofs.Upward.{Keeps, keeps_then, Still as UpStill, still_itself as up_still_itself, still_then as up_still_then, still_keeps, aside_still, answer_still, directly_still, response_still, asked_keeps}
-use Rattle.line_laws.proofs.Looks.{is_n, Beside, beside_itself, sends_beside, IsPlain, LivesOn, Quietly, aside, equal_by, Still, still_aside, still_then, LineGoes, set_still, does_deed, note_still, looks_aside, Exs}
+use Rattle.line_laws.proofs.Looks.{is_n, Beside, beside_itself, sends_beside, IsPlain, LivesOn, Went, goes_aside, has_too_much, is_asked, has_filter, goes_then, Quietly, aside, equal_by, Still, still_aside, still_then, LineGoes, set_still, does_deed, note_still, looks_aside, Exs}
 use Rattle.line_laws.proofs.Rooms.{AllFree, Once, Calm, calm_then, calm_of, calm_beside, calm_itself, same_sent, calm_all, died_calm, answered_calm, logs_then, CalmThen, Calmly, in_front_calm, nothing_calm, unless_zero_calm, done_calm, deletes_calm, acts_on_calm}
 
 -- ---- a note of an exchange without filters
@@ -129,6 +129,7 @@ with_filter_quietly n k f x hub = record {
   framed = refl;
   over = λ o. o;
   keeps = still_keeps n (x, hub) (with_filter k f x, hub) (record { minor = refl; framed = refl; reader = refl; live = λ e. (e, refl); entered = refl; answered = λ a. a; sends = refl });
+  how = has_filter k f x hub;
   plain = λ p.
       let q : IsPlain (with_filter k f x) = (ap (λ (l : List Filter). slice_set l k f) p.0, p.1, p.2) in
       note_lives n x (with_filter k f x) hub hub q (alike_kin x (with_filter k f x) q refl).0 (alike_kin x (with_filter k f x) q refl).1 (beside_itself n hub) (λ d. d) (λ a d. (a, d, refl)) (λ o. o);
@@ -226,8 +227,19 @@ asks_keeps n x hub = by_side (asks_response x)
         let t = asked hub.contexts x.request in
         keeps_then n (x, hub) (with_chain false t.1 x, with_held t.2 hub) _ (asked_keeps n x hub) (still_keeps n (with_chain false t.1 x, with_held t.2 hub) _ (asks_as_still false n t.0 (with_chain false t.1 x) (with_held t.2 hub)))
 
-asks_quietly : (n : ℕ) (x : Exchange) (hub : Hub) → Quietly n x hub (asks_exchange n x hub).1 (asks_exchange n x hub).2
-asks_quietly n x hub =
+asks_as_went : (response : Bool) (n : ℕ) (a : Asking) (x : Exchange) (hub : Hub) → x.has_ended ≡ false → Went n x hub (asks_as response n a x hub).1 (asks_as response n a x hub).2
+asks_as_went response n Nothing x hub runs = goes_aside x hub hub (beside_itself n hub)
+asks_as_went response n (Over k) x hub runs =
+    let p : Exchange × Hub = passed_on response n passed.Over x hub in
+    goes_then x p.0 p.0 hub p.1 (marking p).1 (has_too_much response x hub runs) (goes_aside p.0 p.1 (marking p).1 (record { up = refl; down = refl; client = refl }))
+asks_as_went response n (Asks ask) x hub runs = goes_aside x hub hub (beside_itself n hub)
+
+chained_runs : (response : Bool) (t : List chain_stage.Stage) (x : Exchange) → (with_chain response t x).has_ended ≡ x.has_ended
+chained_runs false t x = refl
+chained_runs true t x = refl
+
+asks_quietly : (n : ℕ) (x : Exchange) (hub : Hub) → x.has_ended ≡ false → Quietly n x hub (asks_exchange n x hub).1 (asks_exchange n x hub).2
+asks_quietly n x hub runs =
     let t = asked hub.contexts (chain_of (asks_response x) x) in
     let z : Exchange = with_chain (asks_response x) t.1 x in
     let c = chained (asks_response x) t.1 x in
@@ -245,11 +257,19 @@ asks_quietly n x hub =
       framed = k.framed ∙ alike.1;
       over = λ o. over_told z (asks_exchange n x hub).1 k.told (alike.2 ∙ o);
       keeps = asks_keeps n x hub;
+      how = goes_then x z (asks_exchange n x hub).1 hub (with_held t.2 hub) (asks_exchange n x hub).2 (is_asked (asks_response x) x hub) (asks_as_went (asks_response x) n t.0 z (with_held t.2 hub) (chained_runs (asks_response x) t.1 x ∙ runs));
       plain = asks_plain n x hub;
     }
 
-asks_goes : (n : ℕ) (l : Line) (hub : Hub) → LineGoes n l hub (asks_line l hub).1 (asks_line l hub).2
-asks_goes n l hub = by_exchange l.exchange refl
+still_runs : (x : Exchange) → exchange_moves (Some x) ≡ true → x.has_ended ≡ false
+still_runs x is = by_test x.has_ended refl
+  where
+    by_test : (b : Bool) → x.has_ended ≡ b → x.has_ended ≡ false
+    by_test true ended = let never : ◌≡◌ {A = Bool} false true = (λ i. not (sym ended i) && (nat_lt 0 (ready x.request) || nat_lt 0 (ready x.response))) ∙ is in absurd (cc)
+    by_test false running = running
+
+asks_goes : (n : ℕ) (l : Line) (hub : Hub) → moves l ≡ true → LineGoes n l hub (asks_line l hub).1 (asks_line l hub).2
+asks_goes n l hub moving = by_exchange l.exchange refl
   where
     by_exchange : (o : Option Exchange) → l.exchange ≡ o → LineGoes n l hub (asks_in l o hub).1 (asks_in l o hub).2
     by_exchange None there = record { number = refl; on = λ e. looks_aside n (Some l) hub hub (beside_itself n hub); off = λ e. beside_itself n hub }
@@ -259,14 +279,15 @@ asks_goes n l hub = by_exchange l.exchange refl
         refl,
         refl,
         subst (λ (o : Option Exchange). Exs n o hub (Some (asks_exchange l.number x hub).1) (asks_exchange l.number x hub).2) (sym there)
-            (subst (λ (m : ℕ). Quietly n x hub (asks_exchange m x hub).1 (asks_exchange m x hub).2) (sym (equal_by l.number n e)) (asks_quietly n x hub)),
+            (subst (λ (m : ℕ). Quietly n x hub (asks_exchange m x hub).1 (asks_exchange m x hub).2) (sym (equal_by l.number n e)) (asks_quietly n x hub (still_runs x (sym (ap exchange_moves there) ∙ moving)))),
       );
       off = λ e. sends_beside n l.number hub (asks_exchange l.number x hub).2 e (asks_on n l.number x hub);
     }
 
-asks_still : (n k : ℕ) (o : Option Line) (lines : List Line) (hub : Hub) → IsOnce (is_n n) lines → slice_get lines k ≡ o → Still n lines hub (asks_at k o lines hub).1 (asks_at k o lines hub).2
-asks_still n k None lines hub once there = still_aside n lines hub hub once (beside_itself n hub)
-asks_still n k (Some l) lines hub once there = set_still n lines k l (asks_line l hub).1 hub (asks_line l hub).2 once there (asks_goes n l hub)
+asks_still : (n k : ℕ) (o : Option Line) (lines : List Line) (hub : Hub) → IsOnce (is_n n) lines → slice_get lines k ≡ o → ((l : Line) → o ≡ Some l → moves l ≡ true)
+    → Still n lines hub (asks_at k o lines hub).1 (asks_at k o lines hub).2
+asks_still n k None lines hub once there moving = still_aside n lines hub hub once (beside_itself n hub)
+asks_still n k (Some l) lines hub once there moving = set_still n lines k l (asks_line l hub).1 hub (asks_line l hub).2 once there (asks_goes n l hub (moving l refl))
 
 -- the jobs that bring the line no item: those of no line, and contexts that are made
 abbrev pub IsCalm : Job → Type 0
@@ -324,11 +345,11 @@ module _ {H : Type 0} (calling : Calling H) (logs : WriteLogs calling) (n : ℕ)
       weaken (measures vm call k) all = λ r. weaken (k r) (all r)
       weaken (hears t k) all = λ h is. weaken (k h) (all h is)
 
-  pub move_calm : (place : ℕ) (host : H) (room : Room) → Once n room → Calmly n room (move_at calling place host room)
-  move_calm place host room once =
+  pub move_calm : (place : ℕ) (host : H) (room : Room) → Once n room → ((l : Line) → slice_get room.lines place ≡ Some l → moves l ≡ true) → Calmly n room (move_at calling place host room)
+  move_calm place host room once moving =
       let t = asks_at place (slice_get room.lines place) room.lines room.hub in
       let mid : Room = with_lines room (t.1, t.2) in
-      let calm : Calm n room mid = calm_of n room mid (asks_still n place (slice_get room.lines place) room.lines room.hub once refl) refl refl refl in
+      let calm : Calm n room mid = calm_of n room mid (asks_still n place (slice_get room.lines place) room.lines room.hub once refl moving) refl refl refl in
       calm_first room mid (moved calling t.0 host mid) calm (moved_calm t.0 host mid calm.still.once)
 
   -- ---- jobs

@@ -256,7 +256,7 @@ close_other : (n m : ℕ) (o : Option Reading) → (m == n) ≡ false → ups n 
 close_other n m None other = refl
 close_other n m (Some r) other = ap (λ b. (if b then closes ∷ [] else []) ++ []) (other_is n m (λ e. other_by m n other (sym e)))
 
-done_free : (fs : List Filter) → AllFree (done_jobs fs)
+pub done_free : (fs : List Filter) → AllFree (done_jobs fs)
 done_free [] = tt
 done_free (f ∷ fs) = by_made f.created (done_free fs)
   where

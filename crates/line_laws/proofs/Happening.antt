@@ -34,7 +34,7 @@ use Rattle.line_laws.proofs.Turned.{LineTurns, Turn, line_turn}
 use Rattle.line_laws.proofs.Working.{Popped}
 use Rattle.line_laws.proofs.Closing.{line_as_is, gone_known}
 
-found_fails : {X : Type 0} (p q : X → Bool) (xs : List X) (x : X) → find p xs ≡ None → find q xs ≡ Some x → p x ≡ false
+pub found_fails : {X : Type 0} (p q : X → Bool) (xs : List X) (x : X) → find p xs ≡ None → find q xs ≡ Some x → p x ≡ false
 found_fails p q [] x none at = absurd (cc)
 found_fails {X} p q (z ∷ xs) x none at = by_test (p z) (q z) refl refl (λ e f. found_fails p q xs x e f)
   where
@@ -46,17 +46,17 @@ found_fails {X} p q (z ∷ xs) x none at = by_test (p z) (q z) refl refl (λ e f
     by_test false true is other later = let same : Some z ≡ Some x = sym (first_of q true other) ∙ at in let z_is : z ≡ x = cc in ap p (sym z_is) ∙ is
     by_test false false is other later = later (sym (first_of p false is) ∙ none) (sym (first_of q false other) ∙ at)
 
-and_parts : (a b : Bool) → (a && b) ≡ true → (a ≡ true) × (b ≡ true)
+pub and_parts : (a b : Bool) → (a && b) ≡ true → (a ≡ true) × (b ≡ true)
 and_parts true b is = (refl, is)
 and_parts false b is = absurd (cc)
 
-unless : (b : Bool) → not b ≡ true → b ≡ false
+pub unless : (b : Bool) → not b ≡ true → b ≡ false
 unless true is = absurd (cc)
 unless false is = refl
 
 -- ---- more text changes nothing of what is due
 
-text_same : (stops : Bool) (bytes : List ℕ) (r : Reading) → ((further stops bytes r).asked ≡ r.asked) × ((further stops bytes r).due ≡ r.due)
+pub text_same : (stops : Bool) (bytes : List ℕ) (r : Reading) → ((further stops bytes r).asked ≡ r.asked) × ((further stops bytes r).due ≡ r.due)
 text_same stops bytes r =
     by_bool (λ (q : Reading). (q.asked ≡ r.asked) × (q.due ≡ r.due)) r.ended r (if stops then finished r else fed bytes r) (λ e. (refl, refl))
     (λ e. by_bool (λ (q : Reading). (q.asked ≡ r.asked) × (q.due ≡ r.due)) stops (finished r) (fed bytes r) (λ d. (refl, refl)) (λ d. (refl, refl)))
@@ -69,11 +69,11 @@ further_some : (stops : Bool) (bytes : List ℕ) (o : Option Reading) → is_som
 further_some stops bytes None is = is
 further_some stops bytes (Some r) is = refl
 
-numbered_further : (up stops : Bool) (bytes : List ℕ) → Numbered (further_on up stops bytes)
+pub numbered_further : (up stops : Bool) (bytes : List ℕ) → Numbered (further_on up stops bytes)
 numbered_further false stops bytes l = refl
 numbered_further true stops bytes l = numbered_change (with_further stops bytes) l
 
-numbered_lost : Numbered lost
+pub numbered_lost : Numbered lost
 numbered_lost l = numbered_change lost_exchange l
 
 still_further : (up stops : Bool) (bytes : List ℕ) (l : Line) → moves (further_on up stops bytes l) ≡ moves l

@@ -1,4 +1,4 @@
--- What goes up is the same where neighbours are joined.
+-- What goes up, and what goes down, is the same where neighbours are joined.
 use Rattle.std.proofs.Common.{◌≡◌, ℕ, ◌==◌, Bool, true, false, ◌&&◌, List, [], ◌∷◌, ◌++◌, map, refl, ap, ◌∙◌, sym}
 use Rattle.std.proofs.lemmas.Grind.{flat_map-append}
 use Rattle.std.specs.List.{flat_map}
@@ -11,6 +11,7 @@ use Rattle.outbox.specs.Joined.{joined}
 use Rattle.outbox.specs.Places.{Mark, opening, octet, closing, logged, marks_of, marks_at}
 use Rattle.outbox.specs.declared.place.Place.TheVariants.{Peer}
 use Rattle.outbox.proofs.Joins.{marks_at-joined}
+use Rattle.line_laws.specs.Clients.{client_of, clients}
 use Rattle.line_laws.proofs.Looks.{equal_by, equal_is, other_is, other_by}
 
 one : Mark → List Traffic
@@ -66,3 +67,22 @@ ups_marks n (s ∷ sent) = (λ i. up_marks n s i ++ ups_marks n sent i) ∙ sym 
 
 pub ups_joined : (n : ℕ) (sent : List Sent) → ups n (joined sent) ≡ ups n sent
 ups_joined n sent = ups_marks n (joined sent) ∙ (ap as_traffic (marks_at-joined (Peer n Up) sent) ∙ sym (ups_marks n sent))
+
+-- ---- and so is what goes down
+
+client_marks : (n : ℕ) (s : Sent) → client_of n s ≡ as_traffic (marks_of (Peer n Down) s)
+unfolding as_traffic one
+client_marks n (to.Connect m) = neither n m (opening ∷ [])
+client_marks n (to.Bytes m Down bytes) = whether n m (map octet bytes) (map byte bytes) (octets bytes)
+client_marks n (to.Bytes m Up bytes) = neither n m (map octet bytes)
+client_marks n (to.Close m Down) = whether n m (closing ∷ []) (closes ∷ []) refl
+client_marks n (to.Close m Up) = neither n m (closing ∷ [])
+client_marks n (to.Log level text) = refl
+
+clients_marks : (n : ℕ) (sent : List Sent) → clients n sent ≡ as_traffic (marks_at (Peer n Down) sent)
+unfolding as_traffic
+clients_marks n [] = refl
+clients_marks n (s ∷ sent) = (λ i. client_marks n s i ++ clients_marks n sent i) ∙ sym (flat_map-append one (marks_of (Peer n Down) s) (marks_at (Peer n Down) sent))
+
+pub clients_joined : (n : ℕ) (sent : List Sent) → clients n (joined sent) ≡ clients n sent
+clients_joined n sent = clients_marks n (joined sent) ∙ (ap as_traffic (marks_at-joined (Peer n Down) sent) ∙ sym (clients_marks n sent))

@@ -7,7 +7,9 @@ use Rattle.std.specs.Prelude.{Option, None, Some, is_some, slice_get, slice_set,
 use Rattle.exchange.specs.declared.types.Exchange.{Exchange}
 use Rattle.exchange.specs.declared.types.Hub.{Hub}
 use Rattle.exchange_laws.specs.Ends.{IsOwn}
+use Rattle.exchange.specs.Answering.{with_held}
 use Rattle.exchange.specs.Leaving.{goes_up}
+use Rattle.exchange.specs.Passing.{chain_of, with_chain, passed_on}
 use Rattle.exchange_laws.specs.Lives.{Deed, comes, responds, acts, resumes, closes, answers, dies, refuses, expires, turns, done_by, is_over, IsKin}
 use Rattle.exchange_laws.specs.Own.{IsOn, AreOn, SendsOn}
 use Rattle.exchange_laws.specs.Responses.{IsKinDown, downs, down_of, response_in, responses_in}
@@ -15,13 +17,17 @@ use Rattle.exchange_laws.specs.Traffic.{Traffic, opens, byte, ups, up_of}
 use Rattle.exchange_laws.proofs.Ends.{nothing_follows_end}
 use Rattle.exchange_laws.proofs.Own.{own_line}
 use Rattle.exchange_laws.proofs.Traffic.{ups_join}
+use Rattle.exchange.specs.declared.types.Filter.{Filter}
+use Rattle.filter_chain.specs.Chains.{asked}
 use Rattle.filter_chain.specs.declared.item.Item.{Item}
+use Rattle.filter_chain.specs.declared.item.Passed.TheVariants as passed
 use Rattle.gate_io.specs.declared.event.Sent.{Sent}
 use Rattle.gate_io.specs.declared.event.Sent.TheVariants as to
 use Rattle.gate_io.specs.declared.event.Side.TheVariants.{Down, Up}
 use Rattle.worker.specs.declared.types.Line.{Line}
 use Rattle.worker.specs.Rooms.{Changes, marking, in_exchange, in_line, at_some, at_place, all_lines}
-use Rattle.worker.specs.Steps.{change_line, change_exchange, line_at, line_at_place, in_place, line_in}
+use Rattle.worker.specs.Steps.{with_filter, change_line, change_exchange, line_at, line_at_place, in_place, line_in}
+use Rattle.line_laws.specs.Clients.{clients, client_of}
 use Rattle.line_laws.specs.Living.{request_in, requests_in, IsFairly, LivesBy}
 use Rattle.line_laws.proofs.Finding.{Seeks, missing, first, seeks, IsOnce, set_other, only_found, set_once, set_there}
 use Rattle.line_laws.proofs.Kept.{Kept, Staid, over_told, put_in_kept, acts_kept, resumes_kept, closed_kept, answer_kept, dies_kept, refused_kept, expires_kept}
@@ -73,12 +79,13 @@ other_by a b is same = let e : (a == b) ≡ true = equal_is a b same in absurd (
 pub record Beside (n : ℕ) (hub after : Hub) : Type 0 where
   pub up : ups n after.sent ≡ ups n hub.sent
   pub down : downs n after.sent ≡ downs n hub.sent
+  pub client : clients n after.sent ≡ clients n hub.sent
 
 pub beside_itself : (n : ℕ) (hub : Hub) → Beside n hub hub
-beside_itself n hub = record { up = refl; down = refl }
+beside_itself n hub = record { up = refl; down = refl; client = refl }
 
 pub beside_then : (n : ℕ) (hub mid after : Hub) → Beside n hub mid → Beside n mid after → Beside n hub after
-beside_then n hub mid after a b = record { up = b.up ∙ a.up; down = b.down ∙ a.down }
+beside_then n hub mid after a b = record { up = b.up ∙ a.up; down = b.down ∙ a.down; client = b.client ∙ a.client }
 
 pub none_up : (n m : ℕ) (more : List Sent) → (m == n) ≡ false → AreOn m more → ups n more ≡ []
 none_up n m [] other on = refl
@@ -108,11 +115,26 @@ none_down n m (s ∷ more) other on = (λ i. one s on.0 i ++ none_down n m more 
     one (to.Close k side) is = absurd is
     one (to.Log level text) is = absurd is
 
+none_client : (n m : ℕ) (more : List Sent) → (m == n) ≡ false → AreOn m more → clients n more ≡ []
+none_client n m [] other on = refl
+none_client n m (s ∷ more) other on = (λ i. one s on.0 i ++ none_client n m more other on.1 i)
+  where
+    swapped : (k : ℕ) → k ≡ m → (n == k) ≡ false
+    swapped k is = other_is n k (λ e. other_by m n other (sym is ∙ sym e))
+
+    one : (s : Sent) → IsOn m s → client_of n s ≡ []
+    one (to.Connect k) is = refl
+    one (to.Bytes k Down bytes) is = ap (λ b. if b then map byte bytes else []) (swapped k is)
+    one (to.Bytes k Up bytes) is = refl
+    one (to.Close k side) is = absurd is
+    one (to.Log level text) is = absurd is
+
 -- what is sent on another line
 pub sends_beside : (n m : ℕ) (hub after : Hub) → (m == n) ≡ false → SendsOn m hub after → Beside n hub after
 sends_beside n m hub after other s = record {
   up = ap (ups n) s.adds ∙ (ups_join n hub.sent s.more ∙ (ap (λ t. ups n hub.sent ++ t) (none_up n m s.more other s.own) ∙ append-nil (ups n hub.sent)));
   down = ap (downs n) s.adds ∙ (flat_map-append (down_of n) hub.sent s.more ∙ (ap (λ t. downs n hub.sent ++ t) (none_down n m s.more other s.own) ∙ append-nil (downs n hub.sent)));
+  client = ap (clients n) s.adds ∙ (flat_map-append (client_of n) hub.sent s.more ∙ (ap (λ t. clients n hub.sent ++ t) (none_client n m s.more other s.own) ∙ append-nil (clients n hub.sent)));
 }
 
 -- ---- an exchange lives on
@@ -137,6 +159,30 @@ pub record LivesOn (n : ℕ) (x : Exchange) (hub : Hub) (y : Exchange) (after : 
   pub told : y.is_answered ≡ false → y.has_ended ≡ false → (x.is_answered ≡ false) × (x.has_ended ≡ false) × (y.told ≡ x.told)
   pub opened : is_some x.reader ≡ true → is_some y.reader ≡ true
 
+-- an own deed that brings no item
+abbrev pub BringsNone : Deed → Type 0
+BringsNone (comes items) = ⊥
+BringsNone (responds items) = ⊥
+BringsNone (acts response k value) = Unit {0}
+BringsNone (resumes vm context response) = Unit {0}
+BringsNone closes = Unit {0}
+BringsNone (answers shut status fields body) = Unit {0}
+BringsNone (dies vm) = Unit {0}
+BringsNone (refuses status) = Unit {0}
+BringsNone expires = Unit {0}
+BringsNone (turns y hub) = ⊥
+
+-- WHAT BECAME OF IT, thing by thing: something was sent that is not of its line; it did a deed of its own that brings no item; a stage of it was asked; too
+-- much waited in a stage; the context of a filter was made
+pub data Went (n : ℕ) : Exchange → Hub → Exchange → Hub → Type 0 where
+  goes_aside : (x : Exchange) (hub after : Hub) → Beside n hub after → Went n x hub x after
+  does_so : (deed : Deed) (x : Exchange) (hub : Hub) → BringsNone deed → Went n x hub (done_by n deed x hub).0 (done_by n deed x hub).1
+  is_asked : (response : Bool) (x : Exchange) (hub : Hub)
+      → Went n x hub (with_chain response (asked hub.contexts (chain_of response x)).1 x) (with_held (asked hub.contexts (chain_of response x)).2 hub)
+  has_too_much : (response : Bool) (x : Exchange) (hub : Hub) → x.has_ended ≡ false → Went n x hub (passed_on response n passed.Over x hub).0 (passed_on response n passed.Over x hub).1
+  has_filter : (k : ℕ) (f : Filter) (x : Exchange) (hub : Hub) → Went n x hub (with_filter k f x) hub
+  goes_then : (x y z : Exchange) (hub mid after : Hub) → Went n x hub y mid → Went n y mid z after → Went n x hub z after
+
 pub record Quietly (n : ℕ) (x : Exchange) (hub : Hub) (y : Exchange) (after : Hub) : Type 0 where
   pub more : List Traffic
   pub grows : ups n after.sent ≡ ups n hub.sent ++ more
@@ -148,6 +194,7 @@ pub record Quietly (n : ℕ) (x : Exchange) (hub : Hub) (y : Exchange) (after : 
   pub framed : goes_up y ≡ goes_up x
   pub over : is_over x ≡ true → is_over y ≡ true
   pub keeps : Keeps n (x, hub) (y, after)
+  pub how : Went n x hub y after
   pub plain : IsPlain x → LivesOn n x hub y after
 
 itself_kin : (x : Exchange) → IsPlain x → IsKin x x
@@ -182,6 +229,7 @@ aside n x hub after b = record {
   framed = refl;
   over = λ o. o;
   keeps = still_keeps n (x, hub) (x, after) (aside_still n x hub after b.up);
+  how = goes_aside x hub after b;
   plain = λ p. record {
     deeds = turns x after ∷ [];
     plain = p;
@@ -212,6 +260,7 @@ quietly_then n x y z hub mid after a b = record {
   framed = b.framed ∙ a.framed;
   over = λ o. b.over (a.over o);
   keeps = keeps_then n (x, hub) (y, mid) (z, after) a.keeps b.keeps;
+  how = goes_then x y z hub mid after a.how b.how;
   plain = λ p. let former : LivesOn n x hub y mid = a.plain p in let later : LivesOn n y mid z after = b.plain former.plain in record {
     deeds = former.deeds ++ later.deeds;
     plain = later.plain;
@@ -237,19 +286,6 @@ kept_by n (dies vm) x hub own = dies_kept vm n x hub
 kept_by n (refuses status) x hub own = refused_kept status n x hub
 kept_by n expires x hub own = expires_kept n x hub
 kept_by n (turns y after) x hub own = absurd own
-
--- an own deed that brings no item
-abbrev pub BringsNone : Deed → Type 0
-BringsNone (comes items) = ⊥
-BringsNone (responds items) = ⊥
-BringsNone (acts response k value) = Unit {0}
-BringsNone (resumes vm context response) = Unit {0}
-BringsNone closes = Unit {0}
-BringsNone (answers shut status fields body) = Unit {0}
-BringsNone (dies vm) = Unit {0}
-BringsNone (refuses status) = Unit {0}
-BringsNone expires = Unit {0}
-BringsNone (turns y hub) = ⊥
 
 record Brings (n : ℕ) (deed : Deed) (x : Exchange) (hub : Hub) : Type 0 where
   own : IsOwn deed
@@ -289,6 +325,7 @@ quiet_deed n deed x hub is =
       over = over_told x (done_by n deed x hub).0 k.told;
       keeps = λ t i u.
           subst (λ (j : Phase). Onward n hub (done_by n deed x hub) t j) (ap (run i) b.no_request) (own_goes n deed x hub t i b.own u (subst (λ (l : List Item). IsSound (run i l)) (sym b.no_request) u.sound));
+      how = does_so deed x hub is;
       plain = λ p. record {
         deeds = deed ∷ [];
         plain = plain_kept x (done_by n deed x hub).0 k p;
@@ -403,12 +440,12 @@ marked_goes n change l (Some x) hub there does = record {
     subst (λ (o : Option Exchange). Exs n o hub (Some (change l.number x hub).0) (marking (change l.number x hub)).1) (sym there)
         (subst (λ (m : ℕ). Quietly n x hub (change m x hub).0 (marking (change m x hub)).1) (sym (equal_by l.number n e)) on_n),
   );
-  off = λ e. beside_then n hub (change l.number x hub).1 (marking (change l.number x hub)).1 (does.off n l.number x hub e) (record { up = refl; down = refl });
+  off = λ e. beside_then n hub (change l.number x hub).1 (marking (change l.number x hub)).1 (does.off n l.number x hub e) (record { up = refl; down = refl; client = refl });
 }
   where
     on_n : Quietly n x hub (change n x hub).0 (marking (change n x hub)).1
     on_n = quietly_then n x (change n x hub).0 (change n x hub).0 hub (change n x hub).1 (marking (change n x hub)).1 (does.on n x hub)
-        (aside n (change n x hub).0 (change n x hub).1 (marking (change n x hub)).1 (record { up = refl; down = refl }))
+        (aside n (change n x hub).0 (change n x hub).1 (marking (change n x hub)).1 (record { up = refl; down = refl; client = refl }))
 
 pub line_goes : (n : ℕ) (change : Changes) (l : Line) (hub : Hub) → Does change → LineGoes n l hub (in_line change l hub).0 (in_line change l hub).1
 line_goes n change l hub does = marked_goes n change l l.exchange hub refl does

@@ -42,24 +42,24 @@ not_alone (one ∷ two ∷ went) is = cc
 
 -- ---- behind a close comes nothing
 
-abbrev unclosed : List Traffic → Bool
+abbrev pub unclosed : List Traffic → Bool
 unclosed [] = true
 unclosed (opens ∷ t) = unclosed t
 unclosed (byte b ∷ t) = unclosed t
 unclosed (closes ∷ t) = false
 
-unclosed_bytes : (bytes : List ℕ) → unclosed (map byte bytes) ≡ true
+pub unclosed_bytes : (bytes : List ℕ) → unclosed (map byte bytes) ≡ true
 unclosed_bytes [] = refl
 unclosed_bytes (b ∷ bytes) = unclosed_bytes bytes
 
 tail_same : (a b : Traffic) (s t : List Traffic) → a ∷ s ≡ b ∷ t → s ≡ t
 tail_same a b s t is = cc
 
-none_there : (s t : List Traffic) → [] ≡ s ++ closes ∷ t → ⊥
+pub none_there : (s t : List Traffic) → [] ≡ s ++ closes ∷ t → ⊥
 none_there [] t is = cc
 none_there (a ∷ s) t is = cc
 
-closes_last : (went s t : List Traffic) → unclosed went ≡ true → went ++ closes ∷ [] ≡ s ++ closes ∷ t → t ≡ []
+pub closes_last : (went s t : List Traffic) → unclosed went ≡ true → went ++ closes ∷ [] ≡ s ++ closes ∷ t → t ≡ []
 closes_last [] [] t runs is = sym (tail_same closes closes [] t is)
 closes_last [] (a ∷ s) t runs is = absurd (none_there s t (tail_same closes a [] (s ++ closes ∷ t) is))
 closes_last (opens ∷ went) [] t runs is = absurd (cc)

@@ -36,6 +36,7 @@ use Rattle.worker.specs.declared.types.Line.{Line}
 use Rattle.worker.specs.declared.types.Own.{Own}
 use Rattle.worker.specs.Rooms.{Changes, all_lines, with_lines, place_in, place_of, on_number, on_context, with_contexts, sending, is_own, does, effects_of, without_effects, died, death_text, behind, answered_with}
 use Rattle.worker.specs.Steps.{Both, Then, nothing_more, is_zero, action_of, in_front, unless_zero, has_vm, waits, last_jobs, done_with, deletes, acts_on}
+use Rattle.line_laws.specs.Clients.{clients, client_of}
 use Rattle.line_laws.specs.Logs.{AreLogs, OnlyLogs}
 use Rattle.line_laws.proofs.Finding.{IsOnce}
 use Rattle.line_laws.proofs.Kept.{by_bool}
@@ -130,7 +131,7 @@ pub calm_itself : (n : ℕ) (room : Room) → Once n room → Calm n room room
 calm_itself n room once = calm_beside n room room once refl (beside_itself n room.hub) refl refl refl
 
 pub same_sent : (n : ℕ) (hub after : Hub) → after.sent ≡ hub.sent → Beside n hub after
-same_sent n hub after is = record { up = ap (ups n) is; down = ap (downs n) is }
+same_sent n hub after is = record { up = ap (ups n) is; down = ap (downs n) is; client = ap (clients n) is }
 
 pub calm_number : (n : ℕ) (change : Changes) (m : ℕ) (room : Room) → Once n room → Does change → Calm n room (on_number change m room)
 calm_number n change m room once does = calm_of n room (on_number change m room) (place_still n change room.lines (place_in m room.lines) room.hub once does) refl refl refl
@@ -157,10 +158,18 @@ logs_down n (to.Bytes line side bytes ∷ more) are = absurd are.0
 logs_down n (to.Close line side ∷ more) are = absurd are.0
 logs_down n (to.Log level text ∷ more) are = logs_down n more are.1
 
+logs_client : (n : ℕ) (more : List Sent) → AreLogs more → clients n more ≡ []
+logs_client n [] are = refl
+logs_client n (to.Connect line ∷ more) are = absurd are.0
+logs_client n (to.Bytes line side bytes ∷ more) are = absurd are.0
+logs_client n (to.Close line side ∷ more) are = absurd are.0
+logs_client n (to.Log level text ∷ more) are = logs_client n more are.1
+
 pub logs_beside : (n : ℕ) (more : List Sent) (hub after : Hub) → AreLogs more → after.sent ≡ hub.sent ++ more → Beside n hub after
 logs_beside n more hub after are is = record {
   up = ap (ups n) is ∙ (ups_join n hub.sent more ∙ (ap (λ t. ups n hub.sent ++ t) (logs_up n more are) ∙ append-nil (ups n hub.sent)));
   down = ap (downs n) is ∙ (flat_map-append (down_of n) hub.sent more ∙ (ap (λ t. downs n hub.sent ++ t) (logs_down n more are) ∙ append-nil (downs n hub.sent)));
+  client = ap (clients n) is ∙ (flat_map-append (client_of n) hub.sent more ∙ (ap (λ t. clients n hub.sent ++ t) (logs_client n more are) ∙ append-nil (clients n hub.sent)));
 }
 
 -- ---- effects

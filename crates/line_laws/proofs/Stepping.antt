@@ -34,22 +34,31 @@ use Rattle.line_laws.proofs.Reading.{reading_known}
 
 -- ---- what is next
 
-none_found : {X : Type 0} (p : X → Bool) (xs : List X) → position p xs ≡ None → find p xs ≡ None
+pub none_found : {X : Type 0} (p : X → Bool) (xs : List X) → position p xs ≡ None → find p xs ≡ None
 none_found p xs is = by_seek (seeks p xs)
   where
     by_seek : Seeks p xs → find p xs ≡ None
     by_seek (missing at none) = none
     by_seek (first k x at there passes found) = let e : ◌≡◌ {A = Option ℕ} None (Some k) = sym is ∙ at in absurd (cc)
 
-some_found : {X : Type 0} (p : X → Bool) (xs : List X) (place : ℕ) → position p xs ≡ Some place → find p xs ≡ None → ⊥
+pub some_found : {X : Type 0} (p : X → Bool) (xs : List X) (place : ℕ) → position p xs ≡ Some place → find p xs ≡ None → ⊥
 some_found p xs place is none = by_seek (seeks p xs)
   where
     by_seek : Seeks p xs → ⊥
     by_seek (missing at gone) = let e : ◌≡◌ {A = Option ℕ} None (Some place) = sym at ∙ is in absurd (cc)
     by_seek (first k x at there passes found) = let e : ◌≡◌ {A = Option _} None (Some x) = sym none ∙ found in absurd (cc)
 
+-- what is found at a place passes
+pub found_passes : {X : Type 0} (p : X → Bool) (xs : List X) (place : ℕ) (x : X) → position p xs ≡ Some place → slice_get xs place ≡ Some x → p x ≡ true
+found_passes p xs place x is there = by_seek (seeks p xs)
+  where
+    by_seek : Seeks p xs → p x ≡ true
+    by_seek (missing at none) = let e : ◌≡◌ {A = Option ℕ} None (Some place) = sym at ∙ is in absurd (cc)
+    by_seek (first k y at found passes is_it) =
+        let e : Some k ≡ Some place = sym at ∙ is in let same : k ≡ place = cc in let f : Some y ≡ Some x = sym found ∙ (ap (slice_get xs) same ∙ there) in let same_x : y ≡ x = cc in ap p (sym same_x) ∙ passes
+
 -- where a chain moves, no event is in hand
-tail_moving : (lines : List Line) (js : List Job) → Stands js → Phase lines js → (Rests lines → ⊥) → Tail js
+pub tail_moving : (lines : List Line) (js : List Job) → Stands js → Phase lines js → (Rests lines → ⊥) → Tail js
 tail_moving lines [] stands phase moving = tt
 tail_moving lines (jobs.Happen w ∷ later) stands phase moving = absurd (moving phase.1)
 tail_moving lines (job ∷ later) stands phase moving = stands
@@ -195,7 +204,7 @@ module _ {H : Type 0} (calling : Calling H) (logs : WriteLogs calling) (plan : P
         by_moves quiet None is = by_jobs quiet (none_found moves room.lines is) room.jobs refl
         by_moves quiet (Some place) is =
             calm_keeps (step calling plan (next.Move place) host room) quiet (tail_moving room.lines room.jobs (all n).stands (all n).phase (some_found moves room.lines place is)) (some_found moves room.lines place is)
-            (move_calm calling logs n place host room (all n).once)
+            (move_calm calling logs n place host room (all n).once (λ l there. found_passes moves room.lines place l is there))
 
         by_reading : (o : Option Reads) → room.reading ≡ o → Keeps n (step calling plan (next_of room) host room)
         by_reading None is =

@@ -166,7 +166,7 @@ on_another n m change lines hub once other own = by_seek (seeks (is_n m) lines)
           number = refl;
           on = λ e. let never : ◌≡◌ {A = Bool} true false = sym e ∙ apart in absurd (cc);
           off = λ e. beside_then n hub (change l.number x hub).1 (marking (change l.number x hub)).1
-              (subst (λ (j : ℕ). Beside n hub (change j x hub).1) (sym number) (sends_beside n m hub (change m x hub).1 other (own x hub))) (record { up = refl; down = refl });
+              (subst (λ (j : ℕ). Beside n hub (change j x hub).1) (sym number) (sends_beside n m hub (change m x hub).1 other (own x hub))) (record { up = refl; down = refl; client = refl });
         }
 
         goes : LineGoes n l hub (in_line change l hub).0 (in_line change l hub).1

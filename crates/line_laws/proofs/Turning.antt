@@ -157,7 +157,7 @@ module _ (plan : Plan) (n : ℕ) (past now : List Sent) (hub after : Hub) (same 
 
 -- ---- a turn
 
-facing_known : (plan : Plan) (n : ℕ) (past : List Sent) (event : Event) (room : Room) → Known plan n past room → Known plan n past (facing plan event room)
+pub facing_known : (plan : Plan) (n : ℕ) (past : List Sent) (event : Event) (room : Room) → Known plan n past room → Known plan n past (facing plan event room)
 facing_known plan n past event room k = record {
   once = k.once;
   parts = agenda_parts plan event.what (record room { hub = record room.hub { moment = event.now } });
@@ -167,7 +167,7 @@ facing_known plan n past event room k = record {
   line = line_past plan n past past room.hub (record room.hub { moment = event.now }) refl refl room.reading room.jobs room.lines (look n room.lines) k.line;
 }
 
-emptied_known : (plan : Plan) (n : ℕ) (past : List Sent) (room : Room) → Known plan n past room → Known plan n (past ++ joined room.hub.sent) (emptied room)
+pub emptied_known : (plan : Plan) (n : ℕ) (past : List Sent) (room : Room) → Known plan n past room → Known plan n (past ++ joined room.hub.sent) (emptied room)
 emptied_known plan n past room k =
     let same : ups n ((past ++ joined room.hub.sent) ++ []) ≡ ups n (past ++ room.hub.sent)
     = ap (ups n) (append-nil (past ++ joined room.hub.sent)) ∙ (ups_join n past (joined room.hub.sent) ∙ (ap (λ t. ups n past ++ t) (ups_joined n room.hub.sent) ∙ sym (ups_join n past room.hub.sent))) in
@@ -222,7 +222,7 @@ module _ {H : Type 0} (calling : Calling H) (logs : WriteLogs calling) (plan : P
       (all_reached (λ (o : Outcome H). from.room.hub.sent ≡ [] → o.state.room.hub.sent ≡ []) t.met (turn calling plan from t.event) t.end (turn_empties from t.event) turned.0 none) turned.1
 
 -- a new worker
-new_known : (plan : Plan) (contexts : Contexts) (n : ℕ) → Known plan n [] (new_room contexts)
+pub new_known : (plan : Plan) (contexts : Contexts) (n : ℕ) → Known plan n [] (new_room contexts)
 new_known plan contexts n = record {
   once = tt;
   parts = tt;

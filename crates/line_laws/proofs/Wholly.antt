@@ -15,13 +15,13 @@ use Rattle.line_laws.specs.Turns.{Done, Turns, Worked, no_turn, a_turn, sent_in}
 use Rattle.line_laws.proofs.Turning.{all_go_up_one_by_one}
 
 -- the turns, what they send, and the setting
-record Run {H : Type 0} (calling : Calling H) (from : Standing H) (sent : List Sent) (to : Standing H) : Type 0 where
-  turns : List (Done H)
-  run : Turns calling (rules_of from.setting) from.state turns to.state
-  sends : sent_in turns ≡ sent
-  setting : to.setting ≡ from.setting
+pub record Run {H : Type 0} (calling : Calling H) (from : Standing H) (sent : List Sent) (to : Standing H) : Type 0 where
+  pub turns : List (Done H)
+  pub run : Turns calling (rules_of from.setting) from.state turns to.state
+  pub sends : sent_in turns ≡ sent
+  pub setting : to.setting ≡ from.setting
 
-worked_run : {H S : Type 0} (calling : Calling H) (performs : S → List Made → S → Type 0) (from to : Standing H) (sent : List Sent) → Worked calling performs from sent to → Run calling from sent to
+pub worked_run : {H S : Type 0} (calling : Calling H) (performs : S → List Made → S → Type 0) (from to : Standing H) (sent : List Sent) → Worked calling performs from sent to → Run calling from sent to
 worked_run calling performs from to sent (no_turn f) = record { turns = []; run = refl; sends = refl; setting = refl }
 worked_run calling performs from to sent (a_turn stop s t old new f mid l more w same later) =
     let r : Run calling mid more to = worked_run calling performs mid to more later in

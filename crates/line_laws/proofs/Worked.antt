@@ -28,7 +28,8 @@ use Rattle.worker.specs.Steps.{Both}
 use Rattle.worker.specs.Turn.{Outcome, outcome, turn}
 use Rattle.worker.specs.declared.no_machines.NoMachines.{NoMachines}
 use Rattle.worker.specs.declared.types.Line.{Line}
-use Rattle.line_laws.specs.Examples.{open_plan, new_worker, event, whole_response, worked_request, LineExamples}
+use Rattle.line_laws.specs.Examples.{open_plan, new_worker, event, whole_response, worked_request, LineExamples, answered_wire}
+use Rattle.line_laws.specs.Clients.{clients}
 use Rattle.line_laws.specs.Turns.{Done, Turns, sent_in}
 use Rattle.line_laws.proofs.Refusing.{refused}
 
@@ -201,6 +202,10 @@ get_goes_up : ups 1 (sent_in get_turns) ≡ opens ∷ map byte worked_wire ++ cl
 unfolding settling httparse_on_literals httpdate_on_literals digits year_from month_from matchit_on_literals is_token_byte
 get_goes_up = refl
 
+get_goes_down : clients 1 (sent_in get_turns) ≡ map byte answered_wire
+unfolding settling httparse_on_literals httpdate_on_literals digits year_from month_from matchit_on_literals is_token_byte
+get_goes_down = refl
+
 get_leaves : map (λ (l : Line). l.number) (comes_to answer_met answering).state.room.lines ≡ 1 ∷ []
 unfolding settling matchit_on_literals is_token_byte
 get_leaves = refl
@@ -265,6 +270,10 @@ both_go_up : ups 1 (sent_in both_turns) ≡ opens ∷ map byte worked_wire ++ cl
 unfolding settling httparse_on_literals httpdate_on_literals digits year_from month_from matchit_on_literals is_token_byte
 both_go_up = refl
 
+both_go_down : clients 1 (sent_in both_turns) ≡ map byte answered_wire
+unfolding settling httparse_on_literals httpdate_on_literals digits year_from month_from matchit_on_literals is_token_byte
+both_go_down = refl
+
 wire_is : out_wire worked_request ≡ worked_wire
 unfolding httparse_on_literals is_token_byte
 wire_is = refl
@@ -282,9 +291,11 @@ line_examples = record {
   logs = λ host vm name context one two now h. tt;
   get = record { turns = get_turns; to = (comes_to answer_met answering).state; run = get_runs; happened = refl };
   get_up = get_goes_up;
+  get_down = get_goes_down;
   get_stays = get_leaves;
   pipeline = record { turns = both_turns; to = (comes_to both_met sending_both).state; run = both_run; happened = refl };
   pipeline_up = both_go_up;
+  pipeline_down = both_go_down;
   wire = wire_is;
   room = record { few = omega (arith, three_fields); short = omega (arith, head_bytes) };
   refused = refused;

@@ -24,6 +24,7 @@ use Rattle.worker.specs.Steps.{Both, both}
 use Rattle.worker.specs.declared.no_machines.NoMachines.{NoMachines}
 use Rattle.worker.specs.declared.room.Room.{Room}
 use Rattle.worker.specs.declared.types.Line.{Line}
+use Rattle.line_laws.specs.Clients.{clients}
 use Rattle.line_laws.specs.Logs.{WriteLogs}
 use Rattle.line_laws.specs.Requests.{IsJudged, HasRoom, GoesUp, IsAllOfOne, AreEmpty, IsOpen, Part, IsPart, traffic_of}
 use Rattle.line_laws.specs.Turns.{Done, Turns, new_room, sent_in}
@@ -52,6 +53,11 @@ pipeline_events = event (whats.Opened 1) ∷ event (whats.Bytes 1 Down (worked_t
 -- the request that goes up
 abbrev pub worked_request : OutRequest
 worked_request = record { framing = no_body; head = sent_head worked_head.fields (up_tail worked_head.minor); pieces = []; ending = last_bytes [] }
+
+-- what goes down with the response: its head, with the date of that moment, and its body; the line stays, so that nothing tells a close
+abbrev pub answered_wire : List ℕ
+answered_wire =
+    codes "HTTP/1.1 200 " ++ crlf_bytes ++ codes "content-length: 3" ++ crlf_bytes ++ codes "date: Thu, 01 Jan 1970 00:00:00 GMT" ++ crlf_bytes ++ crlf_bytes ++ codes "abc"
 
 -- there are such turns
 pub record Runs (events : List Event) : Type 0 where
@@ -92,9 +98,12 @@ pub record LineExamples : Type 0 where
   pub logs : WriteLogs no_calling
   pub get : Runs get_events
   pub get_up : ups 1 (sent_in get.turns) ≡ opens ∷ map byte worked_wire ++ closes ∷ []
+  pub get_down : clients 1 (sent_in get.turns) ≡ map byte answered_wire
   pub get_stays : map (λ (l : Line). l.number) get.to.room.lines ≡ 1 ∷ []
   pub pipeline : Runs pipeline_events
   pub pipeline_up : ups 1 (sent_in pipeline.turns) ≡ opens ∷ map byte worked_wire ++ closes ∷ opens ∷ map byte worked_wire
+  -- the response to the first alone goes down as yet
+  pub pipeline_down : clients 1 (sent_in pipeline.turns) ≡ map byte answered_wire
   -- a reader has room for its head
   pub wire : out_wire worked_request ≡ worked_wire
   pub room : HasRoom worked_request

@@ -1,4 +1,5 @@
 pub mod Living
+pub mod Clients
 pub mod Logs
 pub mod Heard
 pub mod Requests
