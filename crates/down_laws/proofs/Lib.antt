@@ -1,0 +1,15 @@
+pub mod Sending
+pub mod Below
+pub mod Deeds
+pub mod Judging
+pub mod Under
+pub mod Calmly
+pub mod Works
+pub mod Closes
+pub mod Happens
+pub mod Sides
+pub mod Reading
+pub mod Ending
+pub mod Stepping
+pub mod Turning
+pub mod Refusing

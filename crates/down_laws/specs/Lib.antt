@@ -1,0 +1,3 @@
+pub mod Downward
+pub mod Laws
+pub mod Examples

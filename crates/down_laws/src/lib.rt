@@ -1,0 +1,9 @@
+//! What goes down on the lines of a worker over its turns, whatever its machines do.
+#![tactic(auto)]
+
+mod laws;
+
+pub use laws::{
+    responses_go_down_one_by_one, responses_of_the_product_go_down, what_is_refused,
+    workers_answer_one_by_one,
+};
