@@ -1,0 +1,6 @@
+pub mod Gathering
+pub mod Inside
+pub mod Seen
+pub mod Beyond
+pub mod Each
+pub mod Examples

@@ -1,0 +1,15 @@
+// What each stage of a chain is asked. The functions have nothing to do: their contracts are the laws.
+ghost use Rattle.asked_laws.specs.Examples.{AskedExamples};
+ghost use Rattle.asked_laws.specs.Laws.{EachIsAsked, HeadsAreAsked};
+
+/// Whatever is done to a chain through which nothing passed yet, each stage that is not let through is asked: of what came, in order; what it lets go on, by a
+/// Continue of its own or where it is resumed, is of what it was asked, and what left the chain is of that; and so is what any later stage was asked.
+pub fn each_stage_is_asked()
+    ensures items { EachIsAsked }
+    ensures heads { HeadsAreAsked }
+{}
+
+/// The head of a request and four filters, worked: each lets it go on; the second holds it and is resumed later; the VM of the third dies.
+pub fn worked_filters()
+    ensures { AskedExamples }
+{}
