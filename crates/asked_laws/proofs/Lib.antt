@@ -4,3 +4,5 @@ pub mod Seen
 pub mod Beyond
 pub mod Each
 pub mod Examples
+pub mod Routes
+pub mod FilterExamples

@@ -1,3 +1,5 @@
 pub mod Asked
 pub mod Laws
 pub mod Examples
+pub mod Filters
+pub mod FilterExamples

@@ -3,4 +3,4 @@
 
 mod laws;
 
-pub use laws::{each_stage_is_asked, worked_filters};
+pub use laws::{each_stage_is_asked, routes_have_their_stages, worked_filters, worked_routes};

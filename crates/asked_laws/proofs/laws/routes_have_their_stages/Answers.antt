@@ -1,0 +1,8 @@
+use Rattle.asked_laws.proofs.Routes.{have_filters, have_stages}
+use Rattle.asked_laws.proofs.laws.routes_have_their_stages.Goals as goal
+
+pub returns-clause-filters : goal.returns-clause-filters
+returns-clause-filters c = have_filters
+
+pub returns-clause-stages : goal.returns-clause-stages
+returns-clause-stages c = have_stages
