@@ -6,3 +6,5 @@ pub mod Each
 pub mod Examples
 pub mod Routes
 pub mod FilterExamples
+pub mod Lines
+pub mod LineExamples

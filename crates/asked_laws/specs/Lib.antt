@@ -3,3 +3,5 @@ pub mod Laws
 pub mod Examples
 pub mod Filters
 pub mod FilterExamples
+pub mod Directions
+pub mod LineExamples

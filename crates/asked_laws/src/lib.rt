@@ -3,4 +3,7 @@
 
 mod laws;
 
-pub use laws::{each_stage_is_asked, routes_have_their_stages, worked_filters, worked_routes};
+pub use laws::{
+    directions_ask, each_stage_is_asked, routes_have_their_stages, turns_ask, worked_exchange,
+    worked_filters, worked_routes,
+};
