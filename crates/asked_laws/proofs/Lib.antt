@@ -6,5 +6,6 @@ pub mod Each
 pub mod Examples
 pub mod Routes
 pub mod FilterExamples
+pub mod Begins
 pub mod Lines
 pub mod LineExamples

@@ -3,5 +3,6 @@ pub mod Laws
 pub mod Examples
 pub mod Filters
 pub mod FilterExamples
+pub mod Begins
 pub mod Directions
 pub mod LineExamples

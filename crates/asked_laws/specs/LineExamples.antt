@@ -1,6 +1,5 @@
 -- A worked example: the head of a request on its way up through an exchange with four filters.
-use Rattle.std.specs.Prelude.{◌≡◌, true, false, List, [], ◌∷◌, ◌++◌, None, Some, slice_get}
-use Rattle.exchange.specs.declared.types.Exchange.{Exchange}
+use Rattle.std.specs.Prelude.{◌≡◌, false, List, [], ◌∷◌, ◌++◌, None, Some, slice_get}
 use Rattle.exchange.specs.Examples as exchange
 use Rattle.filter_chain.specs.declared.item.Held.TheVariants as held
 use Rattle.filter_chain.specs.declared.item.Item.TheVariants.{Head}

@@ -1,4 +1,5 @@
 // What each stage of a chain is asked. The functions have nothing to do: their contracts are the laws.
+ghost use Rattle.asked_laws.specs.Begins.{ExchangesBeginInOrder};
 ghost use Rattle.asked_laws.specs.Directions.{DirectionsAsk, RequestsGoUp, TurnsAsk};
 ghost use Rattle.asked_laws.specs.Examples.{AskedExamples};
 ghost use Rattle.asked_laws.specs.FilterExamples.{FilterExamples};
@@ -15,9 +16,11 @@ pub fn each_stage_is_asked()
 
 /// An exchange has the filters of its route, all of them and in the order of the configuration, but for those whose VM is dead: where one of these fails closed it is
 /// refused with 503. Its stages are those of its filters, for the response in reverse, but where the VM is dead or no context was made; nothing passed them yet.
+/// Behind the head of its request a context is made for each of them, in order, and then the stages; where it is refused, none of it.
 pub fn routes_have_their_stages()
     ensures filters { ExchangesHaveTheirFilters }
     ensures stages { ExchangesHaveTheirStages }
+    ensures begins { ExchangesBeginInOrder }
 {}
 
 /// Of one direction of an exchange whose stages were made, while it runs and is not answered and nothing is too much, whatever callbacks leave and return: what

@@ -1,3 +1,4 @@
+use Rattle.asked_laws.proofs.Begins.{begin_in_order}
 use Rattle.asked_laws.proofs.Routes.{have_filters, have_stages}
 use Rattle.asked_laws.proofs.laws.routes_have_their_stages.Goals as goal
 
@@ -6,3 +7,6 @@ returns-clause-filters c = have_filters
 
 pub returns-clause-stages : goal.returns-clause-stages
 returns-clause-stages c = have_stages
+
+pub returns-clause-begins : goal.returns-clause-begins
+returns-clause-begins c = begin_in_order
