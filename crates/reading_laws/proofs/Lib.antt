@@ -1,0 +1,16 @@
+pub mod Readers
+pub mod Alike
+pub mod Lines
+pub mod Every
+pub mod Quiet
+pub mod Events
+pub mod Steps
+pub mod Settles
+pub mod Told
+pub mod Since
+pub mod Limits
+pub mod Cuts
+pub mod Once
+pub mod Worked
+pub mod Servers
+pub mod Wholly

@@ -1,0 +1,9 @@
+pub mod Spelled
+pub mod Turns
+pub mod Lines
+pub mod Laws
+pub mod Limits
+pub mod Cuts
+pub mod Examples
+pub mod Servers
+pub mod Wholly

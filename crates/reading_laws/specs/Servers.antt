@@ -1,0 +1,33 @@
+-- What the readers of servers read, over all turns of a worker.
+use Rattle.std.specs.Prelude.{◌≡◌, ℕ, Bool, false, List, [], ◌++◌, Some}
+use Rattle.course.specs.Called.{Calling}
+use Rattle.exchange.specs.declared.types.Exchange.{Exchange}
+use Rattle.gate_config.specs.declared.config.Config.{Config}
+use Rattle.gate_io.specs.declared.event.Side.TheVariants.{Up}
+use Rattle.gate_io.specs.declared.event.What.{What}
+use Rattle.http1_model.specs.Unread.{Reading}
+use Rattle.worker.specs.Making.{first_room}
+use Rattle.worker.specs.Plan.{Plan}
+use Rattle.worker.specs.Steps.{Both, both, line_in}
+use Rattle.worker.specs.declared.types.Line.{Line}
+use Rattle.reading_laws.specs.Spelled.{IsReadOf}
+use Rattle.reading_laws.specs.Turns.{OneTurn, Turns, AreWhole, happened}
+
+-- THE READER OF A SERVER: a reader of the response to some method read exactly what a run of the events spells on the line's server's side, and while its
+-- exchange was not answered no event is behind that run. (That the run begins where the connection was opened is not said.)
+pub record HasServed (n : ℕ) (ws : List What) (answered : Bool) (r : Reading) : Type 0 where
+  pub method : List ℕ
+  pub before : List What
+  pub run : List What
+  pub rest : List What
+  pub is : ws ≡ before ++ (run ++ rest)
+  pub reads : IsReadOf (Some method) n Up run r
+  pub listens : answered ≡ false → rest ≡ []
+
+-- WHATEVER TURNS a worker has had since it was made, each of which came to rest: so it is of the server of each exchange that is open
+abbrev pub ServersReadWhatCame : (H : Type 0) → Type 0
+ServersReadWhatCame H =
+    (calling : Calling H) (plan : Plan) (config : Config) (seed : List ℕ) (host : H) (turns : List (OneTurn H)) (to : Both H) (n : ℕ) (l : Line)
+    (x : Exchange) (r : Reading)
+    → Turns calling plan (both host (first_room config seed)) turns to → AreWhole turns → line_in n to.room.lines ≡ Some l → l.exchange ≡ Some x
+    → x.reader ≡ Some r → HasServed n (happened turns) x.is_answered r

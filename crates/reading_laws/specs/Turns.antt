@@ -1,0 +1,41 @@
+-- Turns of a worker, one behind the other.
+use Rattle.std.specs.Prelude.{◌≡◌, ℕ, true, List, [], ◌∷◌, map, is_some}
+use Rattle.course.specs.Called.{Calling}
+use Rattle.course.specs.Course.{ends, Met, Reaches}
+use Rattle.gate_io.specs.declared.event.Event.{Event}
+use Rattle.gate_io.specs.declared.event.What.{What}
+use Rattle.worker.specs.declared.room.Room as rooms
+use Rattle.worker.specs.Plan.{Plan}
+use Rattle.worker.specs.Rooms.{next_of}
+use Rattle.worker.specs.Settling.{rests}
+use Rattle.worker.specs.Steps.{Both, line_in}
+use Rattle.worker.specs.Turn.{Outcome, turn}
+
+-- one of them: the event, what its course met, and what it came to
+pub record OneTurn (H : Type 0) : Type 0 where
+  pub event : Event
+  pub met : List Met
+  pub end : Outcome H
+
+-- each course meets that and comes to its end, and the next turn goes on from there
+abbrev pub Turns : {H : Type 0} → Calling H → Plan → Both H → List (OneTurn H) → Both H → Type 0
+Turns calling plan from [] to = to ≡ from
+Turns calling plan from (t ∷ turns) to = Reaches (turn calling plan from t.event) t.met (ends t.end) × Turns calling plan t.end.state turns to
+
+-- nothing is left to be done then
+abbrev pub IsAtRest : rooms.Room → Type 0
+IsAtRest room = rests (next_of room) ≡ true
+
+-- each of them came to rest (as turns do that begin with less to do than a turn has steps)
+abbrev pub AreWhole : {H : Type 0} → List (OneTurn H) → Type 0
+AreWhole [] = Unit {0}
+AreWhole (t ∷ turns) = IsAtRest t.end.state.room × AreWhole turns
+
+-- what happened in them
+abbrev pub happened : {H : Type 0} → List (OneTurn H) → List What
+happened turns = map (λ (t : OneTurn _). t.event.what) turns
+
+-- the line of a number is open behind each of them
+abbrev pub StaysOpen : {H : Type 0} → ℕ → List (OneTurn H) → Type 0
+StaysOpen n [] = Unit {0}
+StaysOpen n (t ∷ turns) = (is_some (line_in n t.end.state.room.lines) ≡ true) × StaysOpen n turns

@@ -1,0 +1,34 @@
+-- WHOLE TURNS OF A WORKER as its code takes them, over shared stores of any kind.
+use Rattle.std.specs.Prelude.{◌≡◌, ℕ, Bool, List, [], ◌∷◌, Option, Some}
+use Rattle.course.specs.Called.{Calling}
+use Rattle.course.specs.declared.host.Callback.{Callback}
+use Rattle.gate_config.specs.declared.config.Config.{Config}
+use Rattle.gate_io.specs.declared.passed.Passed.{Passed}
+use Rattle.store_model.specs.Made.{Made}
+use Rattle.worker.specs.Making.{new_worker}
+use Rattle.worker.specs.State.{Standing}
+use Rattle.worker.specs.Steps.{line_in}
+use Rattle.worker.specs.Turn.{outcome}
+use Rattle.worker.specs.Turned.{Whole}
+use Rattle.worker.specs.declared.types.Line.{Line}
+use Rattle.reading_laws.specs.Laws.{HasRead}
+use Rattle.reading_laws.specs.Turns.{OneTurn, AreWhole}
+
+module _ {H S : Type 0} (calling : Calling H) (performs : S → List Made → S → Type 0) where
+  -- one of them, as a turn: its event, what its course met, and what it came to
+  abbrev pub turn_of : (stop : Bool) (s t : S) (old new : Option (List Passed)) (from to : Standing H) → Whole calling performs stop s old from to t new → OneTurn H
+  turn_of stop s t old new from to w = record { event = w.event; met = w.goes.met; end = outcome to.state w.sent }
+
+  -- one behind the other, each of which keeps its setting: from this standing on these turns lead to that
+  pub data Worked : Standing H → List (OneTurn H) → Standing H → Type 0 where
+    no_turn : (from : Standing H) → Worked from [] from
+    a_turn : (stop : Bool) (s t : S) (old new : Option (List Passed)) (from mid to : Standing H) (turns : List (OneTurn H)) → (w : Whole calling performs stop s old from mid t new)
+        → mid.setting ≡ from.setting → Worked mid turns to → Worked from (turn_of stop s t old new from mid w ∷ turns) to
+
+-- SO IT IS OF A WORKER that was made of a configuration, as `Worker::new` makes it, by the whole turns that its code takes
+abbrev pub WorkersReadWhatCame : (H S : Type 0) → (performs : S → List Made → S → Type 0) → Type 0
+WorkersReadWhatCame H S performs =
+    (calling : Calling H) (exported : H → ℕ → Callback → Bool) (registering : H → ℕ → Bool) (config : Config) (who : ℕ) (seed : List ℕ) (host : H)
+    (turns : List (OneTurn H)) (to : Standing H) (n : ℕ) (l : Line)
+    → Worked calling performs (new_worker exported registering config who seed host) turns to → AreWhole turns
+    → line_in n to.state.room.lines ≡ Some l → HasRead n turns l.requests

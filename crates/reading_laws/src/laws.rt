@@ -1,0 +1,59 @@
+// What is read of lines over turns. The functions have nothing to do: their contracts are the laws.
+ghost use Rattle.reading_laws.specs.Wholly.{WorkersReadWhatCame};
+ghost use Rattle.reading_laws.specs.Cuts.{CutsDoNotMatter};
+ghost use Rattle.reading_laws.specs.Examples.{ReadingExamples};
+ghost use Rattle.reading_laws.specs.Laws.{LinesReadWhatCame, NumbersReadOnce};
+ghost use Rattle.reading_laws.specs.Limits.{LinesKeepLimits, UnreadStaysShort};
+ghost use Rattle.reading_laws.specs.Servers.{ServersReadWhatCame};
+
+use store_model::Shared;
+
+/// Whatever turns a new worker has had, each of which came to rest, and whatever its machines do: each line that is open was opened in one of them and has
+/// been open since, and the reader of its client came from a new one by text that, joined, is exactly what the events since then spell on its client's
+/// side, with its end where the events say so, by parts that were handed on, and by halts where none was there. So no byte is lost, doubled, put in
+/// another's place or read on another line, however it was cut, and whether or not an exchange was open when it came. (What the parts were handed on to
+/// is not said here.)
+pub fn lines_read_what_came<H>()
+    ensures { LinesReadWhatCame H }
+{}
+
+/// So it is of a worker that was made of a configuration, as `Worker::new` makes it, by the whole turns that its code takes, over shared stores.
+pub fn workers_read_what_came<H, S: Shared>()
+    ensures { WorkersReadWhatCame H S S.performs }
+{}
+
+/// Where a number is opened once, as a world with rising numbers opens it, that is all that the events behind it spell.
+pub fn numbers_read_once<H>()
+    ensures { NumbersReadOnce H }
+{}
+
+/// Where such a reader has no further part, what was handed on is what the joined text spells by the grammar of messages; and of two lines, of whatever
+/// workers, whose events spell the same text with the same end, the same was handed on, and both stop for the same reason.
+pub fn cuts_do_not_matter()
+    ensures { CutsDoNotMatter }
+{}
+
+/// The same of the server of an exchange that is open: the reader of its response came from a new one by text that, joined, is exactly what a run of the
+/// events spells on the line's server's side, up to the last event while the exchange was not answered. (That the run begins where the connection was
+/// opened is not said.)
+pub fn servers_read_what_came<H>()
+    ensures { ServersReadWhatCame H }
+{}
+
+/// Whatever turns a new worker has had, each of which came to rest, and whatever its world gave: the numbers of its lines rise, so each is the one that is
+/// found by its number, and there are 128 at most.
+pub fn lines_keep_limits<H>()
+    ensures { LinesKeepLimits H }
+{}
+
+/// Where its world gave only what it was asked for, in pieces of at most 16,384 bytes, no more than 81,919 bytes are unread of any side of any line behind
+/// each turn.
+pub fn unread_stays_short<H>()
+    ensures { UnreadStaysShort H }
+{}
+
+/// Two requests that come at once, or cut at any place of the second: their texts, joined, are read of the line, and two workers hand on the same. Of two
+/// lines whose bytes come in turns each has its own. And what the definitions refuse.
+pub fn worked_readings<H, G>()
+    ensures { ReadingExamples H G }
+{}
