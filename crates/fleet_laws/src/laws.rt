@@ -1,0 +1,22 @@
+// Functions without a body, whose clauses hold of each fleet.
+ghost use Rattle.fleet_laws.specs.Calls.{CallsExamples, EachCallStandsOnce};
+
+use course::Host;
+use fleet::{each_vm_has_one_history, seats_go_on_by_lives};
+use gate_io::World;
+use shared_seats::each_call_and_definition_stands_once;
+
+/// However the workers of a fleet ended: each VM of the configuration came to one store with one legal history, in which stand the calls that each worker's
+/// turns made on it, each once and in the worker's order, and nobody else's; and to one set of metrics, of whose one history of definitions the same holds.
+pub fn each_call_of_a_fleet_stands_once<H: Host, W: World>()
+    ensures { EachCallStandsOnce W.trace W.nature W.faults H.calling }
+{
+    seats_go_on_by_lives::<H>();
+    each_vm_has_one_history::<H, W>();
+    each_call_and_definition_stands_once();
+}
+
+/// Whose calls are whose.
+pub fn worked_calls<H: Host, W: World>()
+    ensures { CallsExamples W.trace W.nature W.faults H.calling }
+{}
