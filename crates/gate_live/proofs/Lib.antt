@@ -1,2 +1,5 @@
 pub mod Passing
+pub mod Due
+pub mod Hearing
 pub mod Homes
+pub mod Worlds

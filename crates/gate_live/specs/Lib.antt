@@ -4,6 +4,9 @@ pub mod Homes
 pub mod Lines
 pub mod LogLine
 pub mod Numbers
+pub mod Origins
+pub mod Passing
 pub mod Sites
+pub mod Spent
 pub mod Told
 pub mod Waiting

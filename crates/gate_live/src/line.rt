@@ -1,14 +1,13 @@
 // A line, with its connections.
-ghost use Rattle.std.specs.Prelude.{◌≡◌, ◌≤◌, ◌↔◌, Bool, length, IsTrue, IfOk, IfSome, Contains};
+ghost use Rattle.std.specs.Prelude.{◌≡◌, ◌≤◌, ◌↔◌, [], Bool, length, IsTrue, IfOk, IfSome, Contains};
 ghost use Rattle.gate_io.specs.Events.{wanted};
 ghost use Rattle.gate_io.specs.Told.{Gains};
 ghost use Rattle.gate_live.specs.Allowed.{IsAllowed, HoldsBack};
 ghost use Rattle.gate_live.specs.Told.{IsOf, IsReadOf, IsHeardFrom, LiesIn, bytes_told};
 ghost use Rattle.gate_io.specs.declared.event.Side.TheVariants as sides;
-ghost use Rattle.gate_live.specs.Waiting.{is_full};
+ghost use Rattle.gate_live.specs.Waiting.{GoesOn, is_full};
 
 use crate::duplex::{Duplex, Heard};
-use crate::peer::Peer;
 use crate::room::Room;
 use crate::upstream::Upstream;
 use gate_base::{LineNo, Octets, OutOfMemory};
@@ -17,10 +16,10 @@ use std::alloc::Global;
 
 /// A line: the client's connection, and that to the upstream server.
 #[derive(Drop)]
-pub struct Line {
+pub struct Line<P> {
     pub number: LineNo,
-    pub down: Option<Peer>,
-    pub up: Option<Upstream<Peer>>,
+    pub down: Option<P>,
+    pub up: Option<Upstream<P>>,
     /// The upstream connection could not be begun.
     pub refused: bool,
 }
@@ -49,6 +48,7 @@ fn told<P: Duplex>(
     ensures of { IfOk result (λ told. IfSome told (IsReadOf line side)) }
     ensures read { IfOk result (λ told. IfSome told (LiesIn room.new.bytes.items)) }
     ensures gave { IfOk result (λ told. Gains (P.gave peer.old) (bytes_told told) (P.gave peer.new)) }
+    ensures kept { P.took peer.new ≡ P.took peer.old }
 {
     match peer.read(room) {
         Heard::Bytes(n) => {
@@ -62,11 +62,11 @@ fn told<P: Duplex>(
 }
 
 /// What is heard from the client of a line. Nothing is read from it while so much waits for the server.
-fn heard_down(
+fn heard_down<P: Duplex>(
     alloc: Global,
     wants: &Wants,
     line: LineNo,
-    peer: &mut Peer,
+    peer: &mut P,
     is_full: bool,
     room: &mut Room,
 ) -> Result<Option<What>, OutOfMemory>
@@ -75,6 +75,8 @@ fn heard_down(
     ensures side { IfOk result (λ told. IfSome told (IsHeardFrom line sides.Down)) }
     ensures read { IfOk result (λ told. IfSome told (LiesIn room.new.bytes.items)) }
     ensures held { IfOk result (λ told. IfSome told (HoldsBack is_full)) }
+    ensures gave { IfOk result (λ told. Gains (P.gave peer.old) (bytes_told told) (P.gave peer.new)) }
+    ensures kept { P.took peer.new ≡ P.took peer.old }
 {
     let side = Side::Down;
     if peer.is_broken() {
@@ -90,11 +92,11 @@ fn heard_down(
 }
 
 /// What is heard from the upstream server of a line. A broken connection is read to its end first, where that is wanted.
-fn heard_up(
+fn heard_up<P: Duplex>(
     alloc: Global,
     wants: &Wants,
     line: LineNo,
-    peer: &mut Peer,
+    peer: &mut P,
     room: &mut Room,
 ) -> Result<Option<What>, OutOfMemory>
     ensures allowed { IfOk result (λ told. IfSome told (IsAllowed wants.now)) }
@@ -102,6 +104,8 @@ fn heard_up(
     ensures side { IfOk result (λ told. IfSome told (IsHeardFrom line sides.Up)) }
     ensures read { IfOk result (λ told. IfSome told (LiesIn room.new.bytes.items)) }
     ensures free { (full : Bool) → IfOk result (λ told. IfSome told (HoldsBack full)) }
+    ensures gave { IfOk result (λ told. Gains (P.gave peer.old) (bytes_told told) (P.gave peer.new)) }
+    ensures kept { P.took peer.new ≡ P.took peer.old }
 {
     let side = Side::Up;
     if peer.is_refused() {
@@ -116,13 +120,40 @@ fn heard_up(
     Ok(None)
 }
 
+/// What is heard from the upstream server of a line, behind a write of what waits for it.
+fn heard_behind<P: Duplex>(
+    alloc: Global,
+    wants: &Wants,
+    line: LineNo,
+    up: &mut Upstream<P>,
+    room: &mut Room,
+) -> Result<Option<What>, OutOfMemory>
+    ensures allowed { IfOk result (λ told. IfSome told (IsAllowed wants.now)) }
+    ensures of { IfOk result (λ told. IfSome told (IsOf line)) }
+    ensures side { IfOk result (λ told. IfSome told (IsHeardFrom line sides.Up)) }
+    ensures read { IfOk result (λ told. IfSome told (LiesIn room.new.bytes.items)) }
+    ensures free { (full : Bool) → IfOk result (λ told. IfSome told (HoldsBack full)) }
+    ensures gave { IfOk result (λ told. Gains (P.gave up.old.peer) (bytes_told told) (P.gave up.new.peer)) }
+    ensures goes_on { GoesOn (P.took up.old.peer) up.old.waiting [] (P.took up.new.peer) up.new.waiting }
+{
+    up.flush();
+    heard_up(alloc, wants, line, &mut up.peer, room)
+}
+
 /// Whether a connection is to be let go behind this event.
-fn ends(told: &Option<What>) -> bool {
+fn ends(told: &Option<What>) -> bool
+    ensures { IsTrue result → bytes_told told.now ≡ [] }
+{
     matches!(told, Some(What::Gone { .. } | What::Refused { .. }))
 }
 
-impl Line {
+impl<P: Duplex> Line<P> {
+    ghost use Rattle.std.specs.Prelude.{◌⊎◌, OnErr};
+    ghost use Rattle.gate_live.specs.Lines.{is_over};
+    ghost use Rattle.gate_live.specs.Passing.{HeardOn, SentOn};
+
     /// What is heard on the line. Nothing is read from the client while 65,536 bytes wait for the server.
+    #[tactic(auto, using(crate::proofs::Hearing::heard_more, crate::proofs::Hearing::heard_same))]
     pub fn heard(
         &mut self,
         alloc: Global,
@@ -133,6 +164,9 @@ impl Line {
         ensures of { IfOk result (λ told. IfSome told (IsOf self.old.number)) }
         ensures read { IfOk result (λ told. IfSome told (LiesIn room.new.bytes.items)) }
         ensures held { IfOk result (λ told. IfSome told (HoldsBack (is_full self.old.up))) }
+        ensures side { IfOk result (λ told. IfSome told (λ what. IsHeardFrom self.old.number sides.Down what ⊎ IsHeardFrom self.old.number sides.Up what)) }
+        ensures heard { IfOk result (λ told. HeardOn P.gave P.took self.old told self.new) }
+        ensures number { self.new.number ≡ self.old.number }
     {
         if self.refused {
             self.refused = false;
@@ -157,6 +191,7 @@ impl Line {
         ensures read { IfOk result (λ told. IfSome told (LiesIn room.new.bytes.items)) }
         ensures held { IfOk result (λ told. IfSome told (HoldsBack (is_full self.old.up))) }
         ensures number { self.new.number ≡ self.old.number }
+        ensures heard { IfOk result (λ told. HeardOn P.gave P.took self.old told self.new) }
     {
         let is_full = self.is_full();
         let Some(peer) = &mut self.down else {
@@ -181,12 +216,13 @@ impl Line {
         ensures side { IfOk result (λ told. IfSome told (IsHeardFrom self.old.number sides.Up)) }
         ensures read { IfOk result (λ told. IfSome told (LiesIn room.new.bytes.items)) }
         ensures free { (full : Bool) → IfOk result (λ told. IfSome told (HoldsBack full)) }
+        ensures number { self.new.number ≡ self.old.number }
+        ensures heard { IfOk result (λ told. HeardOn P.gave P.took self.old told self.new) }
     {
         let Some(up) = &mut self.up else {
             return Ok(None);
         };
-        up.flush();
-        let told = heard_up(alloc, wants, self.number, &mut up.peer, room)?;
+        let told = heard_behind(alloc, wants, self.number, up, room)?;
         if ends(&told) {
             self.up = None;
         }
@@ -205,7 +241,8 @@ impl Line {
 
     /// Offers bytes to the client. Those for one that is not there are dropped.
     pub fn send_down(&mut self, bytes: &[u8]) -> usize
-        ensures { result ≤ length bytes.now }
+        ensures bound { result ≤ length bytes.now }
+        ensures sent { SentOn P.gave P.took self.old sides.Down bytes.now result self.new }
     {
         match &mut self.down {
             Some(peer) => peer.write(bytes),
@@ -215,7 +252,9 @@ impl Line {
 
     /// Sends bytes to the server, which takes them whole. Those for one that is not there are dropped.
     pub fn send_up(&mut self, alloc: Global, bytes: &[u8]) -> Result<usize, OutOfMemory>
-        ensures { IfOk result (λ n. n ≡ length bytes.now) }
+        ensures whole { IfOk result (λ n. n ≡ length bytes.now) }
+        ensures sent { IfOk result (λ n. SentOn P.gave P.took self.old sides.Up bytes.now n self.new) }
+        ensures number { self.new.number ≡ self.old.number }
     {
         match &mut self.up {
             Some(up) => up.send(alloc, bytes),
@@ -224,7 +263,9 @@ impl Line {
     }
 
     /// Whether no connection is left, and nothing is to be told of one.
-    pub fn is_over(&self) -> bool {
+    pub fn is_over(&self) -> bool
+        ensures { result ≡ is_over self.now }
+    {
         self.down.is_none() && self.up.is_none() && !self.refused
     }
 }

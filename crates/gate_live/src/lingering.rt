@@ -1,6 +1,5 @@
 // Connections that the worker has closed, and that are not over.
 use crate::duplex::{Duplex, Heard};
-use crate::peer::Peer;
 use crate::room::Room;
 use crate::upstream::flush;
 use crate::waiting::Waiting;
@@ -18,15 +17,15 @@ pub const MOST_LEFT: usize = 1_048_576;
 /// A connection that the worker has closed. What waits for it is sent on, and then its end. What it still sends is dropped, so
 /// that the peer reads what it was sent.
 #[derive(Drop)]
-pub struct Lingering {
+pub struct Lingering<P> {
     pub token: Token,
-    pub peer: Peer,
+    pub peer: P,
     pub waiting: Waiting,
     /// The moment at which it is dropped.
     pub until: u64,
 }
 
-impl Lingering {
+impl<P: Duplex> Lingering<P> {
     /// Writes what waits as far as there is room, and the end behind it.
     fn flush(&mut self) {
         if self.waiting.is_empty() {

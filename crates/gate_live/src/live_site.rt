@@ -1,6 +1,8 @@
 // The outside over sockets.
-ghost use Rattle.std.specs.Prelude.{◌≡◌, ◌≤◌, length, IfOk};
-ghost use Rattle.gate_live.specs.Sites.{AreUntouched, IsUntouched};
+ghost use Rattle.std.specs.Prelude.{◌≡◌, ◌≤◌, length, unwrap_or, IfOk};
+ghost use Rattle.std.specs.Net.Grammar.{IsSocketText};
+ghost use Rattle.gate_live.specs.Origins.{Accepts};
+ghost use Rattle.gate_live.specs.Sites.{AreNew, AreUntouched, FirstAccepts, IsUntouched};
 
 use crate::LiveWorld;
 use crate::origin::{Acceptor, Neighbor, Origin, join_queue};
@@ -46,8 +48,13 @@ impl<R> LiveSite<R> {
 }
 
 /// The address that a text spells.
-fn address_of(text: &str) -> Result<SocketAddr, SiteEnd> {
-    text.parse::<SocketAddr>().map_err(|_| SiteEnd::Failed)
+fn address_of(text: &str) -> Result<SocketAddr, SiteEnd>
+    ensures { IfOk result (IsSocketText text.now) }
+{
+    match text.parse::<SocketAddr>() {
+        Ok(address) => Ok(address),
+        Err(_) => Err(SiteEnd::Failed),
+    }
 }
 
 /// The seed of a world, from the system's random bytes.
@@ -67,7 +74,8 @@ fn world_of<R: RandomSource + Clone + Drop>(
     origin: Origin,
     upstream: SocketAddr,
 ) -> Result<LiveWorld<R>, SiteEnd>
-    ensures { IfOk result (λ w. IsUntouched w) }
+    ensures untouched { IfOk result (λ w. IsUntouched upstream w) }
+    ensures origin { IfOk result (λ w. w.sockets.origin ≡ origin) }
 {
     let seed = seed_of(rt)?;
     let sockets = Sockets::new(alloc, poll, origin, upstream)?;
@@ -99,7 +107,7 @@ fn other_world<R: Net + RandomSource + Clone + Drop>(
     upstream: SocketAddr,
     ended: &Arc<AtomicU64>,
 ) -> Result<(Neighbor, LiveWorld<R>), SiteEnd>
-    ensures { IfOk result (λ w. IsUntouched w.1) }
+    ensures { IfOk result (λ w. IsUntouched upstream w.1) }
 {
     let (poll, waker) = waking_poll(rt)?;
     let (neighbor, mailbox) = join_queue(alloc, waker, Arc::try_clone(ended)?)?;
@@ -116,7 +124,7 @@ fn other_worlds<R: Net + RandomSource + Clone + Drop>(
     ended: &Arc<AtomicU64>,
     others: &mut Vec<Neighbor>,
 ) -> Result<Vec<LiveWorld<R>>, SiteEnd>
-    ensures untouched { IfOk result (λ worlds. AreUntouched worlds.items) }
+    ensures untouched { IfOk result (λ worlds. AreUntouched upstream worlds.items) }
     ensures count { IfOk result (λ worlds. length worlds.items ≡ count) }
 {
     let mut worlds = Vec::new(alloc);
@@ -137,7 +145,8 @@ fn first_world<R: Net + RandomSource + Clone + Drop>(
     others: Vec<Neighbor>,
     ended: Arc<AtomicU64>,
 ) -> Result<LiveWorld<R>, SiteEnd>
-    ensures { IfOk result (λ w. IsUntouched w) }
+    ensures untouched { IfOk result (λ w. IsUntouched upstream w) }
+    ensures accepts { IfOk result (λ w. Accepts (unwrap_or settings.now.stop_after 4294967295) w.sockets.origin) }
 {
     let listen = address_of(settings.listen.as_str())?;
     let (poll, listener) = listening_poll(rt, listen)?;
@@ -152,8 +161,9 @@ fn worlds_of<R: Net + RandomSource + Clone + Drop>(
     rt: &R,
     settings: &Settings,
 ) -> Result<Vec<LiveWorld<R>>, SiteEnd>
-    ensures untouched { IfOk result (λ worlds. AreUntouched worlds.items) }
+    ensures untouched { IfOk result (λ worlds. AreNew settings.now.upstream worlds.items) }
     ensures count { IfOk result (λ worlds. length worlds.items ≡ settings.now.workers) }
+    ensures accepts { IfOk result (λ worlds. FirstAccepts (unwrap_or settings.now.stop_after 4294967295) worlds.items) }
 {
     if settings.workers == 0 {
         return Err(SiteEnd::Failed);
@@ -171,10 +181,10 @@ fn worlds_of<R: Net + RandomSource + Clone + Drop>(
 impl<R: Net + Clock + Wait + RandomSource + Eprint + Clone + Send + Drop> Site for LiveSite<R> {
     type W = LiveWorld<R>;
 
-    ghost use Rattle.std.specs.Prelude.{◌≡◌, ◌≤◌, None, length, All, IfOk, OnErr};
+    ghost use Rattle.std.specs.Prelude.{◌≡◌, ◌≤◌, None, length, unwrap_or, All, IfOk, OnErr};
     ghost use Rattle.gate_io.specs.Sites.{IsFresh};
     ghost use Rattle.gate_io.specs.Told.{Rose};
-    ghost use Rattle.gate_live.specs.Sites.{AreUntouched};
+    ghost use Rattle.gate_live.specs.Sites.{AreNew, FirstAccepts};
 
     ghost started = { λ _. None };
 
@@ -188,7 +198,8 @@ impl<R: Net + Clock + Wait + RandomSource + Eprint + Clone + Send + Drop> Site f
 
     fn start(&mut self, alloc: Global, settings: &Settings) -> Result<Vec<LiveWorld<R>>, SiteEnd>
         ensures count { IfOk result (λ worlds. length worlds.items ≡ settings.now.workers) }
-        ensures untouched { IfOk result (λ worlds. AreUntouched worlds.items) }
+        ensures untouched { IfOk result (λ worlds. AreNew settings.now.upstream worlds.items) }
+        ensures accepts { IfOk result (λ worlds. FirstAccepts (unwrap_or settings.now.stop_after 4294967295) worlds.items) }
         ensures fresh { IfOk result (λ worlds. All (λ w. IsFresh None (record { now = w.now; stopped = w.stopped }) w.faults) worlds.items) }
         ensures out { IfOk result (λ worlds. self.new.out ≡ length worlds.items) }
         ensures none_out { OnErr result (self.new.out ≡ self.old.out) }

@@ -3,6 +3,7 @@ ghost use Rattle.std.specs.Prelude.{◌≡◌, IfOk, OnErr};
 ghost use Rattle.gate_io.specs.Events.{Follows, Obeys, is_stop};
 
 use crate::log_line::log_line;
+use crate::peer::Peer;
 use crate::sockets::{Sockets, moment};
 use gate_base::{Level, LineNo, OutOfMemory};
 use gate_io::{Event, Side, Wants, What, World, WorldEnd};
@@ -17,19 +18,20 @@ use std::time::Clock;
 pub struct LiveWorld<R> {
     rt: R,
     seed: [u8; 32],
-    sockets: Sockets,
+    sockets: Sockets<Peer>,
     now: u64,
     stopped: bool,
     faults: u64,
 }
 
 impl<R> LiveWorld<R> {
-    ghost use Rattle.std.specs.Prelude.{◌≡◌};
+    ghost use Rattle.std.specs.Prelude.{◌≡◌, []};
     ghost use Rattle.gate_live.specs.Sites.{IsUntouched};
 
     /// A world in which nothing has happened, over these sockets.
-    pub(crate) fn new(rt: R, seed: [u8; 32], sockets: Sockets) -> Self
-        ensures untouched { IsUntouched result }
+    pub(crate) fn new(rt: R, seed: [u8; 32], sockets: Sockets<Peer>) -> Self
+        ensures untouched { sockets.lines.items ≡ [] → IsUntouched sockets.upstream result }
+        ensures sockets { result.sockets ≡ sockets }
         ensures seed { result.seed ≡ seed }
     {
         LiveWorld {
@@ -105,6 +107,9 @@ impl<R: Net + Clock + Wait + Eprint> World for LiveWorld<R> {
 }
 
 impl<R: Net + Clock + Wait> LiveWorld<R> {
+    ghost use Rattle.std.specs.Prelude.{false};
+    ghost use Rattle.gate_live.specs.Spent.{IsDue};
+
     /// The next event, at the clock's moment, or that of the last one where the clock went back.
     fn following(&mut self, alloc: Global, wants: &Wants) -> Result<Event, WorldEnd>
         ensures event { IfOk result (Follows (record { now = self.old.now; stopped = self.old.stopped })) }
@@ -113,6 +118,7 @@ impl<R: Net + Clock + Wait> LiveWorld<R> {
         ensures obeys { IfOk result (λ event. Obeys wants.now event.what) }
         ensures seed { self.new.seed ≡ self.old.seed }
         ensures faults { self.new.faults ≡ self.old.faults }
+        ensures due { self.old.stopped ≡ false → IfOk result (λ event. IsDue event.what wants.now.due event.now self.new.sockets) }
     {
         if self.stopped {
             return Ok(Event {
@@ -121,7 +127,8 @@ impl<R: Net + Clock + Wait> LiveWorld<R> {
             });
         }
         let what = self.sockets.wait(alloc, &self.rt, wants)?;
-        let now = moment(&self.rt)?.max(self.now);
+        let seen = self.now.max(self.sockets.seen());
+        let now = moment(&self.rt)?.max(seen);
         self.now = now;
         self.stopped = is_stop(&what);
         Ok(Event { now, what })

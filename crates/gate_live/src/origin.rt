@@ -229,6 +229,8 @@ impl Acceptor {
 }
 
 impl Origin {
+    ghost use Rattle.gate_live.specs.Origins.{is_done};
+
     /// The next line.
     pub fn next<R: Wait>(&mut self, rt: &R) -> Option<Guest> {
         match self {
@@ -261,7 +263,9 @@ impl Origin {
     }
 
     /// Whether no line comes any more.
-    pub fn is_done(&self) -> bool {
+    pub fn is_done(&self) -> bool
+        ensures { result ≡ is_done self.now }
+    {
         match self {
             Origin::Listener(acceptor) => acceptor.is_done(),
             Origin::Mailbox(mailbox) => mailbox.empty,

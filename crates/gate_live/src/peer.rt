@@ -35,8 +35,36 @@ pub struct Peer {
 }
 
 impl Peer {
-    /// Registers the connection. One that is `joining` was begun and is not known to stand.
-    pub fn new(
+    /// The peer's end was read.
+    fn end(&mut self) -> Heard
+        ensures { IsHeard result }
+    {
+        self.ended = true;
+        if self.broken { Heard::Lost } else { Heard::End }
+    }
+
+    /// Nothing is there to read.
+    fn blocked(&mut self) -> Heard
+        ensures { IsHeard result }
+    {
+        self.readable = false;
+        if self.broken {
+            Heard::Lost
+        } else {
+            Heard::Nothing
+        }
+    }
+}
+
+// A socket tells nothing of what it gives and takes. What is written to a broken connection is dropped.
+impl Duplex for Peer {
+    ghost use Rattle.std.specs.Prelude.{None};
+
+    ghost gave = { λ _. None };
+
+    ghost took = { λ _. None };
+
+    fn over(
         stream: TcpStream,
         registry: &Registry,
         token: Token,
@@ -57,8 +85,7 @@ impl Peer {
         })
     }
 
-    /// Keeps what the system told.
-    pub fn note(&mut self, told: &Readiness) {
+    fn note(&mut self, told: &Readiness) {
         if told.is_readable() {
             self.readable = true;
         }
@@ -77,28 +104,23 @@ impl Peer {
         }
     }
 
-    /// Whether a call on it failed.
-    pub fn is_broken(&self) -> bool {
+    fn is_broken(&self) -> bool {
         self.broken
     }
 
-    /// Whether it was refused before it stood.
-    pub fn is_refused(&self) -> bool {
+    fn is_refused(&self) -> bool {
         self.joining && self.broken
     }
 
-    /// Whether something may be there to read.
-    pub fn is_readable(&self) -> bool {
+    fn is_readable(&self) -> bool {
         self.readable && !self.ended
     }
 
-    /// Whether the peer's end was read.
-    pub fn is_ended(&self) -> bool {
+    fn is_ended(&self) -> bool {
         self.ended
     }
 
-    /// Whether there is room again behind a write that took less than its piece. It is told once.
-    pub fn has_room_again(&mut self) -> bool {
+    fn has_room_again(&mut self) -> bool {
         let again = self.short && self.writable && !self.joining;
         if again {
             self.short = false;
@@ -106,45 +128,14 @@ impl Peer {
         again
     }
 
-    /// The peer's end was read.
-    fn end(&mut self) -> Heard
-        ensures { IsHeard result }
-    {
-        self.ended = true;
-        if self.broken { Heard::Lost } else { Heard::End }
-    }
-
-    /// Nothing is there to read.
-    fn blocked(&mut self) -> Heard
-        ensures { IsHeard result }
-    {
-        self.readable = false;
-        if self.broken {
-            Heard::Lost
-        } else {
-            Heard::Nothing
-        }
-    }
-
-    /// Registers it under another token. False says that the system refused.
-    pub fn move_to(&mut self, registry: &Registry, token: Token) -> bool {
+    fn move_to(&mut self, registry: &Registry, token: Token) -> bool {
         let both = Interest::READABLE | Interest::WRITABLE;
         registry.reregister(&mut self.stream, token, both).is_ok()
     }
 
-    /// Tells the peer that nothing more comes.
-    pub fn finish(&self) {
+    fn finish(&self) {
         let _ = self.stream.shutdown(Shutdown::Write);
     }
-}
-
-// A socket tells nothing of what it gives and takes. What is written to a broken connection is dropped.
-impl Duplex for Peer {
-    ghost use Rattle.std.specs.Prelude.{None};
-
-    ghost gave = { λ _. None };
-
-    ghost took = { λ _. None };
 
     fn read(&mut self, room: &mut Room) -> Heard {
         match self.stream.read(room.bytes.as_mut_slice()) {

@@ -1,14 +1,14 @@
 // The sockets of one worker.
-ghost use Rattle.std.specs.Prelude.{◌≡◌, ◌==◌, ◌<◌, ◌≤◌, length, vec_len, IfOk, IfSome};
+ghost use Rattle.std.specs.Prelude.{◌≡◌, ◌==◌, ◌<◌, ◌≤◌, length, vec_len, HoldsAt, remove, IfOk, IfSome};
 ghost use Rattle.std.specs.List.{position};
 ghost use Rattle.gate_live.specs.Allowed.{IsAllowed};
-ghost use Rattle.gate_live.specs.Lines.{IsHeardOf};
+ghost use Rattle.gate_live.specs.Lines.{IsHeardAt, HeardIn, HeardNext, Forgets, SentTo, SentIn, ClosedIn, ClosedUp, next_place};
 ghost use Rattle.gate_live.specs.Told.{LiesIn};
 
+use crate::duplex::Duplex;
 use crate::line::Line;
 use crate::lingering::{LINGER, Lingering, MOST_LEFT, MOST_LINGERING};
 use crate::origin::{Guest, Origin};
-use crate::peer::Peer;
 use crate::room::Room;
 use crate::upstream::Upstream;
 use crate::waiting::Waiting;
@@ -33,13 +33,13 @@ const TURNS: u32 = 64;
 
 /// The sockets of one worker.
 #[derive(Drop)]
-pub struct Sockets {
+pub struct Sockets<P> {
     poll: Poll,
     events: Events,
     origin: Origin,
     upstream: SocketAddr,
-    lines: Vec<Line>,
-    lingering: Vec<Lingering>,
+    lines: Vec<Line<P>>,
+    lingering: Vec<Lingering<P>>,
     room: Room,
     /// The place of the line that is heard next.
     next: usize,
@@ -47,6 +47,8 @@ pub struct Sockets {
     turns: u32,
     /// How many connections to servers lingered so far, modulo 2^32.
     closed: u32,
+    /// The last moment at which the moment that was asked for was looked at.
+    seen: u64,
 }
 
 /// The token of a side of a line.
@@ -76,21 +78,49 @@ pub fn moment<R: Clock>(rt: &R) -> Result<u64, WorldEnd> {
 }
 
 /// The place of the line of this number.
-fn place_of(lines: &[Line], number: LineNo) -> Option<usize>
+fn place_of<P>(lines: &[Line<P>], number: LineNo) -> Option<usize>
     ensures place { result ≡ position (λ line. line.number == number) lines.now }
     ensures within { IfSome result (λ i. i < length lines.now) }
+    ensures found { IfSome result (HoldsAt (λ line. line.number ≡ number) lines.now) }
 {
     lines.iter().position(|line| line.number == number)
 }
 
-impl Sockets {
+/// Offers bytes to a side of the line at a place.
+fn send_at<P: Duplex>(
+    lines: &mut [Line<P>],
+    alloc: Global,
+    at: usize,
+    side: Side,
+    bytes: &[u8],
+) -> Result<usize, OutOfMemory>
+    requires { at < length lines.old }
+    ensures bound { IfOk result (λ n. n ≤ length bytes.now) }
+    ensures whole { side ≡ Side.Up → IfOk result (λ n. n ≡ length bytes.now) }
+    ensures sent { IfOk result (λ n. SentTo P.gave P.took lines.old at side bytes.now n lines.new) }
+{
+    let line = &mut lines[at];
+    match side {
+        Side::Down => Ok(line.send_down(bytes)),
+        Side::Up => line.send_up(alloc, bytes),
+    }
+}
+
+impl<P: Duplex> Sockets<P> {
+    ghost use Rattle.std.specs.Prelude.{[], IsTrue, IsSomeAnd};
+    ghost use Rattle.gate_live.specs.Spent.{IsDue, IsOfLine, IsSpent};
+
     /// The sockets over a poll, with lines from an origin that it watches, which send to this upstream server.
     pub fn new(
         alloc: Global,
         poll: Poll,
         origin: Origin,
         upstream: SocketAddr,
-    ) -> Result<Sockets, OutOfMemory> {
+    ) -> Result<Sockets<P>, OutOfMemory>
+        ensures origin { IfOk result (λ sockets. sockets.origin ≡ origin) }
+        ensures upstream { IfOk result (λ sockets. sockets.upstream ≡ upstream) }
+        ensures lines { IfOk result (λ sockets. sockets.lines.items ≡ []) }
+    {
         Ok(Sockets {
             poll,
             events: Events::with_capacity(alloc, 256)?,
@@ -102,10 +132,12 @@ impl Sockets {
             next: 0,
             turns: 0,
             closed: 0,
+            seen: 0,
         })
     }
 
     /// Waits until something happens that the worker wants or has to know.
+    #[tactic(auto, using(crate::proofs::Due::due_of_line))]
     pub fn wait<R: Clock + Wait>(
         &mut self,
         alloc: Global,
@@ -114,6 +146,7 @@ impl Sockets {
     ) -> Result<What, WorldEnd>
         ensures allowed { IfOk result (IsAllowed wants.now) }
         ensures read { IfOk result (LiesIn self.new.room.bytes.items) }
+        ensures due { IfOk result (λ what. IsDue what wants.now.due self.new.seen self.new) }
     {
         if self.turns == 0 {
             self.look(rt, Some(Duration::ZERO))?;
@@ -135,12 +168,16 @@ impl Sockets {
     }
 
     /// Whether nothing more comes.
-    fn is_done(&self) -> bool {
+    fn is_done(&self) -> bool
+        ensures { IsTrue result → IsSpent self.now }
+    {
         self.origin.is_done() && self.lines.is_empty() && self.lingering.is_empty()
     }
 
     /// Waits for the system, at most until this moment. True where it has come.
-    fn look_until<R: Clock>(&mut self, rt: &R, due: Option<u64>) -> Result<bool, WorldEnd> {
+    fn look_until<R: Clock>(&mut self, rt: &R, due: Option<u64>) -> Result<bool, WorldEnd>
+        ensures { IfOk result (λ came. IsTrue came → IsSomeAnd due (λ moment. moment ≤ self.new.seen)) }
+    {
         let until = self.lingering.first().map(|client| client.until);
         let first = match (due, until) {
             (Some(a), Some(b)) => Some(a.min(b)),
@@ -152,6 +189,7 @@ impl Sockets {
             return Ok(false);
         };
         let now = moment(rt)?;
+        self.seen = now;
         self.drop_lingering(now);
         if let Some(due) = due {
             if due <= now {
@@ -163,7 +201,9 @@ impl Sockets {
     }
 
     /// Lets those go that lingered for long enough.
-    fn drop_lingering(&mut self, now: u64) {
+    fn drop_lingering(&mut self, now: u64)
+        ensures { self.new.seen ≡ self.old.seen }
+    {
         self.lingering.retain(|client| now < client.until);
     }
 
@@ -191,6 +231,7 @@ impl Sockets {
     }
 
     /// What is heard next, from one line after the other.
+    #[tactic(auto, using(crate::proofs::Due::line_of_event))]
     fn heard<R: Wait>(
         &mut self,
         alloc: Global,
@@ -199,6 +240,7 @@ impl Sockets {
     ) -> Result<Option<What>, OutOfMemory>
         ensures allowed { IfOk result (λ told. IfSome told (IsAllowed wants.now)) }
         ensures read { IfOk result (λ told. IfSome told (LiesIn self.new.room.bytes.items)) }
+        ensures line { IfOk result (λ told. IfSome told IsOfLine) }
     {
         if let Some(line) = self.arrive(rt) {
             return Ok(Some(What::Opened { line }));
@@ -215,8 +257,9 @@ impl Sockets {
     /// What is heard of the next line.
     fn heard_next(&mut self, alloc: Global, wants: &Wants) -> Result<Option<What>, OutOfMemory>
         ensures allowed { IfOk result (λ told. IfSome told (IsAllowed wants.now)) }
-        ensures of { IfOk result (λ told. IfSome told (IsHeardOf self.old.lines.items)) }
+        ensures of { IfOk result (λ told. IfSome told (IsHeardAt self.old.lines.items (next_place self.old.next (vec_len self.old.lines)))) }
         ensures read { IfOk result (λ told. IfSome told (LiesIn self.new.room.bytes.items)) }
+        ensures heard { IfOk result (λ told. HeardNext P.gave P.took self.old.lines.items self.old.next told self.new.lines.items) }
     {
         if self.next >= self.lines.len() {
             self.next = 0;
@@ -226,6 +269,22 @@ impl Sockets {
             return Ok(None);
         }
         self.next = at + 1;
+        self.heard_at(alloc, wants, at)
+    }
+
+    /// What is heard of the line at a place.
+    fn heard_at(
+        &mut self,
+        alloc: Global,
+        wants: &Wants,
+        at: usize,
+    ) -> Result<Option<What>, OutOfMemory>
+        requires { at < vec_len self.old.lines }
+        ensures allowed { IfOk result (λ told. IfSome told (IsAllowed wants.now)) }
+        ensures of { IfOk result (λ told. IfSome told (IsHeardAt self.old.lines.items at)) }
+        ensures read { IfOk result (λ told. IfSome told (LiesIn self.new.room.bytes.items)) }
+        ensures heard { IfOk result (λ told. HeardIn P.gave P.took self.old.lines.items at told self.new.lines.items) }
+    {
         let told = self.lines[at].heard(alloc, wants, &mut self.room)?;
         self.forget(at);
         Ok(told)
@@ -245,7 +304,7 @@ impl Sockets {
     /// Keeps a line. False says that it was closed.
     fn begin(&mut self, number: LineNo, stream: TcpStream) -> bool {
         let token = token_of(number, Side::Down);
-        let Ok(down) = Peer::new(stream, self.poll.registry(), token, false) else {
+        let Ok(down) = P::over(stream, self.poll.registry(), token, false) else {
             return false;
         };
         let line = Line {
@@ -277,19 +336,18 @@ impl Sockets {
     ) -> Result<usize, OutOfMemory>
         ensures bound { IfOk result (λ n. n ≤ length bytes.now) }
         ensures whole { side ≡ Side.Up → IfOk result (λ n. n ≡ length bytes.now) }
+        ensures sent { IfOk result (λ n. SentIn P.gave P.took self.old.lines.items number side bytes.now n self.new.lines.items) }
     {
         let Some(at) = place_of(&self.lines, number) else {
             return Ok(bytes.len());
         };
-        match side {
-            Side::Down => Ok(self.lines[at].send_down(bytes)),
-            Side::Up => self.lines[at].send_up(alloc, bytes),
-        }
+        send_at(&mut self.lines, alloc, at, side, bytes)
     }
 
     /// Lets a line go of which no connection is left: one whose client is gone is not closed by the worker.
     fn forget(&mut self, at: usize)
-        ensures { self.new.room ≡ self.old.room }
+        ensures room { self.new.room ≡ self.old.room }
+        ensures lines { Forgets self.old.lines.items at self.new.lines.items }
     {
         if at < self.lines.len() && self.lines[at].is_over() {
             let line = self.lines.remove(at);
@@ -300,7 +358,9 @@ impl Sockets {
     }
 
     /// Closes a connection, of which nothing more is told. What waits for it is sent on.
-    pub fn close<R: Clock>(&mut self, alloc: Global, rt: &R, number: LineNo, side: Side) {
+    pub fn close<R: Clock>(&mut self, alloc: Global, rt: &R, number: LineNo, side: Side)
+        ensures { ClosedIn self.old.lines.items number side self.new.lines.items }
+    {
         let Some(at) = place_of(&self.lines, number) else {
             return;
         };
@@ -313,6 +373,7 @@ impl Sockets {
     /// Closes the connection to the client of the line at a place, and forgets the line.
     fn close_down<R: Clock>(&mut self, alloc: Global, rt: &R, at: usize)
         requires { at < vec_len self.old.lines }
+        ensures { self.new.lines.items ≡ remove self.old.lines.items at }
     {
         let Line {
             number,
@@ -333,6 +394,7 @@ impl Sockets {
     /// Closes the connection to the server of the line at a place.
     fn close_up<R: Clock>(&mut self, rt: &R, at: usize)
         requires { at < vec_len self.old.lines }
+        ensures { ClosedUp self.old.lines.items at self.new.lines.items }
     {
         let line = &mut self.lines[at];
         line.refused = false;
@@ -346,7 +408,9 @@ impl Sockets {
     }
 
     /// Sends on what waits for a server whose connection is closed, under a token of its own.
-    fn send_on<R: Clock>(&mut self, rt: &R, peer: Peer, waiting: Waiting) {
+    fn send_on<R: Clock>(&mut self, rt: &R, peer: P, waiting: Waiting)
+        ensures { self.new.lines ≡ self.old.lines }
+    {
         let token = Token(CLOSED + self.closed as usize);
         self.closed = self.closed.wrapping_add(1);
         let mut peer = peer;
@@ -356,7 +420,9 @@ impl Sockets {
     }
 
     /// Lets a connection linger. Where too many do, the first of them is dropped.
-    fn linger<R: Clock>(&mut self, rt: &R, token: Token, peer: Peer, waiting: Waiting) {
+    fn linger<R: Clock>(&mut self, rt: &R, token: Token, peer: P, waiting: Waiting)
+        ensures { self.new.lines ≡ self.old.lines }
+    {
         let Ok(now) = moment(rt) else {
             return;
         };
@@ -374,6 +440,13 @@ impl Sockets {
         }
     }
 
+    /// The last moment at which the moment that was asked for was looked at.
+    pub fn seen(&self) -> u64
+        ensures { result ≡ self.now.seen }
+    {
+        self.seen
+    }
+
     /// No line comes any more, and the other workers are told so.
     pub fn end(&mut self) {
         self.origin.end();
@@ -381,7 +454,7 @@ impl Sockets {
 }
 
 /// Keeps what the system told of a connection.
-fn note(lines: &mut [Line], lingering: &mut [Lingering], event: &Readiness) {
+fn note<P: Duplex>(lines: &mut [Line<P>], lingering: &mut [Lingering<P>], event: &Readiness) {
     let token = event.token();
     let side = side_of(token);
     for line in lines.iter_mut() {
@@ -402,26 +475,26 @@ fn note(lines: &mut [Line], lingering: &mut [Lingering], event: &Readiness) {
 }
 
 /// Keeps what the system told of the connection to a client.
-fn note_down(line: &mut Line, event: &Readiness) {
+fn note_down<P: Duplex>(line: &mut Line<P>, event: &Readiness) {
     if let Some(peer) = &mut line.down {
         peer.note(event);
     }
 }
 
 /// Keeps what the system told of the connection to a server.
-fn note_up(line: &mut Line, event: &Readiness) {
+fn note_up<P: Duplex>(line: &mut Line<P>, event: &Readiness) {
     if let Some(up) = &mut line.up {
         up.note(event);
     }
 }
 
 /// An upstream connection that is begun.
-fn connected<R: Net>(
+fn connected<P: Duplex, R: Net>(
     rt: &R,
     registry: &Registry,
     upstream: SocketAddr,
     number: LineNo,
-) -> Option<Peer> {
+) -> Option<P> {
     let stream = TcpStream::connect(rt, upstream).ok()?;
-    Peer::new(stream, registry, token_of(number, Side::Up), true).ok()
+    P::over(stream, registry, token_of(number, Side::Up), true).ok()
 }

@@ -4,7 +4,6 @@ ghost use Rattle.gate_io.specs.Told.{Gains, GainsFront};
 ghost use Rattle.gate_live.specs.Waiting.{GoesOn};
 
 use crate::duplex::Duplex;
-use crate::peer::Peer;
 use crate::waiting::Waiting;
 use gate_base::OutOfMemory;
 use mio::event::Event as Readiness;
@@ -23,7 +22,8 @@ pub struct Upstream<P> {
 
 /// Writes what waits, as far as there is room.
 pub fn flush<P: Duplex>(peer: &mut P, waiting: &mut Waiting)
-    ensures { GoesOn (P.took peer.old) waiting.old [] (P.took peer.new) waiting.new }
+    ensures goes_on { GoesOn (P.took peer.old) waiting.old [] (P.took peer.new) waiting.new }
+    ensures gave { P.gave peer.new ≡ P.gave peer.old }
 {
     let n = peer.write(waiting.as_slice());
     waiting.take(n);
@@ -33,6 +33,7 @@ pub fn flush<P: Duplex>(peer: &mut P, waiting: &mut Waiting)
 fn offer<P: Duplex>(peer: &mut P, waiting: &Waiting, bytes: &[u8]) -> usize
     ensures bound { result ≤ length bytes.now }
     ensures took { Gains (P.took peer.old) (take result bytes.now) (P.took peer.new) }
+    ensures gave { P.gave peer.new ≡ P.gave peer.old }
     ensures behind { (result ≡ 0) ⊎ (waiting.now ≡ []) }
 {
     if waiting.is_empty() {
@@ -45,7 +46,8 @@ fn offer<P: Duplex>(peer: &mut P, waiting: &Waiting, bytes: &[u8]) -> usize
 impl<P: Duplex> Upstream<P> {
     /// A connection for which nothing waits.
     pub fn new(alloc: Global, peer: P) -> Self
-        ensures { result.waiting ≡ [] }
+        ensures waiting { result.waiting ≡ [] }
+        ensures peer { result.peer ≡ peer }
     {
         Upstream {
             peer,
@@ -58,6 +60,7 @@ impl<P: Duplex> Upstream<P> {
         ensures whole { IfOk result (λ n. n ≡ length bytes.now) }
         ensures ok { OnOk result (GoesOn (P.took self.old.peer) self.old.waiting bytes.now (P.took self.new.peer) self.new.waiting) }
         ensures err { OnErr result (self.new.waiting ≡ self.old.waiting) }
+        ensures gave { P.gave self.new.peer ≡ P.gave self.old.peer }
         ensures lost { OnErr result (GainsFront (P.took self.old.peer) bytes.now (P.took self.new.peer)) }
     {
         let n = offer(&mut self.peer, &self.waiting, bytes);
@@ -67,7 +70,8 @@ impl<P: Duplex> Upstream<P> {
 
     /// Writes what waits, as far as there is room.
     pub fn flush(&mut self)
-        ensures { GoesOn (P.took self.old.peer) self.old.waiting [] (P.took self.new.peer) self.new.waiting }
+        ensures goes_on { GoesOn (P.took self.old.peer) self.old.waiting [] (P.took self.new.peer) self.new.waiting }
+        ensures gave { P.gave self.new.peer ≡ P.gave self.old.peer }
     {
         if !self.waiting.is_empty() {
             flush(&mut self.peer, &mut self.waiting);
@@ -80,11 +84,12 @@ impl<P: Duplex> Upstream<P> {
     {
         self.waiting.len() >= ENOUGH
     }
-}
 
-impl Upstream<Peer> {
     /// Keeps what the system told, and writes what waits where there is room.
-    pub fn note(&mut self, told: &Readiness) {
+    pub fn note(&mut self, told: &Readiness)
+        ensures goes_on { GoesOn (P.took self.old.peer) self.old.waiting [] (P.took self.new.peer) self.new.waiting }
+        ensures gave { P.gave self.new.peer ≡ P.gave self.old.peer }
+    {
         self.peer.note(told);
         self.flush();
     }

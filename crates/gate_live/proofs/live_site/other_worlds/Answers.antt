@@ -9,6 +9,6 @@ pub loop-preserved : goal.loop-preserved
 loop-preserved g c =
     let R : Type 0 = g.row.R.Denot in
     let items = c.in_ok-push-2.ensures.items in (
-      subst (λ (ws : List (LiveWorld R)). All (λ (w : LiveWorld R). IsUntouched w) ws) (sym items) (All-push (λ (w : LiveWorld R). IsUntouched w) c.loop.worlds.items c.in_ok-neighbor.world c.loop.invariant.0 c.in_ok-neighbor.ensures),
+      subst (λ (ws : List (LiveWorld R)). All (λ (w : LiveWorld R). IsUntouched c.args.upstream w) ws) (sym items) (All-push (λ (w : LiveWorld R). IsUntouched c.args.upstream w) c.loop.worlds.items c.in_ok-neighbor.world c.loop.invariant.0 c.in_ok-neighbor.ensures),
       (let len = c.in_ok-push-2.ensures.len in let before = c.loop.invariant.1 in search rules),
     )
