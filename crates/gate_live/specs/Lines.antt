@@ -10,6 +10,10 @@ use Rattle.gate_live.specs.Told.{IsOf}
 use Rattle.gate_live.specs.Waiting.{is_full}
 use Rattle.gate_live.specs.declared.line.Line.{Line}
 
+-- so many lines a worker keeps at most, with those that wait to be closed
+abbrev pub most_lines : ℕ
+most_lines = 256
+
 -- An event of the line at a place, with no bytes of its client while enough waits for its server.
 pub record IsHeardAt {P : Type 0} (lines : List (Line P)) (at : ℕ) (what : What) : Type 0 where
   pub line : Line P

@@ -2,7 +2,7 @@
 ghost use Rattle.std.specs.Prelude.{◌≡◌, ◌==◌, ◌<◌, ◌≤◌, length, vec_len, HoldsAt, remove, IfOk, IfSome};
 ghost use Rattle.std.specs.List.{position};
 ghost use Rattle.gate_live.specs.Allowed.{IsAllowed};
-ghost use Rattle.gate_live.specs.Lines.{IsHeardAt, HeardIn, HeardNext, Forgets, SentTo, SentIn, ClosedIn, ClosedUp, next_place};
+ghost use Rattle.gate_live.specs.Lines.{most_lines, IsHeardAt, HeardIn, HeardNext, Forgets, SentTo, SentIn, ClosedIn, ClosedUp, next_place};
 ghost use Rattle.gate_live.specs.Told.{LiesIn};
 
 use crate::duplex::Duplex;
@@ -30,6 +30,10 @@ const CLOSED: usize = 1_099_511_627_776;
 
 /// So many events are given before the system is asked what else there is.
 const TURNS: u32 = 64;
+
+/// So many lines are kept: twice as many as a worker has open, so that as many more may wait to be closed behind what their clients have not
+/// read. A further one is closed at once, or else a client that opens lines and reads nothing would take descriptors and memory without end.
+const MOST_LINES: usize = 256;
 
 /// The sockets of one worker.
 #[derive(Drop)]
@@ -291,7 +295,9 @@ impl<P: Duplex> Sockets<P> {
     }
 
     /// The number of a line that comes. One that can't be kept is closed.
-    fn arrive<R: Wait>(&mut self, rt: &R) -> Option<LineNo> {
+    fn arrive<R: Wait>(&mut self, rt: &R) -> Option<LineNo>
+        ensures { vec_len self.old.lines ≤ most_lines → vec_len self.new.lines ≤ most_lines }
+    {
         for _ in 0..u32::MAX {
             let Guest { number, stream } = self.origin.next(rt)?;
             if self.begin(number, stream) {
@@ -301,8 +307,13 @@ impl<P: Duplex> Sockets<P> {
         None
     }
 
-    /// Keeps a line. False says that it was closed.
-    fn begin(&mut self, number: LineNo, stream: TcpStream) -> bool {
+    /// Keeps a line. False says that it was closed: enough are kept, or the system or the memory refuses one more.
+    fn begin(&mut self, number: LineNo, stream: TcpStream) -> bool
+        ensures { vec_len self.old.lines ≤ most_lines → vec_len self.new.lines ≤ most_lines }
+    {
+        if self.lines.len() >= MOST_LINES {
+            return false;
+        }
         let token = token_of(number, Side::Down);
         let Ok(down) = P::over(stream, self.poll.registry(), token, false) else {
             return false;
