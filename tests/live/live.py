@@ -20,7 +20,10 @@ ALL = 180  # seconds for everything
 
 HEAD_END = b"\r\n\r\n"
 # A filter that counts requests in a metric.
-METER = os.path.join(os.path.dirname(os.path.abspath(__file__)), "..", "..", "examples", "filters", "meter.wasm")
+HERE = os.path.dirname(os.path.abspath(__file__))
+METER = os.path.join(HERE, "..", "..", "examples", "filters", "meter.wasm")
+# A filter that gives random bytes, writes lines of the log, ticks and dies, as the last byte of a path asks: teller.c.
+TELLER = os.path.join(HERE, "teller.wasm")
 
 
 def closed_port():
@@ -134,6 +137,10 @@ class Upstream:
         first, fields = reader.head()
         path = first.split(" ")[1]
         self.seen[path] = (first, fields)
+        if path == "/silent":
+            # Reads the request, and says nothing until the connection is closed.
+            reader.rest()
+            return
         if path == "/reset":
             reset(s)
             return
@@ -226,13 +233,15 @@ class Gateway:
     def descriptors(self):
         return len(os.listdir("/proc/%d/fd" % self.process.pid))
 
-    def ends(self, wanted=b""):
-        """It stops by itself once all lines have closed, with status 0 and this output."""
+    def ends(self, wanted=b"", told=None):
+        """It stops by itself once all lines have closed, with status 0 and this output, and of what it wrote to standard error this is true."""
         if self.opened != self.lines:
             raise AssertionError("a group opened %d lines and told %d" % (self.opened, self.lines))
         out, err = self.process.communicate(timeout=PATIENCE)
         if self.process.returncode != 0 or out != wanted:
             raise AssertionError("status %d, output %r, errors %r" % (self.process.returncode, out, err[-500:]))
+        if told is not None and not told(err):
+            raise AssertionError("errors %r" % err[-500:])
 
     def kill(self):
         if self.process.poll() is None:
@@ -607,6 +616,120 @@ def metered(gateway, upstream):
             get(s, reader, "/not/metered", b"/not/metered")
 
 
+def deadline(gateway, upstream):
+    """A server that says nothing is answered for at the deadline, though nothing else happens, and the line goes on."""
+    with gateway.connect() as s:
+        reader = Reader(s)
+        begun = time.monotonic()
+        s.sendall(request("/silent"))
+        first, fields = reader.head()
+        took = time.monotonic() - begun
+        expect((status_of(first), reader.body(fields)), ("504", b""))
+        expect(0.3 <= took < 5, True)
+        get(s, reader, "/behind", b"/behind")
+
+
+def short_lines(gateway, upstream):
+    """Six hundred lines, one request each, twenty at once: more than a queue between workers holds, each is answered."""
+    failures = []
+
+    def some(number):
+        try:
+            for n in range(30):
+                with gateway.connect() as s:
+                    get(s, Reader(s), "/s/%d/%d" % (number, n), b"/s/%d/%d" % (number, n))
+        except Exception as e:  # told by the case
+            failures.append(e)
+
+    threads = [threading.Thread(target=some, args=(n,)) for n in range(20)]
+    for t in threads:
+        t.start()
+    for t in threads:
+        t.join(PATIENCE * 3)
+    if failures:
+        raise AssertionError("%d of 20 threads: %r" % (len(failures), failures[0]))
+
+
+# The random bytes that a filter had in each group.
+RANDOM = []
+
+
+def random_bytes(gateway, upstream):
+    """A filter's random bytes are others in each process."""
+    with gateway.connect() as s:
+        reader = Reader(s)
+        s.sendall(request("/told/r"))
+        first, fields = reader.head()
+        expect(status_of(first), "200")
+        RANDOM.append(reader.body(fields))
+        expect(len(RANDOM[-1]), 32)
+        expect(len(set(RANDOM)), len(RANDOM))
+
+
+def logged(gateway, upstream):
+    """What a filter logs, and that it died, is written to standard error; behind its death its requests are answered 503."""
+    with gateway.connect() as s:
+        reader = Reader(s)
+        get(s, reader, "/told/l", b"/told/l")
+        for path in ("/told/d", "/told/l"):
+            s.sendall(request(path))
+            first, fields = reader.head()
+            expect((status_of(first), reader.body(fields)), ("503", b""))
+        get(s, reader, "/beside", b"/beside")
+
+
+LOGGED = b"warn a line with \\x01 and \\xff\ncritical vm teller died: unreachable\n"
+
+
+def quiet(gateway, upstream):
+    """Ticks come though nothing else happens."""
+    with gateway.connect() as s:
+        get(s, Reader(s), "/told/", b"/told/")
+        time.sleep(1)
+
+
+def has_ticked(err):
+    """Three ticks of those ten that a second has at a period of 100 milliseconds, and nothing else."""
+    return err.count(b"info a tick\n") >= 3 and err.replace(b"info a tick\n", b"") == b""
+
+
+def unread(gateway, upstream):
+    """Clients that read nothing of lines which the gateway has closed take no descriptors without end, and give back what they took."""
+    with gateway.connect() as s:
+        get(s, Reader(s), "/base", b"/base")
+    base = gateway.descriptors()
+    # A request that waits for the server, and behind it as many as may be unread that are answered without it, the last of which closes the line.
+    burst = request("/late") + b"OPTIONS * HTTP/1.1\nHost:\n\n" * 2800 + b"OPTIONS * HTTP/1.1\nHost:\nConnection: close\n\n"
+    lines = []
+    for _ in range(4):
+        for _ in range(90):
+            s = socket.socket()
+            s.setsockopt(socket.SOL_SOCKET, socket.SO_RCVBUF, 2048)
+            s.settimeout(PATIENCE)
+            with gateway.guard:
+                gateway.opened += 1
+            s.connect(("127.0.0.1", gateway.port))
+            try:
+                s.sendall(burst)
+            except OSError:
+                pass  # closed at once
+            lines.append(s)
+        time.sleep(1.5)
+    if not base + 200 < gateway.descriptors() < base + 300:
+        raise AssertionError("%d descriptors before, %d with 360 lines" % (base, gateway.descriptors()))
+    with gateway.connect() as s:
+        expect(is_answered(s, "/no/room"), False)
+    for s in lines:
+        reset(s)
+    for _ in range(100):
+        if gateway.descriptors() <= base:
+            break
+        time.sleep(0.05)
+    expect(gateway.descriptors() <= base, True)
+    with gateway.connect() as s:
+        get(s, Reader(s), "/room", b"/room")
+
+
 def nothing(gateway, upstream):
     """A line that is opened and closed."""
     gateway.connect().close()
@@ -635,7 +758,15 @@ WITH_A_METER = (
     '[[route]]\npath = "/metered/{*rest}"\nfilters = ["meter"]\n'
 )
 
-# name, workers, what the configuration has besides, what is printed at the end, cases with how many lines each opens
+WITH_A_TELLER = (
+    '[[vm]]\nname = "teller"\nmodule = "teller.wasm"\n'
+    '[[plugin]]\nname = "teller"\nvm = "teller"\n%s'
+    '[[route]]\npath = "/told/{*rest}"\nfilters = ["teller"]\n[[route]]\npath = "/told/"\nfilters = ["teller"]\n'
+)
+TOLD = b"store teller calls 0 keys 0 items 0\n"
+
+# name, workers, what the configuration has besides, what is printed at the end, cases with how many lines each opens, and where it is looked at
+# what is true of standard error
 GROUPS = [
     (
         "one worker",
@@ -680,11 +811,18 @@ GROUPS = [
         b"store meter calls 0 keys 0 items 0\nmetric meter counter 7265717565737473 6\n",
         [(metered, 3)],
     ),
+    ("a deadline", 1, "deadline_ms = 300", b"", [(deadline, 1)], lambda err: err == b""),
+    ("short lines", 3, "", b"", [(short_lines, 600)]),
+    ("a filter that tells", 1, WITH_A_TELLER % "", TOLD, [(random_bytes, 1), (logged, 1)], lambda err: err == LOGGED),
+    ("its random bytes", 1, WITH_A_TELLER % "", TOLD, [(random_bytes, 1)]),
+    ("ticks", 1, WITH_A_TELLER % 'configuration = "tick"\n', TOLD, [(quiet, 1)], has_ticked),
+    ("lines that are not read", 1, "", b"", [(unread, 363)]),
 ]
 
 
 def run_group(program, folder, upstream, group):
-    name, workers, more, wanted, cases = group
+    name, workers, more, wanted, cases = group[:5]
+    told = group[5] if len(group) > 5 else None
     lines = sum(opens for _, opens in cases)
     port = closed_port() if name == "no server" else upstream.port
     gateway = Gateway(program, folder, port, lines, workers, more)
@@ -699,7 +837,7 @@ def run_group(program, folder, upstream, group):
                 print("FAIL live/%s: %s: %r" % (name, case.__name__, e), flush=True)
         if failed == 0:
             try:
-                gateway.ends(wanted)
+                gateway.ends(wanted, told)
                 passed += 1
             except Exception as e:
                 failed += 1
@@ -718,6 +856,7 @@ def main():
         with open(os.path.join(folder, "marked.wasm"), "wb") as f:
             f.write(MARKED)
         shutil.copy(METER, folder)
+        shutil.copy(TELLER, folder)
         for group in GROUPS:
             p, f = run_group(program, folder, upstream, group)
             passed += p
