@@ -705,6 +705,8 @@ def unread(gateway, upstream):
         for _ in range(90):
             s = socket.socket()
             s.setsockopt(socket.SOL_SOCKET, socket.SO_RCVBUF, 2048)
+            # By small segments the system takes little of what is not read: on loopback it would take millions of bytes.
+            s.setsockopt(socket.IPPROTO_TCP, socket.TCP_MAXSEG, 536)
             s.settimeout(PATIENCE)
             with gateway.guard:
                 gateway.opened += 1
