@@ -1,18 +1,19 @@
 -- One piece after another.
-use Rattle.std.proofs.Common.{◌≡◌, ◌<◌, ◌≤◌, ℕ, zero, suc, ◌+◌, ◌-◌, ◌*◌, true, false, ◌&&◌, List, [], ◌++◌, drop, length, refl, sym, ap, ◌∙◌, arith}
-use Rattle.std.proofs.lemmas.List.{append_assoc, append-nil, length-append, length-take, length-drop}
+use Rattle.std.proofs.Common.{◌≡◌, ◌<◌, ◌≤◌, ℕ, zero, suc, ◌+◌, ◌-◌, ◌*◌, Bool, true, false, ◌&&◌, List, [], ◌++◌, take, drop, length, refl, sym, ap, ◌∙◌, arith}
+use Rattle.std.proofs.lemmas.List.{append_assoc, append-nil, length-append, length-take, length-drop, drop-take, drop-drop, take-take, nil_from_length}
 use Rattle.std.proofs.lemmas.Bool.Decides.{nat_tests}
 use Rattle.wasm_syntax.specs.Memory.{bytes_at}
 use Rattle.abi_types.specs.GuestAt.{is_range}
-use Rattle.abi_services.specs.Files.{word_at, pieces_inside, pieces}
+use Rattle.abi_services.specs.Files.{word_in, word_at, pieces_inside, pieces}
 
 pub record AreJudged (m : List ℕ) (at count total k : ℕ) : Type 0 where
   pub inside : pieces_inside m at count ≡ pieces_inside m (at + 8 * k) (count - k)
   pub size : length (pieces m at count) ≡ total + length (pieces m (at + 8 * k) (count - k))
   pub bound : total ≤ k * 16777216
 
-pub record AreJoined (m : List ℕ) (at count : ℕ) (text : List ℕ) (k : ℕ) : Type 0 where
-  pub joined : pieces m at count ≡ text ++ pieces m (at + 8 * k) (count - k)
+-- k of the pieces were put behind a text
+pub record AreJoined (m : List ℕ) (at count : ℕ) (first text : List ℕ) (k : ℕ) : Type 0 where
+  pub joined : first ++ pieces m at count ≡ text ++ pieces m (at + 8 * k) (count - k)
 
 range_size : (m : List ℕ) (at len : ℕ) → is_range m at len ≡ true → length (bytes_at m at len) ≡ len
 range_size m at zero is = refl
@@ -25,6 +26,55 @@ len_fits m at zero most is = omega arith
 len_fits m at (suc n) most is =
     let within : at + suc n ≤ length m = grind (arith, nat_tests, is) in
     omega arith
+
+-- ---- bytes of bytes
+
+bytes_within : (m : List ℕ) (a w b v : ℕ) → b + v ≤ w → bytes_at (bytes_at m a w) b v ≡ bytes_at m (a + b) v
+bytes_within m a w b v fits =
+    let whole : w ≡ b + (w - b) = omega arith in
+    let room : v ≤ w - b = omega arith in
+    ap (λ n. take v (drop b (take n (drop a m)))) whole ∙ ap (take v) (drop-take b (w - b) (drop a m))
+    ∙ take-take v (w - b) (drop b (drop a m)) room ∙ ap (take v) (drop-drop b a m)
+
+word_within : (m : List ℕ) (a w b : ℕ) → b + 4 ≤ w → word_at (bytes_at m a w) b ≡ word_at m (a + b)
+word_within m a w b fits = ap word_in (bytes_within m a w b 4 fits)
+
+-- the two numbers of an entry, as the memory has them
+pub entry_begins : (m entries : List ℕ) (at count k a : ℕ) → k < count → entries ≡ bytes_at m at (8 * count) → a ≡ word_at entries (8 * k) → a ≡ word_at m (at + 8 * k)
+entry_begins m entries at count k a within are is = is ∙ ap (λ bs. word_at bs (8 * k)) are ∙ word_within m at (8 * count) (8 * k) (omega arith)
+
+pub entry_len : (m entries : List ℕ) (at count k l : ℕ) → k < count → entries ≡ bytes_at m at (8 * count) → l ≡ word_at entries (8 * k + 4) → l ≡ word_at m (at + 8 * k + 4)
+entry_len m entries at count k l within are is =
+    is ∙ ap (λ bs. word_at bs (8 * k + 4)) are ∙ word_within m at (8 * count) (8 * k + 4) (omega arith)
+    ∙ ap (word_at m) (let e : at + (8 * k + 4) ≡ at + 8 * k + 4 = omega arith in e)
+
+pub nothing_put : (text m : List ℕ) (at len : ℕ) → len ≡ 0 → text ≡ text ++ bytes_at m at len
+nothing_put text m at len none = sym (append-nil text) ∙ ap (λ n. text ++ bytes_at m at n) (sym none)
+
+pub no_pieces : (m : List ℕ) (at count size : ℕ) → size ≡ length (pieces m at count) → size ≡ 0 → [] ≡ pieces m at count
+no_pieces m at count size is none = sym (nil_from_length (pieces m at count) (sym is ∙ none))
+
+-- ---- so many entries, and then the others
+
+and_assoc : (a b c : Bool) → (a && (b && c)) ≡ ((a && b) && c)
+and_assoc true b c = refl
+and_assoc false b c = refl
+
+split_inside : (m : List ℕ) (p n r : ℕ) → pieces_inside m p (n + r) ≡ (pieces_inside m p n && pieces_inside m (p + 8 * n) r)
+split_inside m p zero r = λ i. pieces_inside m ((let e : p ≡ p + 8 * zero = omega arith in e) i) ((let e : zero + r ≡ r = omega arith in e) i)
+split_inside m p (suc n) r =
+    ap (pieces_inside m p) (let e : suc n + r ≡ suc (n + r) = omega arith in e)
+    ∙ ap (λ b. is_range m (word_at m p) (word_at m (p + 4)) && b) (split_inside m (p + 8) n r)
+    ∙ ap (λ q. is_range m (word_at m p) (word_at m (p + 4)) && (pieces_inside m (p + 8) n && pieces_inside m q r)) (let e : p + 8 + 8 * n ≡ p + 8 * suc n = omega arith in e)
+    ∙ and_assoc (is_range m (word_at m p) (word_at m (p + 4))) (pieces_inside m (p + 8) n) (pieces_inside m (p + 8 * suc n) r)
+
+split_pieces : (m : List ℕ) (p n r : ℕ) → pieces m p (n + r) ≡ pieces m p n ++ pieces m (p + 8 * n) r
+split_pieces m p zero r = λ i. pieces m ((let e : p ≡ p + 8 * zero = omega arith in e) i) ((let e : zero + r ≡ r = omega arith in e) i)
+split_pieces m p (suc n) r =
+    ap (pieces m p) (let e : suc n + r ≡ suc (n + r) = omega arith in e)
+    ∙ ap (λ bs. bytes_at m (word_at m p) (word_at m (p + 4)) ++ bs) (split_pieces m (p + 8) n r)
+    ∙ ap (λ q. bytes_at m (word_at m p) (word_at m (p + 4)) ++ (pieces m (p + 8) n ++ pieces m q r)) (let e : p + 8 + 8 * n ≡ p + 8 * suc n = omega arith in e)
+    ∙ sym (append_assoc (bytes_at m (word_at m p) (word_at m (p + 4))) (pieces m (p + 8) n) (pieces m (p + 8 * suc n) r))
 
 module _ (m : List ℕ) (at count : ℕ) where
   places : (k : ℕ) → at + 8 * k + 8 ≡ at + 8 * (k + 1)
@@ -40,8 +90,8 @@ module _ (m : List ℕ) (at count : ℕ) where
     bound = omega arith;
   }
 
-  pub joined_start : AreJoined m at count [] 0
-  joined_start = record { joined = λ i. pieces m ((let e : at ≡ at + 8 * 0 = omega arith in e) i) ((let e : count ≡ count - 0 = omega arith in e) i) }
+  pub joined_start : (first : List ℕ) → AreJoined m at count first first 0
+  joined_start first = record { joined = λ i. first ++ pieces m ((let e : at ≡ at + 8 * 0 = omega arith in e) i) ((let e : count ≡ count - 0 = omega arith in e) i) }
 
   module _ (k : ℕ) (within : k < count) where
     next_inside : pieces_inside m (at + 8 * k) (count - k) ≡ (is_range m (word_at m (at + 8 * k)) (word_at m (at + 8 * k + 4)) && pieces_inside m (at + 8 * (k + 1)) (count - (k + 1)))
@@ -69,8 +119,8 @@ module _ (m : List ℕ) (at count : ℕ) where
           bound = omega arith;
         }
 
-    pub joined_step : (text more : List ℕ) (a l : ℕ) → AreJoined m at count text k → a ≡ word_at m (at + 8 * k) → l ≡ word_at m (at + 8 * k + 4) → more ≡ text ++ bytes_at m a l → AreJoined m at count more (k + 1)
-    joined_step text more a l so_far begins len is = record {
+    pub joined_step : (first text more : List ℕ) (a l : ℕ) → AreJoined m at count first text k → a ≡ word_at m (at + 8 * k) → l ≡ word_at m (at + 8 * k + 4) → more ≡ text ++ bytes_at m a l → AreJoined m at count first more (k + 1)
+    joined_step first text more a l so_far begins len is = record {
       joined = so_far.joined ∙ ap (λ xs. text ++ xs) next_pieces ∙ sym (append_assoc text (bytes_at m (word_at m (at + 8 * k)) (word_at m (at + 8 * k + 4))) (pieces m (at + 8 * (k + 1)) (count - (k + 1))))
           ∙ ap (λ xs. xs ++ pieces m (at + 8 * (k + 1)) (count - (k + 1))) ((λ i. text ++ bytes_at m (sym begins i) (sym len i)) ∙ sym is);
     }
@@ -82,7 +132,43 @@ module _ (m : List ℕ) (at count : ℕ) where
       let size = so_far.size in
       (so_far.inside ∙ ap (pieces_inside m (at + 8 * k)) none, omega arith)
 
-  pub joined_end : (text : List ℕ) (k : ℕ) → count ≡ k → AreJoined m at count text k → text ≡ pieces m at count
-  joined_end text k same so_far =
+  pub joined_end : (first text : List ℕ) (k : ℕ) → count ≡ k → AreJoined m at count first text k → text ≡ first ++ pieces m at count
+  joined_end first text k same so_far =
       let none : count - k ≡ 0 = omega arith in
       sym (so_far.joined ∙ ap (λ n. text ++ pieces m (at + 8 * k) n) none ∙ append-nil text)
+
+  -- ---- a block of entries
+
+  module _ (k n : ℕ) (fits : k + n ≤ count) where
+    rest : count - k ≡ n + (count - (k + n))
+    rest = omega arith
+
+    behind : at + 8 * k + 8 * n ≡ at + 8 * (k + n)
+    behind = omega arith
+
+    rest_inside : pieces_inside m (at + 8 * k) (count - k) ≡ (pieces_inside m (at + 8 * k) n && pieces_inside m (at + 8 * (k + n)) (count - (k + n)))
+    rest_inside = ap (pieces_inside m (at + 8 * k)) rest ∙ split_inside m (at + 8 * k) n (count - (k + n)) ∙ ap (λ p. pieces_inside m (at + 8 * k) n && pieces_inside m p (count - (k + n))) behind
+
+    rest_pieces : pieces m (at + 8 * k) (count - k) ≡ pieces m (at + 8 * k) n ++ pieces m (at + 8 * (k + n)) (count - (k + n))
+    rest_pieces = ap (pieces m (at + 8 * k)) rest ∙ split_pieces m (at + 8 * k) n (count - (k + n)) ∙ ap (λ p. pieces m (at + 8 * k) n ++ pieces m p (count - (k + n))) behind
+
+    pub block_out : (total : ℕ) → AreJudged m at count total k → pieces_inside m (at + 8 * k) n ≡ false → pieces_inside m at count ≡ false
+    block_out total so_far out = so_far.inside ∙ rest_inside ∙ ap (λ b. b && pieces_inside m (at + 8 * (k + n)) (count - (k + n))) out
+
+    pub judged_block : (total size : ℕ) → AreJudged m at count total k → pieces_inside m (at + 8 * k) n ≡ true → size ≡ length (pieces m (at + 8 * k) n) → size ≤ n * 16777216 → AreJudged m at count (total + size) (k + n)
+    judged_block total size so_far all is small =
+        let whole = length-append (pieces m (at + 8 * k) n) (pieces m (at + 8 * (k + n)) (count - (k + n))) in
+        let next = ap length rest_pieces in
+        let old = so_far.size in
+        let less = so_far.bound in
+        record {
+          inside = so_far.inside ∙ rest_inside ∙ ap (λ b. b && pieces_inside m (at + 8 * (k + n)) (count - (k + n))) all;
+          size = omega arith;
+          bound = omega arith;
+        }
+
+    pub joined_block : (first text more : List ℕ) → AreJoined m at count first text k → more ≡ text ++ pieces m (at + 8 * k) n → AreJoined m at count first more (k + n)
+    joined_block first text more so_far is = record {
+      joined = so_far.joined ∙ ap (λ xs. text ++ xs) rest_pieces ∙ sym (append_assoc text (pieces m (at + 8 * k) n) (pieces m (at + 8 * (k + n)) (count - (k + n))))
+          ∙ ap (λ xs. xs ++ pieces m (at + 8 * (k + n)) (count - (k + n))) (sym is);
+    }

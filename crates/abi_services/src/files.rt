@@ -24,6 +24,9 @@ use std::alloc::{AllocError, Global};
 /// How many bytes a call may write.
 const TEXT_LIMIT: usize = 65_536;
 
+/// How many entries are read at once: a call is given as many as its memory holds, and costs one unit.
+const ENTRIES: u32 = 512;
+
 /// A byte of some, and 0 where there are fewer.
 fn byte_at(bytes: &[u8], at: usize) -> u32
     ensures byte { result ≡ slice_index bytes.now at }
@@ -44,16 +47,6 @@ fn word_in(bytes: &[u8]) -> u32
     low + 65_536 * high
 }
 
-/// The number that stands at a place of a guest's memory.
-fn word_at<G: Guest>(alloc: Global, guest: &G, at: u32) -> Result<u32, OutOfMemory>
-    ensures { IfOk result (λ n. n ≡ word_at_of (G.at guest.now).config.store.memory at) }
-{
-    match take_bytes(alloc, guest, at, 4) {
-        Ok(bytes) => Ok(word_in(bytes.as_slice())),
-        Err(_) => Err(AllocError),
-    }
-}
-
 /// A piece: where it begins, and how many bytes it has.
 #[derive(Clone, Copy)]
 struct Piece {
@@ -61,15 +54,33 @@ struct Piece {
     len: u32,
 }
 
-/// The piece of the entry at a place.
-fn piece_at<G: Guest>(alloc: Global, guest: &G, at: u32) -> Result<Piece, OutOfMemory>
-    requires { at + 4 < 2 ^ 32 }
-    ensures at { IfOk result (λ p. p.at ≡ word_at_of (G.at guest.now).config.store.memory at) }
-    ensures len { IfOk result (λ p. p.len ≡ word_at_of (G.at guest.now).config.store.memory (at + 4)) }
+/// The piece of an entry, by its number among some entries.
+fn piece_in(entries: &[u8], number: u32) -> Piece
+    requires { 8 * number + 8 ≤ length entries.now }
+    ensures at { result.at ≡ word_at_of entries.now (8 * number) }
+    ensures len { result.len ≡ word_at_of entries.now (8 * number + 4) }
 {
-    let begins = word_at(alloc, guest, at)?;
-    let len = word_at(alloc, guest, at + 4)?;
-    Ok(Piece { at: begins, len })
+    let at = 8 * number as usize;
+    let begins = word_in(&entries[at..at + 4]);
+    let len = word_in(&entries[at + 4..at + 8]);
+    Piece { at: begins, len }
+}
+
+/// So many entries, as they stand in a guest's memory.
+fn take_entries<G: Guest>(
+    alloc: Global,
+    guest: &G,
+    at: u32,
+    count: u32,
+) -> Result<Octets, OutOfMemory>
+    requires { count ≤ 512 }
+    ensures entries { IfOk result (λ o. o ≡ bytes_at (G.at guest.now).config.store.memory at (8 * count)) }
+    ensures whole { IfOk result (λ o. length o ≡ 8 * count) }
+{
+    match take_bytes(alloc, guest, at, 8 * count) {
+        Ok(entries) => Ok(entries),
+        Err(_) => Err(AllocError),
+    }
 }
 
 /// Puts the bytes of a piece at the end.
@@ -81,10 +92,52 @@ fn put_piece<G: Guest>(
 ) -> Result<(), OutOfMemory>
     ensures { OnOk result (text.new ≡ text.old ++ bytes_at (G.at guest.now).config.store.memory piece.now.at piece.now.len) }
 {
+    if piece.len == 0 {
+        return Ok(());
+    }
     match take_bytes(alloc, guest, piece.at, piece.len) {
         Ok(bytes) => text.extend_from_slice(bytes.as_slice()),
         Err(_) => Err(AllocError),
     }
+}
+
+/// How many bytes the pieces of some entries have together; none where a piece is outside. It takes no memory.
+fn size_of_block<G: Guest>(guest: &G, entries: &[u8], at: u32, count: u32) -> Option<u64>
+    requires few { count ≤ 512 }
+    requires entries { entries.now ≡ bytes_at (G.at guest.now).config.store.memory at (8 * count) }
+    requires whole { length entries.now ≡ 8 * count }
+    ensures none { IfNone result (pieces_inside (G.at guest.now).config.store.memory at count ≡ false) }
+    ensures some { IfSome result (λ n. (pieces_inside (G.at guest.now).config.store.memory at count ≡ true) × (n ≡ length (pieces (G.at guest.now).config.store.memory at count))) }
+    ensures bound { IfSome result (λ n. n ≤ count * 16777216) }
+{
+    let _ = at;
+    let most = guest.size();
+    let mut total: u64 = 0;
+    for k in 0..count {
+        let piece = piece_in(entries, k);
+        if !is_within(guest, piece.at as u64, piece.len as u64) {
+            return None;
+        }
+        prove!(piece.len as u64 <= most);
+        total += piece.len as u64;
+    }
+    Some(total)
+}
+
+/// The same of entries that are read first.
+fn size_of_next<G: Guest>(
+    alloc: Global,
+    guest: &G,
+    at: u32,
+    count: u32,
+) -> Result<Option<u64>, OutOfMemory>
+    requires { count ≤ 512 }
+    ensures none { IfOk result (λ o. IfNone o (pieces_inside (G.at guest.now).config.store.memory at count ≡ false)) }
+    ensures some { IfOk result (λ o. IfSome o (λ n. (pieces_inside (G.at guest.now).config.store.memory at count ≡ true) × (n ≡ length (pieces (G.at guest.now).config.store.memory at count)))) }
+    ensures bound { IfOk result (λ o. IfSome o (λ n. n ≤ count * 16777216)) }
+{
+    let entries = take_entries(alloc, guest, at, count)?;
+    Ok(size_of_block(guest, entries.as_slice(), at, count))
 }
 
 /// How many bytes so many pieces have together; none where a piece is outside.
@@ -98,17 +151,54 @@ fn size_of_pieces<G: Guest>(
     ensures none { IfOk result (λ o. IfNone o (pieces_inside (G.at guest.now).config.store.memory at count ≡ false)) }
     ensures some { IfOk result (λ o. IfSome o (λ n. (pieces_inside (G.at guest.now).config.store.memory at count ≡ true) × (n ≡ length (pieces (G.at guest.now).config.store.memory at count)))) }
 {
-    let most = guest.size();
     let mut total: u64 = 0;
-    for k in 0..count {
-        let piece = piece_at(alloc, guest, at + 8 * k)?;
-        if !is_within(guest, piece.at as u64, piece.len as u64) {
+    let mut done = 0;
+    while done < count {
+        let next = (count - done).min(ENTRIES);
+        let Some(size) = size_of_next(alloc, guest, at + 8 * done, next)? else {
             return Ok(None);
-        }
-        prove!(piece.len as u64 <= most);
-        total += piece.len as u64;
+        };
+        total += size;
+        done += next;
     }
     Ok(Some(total))
+}
+
+/// Puts the pieces of some entries at the end. A piece of no bytes takes no memory.
+fn join_block<G: Guest>(
+    alloc: Global,
+    guest: &G,
+    text: &mut Octets,
+    entries: &[u8],
+    at: u32,
+    count: u32,
+) -> Result<(), OutOfMemory>
+    requires few { count ≤ 512 }
+    requires entries { entries.now ≡ bytes_at (G.at guest.now).config.store.memory at (8 * count) }
+    requires whole { length entries.now ≡ 8 * count }
+    ensures { OnOk result (text.new ≡ text.old ++ pieces (G.at guest.now).config.store.memory at count) }
+{
+    let _ = at;
+    for k in 0..count {
+        let piece = piece_in(entries, k);
+        put_piece(alloc, guest, text, &piece)?;
+    }
+    Ok(())
+}
+
+/// The same of entries that are read first.
+fn join_next<G: Guest>(
+    alloc: Global,
+    guest: &G,
+    text: &mut Octets,
+    at: u32,
+    count: u32,
+) -> Result<(), OutOfMemory>
+    requires { count ≤ 512 }
+    ensures { OnOk result (text.new ≡ text.old ++ pieces (G.at guest.now).config.store.memory at count) }
+{
+    let entries = take_entries(alloc, guest, at, count)?;
+    join_block(alloc, guest, text, entries.as_slice(), at, count)
 }
 
 /// So many pieces joined.
@@ -122,9 +212,11 @@ fn join_pieces<G: Guest>(
     ensures { IfOk result (λ text. text ≡ pieces (G.at guest.now).config.store.memory at count) }
 {
     let mut text = Octets::new(alloc);
-    for k in 0..count {
-        let piece = piece_at(alloc, guest, at + 8 * k)?;
-        put_piece(alloc, guest, &mut text, &piece)?;
+    let mut done = 0;
+    while done < count {
+        let next = (count - done).min(ENTRIES);
+        join_next(alloc, guest, &mut text, at + 8 * done, next)?;
+        done += next;
     }
     Ok(text)
 }
@@ -143,6 +235,9 @@ fn text_of<G: Guest>(
 {
     if size > TEXT_LIMIT as u64 {
         return Ok(None);
+    }
+    if size == 0 {
+        return Ok(Some(Octets::new(alloc)));
     }
     let text = join_pieces(alloc, guest, at, count)?;
     Ok(Some(text))

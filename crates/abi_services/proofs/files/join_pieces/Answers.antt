@@ -1,7 +1,13 @@
-use Rattle.abi_services.proofs.Pieces.{joined_step}
+use Rattle.std.proofs.Common.{◌≤◌, ◌+◌, [], arith}
+use Rattle.abi_services.proofs.Pieces.{joined_block}
 use Rattle.abi_services.proofs.files.join_pieces.Goals as goal
 
-pub loop-k-preserved : goal.loop-k-preserved
-loop-k-preserved g c =
-    joined_step (g.G.Guest.at c.args.guest.now).config.store.memory c.args.at c.args.count c.loop-k.k c.loop-k-test.true
-    c.loop-k.text c.put_piece.new.text c.in_ok-piece.piece.at c.in_ok-piece.piece.len c.loop-k.invariant c.in_ok-piece.ensures.at c.in_ok-piece.ensures.len c.in_ok-put_piece.ensures
+pub loop-done-preserved : goal.loop-done-preserved
+loop-done-preserved g c =
+    let m = (g.G.Guest.at c.args.guest.now).config.store.memory in
+    let fits : c.loop-done.done + c.min-next.result ≤ c.args.count = omega arith in
+    record {
+      within = fits;
+      so_far = joined_block m c.args.at c.args.count c.loop-done.done c.min-next.result fits
+          [] c.loop-done.text c.join_next.new.text c.loop-done.invariant.so_far c.in_ok-join_next.ensures;
+    }
