@@ -15,7 +15,7 @@ pub record AreJudged (m : List ℕ) (at count total k : ℕ) : Type 0 where
 pub record AreJoined (m : List ℕ) (at count : ℕ) (first text : List ℕ) (k : ℕ) : Type 0 where
   pub joined : first ++ pieces m at count ≡ text ++ pieces m (at + 8 * k) (count - k)
 
-range_size : (m : List ℕ) (at len : ℕ) → is_range m at len ≡ true → length (bytes_at m at len) ≡ len
+pub range_size : (m : List ℕ) (at len : ℕ) → is_range m at len ≡ true → length (bytes_at m at len) ≡ len
 range_size m at zero is = refl
 range_size m at (suc n) is =
     let within : at + suc n ≤ length m = grind (arith, nat_tests, is) in

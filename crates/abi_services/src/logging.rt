@@ -1,13 +1,15 @@
 // The call on the log.
-ghost use Rattle.std.specs.Prelude.{◌≡◌, ◌≤◌, ◌<◌, ◌++◌, length, IfOk, OnErr};
+ghost use Rattle.std.specs.Prelude.{◌≡◌, ◌≤◌, ◌<◌, ◌++◌, ◌&&◌, nat_lt, length, IfOk, OnErr};
 ghost use Rattle.abi_types.specs.GuestAt.{Keeps, StillWaits};
 ghost use Rattle.contexts.specs.Reached.{seen};
 ghost use Rattle.abi_model.specs.Calls.{CallEnds, RestsAfterCall, AreShort};
-ghost use Rattle.abi_model.specs.Table.{Are, row_of};
+ghost use Rattle.abi_memory.specs.Giving.{has_place};
+ghost use Rattle.abi_model.specs.Table.{Are, arg, row_of};
 ghost use Rattle.abi_model.specs.Writing.{writes, LogEnds};
 ghost use Rattle.abi_model.specs.declared.table.HostCall.TheVariants as call;
-ghost use Rattle.abi_services.specs.Logging.{level_at as level_of, logging, own_log};
+ghost use Rattle.abi_services.specs.Logging.{level_at as level_of, text_limit, logging, own_log};
 
+use abi_memory::is_within;
 use abi_model::{
     HostCall, HostEnd, Inputs, Outcome, Param, WritingCall, answer, call_row, writing_call,
 };
@@ -84,6 +86,14 @@ impl WritingCall for WriteLine {
     }
 }
 
+/// Whether the line of a call is inside and has too many bytes: it is refused without a copy of them.
+fn is_too_long<G: Guest>(guest: &G, args: &[u64]) -> bool
+    requires { Are (row_of call.Log) 0 args.now }
+    ensures { result ≡ (nat_lt text_limit (arg args.now 2) && has_place (arg args.now 1) (arg args.now 2) (G.at guest.now)) }
+{
+    args[2] > TEXT_LIMIT as u64 && is_within(guest, args[1], args[2])
+}
+
 /// Writes a line to the log, unless its level is below the least one. 2: a level above 5, or more than 65,536 bytes.
 pub fn proxy_log<G: Guest>(
     alloc: Global,
@@ -101,5 +111,8 @@ pub fn proxy_log<G: Guest>(
     ensures rests { RestsAfterCall result (StillWaits (G.rests guest.new) (G.at guest.old) (G.at guest.new)) }
     ensures keeps { Keeps (G.at guest.old) (G.at guest.new) }
 {
+    if is_too_long(guest, args) {
+        return HostEnd::Status { status: 2 };
+    }
     writing_call(alloc, &WriteLine, 6, guest, contexts, vm, logs, args)
 }
