@@ -1,8 +1,8 @@
 -- What one member's offer comes to, and the offers of a list.
-use Rattle.std.proofs.Common.{◌≡◌, ◌≢◌, ◌⊎◌, inl, inr, ℕ, ◌<◌, ◌≤◌, Bool, true, false, List, [], ◌∷◌, ◌++◌, length, take, drop, Option, Result, Ok, Err, OnOk, IsErr, refl, sym, ◌∙◌, ap, subst, append_assoc, take-append-drop}
-use Rattle.std.specs.Prelude.{if◌then◌else◌, nat_lt}
+use Rattle.std.proofs.Common.{◌≡◌, ◌≢◌, ◌⊎◌, inl, inr, ℕ, zero, suc, ◌+◌, ◌<◌, ◌≤◌, Bool, true, false, List, [], ◌∷◌, ◌++◌, length, take, drop, get_or, Option, None, Some, Result, Ok, Err, OnOk, IsErr, refl, sym, ◌∙◌, ap, subst, arith, append_assoc, take-append-drop}
+use Rattle.std.specs.Prelude.{if◌then◌else◌, nat_lt, IsTrue, IfOk, IfSome}
 use Rattle.std.specs.declared.alloc.AllocError.{AllocError}
-use Rattle.std.proofs.lemmas.List.{append-nil, take_all, drop_all}
+use Rattle.std.proofs.lemmas.List.{append-nil, take_all, drop_all, take_more, drop_more}
 use Rattle.std.proofs.lemmas.Bool.{lt-ltb, le-ltb}
 use Rattle.std.proofs.lemmas.Result.{IfOk-from_err}
 use Rattle.gate_io.specs.Passing.{piece, front, taking, happened, received, asked}
@@ -13,9 +13,10 @@ use Rattle.gate_io.specs.declared.event.Sent.TheVariants.{Connect, Bytes, Close,
 use Rattle.gate_io.specs.declared.event.Side.{Side}
 use Rattle.gate_io.specs.declared.passed.Passed.{Passed}
 use Rattle.gate_io.specs.declared.passed.Passed.TheVariants.{Asked, Gave, Took, Short}
-use Rattle.outbox.specs.Delivery.{WasShort, NeverShort, solid, AreFilled, Delivered, WaitsOnlyShort, Prompt, Offered}
+use Rattle.outbox.specs.Delivery.{WasShort, NeverShort, solid, IsFilled, AreFilled, Delivered, WaitsOnlyShort, Prompt, Offered}
 use Rattle.outbox.specs.Places.{Mark, place_of, marks_of, marks_at}
 use Rattle.outbox.specs.Sorted.{IsBehind}
+use Rattle.outbox.specs.Taking.{rest_of, none_left, WasOffered}
 use Rattle.outbox.specs.declared.place.Place.{Place}
 use Rattle.outbox.specs.declared.place.Place.TheVariants.{Peer}
 use Rattle.outbox.proofs.Marks.{cases_place, marks_elsewhere, marks_at-append, marks_at-push, marks_of-two, marks_of-none, append_empty}
@@ -208,37 +209,37 @@ solid_whole (Close line side) other = refl
 solid_whole (Log level text) other = refl
 
 -- two shares of what passed, one after the other
-still_only_short : (left rest1 rest2 : List Sent) (s1 s2 : List Passed) → rest1 ≡ left → WaitsOnlyShort [] s1 rest1 → WaitsOnlyShort left s2 rest2 → WaitsOnlyShort [] (s1 ++ s2) rest2
-still_only_short left rest1 rest2 s1 s2 is first next = λ place none. go place (first place refl)
+still_only_short : (waited left rest1 rest2 : List Sent) (s1 s2 : List Passed) → rest1 ≡ left → WaitsOnlyShort waited s1 rest1 → WaitsOnlyShort left s2 rest2 → WaitsOnlyShort waited (s1 ++ s2) rest2
+still_only_short waited left rest1 rest2 s1 s2 is first next = λ place none. go place (first place none)
   where
     go : (place : Place) → (marks_at place rest1 ≡ []) ⊎ WasShort place s1 → (marks_at place rest2 ≡ []) ⊎ WasShort place (s1 ++ s2)
     go place (inl empty) = elim (next place (ap (marks_at place) (sym is) ∙ empty)) [ inl gone ↦ inl gone | inr short ↦ inr (was_short-right place s1 s2 short) ]
     go place (inr short) = inr (was_short-left place s1 s2 short)
 
-delivered_more : (before left rest1 rest2 : List Sent) (member : Sent) (s1 s2 : List Passed) → rest1 ≡ left → Delivered before s1 rest1 → Delivered (left ++ member ∷ []) s2 rest2
-    → Delivered (before ++ member ∷ []) (s1 ++ s2) rest2
-delivered_more before left rest1 rest2 member s1 s2 is first next = record {
+delivered_more : (before left rest1 rest2 more : List Sent) (s1 s2 : List Passed) → rest1 ≡ left → Delivered before s1 rest1 → Delivered (left ++ more) s2 rest2
+    → Delivered (before ++ more) (s1 ++ s2) rest2
+delivered_more before left rest1 rest2 more s1 s2 is first next = record {
   goes_on = λ place.
       ap (λ (l : List Sent). marks_at place l ++ marks_at place rest2) (received-append s1 s2)
       ∙ ap (λ (m : List Mark). m ++ marks_at place rest2) (marks_at-append place (received s1) (received s2))
       ∙ append_assoc (marks_at place (received s1)) (marks_at place (received s2)) (marks_at place rest2)
-      ∙ ap (λ (m : List Mark). marks_at place (received s1) ++ m) (next.goes_on place ∙ marks_at-push place left member)
-      ∙ sym (append_assoc (marks_at place (received s1)) (marks_at place left) (marks_of place member))
-      ∙ ap (λ (m : List Mark). m ++ marks_of place member) (ap (λ (l : List Sent). marks_at place (received s1) ++ marks_at place l) (sym is) ∙ first.goes_on place)
-      ∙ sym (marks_at-push place before member);
+      ∙ ap (λ (m : List Mark). marks_at place (received s1) ++ m) (next.goes_on place ∙ marks_at-append place left more)
+      ∙ sym (append_assoc (marks_at place (received s1)) (marks_at place left) (marks_at place more))
+      ∙ ap (λ (m : List Mark). m ++ marks_at place more) (ap (λ (l : List Sent). marks_at place (received s1) ++ marks_at place l) (sym is) ∙ first.goes_on place)
+      ∙ sym (marks_at-append place before more);
   no_event = happened-append s1 s2 ∙ (λ i. first.no_event i ++ next.no_event i);
   not_asked = asked-append s1 s2 ∙ (λ i. first.not_asked i ++ next.not_asked i);
 }
 
-still_prompt : (before left rest1 rest2 : List Sent) (member : Sent) (s1 s2 : List Passed) → rest1 ≡ left → Prompt [] before s1 rest1 → Prompt left (left ++ member ∷ []) s2 rest2
-    → Prompt [] (before ++ member ∷ []) (s1 ++ s2) rest2
-still_prompt before left rest1 rest2 member s1 s2 is first next = record {
-  only_short = still_only_short left rest1 rest2 s1 s2 is first.only_short next.only_short;
+still_prompt : (waited before left rest1 rest2 more : List Sent) (s1 s2 : List Passed) → rest1 ≡ left → Prompt waited before s1 rest1 → Prompt left (left ++ more) s2 rest2
+    → Prompt waited (before ++ more) (s1 ++ s2) rest2
+still_prompt waited before left rest1 rest2 more s1 s2 is first next = record {
+  only_short = still_only_short waited left rest1 rest2 s1 s2 is first.only_short next.only_short;
   whole = λ none never.
-      let one = first.whole refl (λ place short. never place (was_short-left place s1 s2 short)) in
+      let one = first.whole none (λ place short. never place (was_short-left place s1 s2 short)) in
       let empty : left ≡ [] = sym is ∙ one.1 in
       let two = next.whole empty (λ place short. never place (was_short-right place s1 s2 short)) in
-      (received-append s1 s2 ∙ (λ i. one.0 i ++ two.0 i) ∙ ap (λ (l : List Sent). solid before ++ solid (l ++ member ∷ [])) empty ∙ sym (solid-append before (member ∷ [])), two.1);
+      (received-append s1 s2 ∙ (λ i. one.0 i ++ two.0 i) ∙ ap (λ (l : List Sent). solid before ++ solid (l ++ more)) empty ∙ sym (solid-append before more), two.1);
 }
 
 -- more that is not offered waits behind the rest
@@ -253,11 +254,23 @@ delivered_cut before steps rest more d = record {
   not_asked = d.not_asked;
 }
 
+-- what is left of a piece of which not all was taken is no empty piece
+filled_rest : (line : ℕ) (side : Side) (bytes : List ℕ) (n : ℕ) → n < length bytes → IsFilled (Bytes line side (drop n bytes))
+filled_rest line side [] n less = absurd (omega (arith, less))
+filled_rest line side (b ∷ bytes) zero less = tt
+filled_rest line side (b ∷ bytes) (suc n) less = filled_rest line side bytes n (omega (arith, less))
+
+pub filled_piece : {E : Type 0} (r : Result (Option ℕ) E) (line : ℕ) (side : Side) (bytes : List ℕ) → IfOk r (λ taken. IfSome taken (λ n. n < length bytes))
+    → IfOk r (λ taken. IfSome taken (λ n. IsFilled (rest_of n (Bytes line side bytes))))
+filled_piece (Ok None) line side bytes less = tt
+filled_piece (Ok (Some n)) line side bytes less = filled_rest line side bytes n less
+filled_piece (Err e) line side bytes less = tt
+
 -- the members before these were offered
-pub record SoFar (takes_whole : Bool) (old : Option (List Passed)) (members more : List Sent) (new : Option (List Passed)) (left : List Sent) : Type 0 where
+pub record SoFar (takes_whole : Bool) (old : Option (List Passed)) (waited members more : List Sent) (new : Option (List Passed)) (left : List Sent) : Type 0 where
   pub before : List Sent
   pub members_are : before ++ more ≡ members
-  pub offered : Offered {E = AllocError} takes_whole old [] before (Ok tt) new left
+  pub offered : Offered {E = AllocError} takes_whole old waited before (Ok tt) new left
 
 module _ {E : Type 0} (takes_whole : Bool) where
   pub offered_wait : (world : Option (List Passed)) (left : List Sent) (member : Sent) (new : List Sent) (r : Result (Unit {0}) E) → OnOk r (IsBehind left member new)
@@ -311,33 +324,103 @@ module _ {E : Type 0} (takes_whole : Bool) where
   }
 
   -- before the first
-  pub offered_none : (world : Option (List Passed)) → Offered {E = E} takes_whole world [] [] (Ok tt) world []
-  offered_none world = record {
+  pub offered_none : (world : Option (List Passed)) (left : List Sent) → Offered {E = E} takes_whole world left left (Ok tt) world left
+  offered_none world left = record {
     steps = [];
-    rest = [];
+    rest = left;
     told = gains_nothing world;
-    delivered = none_taken [];
+    delivered = none_taken left;
     taken_whole = λ t place h. h;
-    waits = (refl, record { only_short = λ place none. inl refl; whole = λ none never. (refl, refl) });
+    waits = (refl, record { only_short = λ place none. inl none; whole = λ none never. (ap solid (sym none), none) });
   }
 
-  -- one member more
-  pub offered_next : (a b c : Option (List Passed)) (before left after : List Sent) (member : Sent) (r : Result (Unit {0}) E) → Offered {E = E} takes_whole a [] before (Ok tt) b left
-      → Offered takes_whole b left (left ++ member ∷ []) r c after → Offered takes_whole a [] (before ++ member ∷ []) r c after
-  offered_next a b c before left after member (Ok x) first next = record {
+  -- more members
+  pub offered_more : (a b c : Option (List Passed)) (waited before left after more : List Sent) (r : Result (Unit {0}) E) → Offered {E = E} takes_whole a waited before (Ok tt) b left
+      → Offered takes_whole b left (left ++ more) r c after → Offered takes_whole a waited (before ++ more) r c after
+  offered_more a b c waited before left after more (Ok x) first next = record {
     steps = first.steps ++ next.steps;
     rest = next.rest;
     told = gains_more a first.steps b next.steps c first.told next.told;
-    delivered = delivered_more before left first.rest next.rest member first.steps next.steps first.waits.0 first.delivered next.delivered;
+    delivered = delivered_more before left first.rest next.rest more first.steps next.steps first.waits.0 first.delivered next.delivered;
     taken_whole = λ t. never_short-append first.steps next.steps (first.taken_whole t) (next.taken_whole t);
-    waits = (next.waits.0, still_prompt before left first.rest next.rest member first.steps next.steps first.waits.0 first.waits.1 next.waits.1);
+    waits = (next.waits.0, still_prompt waited before left first.rest next.rest more first.steps next.steps first.waits.0 first.waits.1 next.waits.1);
   }
-  offered_next a b c before left after member (Err e) first next = record {
+  offered_more a b c waited before left after more (Err e) first next = record {
     steps = first.steps ++ next.steps;
     rest = next.rest;
     told = gains_more a first.steps b next.steps c first.told next.told;
-    delivered = delivered_more before left first.rest next.rest member first.steps next.steps first.waits.0 first.delivered next.delivered;
+    delivered = delivered_more before left first.rest next.rest more first.steps next.steps first.waits.0 first.delivered next.delivered;
     taken_whole = λ t. never_short-append first.steps next.steps (first.taken_whole t) (next.taken_whole t);
+    waits = tt;
+  }
+
+  -- memory ran out behind what was taken, and the rest is lost
+  pub offered_lost : (old new : Option (List Passed)) (waited before rest after : List Sent) (q r : Result (Unit {0}) E) → IsErr r → Offered {E = E} takes_whole old waited before q new rest
+      → Offered takes_whole old waited before r new after
+  offered_lost old new waited before rest after q r err run = record {
+    steps = run.steps;
+    rest = run.rest;
+    told = run.told;
+    delivered = run.delivered;
+    taken_whole = run.taken_whole;
+    waits = IfOk-from_err r _ err;
+  }
+
+  -- what is left of a member waits, or memory ran out
+  pub offered_rest : (old new : Option (List Passed)) (left after : List Sent) (member : Sent) (n : ℕ) (r : Result (Unit {0}) E) → WasOffered {E = E} takes_whole old member (Ok (Some n)) new
+      → marks_at (place_of member) left ≡ [] → OnOk r (IsBehind left (rest_of n member) after) → Offered takes_whole old left (left ++ member ∷ []) r new after
+  offered_rest old new left after member n (Ok x) was none is = was left after none is
+  offered_rest old new left after member n (Err e) was none is =
+      let run = was left (left ++ rest_of n member ∷ []) none (λ place. marks_at-push place left (rest_of n member)) in
+      record { steps = run.steps; rest = run.rest; told = run.told; delivered = run.delivered; taken_whole = run.taken_whole; waits = tt }
+
+  -- memory ran out before anything was taken
+  pub was_err : (old new : Option (List Passed)) (member : Sent) (r : Result (Option ℕ) E) → IsErr r → Gains old [] new → WasOffered takes_whole old member r new
+  was_err old new member (Ok None) err told = absurd (cc)
+  was_err old new member (Ok (Some n)) err told = absurd (cc)
+  was_err old new member (Err e) err told = λ left after. record {
+    steps = [];
+    rest = left ++ member ∷ [];
+    told = told;
+    delivered = none_taken _;
+    taken_whole = λ t place h. h;
+    waits = tt;
+  }
+
+  -- a piece of which some was taken
+  pub was_short : (old new : Option (List Passed)) (line : ℕ) (side : Side) (bytes : List ℕ) (n : ℕ) → Gains old (front line side bytes n) new → n < length bytes → (IsTrue takes_whole → n ≡ length bytes)
+      → WasOffered {E = E} takes_whole old (Bytes line side bytes) (Ok (Some n)) new
+  was_short old new line side bytes n told less whole = λ left after none is. record {
+    steps = front line side bytes n;
+    rest = after;
+    told = told;
+    delivered = part_taken left after line side bytes n none is;
+    taken_whole = λ t. absurd (let all = whole t in omega (arith, all, less));
+    waits = (refl, prompt_short left after line side bytes (drop n bytes) n less is);
+  }
+
+  -- or all
+  pub was_all : (old new : Option (List Passed)) (line : ℕ) (side : Side) (bytes : List ℕ) (n : ℕ) → Gains old (front line side bytes n) new → length bytes ≤ n
+      → WasOffered {E = E} takes_whole old (Bytes line side bytes) (Ok None) new
+  was_all old new line side bytes n told all = λ left none. record {
+    steps = front line side bytes n;
+    rest = left;
+    told = told;
+    delivered = all_taken left line side bytes n none all;
+    taken_whole = λ t. never_short-front line side bytes n all;
+    waits = (refl, prompt_bytes left line side bytes n all);
+  }
+
+  -- a call that takes its member or is refused
+  pub was_whole : (old new : Option (List Passed)) (member : Sent) (r : Result (Unit {0}) E) → ((line : ℕ) (side : Side) (bytes : List ℕ) → member ≡ Bytes line side bytes → ⊥)
+      → Gains old (taking member r) new → WasOffered takes_whole old member (none_left r) new
+  was_whole old new member (Ok x) other told = λ left none. offered_whole old new left member (Ok x) other told none
+  was_whole old new member (Err e) other told = λ left after. record {
+    steps = [];
+    rest = left ++ member ∷ [];
+    told = told;
+    delivered = none_taken _;
+    taken_whole = λ t place h. h;
     waits = tt;
   }
 
@@ -355,19 +438,42 @@ module _ {E : Type 0} (takes_whole : Bool) where
   }
 
 -- one member more of the members that are offered
-pub so_far_next : (takes_whole same : Bool) (a b c : Option (List Passed)) (members left after more rest : List Sent) (member : Sent) → same ≡ takes_whole → more ≡ member ∷ rest
-    → SoFar takes_whole a members more b left → Offered {E = AllocError} same b left (left ++ member ∷ []) (Ok tt) c after → SoFar takes_whole a members rest c after
-so_far_next takes_whole same a b c members left after more rest member is next so_far now = record {
+pub so_far_next : (takes_whole same : Bool) (a b c : Option (List Passed)) (waited members left after more rest : List Sent) (member : Sent) → same ≡ takes_whole → more ≡ member ∷ rest
+    → SoFar takes_whole a waited members more b left → Offered {E = AllocError} same b left (left ++ member ∷ []) (Ok tt) c after → SoFar takes_whole a waited members rest c after
+so_far_next takes_whole same a b c waited members left after more rest member is next so_far now = record {
   before = so_far.before ++ member ∷ [];
   members_are = append_assoc so_far.before (member ∷ []) rest ∙ ap (λ (l : List Sent). so_far.before ++ l) (sym next) ∙ so_far.members_are;
-  offered = offered_next takes_whole a b c so_far.before left after member (Ok tt) so_far.offered (subst (λ (w : Bool). Offered {E = AllocError} w b left (left ++ member ∷ []) (Ok tt) c after) is now);
+  offered = offered_more takes_whole a b c waited so_far.before left after (member ∷ []) (Ok tt) so_far.offered (subst (λ (w : Bool). Offered {E = AllocError} w b left (left ++ member ∷ []) (Ok tt) c after) is now);
 }
 
 -- or cut short there
-pub so_far_cut : (takes_whole same : Bool) (a b c : Option (List Passed)) (members left after more rest gone : List Sent) (member : Sent) (r r' : Result (Unit {0}) AllocError) → same ≡ takes_whole
-    → more ≡ member ∷ rest → IsErr r' → SoFar takes_whole a members more b left → Offered same b left (left ++ member ∷ []) r c after → Offered takes_whole a [] members r' c gone
-so_far_cut takes_whole same a b c members left after more rest gone member r r' is next err so_far now =
-    subst (λ (l : List Sent). Offered takes_whole a [] l r' c gone)
+pub so_far_cut : (takes_whole same : Bool) (a b c : Option (List Passed)) (waited members left after more rest gone : List Sent) (member : Sent) (r r' : Result (Unit {0}) AllocError) → same ≡ takes_whole
+    → more ≡ member ∷ rest → IsErr r' → SoFar takes_whole a waited members more b left → Offered same b left (left ++ member ∷ []) r c after → Offered takes_whole a waited members r' c gone
+so_far_cut takes_whole same a b c waited members left after more rest gone member r r' is next err so_far now =
+    subst (λ (l : List Sent). Offered takes_whole a waited l r' c gone)
     (append_assoc so_far.before (member ∷ []) rest ∙ ap (λ (l : List Sent). so_far.before ++ l) (sym next) ∙ so_far.members_are)
-    (offered_cut takes_whole a c [] (so_far.before ++ member ∷ []) rest after gone r r' err
-    (offered_next takes_whole a b c so_far.before left after member r so_far.offered (subst (λ (w : Bool). Offered w b left (left ++ member ∷ []) r c after) is now)))
+    (offered_cut takes_whole a c waited (so_far.before ++ member ∷ []) rest after gone r r' err
+    (offered_more takes_whole a b c waited so_far.before left after (member ∷ []) r so_far.offered (subst (λ (w : Bool). Offered w b left (left ++ member ∷ []) r c after) is now)))
+
+-- all of them were offered
+pub so_far_all : (takes_whole : Bool) (a b : Option (List Passed)) (waited members more left : List Sent) → more ≡ [] → SoFar takes_whole a waited members more b left
+    → Offered {E = AllocError} takes_whole a waited members (Ok tt) b left
+so_far_all takes_whole a b waited members more left none so_far =
+    subst (λ (l : List Sent). Offered {E = AllocError} takes_whole a waited l (Ok tt) b left)
+    (sym (append-nil so_far.before) ∙ ap (λ (l : List Sent). so_far.before ++ l) (sym none) ∙ so_far.members_are) so_far.offered
+
+-- one more of a list of which a front was offered
+pub at_next : (takes_whole same : Bool) (a b c : Option (List Passed)) (members old new : List Sent) (at next : ℕ) → same ≡ takes_whole → at < length old → SoFar takes_whole a [] members (drop at old) b (take at old)
+    → Offered {E = AllocError} same b (take at old) (take (at + 1) old) (Ok tt) c (take next new) → drop next new ≡ drop (at + 1) old → SoFar takes_whole a [] members (drop next new) c (take next new)
+at_next takes_whole same a b c members old new at next is below so_far now rest =
+    let member = get_or old at (Connect 0) in
+    subst (λ (l : List Sent). SoFar takes_whole a [] members l c (take next new)) (sym rest)
+    (so_far_next takes_whole same a b c [] members (take at old) (take next new) (drop at old) (drop (at + 1) old) member is (drop_more old at (Connect 0) below) so_far
+    (subst (λ (l : List Sent). Offered {E = AllocError} same b (take at old) l (Ok tt) c (take next new)) (take_more old at (Connect 0) below) now))
+
+-- or cut short there
+pub at_cut : (takes_whole same : Bool) (a b c : Option (List Passed)) (members old after gone : List Sent) (at : ℕ) (r r' : Result (Unit {0}) AllocError) → same ≡ takes_whole → at < length old → IsErr r'
+    → SoFar takes_whole a [] members (drop at old) b (take at old) → Offered same b (take at old) (take (at + 1) old) r c after → Offered takes_whole a [] members r' c gone
+at_cut takes_whole same a b c members old after gone at r r' is below err so_far now =
+    so_far_cut takes_whole same a b c [] members (take at old) after (drop at old) (drop (at + 1) old) gone (get_or old at (Connect 0)) r r' is (drop_more old at (Connect 0) below) err so_far
+    (subst (λ (l : List Sent). Offered same b (take at old) l r c after) (take_more old at (Connect 0) below) now)

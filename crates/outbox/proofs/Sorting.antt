@@ -1,11 +1,11 @@
 -- What members in the order of their places put at a place, and what stays in that order.
-use Rattle.std.proofs.Common.{◌≡◌, ◌≢◌, ◌⊎◌, inl, inr, ℕ, zero, suc, ◌+◌, ◌<◌, ◌≤◌, Bool, true, false, List, [], ◌∷◌, ◌++◌, length, take, drop, get_or, refl, sym, ◌∙◌, ap, subst, arith, append_assoc}
+use Rattle.std.proofs.Common.{◌≡◌, ◌≢◌, ◌⊎◌, inl, inr, ℕ, zero, suc, ◌+◌, ◌<◌, ◌≤◌, Bool, true, false, List, [], ◌∷◌, ◌++◌, length, take, drop, set, get_or, refl, sym, ◌∙◌, ap, subst, arith, append_assoc}
 use Rattle.std.specs.List.{insert, remove, AllAdjacentBelow}
 use Rattle.std.specs.List.Sorted.{IsNonDecreasingBy, IsPartitionPoint}
 use Rattle.std.specs.Prelude.{if◌then◌else◌, not}
 use lib.Dec.{leb}
 use Rattle.std.proofs.lemmas.Bool.{leb-true, leb-false}
-use Rattle.std.proofs.lemmas.List.{append-nil}
+use Rattle.std.proofs.lemmas.List.{append-nil, take_all, drop_all, length-take-le}
 use Rattle.std.proofs.lemmas.List.Sorted.{IsNonDecreasingBy-from_all_adjacent}
 use Rattle.gate_io.specs.declared.event.Sent.{Sent}
 use Rattle.gate_io.specs.declared.event.Sent.TheVariants.{Connect, Bytes, Close, Log}
@@ -16,6 +16,7 @@ use Rattle.outbox.specs.Delivery.{IsFilled}
 use Rattle.outbox.specs.Joined.{are_one, as_one}
 use Rattle.outbox.specs.Places.{Mark, is_same_place, place_of, marks_in, marks_of, marks_at}
 use Rattle.outbox.specs.Sorted.{rank, rank_of, IsSortedFrom, IsSorted, AreUpTo, IsEndOf}
+use Rattle.outbox.specs.Taking.{rest_of}
 use Rattle.outbox.specs.declared.place.Place.{Place}
 use Rattle.outbox.specs.declared.place.Place.TheVariants.{Peer, Journal}
 use Rattle.outbox.proofs.Marks.{cases_place, marks_here, marks_elsewhere, append_not_empty, append_empty}
@@ -238,3 +239,63 @@ pub together : (place : Place) (next : Sent) (rest : List Sent) → IsSortedFrom
 together place next rest sorted other =
     let over : rank place < rank_of next = omega (arith, sorted.0, λ (same : rank_of next ≡ rank place). other (rank_apart (place_of next) place same)) in
     nothing_above place (rank_of next) (next ∷ rest) over (omega arith, sorted.1, sorted.2)
+
+-- what is left of a member is for its place
+pub rank_of-rest : (n : ℕ) (member : Sent) → rank_of (rest_of n member) ≡ rank_of member
+rank_of-rest n (Connect line) = refl
+rank_of-rest n (Bytes line side bytes) = refl
+rank_of-rest n (Close line side) = refl
+rank_of-rest n (Log level text) = refl
+
+-- a front of what is sorted is sorted
+pub sorted-take : (n least : ℕ) (sent : List Sent) → IsSortedFrom least sent → IsSortedFrom least (take n sent)
+sorted-take zero least sent sorted = tt
+sorted-take (suc n) least [] sorted = tt
+sorted-take (suc n) least (s ∷ sent) sorted = (sorted.0, sorted.1, sorted-take n (rank_of s) sent sorted.2)
+
+up_to_before : (least : ℕ) (sent : List Sent) (at : ℕ) (member : Sent) → at < length sent → member ≡ get_or sent at member → IsSortedFrom least sent → AreUpTo (rank_of member) (take at sent)
+up_to_before least sent zero member below is sorted = tt
+up_to_before least [] (suc at) member below is sorted = absurd (omega (arith, below))
+up_to_before least (s ∷ sent) (suc at) member below is sorted =
+    (least_at (rank_of s) sent at member (omega (arith, below)) is sorted.2, up_to_before (rank_of s) sent at member (omega (arith, below)) is sorted.2)
+
+-- those before a member are of its rank or a lower one
+pub ends_before : (sent : List Sent) (at : ℕ) (member : Sent) → at < length sent → member ≡ get_or sent at member → IsSorted sent → IsEndOf (rank_of member) at (take at sent)
+ends_before sent at member below is sorted =
+    let count : length (take at sent) ≡ at = length-take-le at sent (omega (arith, below)) in
+    record {
+      within = omega (arith, count);
+      up_to = subst (λ (l : List Sent). AreUpTo (rank_of member) l) (sym (take_all at (take at sent) (omega (arith, count)))) (up_to_before 0 sent at member below is sorted);
+      above = subst (λ (l : List Sent). IsSortedFrom (rank_of member + 1) l) (sym (drop_all at (take at sent) (omega (arith, count)))) tt;
+    }
+
+-- the order stays where a member goes
+pub sorted-remove : (least : ℕ) (sent : List Sent) (at : ℕ) → IsSortedFrom least sent → IsSortedFrom least (remove sent at)
+sorted-remove least [] zero sorted = tt
+sorted-remove least [] (suc at) sorted = tt
+sorted-remove least (s ∷ sent) zero sorted = sorted_from_lower least (rank_of s) sent sorted.0 sorted.2
+sorted-remove least (s ∷ sent) (suc at) sorted = (sorted.0, sorted.1, sorted-remove (rank_of s) sent at sorted.2)
+
+-- or where another for its place stands there
+pub sorted-set : (least : ℕ) (sent : List Sent) (at : ℕ) (member other : Sent) → at < length sent → member ≡ get_or sent at member → rank_of other ≡ rank_of member → IsFilled other → IsSortedFrom least sent
+    → IsSortedFrom least (set sent at other)
+sorted-set least [] at member other below is same filled sorted = absurd (omega (arith, below))
+sorted-set least (s ∷ sent) zero member other below is same filled sorted =
+    let equal : rank_of other ≡ rank_of s = same ∙ ap rank_of is in
+    (subst (λ (n : ℕ). least ≤ n) (sym equal) sorted.0, filled, subst (λ (n : ℕ). IsSortedFrom n sent) (sym equal) sorted.2)
+sorted-set least (s ∷ sent) (suc at) member other below is same filled sorted = (sorted.0, sorted.1, sorted-set (rank_of s) sent at member other (omega (arith, below)) is same filled sorted.2)
+
+-- what stands before and behind a member that goes
+pub take-remove : (sent : List Sent) (at : ℕ) → take at (remove sent at) ≡ take at sent
+take-remove sent zero = refl
+take-remove [] (suc at) = refl
+take-remove (s ∷ sent) (suc at) = ap (λ (l : List Sent). s ∷ l) (take-remove sent at)
+
+drop-remove_next : (sent : List Sent) (at : ℕ) → drop at (remove sent at) ≡ drop (suc at) sent
+drop-remove_next [] zero = refl
+drop-remove_next [] (suc at) = refl
+drop-remove_next (s ∷ sent) zero = refl
+drop-remove_next (s ∷ sent) (suc at) = drop-remove_next sent at
+
+pub drop-remove : (sent : List Sent) (at : ℕ) → drop at (remove sent at) ≡ drop (at + 1) sent
+drop-remove sent at = let next : suc at ≡ at + 1 = omega arith in drop-remove_next sent at ∙ ap (λ (n : ℕ). drop n sent) next

@@ -3,6 +3,7 @@ pub mod Cleared
 pub mod Joined
 pub mod Delivery
 pub mod Sorted
+pub mod Taking
 pub mod Turns
 pub mod Laws
 pub mod Examples

@@ -1,10 +1,10 @@
 // One member's offer to a world.
-ghost use Rattle.std.specs.Prelude.{◌≡◌, ◌≤◌, ◌<◌, [], ◌∷◌, ◌++◌, length, drop, IfOk, OnOk};
+ghost use Rattle.std.specs.Prelude.{◌≡◌, ◌≤◌, ◌<◌, ◌+◌, [], ◌∷◌, ◌++◌, length, take, drop, IfOk, IfSome, OnOk};
 ghost use Rattle.gate_io.specs.declared.event.Sent.TheVariants.{Bytes};
-ghost use Rattle.outbox.specs.Delivery.{Offered};
+ghost use Rattle.outbox.specs.Delivery.{Offered, IsFilled};
 ghost use Rattle.outbox.specs.Places.{marks_at, place_of};
-ghost use Rattle.outbox.specs.Sorted.{rank, rank_of, IsSorted, IsEndOf};
-ghost use Rattle.outbox.specs.declared.place.Place.TheVariants.{Peer};
+ghost use Rattle.outbox.specs.Sorted.{rank_of, IsSorted, IsEndOf, IsBehind};
+ghost use Rattle.outbox.specs.Taking.{rest_of, none_left, WasOffered};
 
 use crate::place::{place_of, rank_of};
 use crate::sorted::{end_near_last, put_behind, waits_before};
@@ -12,49 +12,91 @@ use gate_base::{LineNo, Octets, OutOfMemory};
 use gate_io::{Sent, Side, World};
 use std::alloc::Global;
 
-/// The bytes from a place on. Where that is all of them, they are moved.
-fn rest_of(
-    alloc: Global,
-    line: LineNo,
-    side: Side,
-    bytes: Octets,
-    n: usize,
-) -> Result<Sent, OutOfMemory>
-    requires { n < length bytes }
-    ensures { IfOk result (λ rest. rest ≡ Bytes line side (drop n bytes)) }
+/// Nothing is left of a member that was taken.
+fn none_left(taken: Result<(), OutOfMemory>) -> Result<Option<usize>, OutOfMemory>
+    ensures { result ≡ none_left taken }
 {
-    if n == 0 {
-        return Ok(Sent::Bytes { line, side, bytes });
+    match taken {
+        Ok(()) => Ok(None),
+        Err(e) => Err(e),
     }
-    let bytes = Octets::from_slice(alloc, &bytes.as_slice()[n..])?;
-    Ok(Sent::Bytes { line, side, bytes })
 }
 
-/// Offers bytes to a side of a line for which nothing is left.
-fn offer_bytes<W: World>(
+/// Offers a piece to a side of a line: how many of its bytes were taken, where that is not all of them.
+fn offer_piece<W: World>(
     alloc: Global,
     world: &mut W,
-    left: &mut Vec<Sent>,
-    end: usize,
     line: LineNo,
     side: Side,
-    bytes: Octets,
-) -> Result<(), OutOfMemory>
-    requires sorted { IsSorted left.old.items }
-    requires end { IsEndOf (rank (Peer line side)) end left.old.items }
-    requires none { marks_at (Peer line side) left.old.items ≡ [] }
+    bytes: &[u8],
+) -> Result<Option<usize>, OutOfMemory>
     ensures last { W.last world.new ≡ W.last world.old }
     ensures nature { W.nature world.new ≡ W.nature world.old }
     ensures faults { W.faults world.old ≤ W.faults world.new }
-    ensures offered { Offered (W.nature world.old).takes_whole (W.trace world.old) left.old.items (left.old.items ++ Bytes line side bytes ∷ []) result (W.trace world.new) left.new.items }
-    ensures sorted { OnOk result (IsSorted left.new.items) }
+    ensures offered { WasOffered (W.nature world.old).takes_whole (W.trace world.old) (Bytes line side bytes.now) result (W.trace world.new) }
+    ensures some { IfOk result (λ taken. IfSome taken (λ n. n < length bytes.now)) }
 {
-    let n = world.send(alloc, line, side, bytes.as_slice())?;
+    let n = world.send(alloc, line, side, bytes)?;
     if n < bytes.len() {
-        let rest = rest_of(alloc, line, side, bytes, n)?;
-        put_behind(left, end, rest)?;
+        Ok(Some(n))
+    } else {
+        Ok(None)
+    }
+}
+
+/// Offers a member to a world: how many bytes of a piece were taken, where that is not all of them.
+pub fn offer_member<W: World>(
+    alloc: Global,
+    world: &mut W,
+    member: &Sent,
+) -> Result<Option<usize>, OutOfMemory>
+    ensures last { W.last world.new ≡ W.last world.old }
+    ensures nature { W.nature world.new ≡ W.nature world.old }
+    ensures faults { W.faults world.old ≤ W.faults world.new }
+    ensures offered { WasOffered (W.nature world.old).takes_whole (W.trace world.old) member.now result (W.trace world.new) }
+    ensures some { IfOk result (λ taken. IfSome taken (λ n. IsFilled (rest_of n member.now))) }
+{
+    match member {
+        Sent::Connect { line } => none_left(world.connect(alloc, *line)),
+        Sent::Bytes { line, side, bytes } => {
+            offer_piece(alloc, world, *line, *side, bytes.as_slice())
+        }
+        Sent::Close { line, side } => none_left(world.close(alloc, *line, *side)),
+        Sent::Log { level, text } => none_left(world.log(alloc, *level, text.as_slice())),
+    }
+}
+
+/// Takes so many bytes off the front of a piece. Where that is none, it stays where it is.
+pub fn shorten(alloc: Global, member: &mut Sent, n: usize) -> Result<(), OutOfMemory>
+    requires { IsFilled (rest_of n member.old) }
+    ensures { OnOk result (member.new ≡ rest_of n member.old) }
+{
+    if n == 0 {
+        return Ok(());
+    }
+    if let Sent::Bytes { bytes, .. } = member {
+        *bytes = Octets::from_slice(alloc, &bytes.as_slice()[n..])?;
     }
     Ok(())
+}
+
+/// Puts what is left of a member behind what waits.
+fn put_rest(
+    alloc: Global,
+    left: &mut Vec<Sent>,
+    end: usize,
+    member: Sent,
+    n: usize,
+) -> Result<(), OutOfMemory>
+    requires sorted { IsSorted left.old.items }
+    requires end { IsEndOf (rank_of member) end left.old.items }
+    requires some { IsFilled (rest_of n member) }
+    ensures behind { OnOk result (IsBehind left.old.items (rest_of n member) left.new.items) }
+    ensures sorted { OnOk result (IsSorted left.new.items) }
+{
+    let mut member = member;
+    shorten(alloc, &mut member, n)?;
+    put_behind(left, end, member)
 }
 
 /// Offers a member to a place for which nothing is left.
@@ -74,13 +116,9 @@ fn offer_first<W: World>(
     ensures offered { Offered (W.nature world.old).takes_whole (W.trace world.old) left.old.items (left.old.items ++ member ∷ []) result (W.trace world.new) left.new.items }
     ensures sorted { OnOk result (IsSorted left.new.items) }
 {
-    match member {
-        Sent::Connect { line } => world.connect(alloc, line),
-        Sent::Bytes { line, side, bytes } => {
-            offer_bytes(alloc, world, left, end, line, side, bytes)
-        }
-        Sent::Close { line, side } => world.close(alloc, line, side),
-        Sent::Log { level, text } => world.log(alloc, level, text.as_slice()),
+    match offer_member(alloc, world, &member)? {
+        Some(n) => put_rest(alloc, left, end, member, n),
+        None => Ok(()),
     }
 }
 
@@ -105,4 +143,76 @@ pub fn offer<W: World>(
     } else {
         offer_first(alloc, world, left, end, member)
     }
+}
+
+/// Offers the member at a place of the list, in which those before it wait on, unless one of them waits for its place. What is left of
+/// it stays there, and the place is then that of the next member.
+fn offer_at<W: World>(
+    alloc: Global,
+    world: &mut W,
+    members: &mut Vec<Sent>,
+    at: &mut usize,
+) -> Result<(), OutOfMemory>
+    requires within { at.old < length members.old.items }
+    requires sorted { IsSorted members.old.items }
+    ensures last { W.last world.new ≡ W.last world.old }
+    ensures nature { W.nature world.new ≡ W.nature world.old }
+    ensures faults { W.faults world.old ≤ W.faults world.new }
+    ensures offered { Offered (W.nature world.old).takes_whole (W.trace world.old) (take at.old members.old.items) (take (at.old + 1) members.old.items) result (W.trace world.new) (take at.new members.new.items) }
+    ensures rest { OnOk result (drop at.new members.new.items ≡ drop (at.old + 1) members.old.items) }
+    ensures sorted { OnOk result (IsSorted members.new.items) }
+{
+    let here = *at;
+    if waits_before(&members[..here], here, &place_of(&members[here])) {
+        *at = here + 1;
+        return Ok(());
+    }
+    match offer_member(alloc, world, &members[here])? {
+        Some(n) => {
+            shorten(alloc, &mut members[here], n)?;
+            *at = here + 1;
+        }
+        None => drop(members.remove(here)),
+    }
+    Ok(())
+}
+
+/// Offers what waits, where it waits: a member is offered unless one before it waits for its place. What is left stays where it is.
+pub fn offer_waiting<W: World>(
+    alloc: Global,
+    world: &mut W,
+    members: &mut Vec<Sent>,
+) -> Result<(), OutOfMemory>
+    requires { IsSorted members.old.items }
+    ensures last { W.last world.new ≡ W.last world.old }
+    ensures nature { W.nature world.new ≡ W.nature world.old }
+    ensures faults { W.faults world.old ≤ W.faults world.new }
+    ensures offered { Offered (W.nature world.old).takes_whole (W.trace world.old) [] members.old.items result (W.trace world.new) members.new.items }
+    ensures sorted { OnOk result (IsSorted members.new.items) }
+{
+    let mut at = 0;
+    while at < members.len() {
+        offer_at(alloc, world, members, &mut at)?;
+    }
+    Ok(())
+}
+
+/// Offers members to the world behind what is left already. What is left is sorted.
+pub fn offer_all<W: World>(
+    alloc: Global,
+    world: &mut W,
+    left: &mut Vec<Sent>,
+    members: Vec<Sent>,
+) -> Result<(), OutOfMemory>
+    requires { IsSorted left.old.items }
+    ensures last { W.last world.new ≡ W.last world.old }
+    ensures nature { W.nature world.new ≡ W.nature world.old }
+    ensures faults { W.faults world.old ≤ W.faults world.new }
+    ensures offered { Offered (W.nature world.old).takes_whole (W.trace world.old) left.old.items (left.old.items ++ members.items) result (W.trace world.new) left.new.items }
+    ensures sorted { OnOk result (IsSorted left.new.items) }
+{
+    for member in members {
+        offer(alloc, world, left, member)?;
+    }
+    Ok(())
 }

@@ -9,7 +9,7 @@ ghost use Rattle.outbox.specs.Sorted.{rank, IsSorted, IsSortedFrom};
 
 use crate::joining::joined;
 use crate::member::{bytes_for, is_for};
-use crate::offer::offer;
+use crate::offer::{offer_all, offer_waiting};
 use crate::place::{Place, ended_by, rank, rank_of};
 use crate::sorted::end_of;
 use gate_base::{LineNo, OutOfMemory};
@@ -96,8 +96,7 @@ impl Outbox {
     {
         self.clear(what);
         let sent = joined(alloc, sent)?;
-        self.append(sent)?;
-        self.hand_over(alloc, world)
+        self.hand_over_with(alloc, world, sent)
     }
 
     /// Offers all that waits, in order: a member is offered unless one before it waits on its side of its line. What the world
@@ -109,11 +108,25 @@ impl Outbox {
         ensures offered { Offered (W.nature world.old).takes_whole (W.trace world.old) [] self.old result (W.trace world.new) self.new }
         ensures err { OnErr result (self.new ≡ []) }
     {
-        let waiting = mem::replace(&mut self.waiting, Vec::new(alloc));
-        let mut left = Vec::new(alloc);
-        for member in waiting {
-            offer(alloc, world, &mut left, member)?;
-        }
+        self.hand_over_with(alloc, world, Vec::new(alloc))
+    }
+
+    /// Offers all that waits, and these behind it. What is left by a world is offered where it waits.
+    fn hand_over_with<W: World>(
+        &mut self,
+        alloc: Global,
+        world: &mut W,
+        sent: Vec<Sent>,
+    ) -> Result<(), OutOfMemory>
+        ensures last { W.last world.new ≡ W.last world.old }
+        ensures nature { W.nature world.new ≡ W.nature world.old }
+        ensures faults { W.faults world.old ≤ W.faults world.new }
+        ensures offered { Offered (W.nature world.old).takes_whole (W.trace world.old) [] (self.old ++ sent.items) result (W.trace world.new) self.new }
+        ensures err { OnErr result (self.new ≡ []) }
+    {
+        let mut left = mem::replace(&mut self.waiting, Vec::new(alloc));
+        offer_again(alloc, world, &mut left, self.is_sorted)?;
+        offer_all(alloc, world, &mut left, sent)?;
         self.waiting = left;
         self.is_sorted = true;
         Ok(())
@@ -133,6 +146,27 @@ impl Outbox {
         let first = end_of(&self.waiting, rank(&place) - 1);
         is_full_in(&self.waiting[first..], &place, true)
     }
+}
+
+/// Offers what waits, in order. What is left is sorted.
+fn offer_again<W: World>(
+    alloc: Global,
+    world: &mut W,
+    waiting: &mut Vec<Sent>,
+    is_sorted: bool,
+) -> Result<(), OutOfMemory>
+    requires { OnTrue is_sorted (IsSorted waiting.old.items) }
+    ensures last { W.last world.new ≡ W.last world.old }
+    ensures nature { W.nature world.new ≡ W.nature world.old }
+    ensures faults { W.faults world.old ≤ W.faults world.new }
+    ensures offered { Offered (W.nature world.old).takes_whole (W.trace world.old) [] waiting.old.items result (W.trace world.new) waiting.new.items }
+    ensures sorted { OnOk result (IsSorted waiting.new.items) }
+{
+    if is_sorted {
+        return offer_waiting(alloc, world, waiting);
+    }
+    let members = mem::replace(waiting, Vec::new(alloc));
+    offer_all(alloc, world, waiting, members)
 }
 
 /// Whether at least 65,536 bytes of these wait for a place. Sorted ones, of which none is before it, are read as far as they are for it.

@@ -3,6 +3,3 @@ use Rattle.outbox.proofs.outbox.Outbox.deliver.Goals as goal
 
 pub returns-in_err-sent-clause-offered : goal.returns-in_err-sent-clause-offered
 returns-in_err-sent-clause-offered g c = offered_early _ _ _ _ _ _ c.from_residual.ensures.0
-
-pub returns-in_err-append-clause-offered : goal.returns-in_err-append-clause-offered
-returns-in_err-append-clause-offered g c = offered_early _ _ _ _ _ _ c.from_residual-in_err-append.ensures.0
