@@ -1,0 +1,4 @@
+mod Kept
+mod Tables
+mod Entries
+mod Whole

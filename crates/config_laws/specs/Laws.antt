@@ -1,0 +1,31 @@
+-- The laws of what a configuration's text means.
+use Rattle.std.specs.Prelude.{◌≡◌, ℕ, ◌<◌, ◌≤◌, List, true, false, length, codes, Some, None, Ok, Err}
+use Rattle.std.specs.Str.{is_utf8}
+use Rattle.toml.specs.Data.{Members}
+use Rattle.toml.specs.Parse.{parse_document}
+use Rattle.gate_config.specs.Given.{Given}
+use Rattle.gate_config.specs.Kept.{IsKept}
+use Rattle.read_config.specs.Whole.{config_of}
+use Rattle.config_laws.specs.Says.{Says}
+
+-- what a text of a configuration is
+pub record IsWritten (text : List ℕ) (g : Given) : Type 0 where
+  -- at most 1 MiB
+  pub short : length text ≤ 1048576
+  pub utf8 : is_utf8 text ≡ true
+  pub document : Members
+  pub toml : parse_document text ≡ Some document
+  -- each of its keys is listed, and each value of the configuration is that of its key
+  pub says : Says g document
+  -- the numbers are in their bounds, names differ, no route has a filter twice or more than 16, and the router takes each path behind those before it
+  pub kept : IsKept g.workers g.vms g.plugins g.routes
+
+-- a text that gives a configuration says that configuration
+abbrev pub TextsSayTheirConfiguration : Type 0
+TextsSayTheirConfiguration = (text : List ℕ) (g : Given) → config_of text ≡ Ok g → IsWritten text g
+
+-- what is refused before any table is looked at
+pub record FirstRefusals : Type 0 where
+  pub too_long : (text : List ℕ) → 1048576 < length text → config_of text ≡ Err (7, codes "-")
+  pub no_utf8 : (text : List ℕ) → length text ≤ 1048576 → is_utf8 text ≡ false → config_of text ≡ Err (1, codes "-")
+  pub no_toml : (text : List ℕ) → length text ≤ 1048576 → is_utf8 text ≡ true → parse_document text ≡ None → config_of text ≡ Err (1, codes "-")
