@@ -12,5 +12,7 @@ pub mod Death
 pub mod Parts
 pub mod Passage
 pub mod Waiting
+mod Starts
+mod Leaving
 pub mod Backlog
 mod Ended

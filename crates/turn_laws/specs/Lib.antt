@@ -13,5 +13,7 @@ pub mod Death
 pub mod Parts
 pub mod Passage
 pub mod Waiting
+pub mod Starts
+pub mod Leaving
 pub mod Backlog
 pub mod Ended

@@ -13,6 +13,8 @@ ghost use Rattle.turn_laws.specs.Death.{DeathExample};
 ghost use Rattle.turn_laws.specs.Parts.{PartsExample};
 ghost use Rattle.turn_laws.specs.Passage.{PassageExample};
 ghost use Rattle.turn_laws.specs.Waiting.{WaitingExample};
+ghost use Rattle.turn_laws.specs.Starts.{OneVmExample, TwoVmsExample, RefusedExample};
+ghost use Rattle.turn_laws.specs.Leaving.{GoneExample, StopExample};
 ghost use Rattle.turn_laws.specs.Backlog.{RoomExamples, TextExamples, LineExamples, BacklogIsBounded, UnreadIsBounded, ReaderIsBounded};
 
 /// Whatever the machines are, a turn is a function of what the shared stores reply.
@@ -59,6 +61,21 @@ pub fn worked_passage()
 /// A context that answers 0 to `done` is told of its end once it waits no longer, and a callback asks the shared store.
 pub fn worked_waiting()
     ensures { WaitingExample }
+{}
+
+/// VMs start at the first event, and not again: two plug-ins of one VM, which is told of its start once, and then each root of its configuration;
+/// three on two VMs, beside one that no plug-in names; and a VM that answers 0, after which nothing more is called of it.
+pub fn worked_starts()
+    ensures one_vm { OneVmExample }
+    ensures two_vms { TwoVmsExample }
+    ensures refused { RefusedExample }
+{}
+
+/// A client is gone in the middle of an exchange: its contexts are done with in the order of the filters, what was held is dropped, the connection
+/// to the server is closed, and nothing is sent down. At Stop nothing is done.
+pub fn worked_leaving()
+    ensures gone { GoneExample }
+    ensures stop { StopExample }
 {}
 
 /// The requests and the responses that worked turns begin with are read as their heads.
