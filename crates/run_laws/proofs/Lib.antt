@@ -1,0 +1,7 @@
+mod Runs
+mod Counts
+mod Rooms
+mod Callbacks
+mod Steps
+mod Homes
+mod Denying

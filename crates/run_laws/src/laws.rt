@@ -1,0 +1,54 @@
+// What is run of the machines of a worker. The functions have nothing to do: their contracts are the laws.
+ghost use Rattle.run_laws.specs.Denying.{DenyingExample};
+ghost use Rattle.run_laws.specs.Homes.{BeginsAtHome, StaysAtHome, LiveVmsKeepMachines, RunsOverLives};
+ghost use Rattle.run_laws.specs.Runs.{RunsWhatIsAsked};
+
+use vm_laws::{
+    callbacks_are_apart, callbacks_change_their_own, lives_keep_places, made_vms_are_in_place,
+};
+
+/// A callback of a VM whose machine lives, where there are contexts for each slot, is the run of its machine and nothing else: of the function that its module
+/// exports for the callback, with the whole fuel of a run. It is not passed over.
+pub fn runs_what_is_asked()
+    ensures { RunsWhatIsAsked }
+{}
+
+/// A worker as it is made of a configuration, with the machines of that, has contexts for each of its slots and for no VM more, and each machine stands at the
+/// number of its contexts.
+pub fn begins_at_home()
+    ensures { BeginsAtHome }
+{
+    made_vms_are_in_place();
+}
+
+/// So it stays step by step and turn by turn, whatever modules do, stores reply and lines bring.
+pub fn stays_at_home()
+    ensures { StaysAtHome }
+{
+    callbacks_are_apart();
+    callbacks_change_their_own();
+}
+
+/// A VM that had its machine has it for as long as its worker does not hold it for dead.
+pub fn live_vms_keep_machines()
+    ensures { LiveVmsKeepMachines }
+{
+    callbacks_are_apart();
+    callbacks_change_their_own();
+}
+
+/// Over the whole life of a worker that was made of a configuration, each callback of a VM that was made with its machine and that is not held for dead is run,
+/// and where the module exports it, of the function that it exports.
+pub fn runs_over_lives()
+    ensures { RunsOverLives }
+{
+    callbacks_are_apart();
+    callbacks_change_their_own();
+    made_vms_are_in_place();
+    lives_keep_places();
+}
+
+/// Two modules that are written out, run as a worker asks them: one answers 403 to the head of a request, and one stops it.
+pub fn worked_runs()
+    ensures { DenyingExample }
+{}

@@ -1,0 +1,9 @@
+//! Laws of what is run: a callback that a worker asks of a live machine is its run.
+#![tactic(auto)]
+
+mod laws;
+
+pub use laws::{
+    begins_at_home, live_vms_keep_machines, runs_over_lives, runs_what_is_asked, stays_at_home,
+    worked_runs,
+};
