@@ -1,43 +1,56 @@
--- Words of the random stream, one after another.
-use Rattle.std.proofs.Common.{◌≡◌, ◌<◌, ◌≤◌, ℕ, zero, suc, ◌+◌, ◌-◌, ◌*◌, ◌%◌, ◌^◌, List, [], ◌++◌, length, refl, ap, ◌∙◌, arith}
+-- The bytes with which a generator fills some room are those of its words in order.
+use Rattle.std.proofs.Common.{◌≡◌, ◌<◌, ◌≤◌, ℕ, zero, suc, ◌+◌, ◌*◌, ◌/◌, ◌%◌, ◌^◌, List, [], ◌++◌, take, length, refl, sym, ap, ◌∙◌, arith}
 use Rattle.std.specs.Int.{w32, to_le_bytes}
-use Rattle.std.proofs.lemmas.List.{append_assoc}
+use Rattle.std.proofs.lemmas.List.{append_assoc, append-nil, length-take}
 use Rattle.std.proofs.Math.Nat.{mod-eq_of_lt}
+use Rattle.rand_core.specs.Steps.{word_bytes, fill_via_u32}
 use Rattle.rand_chacha.specs.ChaCha.{ChaCha, key_of, word_at, next_word}
-use Rattle.abi_services.specs.Wasi.{words_from}
+use Rattle.abi_services.specs.Wasi.{words_from, random_bytes}
 
--- k of so many words were put, and the generator stands behind them
-pub record IsAt (seed : List ℕ) (place count : ℕ) (rng : ChaCha) (out : List ℕ) (k : ℕ) : Type 0 where
-  pub rng_is : rng ≡ record { key = key_of seed; stream = 0; word_pos = place + k }
-  pub words : out ++ words_from (count - k) seed (place + k) ≡ words_from count seed place
+abbrev standing : List ℕ → ℕ → ChaCha
+standing seed place = record { key = key_of seed; stream = 0; word_pos = place }
 
-module _ (seed : List ℕ) (place count : ℕ) (few : count ≤ 65536) (near : place < 2 ^ 64) where
-  pub start : (rng : ChaCha) → rng ≡ record { key = key_of seed; stream = 0; word_pos = place % 2 ^ 68 } → IsAt seed place count rng [] 0
-  start rng is = record {
-    rng_is = is ∙ ap (λ p. record { key = key_of seed; stream = 0; word_pos = p }) (mod-eq_of_lt {n = place} {m = 2 ^ 68} (omega arith) ∙ (let e : place ≡ place + 0 = omega arith in e));
-    words = λ i. words_from ((let e : count - 0 ≡ count = omega arith in e) i) seed ((let e : place + 0 ≡ place = omega arith in e) i);
-  }
+-- the words up to one, and that one
+one_more : (seed : List ℕ) (k place : ℕ) → words_from (suc k) seed place ≡ words_from k seed place ++ to_le_bytes w32 (word_at 4 (key_of seed) 0 (place + k))
+one_more seed zero place =
+    append-nil (to_le_bytes w32 (word_at 4 (key_of seed) 0 place))
+    ∙ ap (λ p. to_le_bytes w32 (word_at 4 (key_of seed) 0 p)) (let e : place ≡ place + zero = omega arith in e)
+one_more seed (suc k) place =
+    ap (λ bs. to_le_bytes w32 (word_at 4 (key_of seed) 0 place) ++ bs) (one_more seed k (place + 1))
+    ∙ sym (append_assoc (to_le_bytes w32 (word_at 4 (key_of seed) 0 place)) (words_from k seed (place + 1)) (to_le_bytes w32 (word_at 4 (key_of seed) 0 (place + 1 + k))))
+    ∙ ap (λ p. (to_le_bytes w32 (word_at 4 (key_of seed) 0 place) ++ words_from k seed (place + 1)) ++ to_le_bytes w32 (word_at 4 (key_of seed) 0 p)) (let e : place + 1 + k ≡ place + suc k = omega arith in e)
 
-  next_place : (k : ℕ) → k < count → (place + k + 1) % 2 ^ 68 ≡ place + (k + 1)
-  next_place k within = mod-eq_of_lt {n = place + k + 1} {m = 2 ^ 68} (omega arith) ∙ (let e : place + k + 1 ≡ place + (k + 1) = omega arith in e)
+module _ (seed : List ℕ) (place : ℕ) (near : place < 2 ^ 64) where
+  abbrev Steps : Type 0
+  Steps = List ℕ × ChaCha
 
-  pub step : (rng rng' : ChaCha) (out out' : List ℕ) (k word : ℕ) → k < count → IsAt seed place count rng out k
-      → (word, rng') ≡ next_word 4 rng → out' ≡ out ++ to_le_bytes w32 word → IsAt seed place count rng' out' (k + 1)
-  step rng rng' out out' k word within at next more =
-      let now : next_word 4 rng ≡ (word_at 4 (key_of seed) 0 (place + k), record { key = key_of seed; stream = 0; word_pos = (place + k + 1) % 2 ^ 68 }) = ap (next_word 4) at.rng_is in
-      let both = next ∙ now in
-      let word_is : word ≡ word_at 4 (key_of seed) 0 (place + k) = ap (λ (p : ℕ × ChaCha). p.0) both in
-      let rng_now : rng' ≡ record { key = key_of seed; stream = 0; word_pos = (place + k + 1) % 2 ^ 68 } = ap (λ (p : ℕ × ChaCha). p.1) both in
-      record {
-        rng_is = rng_now ∙ ap (λ p. record { key = key_of seed; stream = 0; word_pos = p }) (next_place k within);
-        words =
-            ap (λ xs. xs ++ words_from (count - (k + 1)) seed (place + (k + 1))) (more ∙ ap (λ w. out ++ to_le_bytes w32 w) word_is)
-            ∙ append_assoc out (to_le_bytes w32 (word_at 4 (key_of seed) 0 (place + k))) (words_from (count - (k + 1)) seed (place + (k + 1)))
-            ∙ ap (λ n. out ++ (to_le_bytes w32 (word_at 4 (key_of seed) 0 (place + k)) ++ words_from (count - (k + 1)) seed n)) (let e : place + (k + 1) ≡ place + k + 1 = omega arith in e)
-            ∙ ap (λ n. out ++ words_from n seed (place + k)) (let e : suc (count - (k + 1)) ≡ count - k = omega arith in e)
-            ∙ at.words;
-      }
+  abbrev put_on : Steps → Steps
+  put_on before = (before.0 ++ to_le_bytes w32 (next_word 4 before.1).0, (next_word 4 before.1).1)
 
-pub words_length : (n : ℕ) (seed : List ℕ) (place : ℕ) → length (words_from n seed place) ≡ 4 * n
+  -- the bytes of so many words, and where the generator stands then
+  walked : (k : ℕ) → k ≤ 65536 → word_bytes (to_le_bytes w32) (next_word 4) k (standing seed place) ≡ (words_from k seed place, standing seed (place + k))
+  unfolding word_bytes
+  walked zero few = ap (λ p. ([], standing seed p)) (let e : place ≡ place + zero = omega arith in e)
+  walked (suc k) few =
+      let less : k ≤ 65536 = omega arith in
+      ap put_on (walked k less)
+      ∙ (λ i. (sym (one_more seed k place) i, standing seed (mod-eq_of_lt {n = place + k + 1} {m = 2 ^ 68} (omega arith) i)))
+      ∙ ap (λ p. (words_from (suc k) seed place, standing seed p)) (let e : place + k + 1 ≡ place + suc k = omega arith in e)
+
+  pub filled : (len n : ℕ) (rng rng' : ChaCha) (bytes : List ℕ) → len ≤ 65536 → rng ≡ standing seed (place % 2 ^ 68) → n ≡ len → (bytes, rng') ≡ fill_via_u32 (next_word 4) n rng → bytes ≡ random_bytes len seed place
+  filled len n rng rng' bytes few stands same fill =
+      let here : rng ≡ standing seed place = stands ∙ ap (standing seed) (mod-eq_of_lt {n = place} {m = 2 ^ 68} (omega arith)) in
+      let words : (len + 3) / 4 ≤ 65536 = omega arith in
+      ap (λ (p : Steps). p.0) fill
+      ∙ ap (λ m. take m (word_bytes (to_le_bytes w32) (next_word 4) ((m + 3) / 4) rng).0) same
+      ∙ ap (λ g. take len (word_bytes (to_le_bytes w32) (next_word 4) ((len + 3) / 4) g).0) here
+      ∙ ap (λ (p : Steps). take len p.0) (walked ((len + 3) / 4) words)
+
+words_length : (n : ℕ) (seed : List ℕ) (place : ℕ) → length (words_from n seed place) ≡ 4 * n
 words_length zero seed place = refl
 words_length (suc n) seed place = let e = words_length n seed (place + 1) in omega arith
+
+pub random_length : (len : ℕ) (seed : List ℕ) (place : ℕ) → length (random_bytes len seed place) ≡ len
+random_length len seed place =
+    let e = words_length ((len + 3) / 4) seed place in
+    omega (arith, length-take len (words_from ((len + 3) / 4) seed place))

@@ -5,7 +5,7 @@ ghost use Rattle.contexts.specs.Reached.{seen, put};
 ghost use Rattle.abi_model.specs.Calls.{does, told, Ends, RestsAfterCall, AreShort};
 ghost use Rattle.abi_model.specs.Table.{Are, wasi_row_of};
 ghost use Rattle.abi_model.specs.declared.table.WasiCall.TheVariants as call;
-ghost use Rattle.abi_services.specs.Wasi.{words_from as words_at, random_bytes as random_at, randomly, own_clock_time_get, own_nothing, own_no_sizes, own_random_get};
+ghost use Rattle.abi_services.specs.Wasi.{random_bytes as random_at, randomly, own_clock_time_get, own_nothing, own_no_sizes, own_random_get};
 
 use abi_model::{
     Gives, HostEnd, Inputs, LocalCall, Outcome, Param, WasiCall, answer, given, local_call,
@@ -16,26 +16,11 @@ use contexts::Contexts;
 use gate_base::{Octets, OutOfMemory, VmNo};
 use rand_chacha::ChaCha8Rng;
 use rand_core::SeedableRng;
-use rand_core::utils::NextWord;
+use rand_core::utils::fill_bytes_via_u32;
 use std::alloc::Global;
 
 /// How many random bytes a call may ask for.
 const RANDOM_LIMIT: u64 = 65_536;
-
-/// So many words of the random stream from a place on, the lowest byte of each first.
-fn words_from(alloc: Global, seed: [u8; 32], place: u64, count: u64) -> Result<Octets, OutOfMemory>
-    requires { count ≤ 65536 }
-    ensures { IfOk result (λ o. o ≡ words_at count seed place) }
-{
-    let mut rng = ChaCha8Rng::from_seed(seed);
-    rng.set_word_pos(place as u128);
-    let mut out = Octets::new(alloc);
-    for _k in 0..count {
-        let word = rng.next_word();
-        out.extend_from_slice(&word.to_le_bytes())?;
-    }
-    Ok(out)
-}
 
 /// So many bytes of the random stream from a place on.
 fn random_bytes(alloc: Global, seed: [u8; 32], place: u64, len: u64) -> Result<Octets, OutOfMemory>
@@ -43,9 +28,11 @@ fn random_bytes(alloc: Global, seed: [u8; 32], place: u64, len: u64) -> Result<O
     ensures bytes { IfOk result (λ o. o ≡ random_at len seed place) }
     ensures short { IfOk result (λ o. length o ≤ 65536) }
 {
-    let words = words_from(alloc, seed, place, (len + 3) / 4)?;
-    let many = (len as usize).min(words.len());
-    Octets::from_slice(alloc, &words.as_slice()[..many])
+    let mut rng = ChaCha8Rng::from_seed(seed);
+    rng.set_word_pos(place as u128);
+    let mut bytes = Vec::from_elem(alloc, 0, len as usize)?;
+    fill_bytes_via_u32(&mut rng, bytes.as_mut_slice());
+    Ok(Octets::from_vec(bytes))
 }
 
 /// Gives random bytes.
