@@ -26,7 +26,7 @@ use Rattle.worker.specs.Turn.{Outcome, emptied, facing, turn}
 use Rattle.run_laws.specs.Homes.{made, IsHome, BeginsAtHome, StaysAtHome, HasMachine, LiveVmsKeepMachines, IsRun, RunsOverLives}
 use Rattle.run_laws.specs.Runs.{IsLive, HasFunction}
 use Rattle.run_laws.proofs.Runs.{runs_what_is_asked}
-use Rattle.run_laws.proofs.Steps.{Gone, Fine, FineBoth, step_fine, turn_fine}
+use Rattle.run_laws.proofs.Steps.{as_heard, Gone, Fine, FineBoth, step_fine, turn_fine}
 
 -- ---- as it is made
 
@@ -61,21 +61,23 @@ module _ (apart : CallbacksAreApart) (change : CallbacksChangeTheirOwn) (stay : 
   goes_fine plan _ _ (no_step b) is = is
   goes_fine plan _ _ (one_step b mid e ms reaches later) is =
       goes_fine plan mid e later
-      (all_reached (FineBoth apart change stay m Had) ms (step calling plan (next_of b.room) b.host b.room) mid (step_fine apart change stay m Had plan (next_of b.room) b.host b.room is) reaches)
+      (all_reached (FineBoth apart change stay m Had) ms (step calling plan (next_of b.room) b.host b.room) mid
+      (as_heard (FineBoth apart change stay m Had) (step calling plan (next_of b.room) b.host b.room) (step_fine apart change stay m Had plan (next_of b.room) b.host b.room is)) reaches)
   goes_fine plan _ _ (next_turn b e event later) is = goes_fine plan (both b.host (facing plan event (emptied b.room))) e later is
 
   lives_fine : (plan : Plan) (b e : Both Vms) → Lives plan b e → Fine m Had b.host b.room → Fine m Had e.host e.room
   lives_fine plan _ _ (no_turn b) is = is
   lives_fine plan _ _ (one_turn b e event ms out reaches later) is =
       lives_fine plan out.state e later
-      (all_reached (λ (o : Outcome Vms). FineBoth apart change stay m Had o.state) ms (turn calling plan b event) out (turn_fine apart change stay m Had plan b event is) reaches)
+      (all_reached (λ (o : Outcome Vms). FineBoth apart change stay m Had o.state) ms (turn calling plan b event) out
+      (as_heard (λ (o : Outcome Vms). FineBoth apart change stay m Had o.state) (turn calling plan b event) (turn_fine apart change stay m Had plan b event is)) reaches)
 
 -- ---- what follows
 
-abbrev Nobody : ℕ → Type 0
+abbrev pub Nobody : ℕ → Type 0
 Nobody vm = ⊥
 
-fine_of : (Had : ℕ → Type 0) (b : Both Vms) → IsHome b → ((vm : ℕ) → Gone Had b.host vm → ⊥) → Fine (length b.host.slots) Had b.host b.room
+pub fine_of : (Had : ℕ → Type 0) (b : Both Vms) → IsHome b → ((vm : ℕ) → Gone Had b.host vm → ⊥) → Fine (length b.host.slots) Had b.host b.room
 fine_of Had b home none = ((home.contexts, λ vm gone. absurd (none vm gone)), refl, home.placed)
 
 home_of : (m : ℕ) (Had : ℕ → Type 0) (e : Both Vms) → Fine m Had e.host e.room → IsHome e

@@ -5,3 +5,4 @@ mod Callbacks
 mod Steps
 mod Homes
 mod Denying
+mod Bare

@@ -1,16 +1,19 @@
 -- Each step and each turn leaves the machines and the contexts at home, and a machine that is gone is of a VM that is held for dead.
 use Rattle.std.proofs.Common.{◌≡◌, inl, inr, ⊎_elim, ℕ, zero, suc, ◌==◌, Bool, true, false, not, ◌||◌, List, [], ◌∷◌, length, refl, ◌∙◌, sym, subst}
 use Rattle.std.specs.Prelude.{Option, None, Some, nat_lt, slice_get}
-use Rattle.course.proofs.Holds.{AllEnds, all_then}
-use Rattle.course.specs.Course.{Course, ends, runs_then}
+use Rattle.course.proofs.Holds as holds
+use Rattle.course.specs.Course.{Course, ends, asks, measures, hears, then_do, runs_then}
 use Rattle.course.specs.declared.host.Callback.{Callback}
 use Rattle.course.specs.declared.host.Callback.TheVariants as callbacks
 use Rattle.course.specs.declared.host.Death.TheVariants as deaths
 use Rattle.exchange.specs.declared.types.Hub.{Hub}
 use Rattle.gate_io.specs.Events.{is_stop}
 use Rattle.gate_io.specs.declared.event.Event.{Event}
+use Rattle.course.specs.Heard.{Heard}
 use Rattle.http1_model.specs.Unread.{Reading}
 use Rattle.store_model.specs.Program.{Program, done, ask, measure}
+use Rattle.store_model.specs.declared.call.Reply.{Reply}
+use Rattle.store_model.specs.declared.metric.MetricReply.{MetricReply}
 use Rattle.vm_host.specs.Slots.{slot_in, calling}
 use Rattle.vm_host.specs.declared.slots.Vms.{Vms}
 use Rattle.vm_laws.specs.Apart as programs
@@ -36,6 +39,26 @@ use Rattle.worker.specs.Turn.{Outcome, comes_to, facing, most_steps, turn_by, tu
 use Rattle.run_laws.proofs.Callbacks.{LeavesAll, leaves_all}
 use Rattle.run_laws.proofs.Counts.{pick}
 use Rattle.run_laws.proofs.Rooms.{Stands, IsDeath, to_answered, KeepsThen, nothing_keeps, unless_zero_keeps, done_keeps, deletes_keeps, acts_on_keeps, InThird, in_asks_at, to_lines, StandsThere, to_root, to_stream, StandsDue, to_tick, to_notice, to_heard, to_quietly, to_ends_at, to_begun, to_frees}
+
+-- so is each end of a course, whatever is replied and whatever is heard, also what no text spells
+abbrev pub AllEnds : {A : Type 0} → (A → Type 0) → Course A → Type 0
+AllEnds P (ends a) = P a
+AllEnds P (asks vm call k) = (r : Reply) → AllEnds P (k r)
+AllEnds P (measures vm asked k) = (r : MetricReply) → AllEnds P (k r)
+AllEnds P (hears t k) = (h : Heard) → AllEnds P (k h)
+
+all_then : {A B : Type 0} (P : A → Type 0) (Q : B → Type 0) (p : Course A) (f : A → Course B) → AllEnds P p → ((a : A) → P a → AllEnds Q (f a)) → AllEnds Q (then_do p f)
+all_then P Q (ends a) f all next = next a all
+all_then P Q (asks vm call k) f all next = λ r. all_then P Q (k r) f (all r) next
+all_then P Q (measures vm asked k) f all next = λ r. all_then P Q (k r) f (all r) next
+all_then P Q (hears t k) f all next = λ h. all_then P Q (k h) f (all h) next
+
+-- so it is of what is heard of texts
+pub as_heard : {A : Type 0} (P : A → Type 0) (p : Course A) → AllEnds P p → holds.AllEnds P p
+as_heard P (ends a) all = all
+as_heard P (asks vm call k) all = λ r. as_heard P (k r) (all r)
+as_heard P (measures vm asked k) all = λ r. as_heard P (k r) (all r)
+as_heard P (hears t k) all = λ h is. as_heard P (k h) (all h)
 
 -- behind a program all of whose ends are so
 runs_so : {A B : Type 0} (P : A → Type 0) (Q : B → Type 0) (p : Program A) (f : A → Course B) → programs.AllEnds P p → ((a : A) → P a → AllEnds Q (f a)) → AllEnds Q (runs_then p f)
@@ -147,7 +170,7 @@ module _ (apart : CallbacksAreApart) (change : CallbacksChangeTheirOwn) (stay : 
     where
       by_reading : (o : Option Reading) → Keeps (reads_in plan r o host room)
       by_reading None = is
-      by_reading (Some reading) = λ h heard_so. (to_heard m (Gone Had host) plan r h (record room { reading = None }) is.0, is.1, is.2)
+      by_reading (Some reading) = λ h. (to_heard m (Gone Had host) plan r h (record room { reading = None }) is.0, is.1, is.2)
 
   pub step_fine : (plan : Plan) (nx : Next) (host : Vms) (room : Room) → Fine m Had host room → Keeps (step calling plan nx host room)
   step_fine plan next.Read host room is = reads_fine plan room.reading host room is

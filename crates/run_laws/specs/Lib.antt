@@ -1,3 +1,4 @@
 pub mod Runs
 pub mod Homes
 pub mod Denying
+pub mod Bare

@@ -1,10 +1,12 @@
 // What is run of the machines of a worker. The functions have nothing to do: their contracts are the laws.
+ghost use Rattle.run_laws.specs.Bare.{RunsAllItAsks};
 ghost use Rattle.run_laws.specs.Denying.{DenyingExample};
 ghost use Rattle.run_laws.specs.Homes.{BeginsAtHome, StaysAtHome, LiveVmsKeepMachines, RunsOverLives};
 ghost use Rattle.run_laws.specs.Runs.{RunsWhatIsAsked};
 
 use vm_laws::{
     callbacks_are_apart, callbacks_change_their_own, lives_keep_places, made_vms_are_in_place,
+    nothing_runs,
 };
 
 /// A callback of a VM whose machine lives, where there are contexts for each slot, is the run of its machine and nothing else: of the function that its module
@@ -46,6 +48,17 @@ pub fn runs_over_lives()
     callbacks_change_their_own();
     made_vms_are_in_place();
     lives_keep_places();
+}
+
+/// A worker whose machines are at home takes the same steps and turns as one that runs each machine that it asks, with no test in front of the run: in no step is
+/// a machine that stands in its slot passed over. So it is in every state of a worker that was made of a configuration.
+pub fn runs_all_it_asks()
+    ensures { RunsAllItAsks }
+{
+    nothing_runs();
+    callbacks_are_apart();
+    callbacks_change_their_own();
+    made_vms_are_in_place();
 }
 
 /// Two modules that are written out, run as a worker asks them: one answers 403 to the head of a request, and one stops it.
