@@ -1,0 +1,4 @@
+pub mod Fronts
+pub mod Measures
+pub mod Sends
+pub mod Readings

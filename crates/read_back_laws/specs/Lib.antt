@@ -1,0 +1,3 @@
+pub mod OneRequest
+pub mod Sent
+pub mod Laws

@@ -1,0 +1,46 @@
+-- What a reader makes of the bytes of one request, and of a front of them.
+use Rattle.std.specs.Prelude.{◌≡◌, suc, ℕ, Bool, false, List, [], ◌∷◌, ◌++◌, map, None}
+use Rattle.h1_write.specs.Lines.{OutRequest, out_wire, in_items}
+use Rattle.h1_write.specs.Requests.{IsReadableRequest}
+use Rattle.h1_write.specs.Round.{Ending, body_bytes, Suits, stop_behind, IsReadAs}
+use Rattle.http1_model.specs.Framing.{Framing, no_body, by_length, by_chunks, by_close}
+use Rattle.http1_model.specs.Messages.{Item, request, interim, response, octet, end, trailers, Placed, Stop, head, Messages}
+use Rattle.http1_model.specs.ReadingLaws.{item_at}
+
+-- how many requests begin among items that are read
+abbrev pub begun : List Item → ℕ
+begun [] = 0
+begun (request h ∷ items) = suc (begun items)
+begun (interim h ∷ items) = begun items
+begun (response h ∷ items) = begun items
+begun (octet b ∷ items) = begun items
+begun (end ∷ items) = begun items
+begun (trailers fields ∷ items) = begun items
+
+-- the bytes of bodies among them, in order
+abbrev pub octets_in : List Item → List ℕ
+octets_in [] = []
+octets_in (request h ∷ items) = octets_in items
+octets_in (interim h ∷ items) = octets_in items
+octets_in (response h ∷ items) = octets_in items
+octets_in (octet b ∷ items) = b ∷ octets_in items
+octets_in (end ∷ items) = octets_in items
+octets_in (trailers fields ∷ items) = octets_in items
+
+-- of a body in these pieces, the bytes that its framing carries: none, where there is no body
+abbrev pub carried_by : Framing → List (List ℕ) → Ending → List ℕ
+carried_by no_body pieces ending = []
+carried_by (by_length n) pieces ending = body_bytes pieces ending
+carried_by by_chunks pieces ending = body_bytes pieces ending
+carried_by by_close pieces ending = body_bytes pieces ending
+
+-- READ AS ONE REQUEST, of bytes that are a front of those of a request: whatever a reader of requests makes of them, whether or not more may come, are a front
+-- of the items of that request, among which one request begins. And where they are all its bytes, it reads exactly those items, which use up all of them.
+pub record IsReadAsOne (q : OutRequest) (bytes : List ℕ) : Type 0 where
+  pub front : (ended : Bool) (items : List Placed) (why : Stop) → Messages bytes ended None items why → (behind : List Item) × (map item_at items ++ behind ≡ in_items q)
+  pub whole : bytes ≡ out_wire q → (ended : Bool) → IsReadAs bytes ended None head (in_items q) (stop_behind ended None)
+  pub one : begun (in_items q) ≡ 1
+  pub carried : octets_in (in_items q) ≡ carried_by q.framing q.pieces q.ending
+
+abbrev pub ReadAsOne : Type 0
+ReadAsOne = (q : OutRequest) (sent more : List ℕ) → sent ++ more ≡ out_wire q → IsReadableRequest q.framing q.head → Suits q.framing q.pieces q.ending false [] → IsReadAsOne q sent

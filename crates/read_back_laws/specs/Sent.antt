@@ -1,0 +1,124 @@
+-- What an exchange sent up, with any filters, is read as one request.
+use Rattle.std.specs.Prelude.{◌≡◌, ◌≤◌, ◌+◌, ◌||◌, ℕ, Bool, true, false, List, [], ◌∷◌, map, length, Option, None, Some}
+use Rattle.std.specs.List.{flat_map, list_all}
+use Rattle.exchange.specs.declared.types.Exchange.{Exchange}
+use Rattle.exchange_laws.specs.Lives.{is_over}
+use Rattle.exchange_laws.specs.Traffic.{Traffic, opens, byte, closes, IsFront}
+use Rattle.h1_write.specs.Laws.{is_short}
+use Rattle.h1_write.specs.Lines.{OutRequest, out_wire}
+use Rattle.h1_write.specs.Requests.{method_of, path_of, own_target}
+use Rattle.h1_write.specs.Round.{FitsSection, last_trailers, body_items}
+use Rattle.header_maps.specs.Headers.{Headers}
+use Rattle.header_maps.specs.Kept.{IsHeaders}
+use Rattle.header_maps.specs.declared.kind.ListKind.TheVariants as kinds
+use Rattle.http1_model.specs.Framing.{Framing, no_body, by_length, by_chunks, by_close, OutItem, items_wire}
+use Rattle.http1_model.specs.Framing as out
+use Rattle.http1_model.specs.Head.{Head}
+use Rattle.http1_model.specs.Target.{GivesTarget}
+use Rattle.worker.specs.Plan.{Plan}
+use Rattle.worker.specs.declared.room.Room.{Room}
+use Rattle.line_laws.specs.Requests.{is_whole, AreEmpty, HasRoom, IsMadeOf, IsOpen, Part, AreParts, traffic_of}
+use Rattle.read_back_laws.specs.OneRequest.{IsReadAsOne}
+
+-- the bytes of traffic
+abbrev pub bytes_in : List Traffic → List ℕ
+bytes_in [] = []
+bytes_in (opens ∷ t) = bytes_in t
+bytes_in (byte b ∷ t) = b ∷ bytes_in t
+bytes_in (closes ∷ t) = bytes_in t
+
+-- ---- what is asked of what filters made
+
+-- THE FIELDS OF A HEAD, as filters left them, make a head that a reader takes in: they are the list of a request (as each map of headers is by its type),
+-- its path is a target by itself, and the head has room in a reader.
+pub record IsTakenIn (fields : Headers) (q : OutRequest) : Type 0 where
+  pub kind : fields.kind ≡ kinds.Request
+  pub list : IsHeaders fields
+  pub target : GivesTarget (method_of q.head) (path_of q.head) (own_target (path_of q.head))
+  pub room : HasRoom q
+
+-- the pieces among items of a body
+abbrev pub pieces_in : List OutItem → List (List ℕ)
+pieces_in [] = []
+pieces_in (out.head h ∷ items) = pieces_in items
+pieces_in (out.interim h ∷ items) = pieces_in items
+pieces_in (out.piece bytes last ∷ items) = bytes ∷ pieces_in items
+pieces_in (out.trailers fields ∷ items) = pieces_in items
+
+abbrev pub sizes : List (List ℕ) → ℕ
+sizes [] = 0
+sizes (bytes ∷ pieces) = length bytes + sizes pieces
+
+-- the last item of a body is among them
+abbrev pub is_ended : List OutItem → Bool
+is_ended [] = false
+is_ended (out.head h ∷ items) = is_ended items
+is_ended (out.interim h ∷ items) = is_ended items
+is_ended (out.piece bytes last ∷ items) = last || is_ended items
+is_ended (out.trailers fields ∷ items) = true
+
+-- trailers have room in a reader's section, and are such as every list keeps
+abbrev pub TrailersFit : List OutItem → Type 0
+TrailersFit [] = Unit {0}
+TrailersFit (out.head h ∷ items) = TrailersFit items
+TrailersFit (out.interim h ∷ items) = TrailersFit items
+TrailersFit (out.piece bytes last ∷ items) = TrailersFit items
+TrailersFit (out.trailers fields ∷ items) = FitsSection (last_trailers fields) × TrailersFit items
+
+-- THE ITEMS OF A BODY, as far as they went, are such as its framing carries: not more bytes than are told, and as many once its last item is there; or pieces
+-- whose size a line of the coding has room for.
+abbrev pub Carries : Framing → List OutItem → Type 0
+Carries no_body items = Unit {0}
+Carries (by_length n) items = (sizes (pieces_in items) ≤ n) × (is_ended items ≡ true → sizes (pieces_in items) ≡ n)
+Carries by_chunks items = (list_all is_short (pieces_in items) ≡ true) × TrailersFit items
+Carries by_close items = ⊥
+
+-- ---- what an exchange sent up
+
+-- ONE CONNECTION AND A FRONT OF ONE REQUEST, as the gateway frames it and with its tail, which is read as that request alone: whatever a reader of requests
+-- makes of the bytes that went, whether more may come or the connection is closed there, is a front of the items of this one request.
+pub record IsReadFront (h : Head) (first : Exchange) (t : List Traffic) : Type 0 where
+  pub request : OutRequest
+  pub made : IsMadeOf h first request
+  pub items : List OutItem
+  pub front : IsFront items (body_items request.pieces request.ending)
+  pub is : t ≡ opens ∷ map byte (items_wire request.framing (out.head request.head ∷ items))
+  pub bytes : IsFront (bytes_in t) (out_wire request)
+  pub read : IsTakenIn made.fields request → Carries request.framing items → IsReadAsOne request (bytes_in t)
+
+pub data IsRead (h : Head) (first : Exchange) (t : List Traffic) : Type 0 where
+  nothing_went : t ≡ [] → IsRead h first t
+  one_went : IsReadFront h first t → IsRead h first t
+
+-- ALL OF IT went: a reader takes it as that one request, its end at the last byte, and nothing is left over
+pub record IsReadWhole (h : Head) (first : Exchange) (t : List Traffic) : Type 0 where
+  pub request : OutRequest
+  pub made : IsMadeOf h first request
+  pub is : t ≡ opens ∷ map byte (out_wire request)
+  pub bytes : bytes_in t ≡ out_wire request
+  pub read : IsTakenIn made.fields request → Carries request.framing (body_items request.pieces request.ending) → IsReadAsOne request (bytes_in t)
+
+-- ---- exchange by exchange
+
+abbrev pub AreRead : List Part → Type 0
+AreRead [] = Unit {0}
+AreRead (p ∷ parts) = IsRead p.head p.first p.went × AreRead parts
+
+-- ONE EXCHANGE BEHIND THE OTHER, each over a connection of its own, and each read as one request
+pub record EachIsRead (plan : Plan) (total : List Traffic) : Type 0 where
+  pub parts : List Part
+  pub are : AreParts plan parts
+  pub is : total ≡ flat_map traffic_of parts
+  pub read : AreRead parts
+
+-- and the one that is open
+pub record OpenIsRead (plan : Plan) (n : ℕ) (room : Room) (x : Exchange) (total : List Traffic) : Type 0 where
+  pub on : IsOpen plan n room x total
+  pub before : EachIsRead plan on.before
+  pub read : IsRead on.head on.first on.went
+  -- where it was neither answered nor has ended, its last item came, and no stage has anything of it: all of it went
+  pub all : is_over x ≡ false → AreEmpty x.request → is_whole on.came ≡ true → IsReadWhole on.head on.first on.went
+
+abbrev pub ReadBy : Plan → ℕ → Room → Option Exchange → List Traffic → Type 0
+ReadBy plan n room None total = EachIsRead plan total
+ReadBy plan n room (Some x) total = OpenIsRead plan n room x total

@@ -1,0 +1,29 @@
+// What goes up is read as one request. The functions have nothing to do: their contracts are the laws.
+ghost use Rattle.read_back_laws.specs.Laws.{RequestsAreReadAsOne, RequestsOfTheProductAreReadAsOne, RequestsOfWorkersAreReadAsOne};
+ghost use Rattle.read_back_laws.specs.OneRequest.{ReadAsOne};
+
+use store_model::Shared;
+
+/// A front of the bytes of a request that a reader takes in is read as a front of that request's items, whether more may come or none does; and all of them as
+/// exactly those items, which use up all of them. One request begins among them, and the bytes of its body are those of its pieces, joined.
+pub fn fronts_are_read_as_one()
+    ensures { ReadAsOne }
+{}
+
+/// Over the turns of a new worker, whatever filters do: what each exchange sends up on its connection is a front of the bytes of one request, which the gateway
+/// frames. Where the fields that filters left in its head are a list of a request with a path that is a target, in a head that a reader has room for, and its
+/// body, as far as it went, is such as the framing carries, a reader makes of those bytes a front of the items of that one request, whether the connection is
+/// closed there or not: so no server sees two requests where one was meant. Where all of it went, the reader takes exactly that request and has nothing left.
+pub fn requests_are_read_as_one<H>()
+    ensures { RequestsAreReadAsOne H }
+{}
+
+/// So it is of a worker that was made of a configuration, as `Worker::new` makes it, by the whole turns that its code takes, over shared stores.
+pub fn requests_of_workers_are_read_as_one<H, S: Shared>()
+    ensures { RequestsOfWorkersAreReadAsOne H S S.performs }
+{}
+
+/// And of one with the machines of its VMs, whatever their modules do.
+pub fn requests_of_the_product_are_read_as_one<S: Shared>()
+    ensures { RequestsOfTheProductAreReadAsOne S S.performs }
+{}
