@@ -2,3 +2,5 @@ pub mod Fronts
 pub mod Measures
 pub mod Sends
 pub mod Readings
+pub mod Worked
+pub mod Running

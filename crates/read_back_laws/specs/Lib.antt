@@ -1,3 +1,5 @@
 pub mod OneRequest
 pub mod Sent
 pub mod Laws
+pub mod Examples
+pub mod Runs

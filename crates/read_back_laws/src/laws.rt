@@ -1,6 +1,8 @@
 // What goes up is read as one request. The functions have nothing to do: their contracts are the laws.
+ghost use Rattle.read_back_laws.specs.Examples.{FilterExample, RefusedReadings};
 ghost use Rattle.read_back_laws.specs.Laws.{RequestsAreReadAsOne, RequestsOfTheProductAreReadAsOne, RequestsOfWorkersAreReadAsOne};
 ghost use Rattle.read_back_laws.specs.OneRequest.{ReadAsOne};
+ghost use Rattle.read_back_laws.specs.Runs.{FilterRun};
 
 use store_model::Shared;
 
@@ -26,4 +28,17 @@ pub fn requests_of_workers_are_read_as_one<H, S: Shared>()
 /// And of one with the machines of its VMs, whatever their modules do.
 pub fn requests_of_the_product_are_read_as_one<S: Shared>()
     ensures { RequestsOfTheProductAreReadAsOne S S.performs }
+{}
+
+/// A filter that changes the path, the fields and the body of a POST makes a request that a reader takes as one; and what the definitions refuse: two
+/// requests, a value with an end of line in it, and a body of other than the bytes that are told.
+pub fn worked_readings()
+    ensures filter { FilterExample }
+    ensures refused { RefusedReadings }
+{}
+
+/// There are turns of a worker in which a filter sets another path and other fields, and writes three bytes in place of the two of a body; and what goes up
+/// in them is one connection and the bytes of one request in chunks.
+pub fn worked_turns()
+    ensures { FilterRun }
 {}

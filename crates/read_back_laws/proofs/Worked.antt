@@ -1,0 +1,186 @@
+-- The worked request of a filter, and what is refused, by computation.
+use Rattle.std.proofs.Common.{◌≡◌, ℕ, ◌+◌, Bool, true, false, List, [], ◌∷◌, ◌++◌, map, length, None, codes, refl, ap, ◌∙◌, sym, subst, arith, lit≤}
+use Rattle.std.proofs.lemmas.List.{append-nil}
+use Rattle.std.specs.Fmt.{digits}
+use Rattle.http_header.specs.Token as token
+use Rattle.http_uri.proofs.OnLiterals.{http_uri_on_literals}
+use Rattle.httparse.proofs.OnLiterals.{httparse_on_literals}
+use Rattle.header_maps.specs.Kept.{IsHeaders}
+use Rattle.h1_head.proofs.Origin.{plain_reads}
+use Rattle.h1_write.specs.Lines.{OutRequest, out_wire}
+use Rattle.h1_write.specs.Requests.{IsReadableRequest, own_target}
+use Rattle.h1_write.specs.Round.{body_items}
+use Rattle.h1_write.proofs.Lines.{request_line_read_back}
+use Rattle.h1_write.proofs.Requests.{request_head_read_back}
+use Rattle.http1_model.specs.Examples.{worked_wire}
+use Rattle.http1_model.specs.Framing.{by_length, by_chunks, head_wire}
+use Rattle.http1_model.specs.Messages.{Item, request, interim, response, octet, end, trailers, head, rest, SpellsFrom}
+use Rattle.http1_model.specs.ReadingLaws.{item_at}
+use Rattle.http1_model.specs.Target.{GivesTarget}
+use Rattle.http1_model.specs.Head.{found, SpellsStep}
+use Rattle.http1_model.proofs.Examples.{slash_target}
+use Rattle.http1_model.proofs.Readings.{step_stays}
+use Rattle.line_laws.specs.Examples.{worked_request}
+use Rattle.line_laws.specs.Requests.{IsJudged, HasRoom}
+use Rattle.read_back_laws.specs.Examples.{asked_head, asked_text, posted, made_fields, made_request, made_wire, FilterExample, RefusedReadings}
+use Rattle.read_back_laws.specs.OneRequest.{begun, IsReadAsOne}
+use Rattle.read_back_laws.specs.Sent.{IsTakenIn, Carries}
+use Rattle.read_back_laws.proofs.Fronts.{read_as_one}
+use Rattle.read_back_laws.proofs.Measures.{IsUpTail, tail_is}
+use Rattle.read_back_laws.proofs.Sends.{whole_suits}
+
+-- ---- what comes
+
+asked_list : IsHeaders asked_head.fields
+unfolding httparse_on_literals token.is_token_byte
+asked_list = record {
+  shape = (record { name_is = refl; value = refl }, (record { name_is = refl; value = refl }, (record { name_is = refl; value = refl }, (record { name_is = refl; value = refl }, record { kept = refl; few = lit≤ tt }))));
+  short = refl;
+}
+
+asked_readable : IsReadableRequest (by_length 2) asked_head
+unfolding httparse_on_literals token.is_token_byte digits
+asked_readable = record {
+  kind = refl;
+  list = asked_list;
+  target = slash_target (codes "POST");
+  tail = record { kept = refl; plain = refl };
+  no_host = refl;
+  framed = refl;
+  told = lit≤ tt;
+  few = lit≤ tt;
+  short = lit≤ tt;
+}
+
+posted_judged : IsJudged posted
+posted_judged = record { text = head_wire (by_length 2) asked_head; used = length (head_wire (by_length 2) asked_head); spells = request_head_read_back (by_length 2) asked_head asked_readable }
+
+asked_is : head_wire (by_length 2) asked_head ≡ asked_text
+unfolding httparse_on_literals token.is_token_byte digits
+asked_is = refl
+
+-- and so it is with its body behind it
+pub posted_spelled : SpellsStep (asked_text ++ codes "ab") (found posted 47)
+posted_spelled =
+    step_stays None asked_text (codes "ab") (found posted 47)
+    (subst (λ (t : List ℕ). SpellsStep t (found posted (length t))) asked_is (request_head_read_back (by_length 2) asked_head asked_readable)) (λ e. cc)
+
+-- ---- what goes up
+
+made_list : IsHeaders made_fields
+unfolding httparse_on_literals token.is_token_byte
+made_list = record {
+  shape = (record { name_is = refl; value = refl }, (record { name_is = refl; value = refl }, (record { name_is = refl; value = refl }, (record { name_is = refl; value = refl }, record { kept = refl; few = lit≤ tt }))));
+  short = refl;
+}
+
+made_target : GivesTarget (codes "POST") (codes "/b?c=1") (own_target (codes "/b?c=1"))
+unfolding httparse_on_literals http_uri_on_literals
+made_target = record { scheme = None; authority = None; kept = codes "/b?c=1"; reads = plain_reads (codes "/b?c=1") (record { value = refl; path = refl; query = refl; short = lit≤ tt }); gives = refl }
+
+made_room : HasRoom made_request
+unfolding httparse_on_literals token.is_token_byte digits
+made_room = record { few = lit≤ tt; short = lit≤ tt }
+
+made_taken : IsTakenIn made_fields made_request
+unfolding httparse_on_literals
+made_taken = record { kind = refl; list = made_list; target = made_target; room = made_room }
+
+made_carries : Carries by_chunks (body_items made_request.pieces made_request.ending)
+made_carries = (refl, tt)
+
+made_readable : IsReadableRequest by_chunks made_request.head
+made_readable =
+    let t : IsUpTail made_request.head.tail.pairs = tail_is 1 in
+    record {
+      kind = refl;
+      list = made_list;
+      target = made_taken.target;
+      tail = t.tail;
+      no_host = t.no_host;
+      framed = refl;
+      told = tt;
+      few = made_room.few;
+      short = made_room.short;
+    }
+
+made_is : out_wire made_request ≡ made_wire
+unfolding httparse_on_literals token.is_token_byte digits
+made_is = refl
+
+made_read : IsReadAsOne made_request made_wire
+made_read = read_as_one made_request made_wire [] (append-nil made_wire ∙ sym made_is) made_readable (whole_suits by_chunks made_request.pieces made_request.ending made_carries)
+
+pub filter_example : FilterExample
+filter_example = record {
+  text = asked_is;
+  judged = posted_judged;
+  filtered = refl;
+  made = record { fields = made_fields; head = refl; framing = refl };
+  fields = refl;
+  taken = made_taken;
+  carries = made_carries;
+  wire = made_is;
+  read = made_read;
+}
+
+-- ---- what is refused
+
+begun_join : (a b : List Item) → begun (a ++ b) ≡ begun a + begun b
+begun_join [] b = omega arith
+begun_join (request h ∷ a) b = omega (arith, begun_join a b)
+begun_join (interim h ∷ a) b = begun_join a b
+begun_join (response h ∷ a) b = begun_join a b
+begun_join (octet c ∷ a) b = begun_join a b
+begun_join (end ∷ a) b = begun_join a b
+begun_join (trailers fields ∷ a) b = begun_join a b
+
+worked_list : IsHeaders worked_request.head.fields
+unfolding httparse_on_literals token.is_token_byte
+worked_list = record {
+  shape = (record { name_is = refl; value = refl }, (record { name_is = refl; value = refl }, (record { name_is = refl; value = refl }, (record { name_is = refl; value = refl }, record { kept = refl; few = lit≤ tt }))));
+  short = refl;
+}
+
+worked_readable : IsReadableRequest worked_request.framing worked_request.head
+unfolding httparse_on_literals token.is_token_byte
+worked_readable = record {
+  kind = refl;
+  list = worked_list;
+  target = slash_target (codes "GET");
+  tail = (tail_is 1).tail;
+  no_host = (tail_is 1).no_host;
+  framed = refl;
+  told = tt;
+  few = lit≤ tt;
+  short = lit≤ tt;
+}
+
+worked_is : out_wire worked_request ≡ worked_wire
+unfolding httparse_on_literals token.is_token_byte
+worked_is = refl
+
+two_worked : List OutRequest
+two_worked = worked_request ∷ worked_request ∷ []
+
+two_refused : (q : OutRequest) → IsReadAsOne q (worked_wire ++ worked_wire) → ⊥
+unfolding two_worked
+two_refused q one =
+    let r = request_line_read_back two_worked false (worked_readable, tt, (worked_readable, tt, tt)) in
+    let same : out_wire worked_request ++ (out_wire worked_request ++ []) ≡ worked_wire ++ worked_wire = (λ i. worked_is i ++ (append-nil (worked_is i)) i) in
+    let f = one.front false r.placed rest (subst (λ t. SpellsFrom t false None head 0 r.placed rest) same r.spelled) in
+    let both : begun (map item_at r.placed) ≡ 2 = ap begun r.are in
+    omega (arith, both, begun_join (map item_at r.placed) f.0, ap begun f.1, one.one)
+
+no_truth : {A : Type 0} → ◌≡◌ {A = Bool} false true → A
+no_truth is = absurd (cc)
+
+pub refused_readings : RefusedReadings
+unfolding httparse_on_literals token.is_token_byte
+refused_readings = record {
+  two = two_refused;
+  smuggled = λ h. no_truth h.shape.1.1.1.1.kept;
+  longer = λ c. omega (arith, c.0);
+  longer_front = λ c. omega (arith, c.0);
+  shorter = λ c. omega (arith, c.1 refl);
+}

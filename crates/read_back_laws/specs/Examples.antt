@@ -1,0 +1,90 @@
+-- Worked: a filter that changes the path, the fields and the body of a request; and what is refused.
+use Rattle.std.specs.Prelude.{◌≡◌, ℕ, true, false, List, [], ◌∷◌, ◌++◌, Some, codes}
+use Rattle.exchange.specs.Heads.{sent_head, up_tail}
+use Rattle.exchange.specs.declared.types.Exchange.{Exchange}
+use Rattle.h1_write.specs.Lines.{OutRequest, out_wire}
+use Rattle.h1_write.specs.Requests.{request_read}
+use Rattle.h1_write.specs.Round.{last_bytes, body_items}
+use Rattle.header_maps.specs.Headers.{Headers}
+use Rattle.header_maps.specs.Kept.{IsHeaders}
+use Rattle.header_maps.specs.Operations.{request_headers}
+use Rattle.header_maps.specs.declared.kind.ListKind.TheVariants as kinds
+use Rattle.http1_model.specs.Examples.{worked_wire}
+use Rattle.http1_model.specs.Framing.{by_length, by_chunks, head_wire, piece}
+use Rattle.http1_model.specs.Head.{Head}
+use Rattle.httparse.specs.Ascii.{crlf_bytes}
+use Rattle.worker.specs.Plan.{Plan}
+use Rattle.worker.specs.Steps.{exchange_for}
+use Rattle.line_laws.specs.Requests.{IsJudged, IsMadeOf}
+use Rattle.read_back_laws.specs.OneRequest.{IsReadAsOne}
+use Rattle.read_back_laws.specs.Sent.{IsTakenIn, Carries}
+
+abbrev line : List ℕ → List ℕ
+line text = text ++ crlf_bytes
+
+-- ---- what comes: a POST with two bytes
+
+abbrev pub asked_head : Head
+asked_head = sent_head (request_headers (codes "POST") (codes "http") (codes "a") (codes "/")) []
+
+abbrev pub asked_text : List ℕ
+asked_text = line (codes "POST / HTTP/1.1") ++ line (codes "host: a") ++ line (codes "content-length: 2") ++ line []
+
+-- the head that is read of it
+abbrev pub posted : Head
+posted = request_read (by_length 2) asked_head
+
+-- ---- what filters make of it: another path, another field, and three bytes, which are cut in two
+
+abbrev pub made_fields : Headers
+made_fields = record {
+  kind = kinds.Request;
+  pairs = (codes ":method", codes "POST") ∷ (codes ":scheme", codes "http") ∷ (codes ":authority", codes "a") ∷ (codes ":path", codes "/b?c=1") ∷ (codes "x-b", codes "2") ∷ [];
+}
+
+abbrev pub made_request : OutRequest
+made_request = record { framing = by_chunks; head = sent_head made_fields (up_tail 1); pieces = codes "XY" ∷ []; ending = last_bytes (codes "Z") }
+
+abbrev pub made_head_wire : List ℕ
+made_head_wire =
+    line (codes "POST /b?c=1 HTTP/1.1") ++ line (codes "host: a") ++ line (codes "x-b: 2") ++ line (codes "transfer-encoding: chunked") ++ line (codes "via: 1.1 wasmgate")
+    ++ line (codes "connection: close") ++ line []
+
+abbrev pub made_wire : List ℕ
+made_wire = made_head_wire ++ line (codes "2") ++ line (codes "XY") ++ line (codes "1") ++ line (codes "Z") ++ line (codes "0") ++ line []
+
+-- one route with one filter, which filters the bodies of requests
+abbrev pub filter_plan : Plan
+filter_plan = record {
+  routes = record { path = codes "/"; filters = 0 ∷ [] } ∷ [];
+  plugins = record { name = codes "p"; vm = 0; configuration = []; fail_open = false } ∷ [];
+  vms = 1;
+  deadline = 0;
+  bodies = record { requests = true; responses = false } ∷ [];
+  registers = false ∷ [];
+}
+
+abbrev pub first : Exchange
+first = exchange_for filter_plan 0 0 [] posted (Some 0)
+
+-- WHAT IS ASKED OF FILTERS IS MET by those: the head that came was judged, the request is one that an exchange with a filter makes of it, its fields make a
+-- head that a reader takes in, and its body is such as chunks carry; so a reader takes its bytes as that one request.
+pub record FilterExample : Type 0 where
+  pub text : head_wire (by_length 2) asked_head ≡ asked_text
+  pub judged : IsJudged posted
+  pub filtered : first.filters_requests ≡ true
+  pub made : IsMadeOf posted first made_request
+  pub fields : made.fields ≡ made_fields
+  pub taken : IsTakenIn made_fields made_request
+  pub carries : Carries by_chunks (body_items made_request.pieces made_request.ending)
+  pub wire : out_wire made_request ≡ made_wire
+  pub read : IsReadAsOne made_request made_wire
+
+-- WHAT IS REFUSED: two requests are no one; a value with an end of line and another field behind it is none of a list of headers; and three bytes are no body
+-- of two, whether or not they are its last.
+pub record RefusedReadings : Type 0 where
+  pub two : (q : OutRequest) → IsReadAsOne q (worked_wire ++ worked_wire) → ⊥
+  pub smuggled : IsHeaders (record made_fields { pairs = (codes ":method", codes "POST") ∷ (codes ":scheme", codes "http") ∷ (codes ":authority", codes "a") ∷ (codes ":path", codes "/") ∷ (codes "x-b", codes "2" ++ crlf_bytes ++ codes "content-length: 9") ∷ [] }) → ⊥
+  pub longer : Carries (by_length 2) (piece (codes "abc") true ∷ []) → ⊥
+  pub longer_front : Carries (by_length 2) (piece (codes "abc") false ∷ []) → ⊥
+  pub shorter : Carries (by_length 2) (piece (codes "a") true ∷ []) → ⊥
