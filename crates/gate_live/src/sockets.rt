@@ -1,5 +1,5 @@
 // The sockets of one worker.
-ghost use Rattle.std.specs.Prelude.{◌≡◌, ◌==◌, ◌<◌, ◌≤◌, length, vec_len, HoldsAt, remove, IfOk, IfSome};
+ghost use Rattle.std.specs.Prelude.{◌≡◌, ◌==◌, ◌<◌, ◌≤◌, None, length, vec_len, HoldsAt, remove, IfOk, IfSome, IfNone};
 ghost use Rattle.std.specs.List.{position};
 ghost use Rattle.gate_live.specs.Allowed.{IsAllowed};
 ghost use Rattle.gate_live.specs.Lines.{most_lines, IsHeardAt, HeardIn, HeardNext, Forgets, SentTo, SentIn, ClosedIn, ClosedUp, next_place};
@@ -88,6 +88,20 @@ fn place_of<P>(lines: &[Line<P>], number: LineNo) -> Option<usize>
     ensures found { IfSome result (HoldsAt (λ line. line.number ≡ number) lines.now) }
 {
     lines.iter().position(|line| line.number == number)
+}
+
+/// A place of a line of this number. Lines come in the order of their numbers, so it is looked for by halves first, and through all of
+/// them where that finds none: what is found does not rest on that order.
+fn find<P>(lines: &[Line<P>], number: LineNo) -> Option<usize>
+    ensures within { IfSome result (λ i. i < length lines.now) }
+    ensures found { IfSome result (HoldsAt (λ line. line.number ≡ number) lines.now) }
+    ensures none { IfNone result (position (λ line. line.number == number) lines.now ≡ None) }
+{
+    let at = lines.partition_point(|line| line.number < number);
+    if at < lines.len() && lines[at].number == number {
+        return Some(at);
+    }
+    place_of(lines, number)
 }
 
 /// Offers bytes to a side of the line at a place.
@@ -329,7 +343,7 @@ impl<P: Duplex> Sockets<P> {
 
     /// Begins the upstream connection of a line.
     pub fn connect<R: Net>(&mut self, alloc: Global, rt: &R, number: LineNo) {
-        if let Some(at) = place_of(&self.lines, number) {
+        if let Some(at) = find(&self.lines, number) {
             let peer = connected(rt, self.poll.registry(), self.upstream, number);
             let line = &mut self.lines[at];
             line.refused = peer.is_none();
@@ -349,7 +363,7 @@ impl<P: Duplex> Sockets<P> {
         ensures whole { side ≡ Side.Up → IfOk result (λ n. n ≡ length bytes.now) }
         ensures sent { IfOk result (λ n. SentIn P.gave P.took self.old.lines.items number side bytes.now n self.new.lines.items) }
     {
-        let Some(at) = place_of(&self.lines, number) else {
+        let Some(at) = find(&self.lines, number) else {
             return Ok(bytes.len());
         };
         send_at(&mut self.lines, alloc, at, side, bytes)
@@ -464,16 +478,19 @@ impl<P: Duplex> Sockets<P> {
     }
 }
 
-/// Keeps what the system told of a connection.
+/// Keeps what the system told of a connection. The line of its token is looked for by halves first, as in `find`.
 fn note<P: Duplex>(lines: &mut [Line<P>], lingering: &mut [Lingering<P>], event: &Readiness) {
     let token = event.token();
     let side = side_of(token);
+    let number = token.0 / 2;
+    let at = lines.partition_point(|line| (line.number.get() as usize) < number);
+    if at < lines.len() && token_of(lines[at].number, side) == token {
+        note_side(&mut lines[at], side, event);
+        return;
+    }
     for line in lines.iter_mut() {
         if token_of(line.number, side) == token {
-            match side {
-                Side::Down => note_down(line, event),
-                Side::Up => note_up(line, event),
-            }
+            note_side(line, side, event);
             return;
         }
     }
@@ -482,6 +499,14 @@ fn note<P: Duplex>(lines: &mut [Line<P>], lingering: &mut [Lingering<P>], event:
             closed.peer.note(event);
             return;
         }
+    }
+}
+
+/// Keeps what the system told of the connection of this side.
+fn note_side<P: Duplex>(line: &mut Line<P>, side: Side, event: &Readiness) {
+    match side {
+        Side::Down => note_down(line, event),
+        Side::Up => note_up(line, event),
     }
 }
 
