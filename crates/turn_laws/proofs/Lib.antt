@@ -14,5 +14,6 @@ pub mod Passage
 pub mod Waiting
 mod Starts
 mod Leaving
+mod Firsts
 pub mod Backlog
 mod Ended

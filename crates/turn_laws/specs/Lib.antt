@@ -15,5 +15,6 @@ pub mod Passage
 pub mod Waiting
 pub mod Starts
 pub mod Leaving
+pub mod Firsts
 pub mod Backlog
 pub mod Ended

@@ -15,6 +15,7 @@ ghost use Rattle.turn_laws.specs.Passage.{PassageExample};
 ghost use Rattle.turn_laws.specs.Waiting.{WaitingExample};
 ghost use Rattle.turn_laws.specs.Starts.{OneVmExample, TwoVmsExample, RefusedExample};
 ghost use Rattle.turn_laws.specs.Leaving.{GoneExample, StopExample};
+ghost use Rattle.turn_laws.specs.Firsts.{EventsComeFirst, LateExample};
 ghost use Rattle.turn_laws.specs.Backlog.{RoomExamples, TextExamples, LineExamples, BacklogIsBounded, UnreadIsBounded, ReaderIsBounded};
 
 /// Whatever the machines are, a turn is a function of what the shared stores reply.
@@ -76,6 +77,17 @@ pub fn worked_starts()
 pub fn worked_leaving()
     ensures gone { GoneExample }
     ensures stop { StopExample }
+{}
+
+/// Where a worker is at rest, and at an event's moment no tick and no deadline is due, the event comes first: it finds the worker as the turn before left it.
+pub fn events_come_first<H>()
+    ensures { EventsComeFirst H }
+{}
+
+/// A deadline falls due at the event at which a response comes: the next request of the line goes up first, and the response is taken for its own. In two
+/// turns, the first of which is told that time passed, nothing is taken for it.
+pub fn worked_late_response()
+    ensures { LateExample }
 {}
 
 /// The requests and the responses that worked turns begin with are read as their heads.
