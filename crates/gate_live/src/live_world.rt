@@ -1,6 +1,7 @@
 // A worker's outside over sockets.
-ghost use Rattle.std.specs.Prelude.{◌≡◌, IfOk, OnErr};
+ghost use Rattle.std.specs.Prelude.{◌≡◌, ◌≤◌, ◌⊎◌, IfOk, IfSome, IfNone, IsSomeAnd, OnErr};
 ghost use Rattle.gate_io.specs.Events.{Follows, Obeys, is_stop};
+ghost use Rattle.gate_live.specs.Spent.{IsBefore, IsEarly, IsOfLine, is_clock};
 
 use crate::log_line::log_line;
 use crate::peer::Peer;
@@ -20,6 +21,8 @@ pub struct LiveWorld<R> {
     seed: [u8; 32],
     sockets: Sockets<Peer>,
     now: u64,
+    /// The last event was Clock.
+    told: bool,
     stopped: bool,
     faults: u64,
 }
@@ -39,6 +42,7 @@ impl<R> LiveWorld<R> {
             seed,
             sockets,
             now: 0,
+            told: false,
             stopped: false,
             faults: 0,
         }
@@ -108,9 +112,11 @@ impl<R: Net + Clock + Wait + Eprint> World for LiveWorld<R> {
 
 impl<R: Net + Clock + Wait> LiveWorld<R> {
     ghost use Rattle.std.specs.Prelude.{false};
-    ghost use Rattle.gate_live.specs.Spent.{IsDue};
+    ghost use Rattle.gate_live.specs.Spent.{IsDue, IsEarly};
 
-    /// The next event, at the clock's moment, or that of the last one where the clock went back.
+    /// The next event, at the clock's moment, or that of the last one where the clock went back. What has fallen due comes by a Clock of its own, in
+    /// front of what happens to lines or behind one event more: that event has a moment before it, whatever the clock says. A turn does what is due in
+    /// front of its event, and may open another connection for the event's line then; so it would take what the former server said for the new one's.
     fn following(&mut self, alloc: Global, wants: &Wants) -> Result<Event, WorldEnd>
         ensures event { IfOk result (Follows (record { now = self.old.now; stopped = self.old.stopped })) }
         ensures last { IfOk result (λ event. (self.new.now ≡ event.now) × (self.new.stopped ≡ is_stop event.what)) }
@@ -119,6 +125,7 @@ impl<R: Net + Clock + Wait> LiveWorld<R> {
         ensures seed { self.new.seed ≡ self.old.seed }
         ensures faults { self.new.faults ≡ self.old.faults }
         ensures due { self.old.stopped ≡ false → IfOk result (λ event. IsDue event.what wants.now.due event.now self.new.sockets) }
+        ensures early { self.old.stopped ≡ false → IfOk result (λ event. IsEarly event.what wants.now.due event.now) }
     {
         if self.stopped {
             return Ok(Event {
@@ -126,13 +133,71 @@ impl<R: Net + Clock + Wait> LiveWorld<R> {
                 what: What::Stop,
             });
         }
+        if let Some(now) = fallen_due(&self.rt, wants.due, self.now, self.told)? {
+            self.now = now;
+            self.told = true;
+            return Ok(Event {
+                now,
+                what: What::Clock,
+            });
+        }
         let what = self.sockets.wait(alloc, &self.rt, wants)?;
         let seen = self.now.max(self.sockets.seen());
-        let now = moment(&self.rt)?.max(seen);
+        let now = moment_of(&what, wants.due, self.now, moment(&self.rt)?.max(seen));
         self.now = now;
+        self.told = is_clock(&what);
         self.stopped = is_stop(&what);
         Ok(Event { now, what })
     }
+}
+
+/// The moment of a Clock that comes now: something is due, and the last event, at this moment, was no Clock. Where none comes, nothing was due at the
+/// last event.
+fn fallen_due<R: Clock>(
+    rt: &R,
+    due: Option<u64>,
+    last: u64,
+    told: bool,
+) -> Result<Option<u64>, WorldEnd>
+    ensures rises { IfOk result (λ clock. IfSome clock (λ now. last ≤ now)) }
+    ensures due { IfOk result (λ clock. IfSome clock (λ now. IsSomeAnd due (λ moment. moment ≤ now))) }
+    ensures none { IfOk result (λ clock. IfNone clock (IsBefore due last)) }
+{
+    let Some(due) = due else {
+        return Ok(None);
+    };
+    if due <= last {
+        return Ok(Some(last));
+    }
+    if told {
+        return Ok(None);
+    }
+    let now = moment(rt)?.max(last);
+    if due <= now { Ok(Some(now)) } else { Ok(None) }
+}
+
+/// The moment of an event behind the last one: that of the clock, or one before anything is due where it is of a line.
+fn moment_of(what: &What, due: Option<u64>, last: u64, now: u64) -> u64
+    requires rises { last ≤ now }
+    requires before { IsBefore due last }
+    ensures early { IsEarly what.now due result }
+    ensures rises { last ≤ result }
+    ensures timed { IsOfLine what.now ⊎ (result ≡ now) }
+{
+    if is_clock(what) || is_stop(what) {
+        return now;
+    }
+    match due {
+        Some(due) => now.min(due - 1),
+        None => now,
+    }
+}
+
+/// Whether time passed.
+fn is_clock(what: &What) -> bool
+    ensures { result ≡ is_clock what.now }
+{
+    matches!(what, What::Clock)
 }
 
 /// Whether nothing more comes.
