@@ -2,3 +2,4 @@ mod Kept
 mod Tables
 mod Entries
 mod Whole
+mod Unique

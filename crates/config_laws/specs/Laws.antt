@@ -1,5 +1,6 @@
 -- The laws of what a configuration's text means.
-use Rattle.std.specs.Prelude.{◌≡◌, ℕ, ◌<◌, ◌≤◌, List, true, false, length, codes, Some, None, Ok, Err}
+use Rattle.std.specs.Prelude.{◌≡◌, ◌≢◌, ℕ, ◌<◌, ◌≤◌, List, true, false, length, codes, Some, None, Ok, Err}
+use Rattle.std.specs.List.{AllPairs}
 use Rattle.std.specs.Str.{is_utf8}
 use Rattle.toml.specs.Data.{Members}
 use Rattle.toml.specs.Parse.{parse_document}
@@ -23,6 +24,15 @@ pub record IsWritten (text : List ℕ) (g : Given) : Type 0 where
 -- a text that gives a configuration says that configuration
 abbrev pub TextsSayTheirConfiguration : Type 0
 TextsSayTheirConfiguration = (text : List ℕ) (g : Given) → config_of text ≡ Ok g → IsWritten text g
+
+-- no two VMs have one name, and no two plug-ins
+pub record HaveNames (g : Given) : Type 0 where
+  pub vms : AllPairs (λ a b. a.name ≢ b.name) g.vms
+  pub plugins : AllPairs (λ a b. a.name ≢ b.name) g.plugins
+
+-- a document says one configuration at most whose names differ
+abbrev pub DocumentsSayOneConfiguration : Type 0
+DocumentsSayOneConfiguration = (document : Members) (g h : Given) → Says g document → Says h document → HaveNames g → g ≡ h
 
 -- what is refused before any table is looked at
 pub record FirstRefusals : Type 0 where

@@ -4,5 +4,6 @@
 mod laws;
 
 pub use laws::{
-    first_refusals, texts_say_their_configuration, worked_bounds, worked_order, worked_text,
+    documents_say_one_configuration, first_refusals, texts_say_their_configuration, worked_bounds,
+    worked_order, worked_text,
 };
