@@ -5,6 +5,7 @@ use Rattle.course.specs.Course.{ends, runs_then, Met, Reaches}
 use Rattle.exchange.specs.declared.types.Exchange.{Exchange}
 use Rattle.exchange.specs.Passing.{chain_of}
 use Rattle.filter_chain.specs.declared.item.Item.{Item}
+use Rattle.filter_chain.specs.Chains.{asked}
 use Rattle.filter_chain.specs.Flow.{flow}
 use Rattle.filter_chain.specs.Items.{joined}
 use Rattle.gate_io.specs.declared.event.Event.{Event}
@@ -18,6 +19,7 @@ use Rattle.worker.specs.Steps.{Both, both, step}
 use Rattle.worker.specs.Turn.{emptied, facing}
 use Rattle.flow_laws.specs.Besides.{IsWhole}
 use Rattle.body_laws.specs.Deeds.{Deed, turns, standing, left_by, buffers_by}
+use Rattle.chain_laws.specs.Acts.{buffer_called}
 use Rattle.chain_laws.specs.PassThrough.{IsInOrder, IsNew, PassesThrough}
 use Rattle.chain_laws.specs.Sound.{IsSound}
 use Rattle.flow_laws.specs.Rooms.{IsOn, running, IsAsked, IsMove, IsPut, moves, puts, part_deeds, Run, run_deeds, run_items, run_buffers}
@@ -64,8 +66,27 @@ AreOf {H} {calling} {plan} {response} {n} {count} (one_step x b m e items more m
 AreOf {H} {calling} {plan} {response} {n} {count} (next_turn x b e items event on whole later) deeds =
     (rest : List Deed) × (deeds ≡ turns x (facing plan event (emptied b.room)).hub ∷ rest) × AreOf later rest
 
+-- ---- the buffers that the callbacks of these steps left
+
+-- Of a move: where the callback that ended so was a body callback of the stage at the place, the buffer as it left that. Of other steps: none.
+abbrev pub LeavesBuffer : {H : Type 0} {calling : Calling H} {response : Bool} {n count : ℕ} {x : Exchange} {b : Both H} {ms : List Met} {nx : Next} {items : List Item}
+    → ℕ → MayStep calling response n count x b ms nx items → List ℕ → Type 0
+LeavesBuffer {H} {calling} {response} {n} {count} {x} {b} {ms} k (moves_own q may) bytes =
+    (c : Called H) × Reaches (runs_then (callback_program calling b.host q) ends) ms (ends c) × (bytes ≡ buffer_called k c.contexts (asked b.room.hub.contexts (chain_of response x)))
+LeavesBuffer k (puts_own items later is put) bytes = bytes ≡ []
+LeavesBuffer k (is_beside nx may) bytes = bytes ≡ []
+
+-- those of each step, one behind the other
+abbrev pub LeaveBuffers : {H : Type 0} {calling : Calling H} {plan : Plan} {response : Bool} {n count : ℕ} {x : Exchange} {b e : Both H} {items : List Item}
+    → ℕ → Steps calling plan response n count x b items e → List ℕ → Type 0
+LeaveBuffers k (no_step x b) bytes = bytes ≡ []
+LeaveBuffers {H} {calling} {plan} {response} {n} {count} k (one_step x b m e items more ms on whole may reaches later) bytes =
+    (first : List ℕ) × (rest : List ℕ) × (bytes ≡ first ++ rest) × LeavesBuffer k may first × ((y : Exchange) × (there : IsOn n m.room y) × LeaveBuffers k (later y there) rest)
+LeaveBuffers k (next_turn x b e items event on whole later) bytes = LeaveBuffers k later bytes
+
 -- What passed: these are deeds of the law on exchanges, from the state at first to that behind, and the exchange writes what leaves the chain by them; and with what
--- is held and waits then it is as that law says. The deeds are those of the steps, and what a stage's body callbacks left is what they left by these.
+-- is held and waits then it is as that law says. The deeds are those of the steps, and what a stage's body callbacks left is what they left by these, which is
+-- what the callbacks left that the steps called.
 pub record HavePassed {H : Type 0} {calling : Calling H} {plan : Plan} {response : Bool} {n count : ℕ} {x : Exchange} {b : Both H} {items : List Item} {e : Both H}
     (steps : Steps calling plan response n count x b items e) : Type 0 where
   pub last : Exchange
@@ -74,6 +95,7 @@ pub record HavePassed {H : Type 0} {calling : Calling H} {plan : Plan} {response
   pub put : run_items run ≡ items
   pub of : AreOf steps (run_deeds run)
   pub buffers : (k : ℕ) → buffers_by response n k (run_deeds run) (running None x b.room) ≡ run_buffers k run
+  pub left : (k : ℕ) → LeaveBuffers k steps (run_buffers k run)
   pub deeds : AreTheDeeds run
   -- where this count is that of the last stage with a body callback, from 1: what its body callbacks left
   pub last_stage : (k : ℕ) → count ≡ suc k
@@ -98,6 +120,7 @@ pub record HaveGoneOn {H : Type 0} {calling : Calling H} {plan : Plan} {response
   pub put : run_items run ≡ items
   pub of : AreOf steps (run_deeds run)
   pub buffers : (k : ℕ) → buffers_by response n k (run_deeds run) (running None x b.room) ≡ run_buffers k run
+  pub left : (k : ℕ) → LeaveBuffers k steps (run_buffers k run)
   pub last_stage : (k : ℕ) → count ≡ suc k → RunGoesOn run (run_buffers k run)
   pub unchanged : count ≡ 0 → RunGoesOn run (joined items)
 
