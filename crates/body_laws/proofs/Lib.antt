@@ -3,3 +3,5 @@ pub mod Apart
 pub mod Examples
 pub mod Deaths
 pub mod Moved
+pub mod Spent
+pub mod Sparing

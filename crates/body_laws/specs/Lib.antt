@@ -4,3 +4,4 @@ pub mod Apart
 pub mod Examples
 pub mod Deaths
 pub mod Moved
+pub mod Spent

@@ -4,6 +4,7 @@ ghost use Rattle.body_laws.specs.Deaths.{DeathsAreDeeds, DeathsPass, DroppingDro
 ghost use Rattle.body_laws.specs.Examples.{ExchangeExamples};
 ghost use Rattle.body_laws.specs.Exchanges.{ExchangesPassBodies};
 ghost use Rattle.body_laws.specs.Moved.{EffectsMoveOn};
+ghost use Rattle.body_laws.specs.Spent.{DeathExample, TheDeadAreAskedNothing, TheDeadAreSpared};
 
 /// Of one direction of an exchange, whatever happens to it while it runs and is not answered, where callbacks for bodies and trailers answer Continue: what
 /// left its chain, and what is behind the last stage with a body callback then, is what those callbacks left, and where no buffer is changed what was read,
@@ -19,6 +20,14 @@ pub fn deaths_cut_or_pass()
     ensures deaths { DeathsPass }
     ensures deeds { DeathsAreDeeds }
     ensures dropped { DroppingDrops }
+{}
+
+/// From the death of a VM on, while an exchange runs: each of its stages whose VM is dead passes everything, and nothing waits at it; that stays so whatever is done
+/// to the exchange, whichever VMs die later; and so nothing is asked of it any more, in either direction.
+pub fn the_dead_are_asked_nothing()
+    ensures spared { TheDeadAreSpared }
+    ensures asked { TheDeadAreAskedNothing }
+    ensures worked { DeathExample }
 {}
 
 /// A callback may have the stage of its context go on, and with it what that holds: the stages of the same direction of the same exchange that come after may

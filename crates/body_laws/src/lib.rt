@@ -5,5 +5,5 @@ mod laws;
 
 pub use laws::{
     deaths_cut_or_pass, effects_move_what_comes_after, exchanges_pass_bodies, exchanges_pass_by,
-    worked_exchange,
+    the_dead_are_asked_nothing, worked_exchange,
 };
