@@ -37,6 +37,7 @@ use Rattle.worker.specs.Turn.{comes_to, facing, most_steps, turn_by, turn}
 use Rattle.run_laws.specs.Bare.{run_if, always, RunsAllItAsks}
 use Rattle.run_laws.specs.Homes.{made, IsHome}
 use Rattle.run_laws.specs.Runs.{AreAtHome}
+use Rattle.run_laws.proofs.Counted.{Counted, counted}
 use Rattle.run_laws.proofs.Homes.{Nobody, fine_of, begins_at_home, stays_at_home}
 use Rattle.run_laws.proofs.Rooms.{InThird, in_asks_at, to_lines, StandsThere, to_root, to_stream, StandsDue, to_tick}
 use Rattle.run_laws.proofs.Runs.{runs_what_is_asked}
@@ -83,14 +84,14 @@ module _ (dead : DeadVmsAreSilent) (apart : CallbacksAreApart) (change : Callbac
       ap (λ (c : Course (Answered Vms)). then_do c (λ b. ends (goes_on_with (acts_on a) b)))
       (called_same a.vm (callback_of a.response a.ask.kind) a.context a.count (number_of a.ask.end) (owns.Stage a.context a.response) host room is)
 
-  moves_same : (host : Vms) (room : Room) (r : Option Asked × List Line × Hub) → At host room → InThird m r → moved_with calling host room r ≡ moved_with always host room r
-  moves_same host room (a, lines, hub) is third = moved_same a host (with_lines room (lines, hub)) (to_lines m (Gone Nobody host) room (lines, hub) is.0 third, is.1, is.2)
+  moves_same : (host : Vms) (room : Room) (r : Option Asked × List Line × Hub) → At host room → InThird Counted m r → moved_with calling host room r ≡ moved_with always host room r
+  moves_same host room (a, lines, hub) is third = moved_same a host (with_lines room (lines, hub)) (to_lines Counted counted m (Gone Nobody host) room (lines, hub) is.0 third, is.1, is.2)
 
-  made_same : (host : Vms) (r : Option NewContext × Room) → StandsThere m (Gone Nobody host) r → (length host.slots ≡ m) × ArePlaced host → made_with calling host r ≡ made_with always host r
+  made_same : (host : Vms) (r : Option NewContext × Room) → StandsThere Counted counted m (Gone Nobody host) r → (length host.slots ≡ m) × ArePlaced host → made_with calling host r ≡ made_with always host r
   made_same host (None, room) s rest = refl
   made_same host (Some c, room) s rest = tells_same c.vm callbacks.ContextCreate c.context c.root host room (s, rest.0, rest.1)
 
-  ticks_same : (vm root : ℕ) (host : Vms) (r : Bool × Room) → StandsDue m (Gone Nobody host) r → (length host.slots ≡ m) × ArePlaced host → ticks_with calling vm root host r ≡ ticks_with always vm root host r
+  ticks_same : (vm root : ℕ) (host : Vms) (r : Bool × Room) → StandsDue Counted counted m (Gone Nobody host) r → (length host.slots ≡ m) × ArePlaced host → ticks_with calling vm root host r ≡ ticks_with always vm root host r
   ticks_same vm root host (due, room) s rest =
       ap (λ (c : Course (Both Vms)). if due then c else ends (both host room)) (tells_same vm callbacks.Tick root 0 host room (s, rest.0, rest.1))
 
@@ -99,9 +100,9 @@ module _ (dead : DeadVmsAreSilent) (apart : CallbacksAreApart) (change : Callbac
       ap (λ (c : Course (Both Vms)). if may_stream vm root room.hub.contexts then c else ends (both host room)) (tells_same vm callbacks.QueueReady root queue host room is)
 
   works_same : (plan : Plan) (job : Job) (host : Vms) (room : Room) → At host room → works calling plan job host room ≡ works always plan job host room
-  works_same plan (jobs.Root vm plugin first) host room is = made_same host (rooting vm plugin first room) (to_root m (Gone Nobody host) vm plugin first room is.0) (is.1, is.2)
-  works_same plan (jobs.Create number k) host room is = made_same host (creating number k room) (to_stream m (Gone Nobody host) number k room is.0) (is.1, is.2)
-  works_same plan (jobs.Tick vm root) host room is = ticks_same vm root host (ticked vm root room) (to_tick m (Gone Nobody host) vm root room is.0) (is.1, is.2)
+  works_same plan (jobs.Root vm plugin first) host room is = made_same host (rooting vm plugin first room) (to_root Counted counted m (Gone Nobody host) vm plugin first room is.0) (is.1, is.2)
+  works_same plan (jobs.Create number k) host room is = made_same host (creating number k room) (to_stream Counted counted m (Gone Nobody host) number k room is.0) (is.1, is.2)
+  works_same plan (jobs.Tick vm root) host room is = ticks_same vm root host (ticked vm root room) (to_tick Counted counted m (Gone Nobody host) vm root room is.0) (is.1, is.2)
   works_same plan (jobs.Notice vm left) host room is = refl
   works_same plan (jobs.Ready vm root queue) host room is = ready_same vm root queue host room is
   works_same plan (jobs.Begin vm) host room is = tells_same vm callbacks.Begin 0 0 host room is
@@ -124,7 +125,7 @@ module _ (dead : DeadVmsAreSilent) (apart : CallbacksAreApart) (change : Callbac
   pub step_same : (plan : Plan) (nx : Next) (host : Vms) (room : Room) → At host room → step calling plan nx host room ≡ step always plan nx host room
   step_same plan next.Read host room is = refl
   step_same plan (next.Move place) host room is =
-      moves_same host room (asks_at place (slice_get room.lines place) room.lines room.hub) is (in_asks_at m place (slice_get room.lines place) room.lines room.hub is.0.0)
+      moves_same host room (asks_at place (slice_get room.lines place) room.lines room.hub) is (in_asks_at Counted counted m place (slice_get room.lines place) room.lines room.hub is.0.0)
   step_same plan next.Work host room is = first_same plan room.jobs host room is
   step_same plan (next.Free at) host room is = refl
   step_same plan (next.End place) host room is = refl

@@ -20,7 +20,7 @@ use Rattle.vm_host.specs.declared.slots.Vms.{Vms}
 use Rattle.vm_laws.specs.Apart.{AllEnds, IsApart, CallbacksAreApart}
 use Rattle.vm_laws.specs.OwnChanges.{ArePlaced, ChangesItsOwn, CallbacksChangeTheirOwn, PlacesStay}
 use Rattle.wasm_syntax.specs.declared.types.Value.{Value}
-use Rattle.run_laws.proofs.Counts.{pick}
+use Rattle.run_laws.proofs.Changing.{pick}
 use Rattle.run_laws.proofs.Rooms.{IsDeath}
 
 -- ---- ends of programs

@@ -1,5 +1,5 @@
 -- The worked modules, by computation.
-use Rattle.std.proofs.Common.{◌≡◌, true, [], ◌∷◌, None, Some, is_some, refl}
+use Rattle.std.proofs.Common.{◌≡◌, true, [], ◌∷◌, None, Some, is_some, refl, ap, subst}
 use Rattle.std.specs.Option.{option_map}
 use Rattle.abi_maps.specs.Streams.{no_fields}
 use Rattle.contexts.specs.Reached.{exchange_at}
@@ -19,6 +19,7 @@ use Rattle.vm_host.specs.Vms as vms
 use Rattle.vm_host.specs.declared.slots.Vms.{Vms}
 use Rattle.wasm_syntax.specs.Nested.{nests}
 use Rattle.wasm_syntax.specs.ReductionRuns.{walk}
+use Rattle.run_laws.specs.Marks.{is_asking, MarkExamples}
 use Rattle.run_laws.specs.Denying.{denies, stops, at_home, asked_of, poor, DenyingExample}
 
 -- what a program that asks nothing is done with
@@ -113,4 +114,20 @@ denying_example = record {
   paused = paused;
   none_asked = none_asked;
   spent = (died, died_so, dead);
+}
+
+-- ---- the mark
+
+done_of : {A : Type 0} (a : A) (p : Program A) (c : A) → p ≡ done c → end_or a p ≡ c
+done_of a p c is = ap (end_or a) is
+
+asking_if : (c : Called Vms) → came ≡ c → is_asking (exchange_at c.contexts.exchanges 0) ≡ true
+unfolding calling calling_slot calling_live vms.running running dispatching target_of walk nests
+asking_if c is = subst (λ (d : Called Vms). is_asking (exchange_at d.contexts.exchanges 0) ≡ true) is refl
+
+pub mark_examples : MarkExamples
+mark_examples = record {
+  returning_asks_none = λ n host vm name context first second now h is. is;
+  before = refl;
+  behind = λ c is. asking_if c (done_of nothing (asked_of denies) c is);
 }

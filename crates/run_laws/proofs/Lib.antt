@@ -1,8 +1,11 @@
 mod Runs
-mod Counts
+mod Changing
+mod Counted
 mod Rooms
 mod Callbacks
 mod Steps
 mod Homes
 mod Denying
 mod Bare
+mod Unasked
+mod Marks

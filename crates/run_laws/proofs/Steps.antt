@@ -37,7 +37,8 @@ use Rattle.worker.specs.Settling.{settling, settling_step, settling_rest, settli
 use Rattle.worker.specs.Steps.{Both, both, Answered, answered, Then, goes_on_with, called_in, called_live, calls_live, acts_on, moved, moved_with, tells, made_with, ticks_with, tells_ready, notices, works, works_first, reads_in, reads_next, reading_on, nothing_more, unless_zero, done_with, deletes, rooting, creating, ticked, may_stream, callback_of, number_of, vm_length, plugin_length, quietly, step}
 use Rattle.worker.specs.Turn.{Outcome, comes_to, facing, most_steps, turn_by, turn}
 use Rattle.run_laws.proofs.Callbacks.{LeavesAll, leaves_all}
-use Rattle.run_laws.proofs.Counts.{pick}
+use Rattle.run_laws.proofs.Counted.{Counted, counted}
+use Rattle.run_laws.proofs.Changing.{pick}
 use Rattle.run_laws.proofs.Rooms.{Stands, IsDeath, to_answered, KeepsThen, nothing_keeps, unless_zero_keeps, done_keeps, deletes_keeps, acts_on_keeps, InThird, in_asks_at, to_lines, StandsThere, to_root, to_stream, StandsDue, to_tick, to_notice, to_heard, to_quietly, to_ends_at, to_begun, to_frees}
 
 -- so is each end of a course, whatever is replied and whatever is heard, also what no text spells
@@ -47,7 +48,7 @@ AllEnds P (asks vm call k) = (r : Reply) → AllEnds P (k r)
 AllEnds P (measures vm asked k) = (r : MetricReply) → AllEnds P (k r)
 AllEnds P (hears t k) = (h : Heard) → AllEnds P (k h)
 
-all_then : {A B : Type 0} (P : A → Type 0) (Q : B → Type 0) (p : Course A) (f : A → Course B) → AllEnds P p → ((a : A) → P a → AllEnds Q (f a)) → AllEnds Q (then_do p f)
+pub all_then : {A B : Type 0} (P : A → Type 0) (Q : B → Type 0) (p : Course A) (f : A → Course B) → AllEnds P p → ((a : A) → P a → AllEnds Q (f a)) → AllEnds Q (then_do p f)
 all_then P Q (ends a) f all next = next a all
 all_then P Q (asks vm call k) f all next = λ r. all_then P Q (k r) f (all r) next
 all_then P Q (measures vm asked k) f all next = λ r. all_then P Q (k r) f (all r) next
@@ -61,7 +62,7 @@ as_heard P (measures vm asked k) all = λ r. as_heard P (k r) (all r)
 as_heard P (hears t k) all = λ h is. as_heard P (k h) (all h)
 
 -- behind a program all of whose ends are so
-runs_so : {A B : Type 0} (P : A → Type 0) (Q : B → Type 0) (p : Program A) (f : A → Course B) → programs.AllEnds P p → ((a : A) → P a → AllEnds Q (f a)) → AllEnds Q (runs_then p f)
+pub runs_so : {A B : Type 0} (P : A → Type 0) (Q : B → Type 0) (p : Program A) (f : A → Course B) → programs.AllEnds P p → ((a : A) → P a → AllEnds Q (f a)) → AllEnds Q (runs_then p f)
 runs_so P Q (done a) f all more = more a all
 runs_so P Q (ask vm call k) f all more = λ r. runs_so P Q (k r) f (all r) more
 runs_so P Q (measure vm call k) f all more = λ r. runs_so P Q (k r) f (all r) more
@@ -72,7 +73,7 @@ Gone Had v vm = ((slot_in v vm).live ≡ None) × Had vm
 
 -- SO MANY SLOTS AND VMS WITH CONTEXTS, machines at their numbers, and of those that had a machine only the dead have none
 abbrev pub Fine : ℕ → (ℕ → Type 0) → Vms → Room → Type 0
-Fine m Had host room = Stands m (Gone Had host) room × (length host.slots ≡ m) × ArePlaced host
+Fine m Had host room = Stands Counted m (Gone Had host) room × (length host.slots ≡ m) × ArePlaced host
 
 module _ (apart : CallbacksAreApart) (change : CallbacksChangeTheirOwn) (stay : PlacesStay) (m : ℕ) (Had : ℕ → Type 0) where
   abbrev pub FineBoth : Both Vms → Type 0
@@ -91,14 +92,14 @@ module _ (apart : CallbacksAreApart) (change : CallbacksChangeTheirOwn) (stay : 
       (λ c. ends (answered (valued c.end) (both c.host (answered_with vm own c.end c.lines c.contexts room))))
       (leaves_all apart change stay host vm name context first second room.hub.moment room.hub.contexts is.2)
       (λ c left. (
-        to_answered m (Gone Had host) (Gone Had c.host) vm own c.end c.lines c.contexts room
+        to_answered Counted counted m (Gone Had host) (Gone Had c.host) vm own c.end c.lines c.contexts room
             (λ wm gone. ⊎_elim (λ (before : (slot_in host wm).live ≡ None). inl (before, gone.1)) (λ (death : (wm ≡ vm) × IsDeath c.end). inr death) (left.gone wm gone.0))
             (left.contexts ∙ is.0.0) is.0,
         left.slots ∙ is.1,
         left.placed,
       ))
 
-  live_fine : (vm : ℕ) (name : Callback) (context first second : ℕ) (behind : Then) → ((D : ℕ → Type 0) → KeepsThen m D behind) → (host : Vms) (room : Room) → Fine m Had host room
+  live_fine : (vm : ℕ) (name : Callback) (context first second : ℕ) (behind : Then) → ((D : ℕ → Type 0) → KeepsThen Counted counted m D behind) → (host : Vms) (room : Room) → Fine m Had host room
       → Keeps (calls_live calling vm name context first second behind host room)
   live_fine vm name context first second behind keeps host room is =
       all_then FineAnswer FineBoth (called_live calling vm name context first second host room) (λ a. ends (goes_on_with behind a))
@@ -107,7 +108,7 @@ module _ (apart : CallbacksAreApart) (change : CallbacksChangeTheirOwn) (stay : 
       (λ a here. (keeps (Gone Had a.both.host) a.value a.both.room here.0, here.1, here.2))
 
   tells_fine : (vm : ℕ) (name : Callback) (context first : ℕ) (host : Vms) (room : Room) → Fine m Had host room → Keeps (tells calling vm name context first host room)
-  tells_fine vm name context first host room is = live_fine vm name context first 0 nothing_more (λ D. nothing_keeps m D) host room is
+  tells_fine vm name context first host room is = live_fine vm name context first 0 nothing_more (λ D. nothing_keeps Counted counted m D) host room is
 
   moved_fine : (a : Option Asked) (host : Vms) (room : Room) → Fine m Had host room → Keeps (moved calling a host room)
   moved_fine None host room is = is
@@ -115,16 +116,16 @@ module _ (apart : CallbacksAreApart) (change : CallbacksChangeTheirOwn) (stay : 
       all_then FineAnswer FineBoth
       (called_in calling a.vm (callback_of a.response a.ask.kind) a.context a.count (number_of a.ask.end) (owns.Stage a.context a.response) host room) (λ b. ends (goes_on_with (acts_on a) b))
       (called_fine a.vm (callback_of a.response a.ask.kind) a.context a.count (number_of a.ask.end) (owns.Stage a.context a.response) host room is)
-      (λ c here. (acts_on_keeps m (Gone Had c.both.host) a c.value c.both.room here.0, here.1, here.2))
+      (λ c here. (acts_on_keeps Counted counted m (Gone Had c.both.host) a c.value c.both.room here.0, here.1, here.2))
 
-  moves_fine : (host : Vms) (room : Room) (r : Option Asked × List Line × Hub) → Fine m Had host room → InThird m r → Keeps (moved_with calling host room r)
-  moves_fine host room (a, lines, hub) is third = moved_fine a host (with_lines room (lines, hub)) (to_lines m (Gone Had host) room (lines, hub) is.0 third, is.1, is.2)
+  moves_fine : (host : Vms) (room : Room) (r : Option Asked × List Line × Hub) → Fine m Had host room → InThird Counted m r → Keeps (moved_with calling host room r)
+  moves_fine host room (a, lines, hub) is third = moved_fine a host (with_lines room (lines, hub)) (to_lines Counted counted m (Gone Had host) room (lines, hub) is.0 third, is.1, is.2)
 
-  made_fine : (host : Vms) (r : Option NewContext × Room) → StandsThere m (Gone Had host) r → (length host.slots ≡ m) × ArePlaced host → Keeps (made_with calling host r)
+  made_fine : (host : Vms) (r : Option NewContext × Room) → StandsThere Counted counted m (Gone Had host) r → (length host.slots ≡ m) × ArePlaced host → Keeps (made_with calling host r)
   made_fine host (None, room) s rest = (s, rest.0, rest.1)
   made_fine host (Some c, room) s rest = tells_fine c.vm callbacks.ContextCreate c.context c.root host room (s, rest.0, rest.1)
 
-  ticks_fine : (vm root : ℕ) (host : Vms) (r : Bool × Room) → StandsDue m (Gone Had host) r → (length host.slots ≡ m) × ArePlaced host → Keeps (ticks_with calling vm root host r)
+  ticks_fine : (vm root : ℕ) (host : Vms) (r : Bool × Room) → StandsDue Counted counted m (Gone Had host) r → (length host.slots ≡ m) × ArePlaced host → Keeps (ticks_with calling vm root host r)
   ticks_fine vm root host (due, room) s rest =
       pick Keeps due (tells calling vm callbacks.Tick root 0 host room) (ends (both host room)) (tells_fine vm callbacks.Tick root 0 host room (s, rest.0, rest.1)) (s, rest.0, rest.1)
 
@@ -134,25 +135,25 @@ module _ (apart : CallbacksAreApart) (change : CallbacksChangeTheirOwn) (stay : 
 
   notices_fine : (plan : Plan) (vm left : ℕ) (host : Vms) (room : Room) → Fine m Had host room → Keeps (notices plan vm left host room)
   notices_fine plan vm left host room is =
-      pick Keeps ((left == 0 || is_dead vm room) || not (nat_lt vm plan.vms)) _ _ is (λ reply. (to_notice m (Gone Had host) vm left reply room is.0, is.1, is.2))
+      pick Keeps ((left == 0 || is_dead vm room) || not (nat_lt vm plan.vms)) _ _ is (λ reply. (to_notice Counted counted m (Gone Had host) vm left reply room is.0, is.1, is.2))
 
   quiet_fine : (job : Job) (host : Vms) (room : Room) → Fine m Had host room → FineBoth (both host (quietly job room))
-  quiet_fine job host room is = (to_quietly m (Gone Had host) job room is.0, is.1, is.2)
+  quiet_fine job host room is = (to_quietly Counted counted m (Gone Had host) job room is.0, is.1, is.2)
 
   works_fine : (plan : Plan) (job : Job) (host : Vms) (room : Room) → Fine m Had host room → Keeps (works calling plan job host room)
-  works_fine plan (jobs.Root vm plugin first) host room is = made_fine host (rooting vm plugin first room) (to_root m (Gone Had host) vm plugin first room is.0) (is.1, is.2)
-  works_fine plan (jobs.Create number k) host room is = made_fine host (creating number k room) (to_stream m (Gone Had host) number k room is.0) (is.1, is.2)
-  works_fine plan (jobs.Tick vm root) host room is = ticks_fine vm root host (ticked vm root room) (to_tick m (Gone Had host) vm root room is.0) (is.1, is.2)
+  works_fine plan (jobs.Root vm plugin first) host room is = made_fine host (rooting vm plugin first room) (to_root Counted counted m (Gone Had host) vm plugin first room is.0) (is.1, is.2)
+  works_fine plan (jobs.Create number k) host room is = made_fine host (creating number k room) (to_stream Counted counted m (Gone Had host) number k room is.0) (is.1, is.2)
+  works_fine plan (jobs.Tick vm root) host room is = ticks_fine vm root host (ticked vm root room) (to_tick Counted counted m (Gone Had host) vm root room is.0) (is.1, is.2)
   works_fine plan (jobs.Notice vm left) host room is = notices_fine plan vm left host room is
   works_fine plan (jobs.Ready vm root queue) host room is = ready_fine vm root queue host room is
   works_fine plan (jobs.Begin vm) host room is = tells_fine vm callbacks.Begin 0 0 host room is
   works_fine plan (jobs.Start vm root) host room is =
-      live_fine vm callbacks.VmStart root (vm_length vm room.hub.contexts) 0 (unless_zero vm deaths.Start) (λ D. unless_zero_keeps m D vm deaths.Start) host room is
+      live_fine vm callbacks.VmStart root (vm_length vm room.hub.contexts) 0 (unless_zero vm deaths.Start) (λ D. unless_zero_keeps Counted counted m D vm deaths.Start) host room is
   works_fine plan (jobs.Configure vm root plugin) host room is =
-      live_fine vm callbacks.Configure root (plugin_length plugin room.hub.contexts) 0 (unless_zero vm deaths.Configure) (λ D. unless_zero_keeps m D vm deaths.Configure) host room is
-  works_fine plan (jobs.Done c) host room is = live_fine c.vm callbacks.Done c.context 0 0 (done_with c) (λ D. done_keeps m D c) host room is
+      live_fine vm callbacks.Configure root (plugin_length plugin room.hub.contexts) 0 (unless_zero vm deaths.Configure) (λ D. unless_zero_keeps Counted counted m D vm deaths.Configure) host room is
+  works_fine plan (jobs.Done c) host room is = live_fine c.vm callbacks.Done c.context 0 0 (done_with c) (λ D. done_keeps Counted counted m D c) host room is
   works_fine plan (jobs.Log c) host room is = tells_fine c.vm callbacks.Log c.context 0 host room is
-  works_fine plan (jobs.Delete c) host room is = live_fine c.vm callbacks.Delete c.context 0 0 (deletes c) (λ D. deletes_keeps m D c) host room is
+  works_fine plan (jobs.Delete c) host room is = live_fine c.vm callbacks.Delete c.context 0 0 (deletes c) (λ D. deletes_keeps Counted counted m D c) host room is
   works_fine plan jobs.Expire host room is = quiet_fine jobs.Expire host room is
   works_fine plan (jobs.Happen what) host room is = quiet_fine (jobs.Happen what) host room is
   works_fine plan (jobs.Enter number) host room is = quiet_fine (jobs.Enter number) host room is
@@ -170,16 +171,16 @@ module _ (apart : CallbacksAreApart) (change : CallbacksChangeTheirOwn) (stay : 
     where
       by_reading : (o : Option Reading) → Keeps (reads_in plan r o host room)
       by_reading None = is
-      by_reading (Some reading) = λ h. (to_heard m (Gone Had host) plan r h (record room { reading = None }) is.0, is.1, is.2)
+      by_reading (Some reading) = λ h. (to_heard Counted counted m (Gone Had host) plan r h (record room { reading = None }) is.0, is.1, is.2)
 
   pub step_fine : (plan : Plan) (nx : Next) (host : Vms) (room : Room) → Fine m Had host room → Keeps (step calling plan nx host room)
   step_fine plan next.Read host room is = reads_fine plan room.reading host room is
   step_fine plan (next.Move place) host room is =
-      moves_fine host room (asks_at place (slice_get room.lines place) room.lines room.hub) is (in_asks_at m place (slice_get room.lines place) room.lines room.hub is.0.0)
+      moves_fine host room (asks_at place (slice_get room.lines place) room.lines room.hub) is (in_asks_at Counted counted m place (slice_get room.lines place) room.lines room.hub is.0.0)
   step_fine plan next.Work host room is = first_fine plan room.jobs host room is
-  step_fine plan (next.Free at) host room is = (to_frees m (Gone Had host) at (slice_get room.waits at) room is.0, is.1, is.2)
-  step_fine plan (next.End place) host room is = (to_ends_at m (Gone Had host) place room is.0, is.1, is.2)
-  step_fine plan next.Begin host room is = (to_begun m (Gone Had host) room.agenda room is.0, is.1, is.2)
+  step_fine plan (next.Free at) host room is = (to_frees Counted counted m (Gone Had host) at (slice_get room.waits at) room is.0, is.1, is.2)
+  step_fine plan (next.End place) host room is = (to_ends_at Counted counted m (Gone Had host) place room is.0, is.1, is.2)
+  step_fine plan next.Begin host room is = (to_begun Counted counted m (Gone Had host) room.agenda room is.0, is.1, is.2)
   step_fine plan next.Rest host room is = is
 
   pub settles_fine : (plan : Plan) (n : ℕ) (host : Vms) (room : Room) → Fine m Had host room → Keeps (settling calling plan n host room)

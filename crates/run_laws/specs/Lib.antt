@@ -2,3 +2,4 @@ pub mod Runs
 pub mod Homes
 pub mod Denying
 pub mod Bare
+pub mod Marks

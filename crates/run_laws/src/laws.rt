@@ -2,6 +2,7 @@
 ghost use Rattle.run_laws.specs.Bare.{RunsAllItAsks};
 ghost use Rattle.run_laws.specs.Denying.{DenyingExample};
 ghost use Rattle.run_laws.specs.Homes.{BeginsAtHome, StaysAtHome, LiveVmsKeepMachines, RunsOverLives};
+ghost use Rattle.run_laws.specs.Marks.{ChangesAreTold, DeathsDropMarks, MarkExamples, WorkersRaiseNone};
 ghost use Rattle.run_laws.specs.Runs.{RunsWhatIsAsked};
 
 use vm_laws::{
@@ -64,4 +65,14 @@ pub fn runs_all_it_asks()
 /// Two modules that are written out, run as a worker asks them: one answers 403 to the head of a request, and one stops it.
 pub fn worked_runs()
     ensures { DenyingExample }
+{}
+
+/// The mark that an answer was asked for, by which host calls refuse a second one: where a callback died no exchange on a line has it, whatever the callback left; where
+/// an effect, an action, what was read or a refusal was done to an exchange on a line, that has it not, and host calls are told of it what is so: whether it was answered, has
+/// ended, and has its response head out; and no step of a worker raises the mark but by a callback.
+pub fn marks_fall<H>()
+    ensures deaths { DeathsDropMarks }
+    ensures changes { ChangesAreTold }
+    ensures raised { WorkersRaiseNone H }
+    ensures worked { MarkExamples }
 {}
