@@ -242,3 +242,7 @@ read_as_one q sent more front readable suits = record {
         let spelled : SpellsFrom (sent ++ more) false None head 0 r.placed (stop_behind false None) = subst (λ (t : List ℕ). SpellsFrom t false None head 0 r.placed (stop_behind false None)) (sym front) r.spelled in
         subst (λ (l : List Item). IsFirst (map item_at items) l) r.are
         (fronts sent more ended false head 0 items r.placed why (stop_behind false None) (omega arith) tt (subst HaveBounds (sym r.are) bounds) reads spelled)
+
+-- one request begins among its items
+pub one_begins : (q : OutRequest) → is_for_request q.framing ≡ true → Suits q.framing q.pieces q.ending false [] → begun (in_items q) ≡ 1
+one_begins q framed suits = ap suc (body_is (connection_read q.head) q.framing q.pieces q.ending suits framed).begins

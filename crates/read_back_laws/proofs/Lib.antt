@@ -1,4 +1,5 @@
 pub mod Fronts
+pub mod Heads
 pub mod Measures
 pub mod Sends
 pub mod Readings

@@ -24,8 +24,10 @@ use Rattle.line_laws.proofs.Product.{requests_of_the_product_go_up}
 use Rattle.line_laws.proofs.Turning.{all_go_up_one_by_one}
 use Rattle.line_laws.proofs.Wholly.{workers_go_up}
 use Rattle.read_back_laws.specs.Laws.{RequestsAreReadAsOne, RequestsOfWorkersAreReadAsOne, RequestsOfTheProductAreReadAsOne}
-use Rattle.read_back_laws.specs.Sent.{bytes_in, IsTakenIn, IsReadFront, IsRead, nothing_went, one_went, IsReadWhole, AreRead, EachIsRead, OpenIsRead, ReadBy}
+use Rattle.read_back_laws.specs.OneRequest.{IsWritten}
+use Rattle.read_back_laws.specs.Sent.{bytes_in, IsRequestList, IsTakenIn, IsReadFront, IsRead, nothing_went, one_went, IsReadWhole, AreRead, EachIsRead, OpenIsRead, ReadBy}
 use Rattle.read_back_laws.proofs.Fronts.{read_as_one}
+use Rattle.read_back_laws.proofs.Heads.{readable_of, never_two}
 use Rattle.read_back_laws.proofs.Measures.{IsFramed, up_framed, IsUpTail, tail_is}
 use Rattle.read_back_laws.proofs.Sends.{bytes_are, whole_suits, Completed, completed, front_wire}
 
@@ -37,20 +39,20 @@ module _ (plan : Plan) (h : Head) (first : Exchange) (begun : IsBegun plan h fir
       let of : Exchange = exchange_for plan begun.place begun.now begun.dead h (route_in plan.routes (route_path h.fields)) in
       subst (λ (y : Exchange). IsFramed (goes_up y)) (sym begun.is) (up_framed of.filters_requests h begun.judged)
 
-  readable : (q : OutRequest) (made : IsMadeOf h first q) → IsTakenIn made.fields q → IsReadableRequest q.framing q.head
-  readable q made taken =
+  written : (q : OutRequest) (made : IsMadeOf h first q) → IsRequestList made.fields → IsWritten q.framing q.head
+  written q made listed =
       let t : IsUpTail (up_tail h.minor) = tail_is h.minor in
       record {
-        kind = ap (λ (k : Head). k.fields.kind) made.head ∙ taken.kind;
-        list = subst (λ (k : Head). IsHeaders k.fields) (sym made.head) taken.list;
-        target = taken.target;
+        kind = ap (λ (k : Head). k.fields.kind) made.head ∙ listed.kind;
+        list = subst (λ (k : Head). IsHeaders k.fields) (sym made.head) listed.list;
         tail = subst (λ (k : Head). IsTail k.tail.pairs) (sym made.head) t.tail;
         no_host = subst (λ (k : Head). list_all (λ (p : Pair). not (bytes_eq p.0 (codes "host"))) k.tail.pairs ≡ true) (sym made.head) t.no_host;
         framed = subst (λ (f : Framing). is_for_request f ≡ true) (sym made.framing) framed.for_request;
         told = subst IsInLimit (sym made.framing) framed.limit;
-        few = taken.room.few;
-        short = taken.room.short;
       }
+
+  readable : (q : OutRequest) (made : IsMadeOf h first q) → IsTakenIn made.fields q → IsReadableRequest q.framing q.head
+  readable q made taken = readable_of q.framing q.head (written q made taken.listed) taken.target taken.room.few taken.room.short
 
   -- ---- a front of it, and all of it
 
@@ -62,6 +64,7 @@ module _ (plan : Plan) (h : Head) (first : Exchange) (begun : IsBegun plan h fir
     front = c.front;
     is = r.is;
     bytes = (items_wire q.framing c.front.0, joined);
+    never = λ listed carries. never_two q (bytes_in t) (items_wire q.framing c.front.0) joined (written q made listed) (c.suits carries);
     read = λ taken carries. read_as_one q (bytes_in t) (items_wire q.framing c.front.0) joined (readable q made taken) (c.suits carries);
   }
     where

@@ -1,6 +1,6 @@
 -- The worked request of a filter, and what is refused, by computation.
 use Rattle.std.proofs.Common.{◌≡◌, ℕ, ◌+◌, Bool, true, false, List, [], ◌∷◌, ◌++◌, map, length, None, codes, refl, ap, ◌∙◌, sym, subst, arith, lit≤}
-use Rattle.std.proofs.lemmas.List.{append-nil}
+use Rattle.std.proofs.lemmas.List.{append-nil, append_assoc}
 use Rattle.std.specs.Fmt.{digits}
 use Rattle.http_header.specs.Token as token
 use Rattle.http_uri.proofs.OnLiterals.{http_uri_on_literals}
@@ -9,7 +9,7 @@ use Rattle.header_maps.specs.Kept.{IsHeaders}
 use Rattle.h1_head.proofs.Origin.{plain_reads}
 use Rattle.h1_write.specs.Lines.{OutRequest, out_wire}
 use Rattle.h1_write.specs.Requests.{IsReadableRequest, own_target}
-use Rattle.h1_write.specs.Round.{body_items}
+use Rattle.h1_write.specs.Round.{body_items, IsReadAs}
 use Rattle.h1_write.proofs.Lines.{request_line_read_back}
 use Rattle.h1_write.proofs.Requests.{request_head_read_back}
 use Rattle.http1_model.specs.Examples.{worked_wire}
@@ -22,10 +22,11 @@ use Rattle.http1_model.proofs.Examples.{slash_target}
 use Rattle.http1_model.proofs.Readings.{step_stays}
 use Rattle.line_laws.specs.Examples.{worked_request}
 use Rattle.line_laws.specs.Requests.{IsJudged, HasRoom}
-use Rattle.read_back_laws.specs.Examples.{asked_head, asked_text, posted, made_fields, made_request, made_wire, FilterExample, RefusedReadings}
-use Rattle.read_back_laws.specs.OneRequest.{begun, IsReadAsOne}
+use Rattle.read_back_laws.specs.Examples.{short_post, overrun, two_items, odd_fields, odd_request, asked_head, asked_text, posted, made_fields, made_request, made_wire, FilterExample, RefusedReadings}
+use Rattle.read_back_laws.specs.OneRequest.{begun, IsNeverTwo, IsReadAsOne}
 use Rattle.read_back_laws.specs.Sent.{IsTakenIn, Carries}
 use Rattle.read_back_laws.proofs.Fronts.{read_as_one}
+use Rattle.read_back_laws.proofs.Heads.{never_two}
 use Rattle.read_back_laws.proofs.Measures.{IsUpTail, tail_is}
 use Rattle.read_back_laws.proofs.Sends.{whole_suits}
 
@@ -84,7 +85,7 @@ made_room = record { few = lit≤ tt; short = lit≤ tt }
 
 made_taken : IsTakenIn made_fields made_request
 unfolding httparse_on_literals
-made_taken = record { kind = refl; list = made_list; target = made_target; room = made_room }
+made_taken = record { listed = record { kind = refl; list = made_list }; target = made_target; room = made_room }
 
 made_carries : Carries by_chunks (body_items made_request.pieces made_request.ending)
 made_carries = (refl, tt)
@@ -172,6 +173,55 @@ two_refused q one =
     let both : begun (map item_at r.placed) ≡ 2 = ap begun r.are in
     omega (arith, both, begun_join (map item_at r.placed) f.0, ap begun f.1, one.one)
 
+-- ---- a body of more bytes than are told
+
+short_room : HasRoom short_post
+unfolding httparse_on_literals token.is_token_byte digits
+short_room = record { few = lit≤ tt; short = lit≤ tt }
+
+short_readable : IsReadableRequest (by_length 2) short_post.head
+short_readable =
+    let t : IsUpTail short_post.head.tail.pairs = tail_is 1 in
+    record {
+      kind = refl;
+      list = made_list;
+      target = made_taken.target;
+      tail = t.tail;
+      no_host = t.no_host;
+      framed = refl;
+      told = lit≤ tt;
+      few = short_room.few;
+      short = short_room.short;
+    }
+
+both_posts : List OutRequest
+both_posts = short_post ∷ worked_request ∷ []
+
+overrun_is : out_wire short_post ++ (out_wire worked_request ++ []) ≡ out_wire overrun
+overrun_is =
+    let head_is : List ℕ = head_wire (by_length 2) short_post.head in
+    let one : out_wire short_post ≡ head_is ++ codes "ab" = refl in
+    let all : out_wire overrun ≡ head_is ++ (codes "ab" ++ worked_wire) = ap (λ l. head_is ++ l) (append-nil (codes "ab" ++ worked_wire)) in
+    (λ i. one i ++ (append-nil (out_wire worked_request) ∙ worked_is) i) ∙ (append_assoc head_is (codes "ab") worked_wire ∙ sym all)
+
+overrun_is_read : IsReadAs (out_wire overrun) false None head two_items rest
+unfolding both_posts
+overrun_is_read = subst (λ (t : List ℕ). IsReadAs t false None head two_items rest) overrun_is (request_line_read_back both_posts false (short_readable, refl, (worked_readable, tt, tt)))
+
+-- ---- a path that is no target
+
+odd_list : IsHeaders odd_fields
+unfolding httparse_on_literals token.is_token_byte
+odd_list = record {
+  shape = (record { name_is = refl; value = refl }, (record { name_is = refl; value = refl }, (record { name_is = refl; value = refl }, (record { name_is = refl; value = refl }, record { kept = refl; few = lit≤ tt }))));
+  short = refl;
+}
+
+odd_never : IsNeverTwo odd_request (out_wire odd_request)
+odd_never =
+    let t : IsUpTail odd_request.head.tail.pairs = tail_is 1 in
+    never_two odd_request (out_wire odd_request) [] (append-nil (out_wire odd_request)) (record { kind = refl; list = odd_list; tail = t.tail; no_host = t.no_host; framed = refl; told = tt }) (refl, tt)
+
 no_truth : {A : Type 0} → ◌≡◌ {A = Bool} false true → A
 no_truth is = absurd (cc)
 
@@ -183,4 +233,9 @@ refused_readings = record {
   longer = λ c. omega (arith, c.0);
   longer_front = λ c. omega (arith, c.0);
   shorter = λ c. omega (arith, c.1 refl);
+  overrun_uncarried = λ c. omega (arith, c.0);
+  overrun_read = overrun_is_read;
+  overrun_two = refl;
+  odd_listed = record { kind = refl; list = odd_list };
+  odd_never_two = odd_never;
 }

@@ -1,10 +1,10 @@
 -- Worked: a filter that changes the path, the fields and the body of a request; and what is refused.
-use Rattle.std.specs.Prelude.{◌≡◌, ℕ, true, false, List, [], ◌∷◌, ◌++◌, Some, codes}
+use Rattle.std.specs.Prelude.{◌≡◌, ℕ, true, false, List, [], ◌∷◌, ◌++◌, None, Some, codes}
 use Rattle.exchange.specs.Heads.{sent_head, up_tail}
 use Rattle.exchange.specs.declared.types.Exchange.{Exchange}
-use Rattle.h1_write.specs.Lines.{OutRequest, out_wire}
+use Rattle.h1_write.specs.Lines.{OutRequest, out_wire, in_items}
 use Rattle.h1_write.specs.Requests.{request_read}
-use Rattle.h1_write.specs.Round.{last_bytes, body_items}
+use Rattle.h1_write.specs.Round.{last_bytes, body_items, IsReadAs}
 use Rattle.header_maps.specs.Headers.{Headers}
 use Rattle.header_maps.specs.Kept.{IsHeaders}
 use Rattle.header_maps.specs.Operations.{request_headers}
@@ -12,12 +12,14 @@ use Rattle.header_maps.specs.declared.kind.ListKind.TheVariants as kinds
 use Rattle.http1_model.specs.Examples.{worked_wire}
 use Rattle.http1_model.specs.Framing.{by_length, by_chunks, head_wire, piece}
 use Rattle.http1_model.specs.Head.{Head}
+use Rattle.http1_model.specs.Messages.{Item, head, rest}
 use Rattle.httparse.specs.Ascii.{crlf_bytes}
 use Rattle.worker.specs.Plan.{Plan}
 use Rattle.worker.specs.Steps.{exchange_for}
+use Rattle.line_laws.specs.Examples.{worked_request}
 use Rattle.line_laws.specs.Requests.{IsJudged, IsMadeOf}
-use Rattle.read_back_laws.specs.OneRequest.{IsReadAsOne}
-use Rattle.read_back_laws.specs.Sent.{IsTakenIn, Carries}
+use Rattle.read_back_laws.specs.OneRequest.{begun, IsNeverTwo, IsReadAsOne}
+use Rattle.read_back_laws.specs.Sent.{IsRequestList, IsTakenIn, Carries}
 
 abbrev line : List ℕ → List ℕ
 line text = text ++ crlf_bytes
@@ -80,11 +82,38 @@ pub record FilterExample : Type 0 where
   pub wire : out_wire made_request ≡ made_wire
   pub read : IsReadAsOne made_request made_wire
 
+-- ---- a body of more bytes than are told: it holds a second request
+
+abbrev pub short_post : OutRequest
+short_post = record { framing = by_length 2; head = sent_head made_fields (up_tail 1); pieces = []; ending = last_bytes (codes "ab") }
+
+abbrev pub overrun : OutRequest
+overrun = record { framing = by_length 2; head = sent_head made_fields (up_tail 1); pieces = []; ending = last_bytes (codes "ab" ++ worked_wire) }
+
+abbrev pub two_items : List Item
+two_items = in_items short_post ++ (in_items worked_request ++ [])
+
+-- a path that a list holds and `http_uri` reads as none
+abbrev pub odd_fields : Headers
+odd_fields = record {
+  kind = kinds.Request;
+  pairs = (codes ":method", codes "POST") ∷ (codes ":scheme", codes "http") ∷ (codes ":authority", codes "a") ∷ (codes ":path", codes "/a<b") ∷ [];
+}
+
+abbrev pub odd_request : OutRequest
+odd_request = record { framing = by_chunks; head = sent_head odd_fields (up_tail 1); pieces = codes "XY" ∷ []; ending = last_bytes (codes "Z") }
+
 -- WHAT IS REFUSED: two requests are no one; a value with an end of line and another field behind it is none of a list of headers; and three bytes are no body
--- of two, whether or not they are its last.
+-- of two, whether or not they are its last. What is asked is no idle word: a body of more bytes than are told, which no framing carries, would be read as two
+-- requests. A path that is no target hides no second request.
 pub record RefusedReadings : Type 0 where
   pub two : (q : OutRequest) → IsReadAsOne q (worked_wire ++ worked_wire) → ⊥
   pub smuggled : IsHeaders (record made_fields { pairs = (codes ":method", codes "POST") ∷ (codes ":scheme", codes "http") ∷ (codes ":authority", codes "a") ∷ (codes ":path", codes "/") ∷ (codes "x-b", codes "2" ++ crlf_bytes ++ codes "content-length: 9") ∷ [] }) → ⊥
   pub longer : Carries (by_length 2) (piece (codes "abc") true ∷ []) → ⊥
   pub longer_front : Carries (by_length 2) (piece (codes "abc") false ∷ []) → ⊥
   pub shorter : Carries (by_length 2) (piece (codes "a") true ∷ []) → ⊥
+  pub overrun_uncarried : Carries (by_length 2) (body_items overrun.pieces overrun.ending) → ⊥
+  pub overrun_read : IsReadAs (out_wire overrun) false None head two_items rest
+  pub overrun_two : begun two_items ≡ 2
+  pub odd_listed : IsRequestList odd_fields
+  pub odd_never_two : IsNeverTwo odd_request (out_wire odd_request)

@@ -1,8 +1,14 @@
 -- What a reader makes of the bytes of one request, and of a front of them.
-use Rattle.std.specs.Prelude.{◌≡◌, suc, ℕ, Bool, false, List, [], ◌∷◌, ◌++◌, map, None}
+use Rattle.std.specs.Prelude.{◌≡◌, suc, ℕ, Bool, true, false, not, List, [], ◌∷◌, ◌++◌, map, None, codes, bytes_eq}
+use Rattle.std.specs.List.{list_all}
+use Rattle.header_maps.specs.Kept.{IsHeaders}
+use Rattle.header_maps.specs.declared.kind.ListKind.TheVariants as kinds
+use Rattle.h1_write.specs.Heads.{IsTail, IsInLimit}
 use Rattle.h1_write.specs.Lines.{OutRequest, out_wire, in_items}
-use Rattle.h1_write.specs.Requests.{IsReadableRequest}
+use Rattle.h1_write.specs.Requests.{IsReadableRequest, is_for_request}
 use Rattle.h1_write.specs.Round.{Ending, body_bytes, Suits, stop_behind, IsReadAs}
+use Rattle.http1_model.specs.Fields.{Pair}
+use Rattle.http1_model.specs.Head.{Head}
 use Rattle.http1_model.specs.Framing.{Framing, no_body, by_length, by_chunks, by_close}
 use Rattle.http1_model.specs.Messages.{Item, request, interim, response, octet, end, trailers, Placed, Stop, head, Messages}
 use Rattle.http1_model.specs.ReadingLaws.{item_at}
@@ -42,5 +48,28 @@ pub record IsReadAsOne (q : OutRequest) (bytes : List ℕ) : Type 0 where
   pub one : begun (in_items q) ≡ 1
   pub carried : octets_in (in_items q) ≡ carried_by q.framing q.pieces q.ending
 
+-- NEVER READ AS TWO, of bytes that are a front of those of a request: whatever a reader of requests makes of them, whether or not more may come, is a front of
+-- the items of that request, or nothing at all, as where it refuses the head; and one request begins among these items.
+pub record IsNeverTwo (q : OutRequest) (bytes : List ℕ) : Type 0 where
+  pub front : (ended : Bool) (items : List Placed) (why : Stop) → Messages bytes ended None items why → (behind : List Item) × (map item_at items ++ behind ≡ in_items q)
+  pub one : begun (in_items q) ≡ 1
+
+-- A head as it goes out, of which this alone is known: its list is one of a request, and the fields behind it and its framing are such as a gateway writes.
+-- Its path may be no target, and it may have more than a reader has room for.
+pub record IsWritten (framing : Framing) (h : Head) : Type 0 where
+  pub kind : h.fields.kind ≡ kinds.Request
+  pub list : IsHeaders h.fields
+  pub tail : IsTail h.tail.pairs
+  pub no_host : list_all (λ (f : Pair). not (bytes_eq f.0 (codes "host"))) h.tail.pairs ≡ true
+  pub framed : is_for_request framing ≡ true
+  pub told : IsInLimit framing
+
+-- ---- the laws, of a front of a request's bytes
+
+-- where a reader takes the head in
 abbrev pub ReadAsOne : Type 0
 ReadAsOne = (q : OutRequest) (sent more : List ℕ) → sent ++ more ≡ out_wire q → IsReadableRequest q.framing q.head → Suits q.framing q.pieces q.ending false [] → IsReadAsOne q sent
+
+-- and whatever its path is and however long it is
+abbrev pub NeverTwo : Type 0
+NeverTwo = (q : OutRequest) (sent more : List ℕ) → sent ++ more ≡ out_wire q → IsWritten q.framing q.head → Suits q.framing q.pieces q.ending false [] → IsNeverTwo q sent

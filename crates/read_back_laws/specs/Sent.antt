@@ -18,7 +18,7 @@ use Rattle.http1_model.specs.Target.{GivesTarget}
 use Rattle.worker.specs.Plan.{Plan}
 use Rattle.worker.specs.declared.room.Room.{Room}
 use Rattle.line_laws.specs.Requests.{is_whole, AreEmpty, HasRoom, IsMadeOf, IsOpen, Part, AreParts, traffic_of}
-use Rattle.read_back_laws.specs.OneRequest.{IsReadAsOne}
+use Rattle.read_back_laws.specs.OneRequest.{IsNeverTwo, IsReadAsOne}
 
 -- the bytes of traffic
 abbrev pub bytes_in : List Traffic → List ℕ
@@ -29,11 +29,14 @@ bytes_in (closes ∷ t) = bytes_in t
 
 -- ---- what is asked of what filters made
 
--- THE FIELDS OF A HEAD, as filters left them, make a head that a reader takes in: they are the list of a request (as each map of headers is by its type),
--- its path is a target by itself, and the head has room in a reader.
-pub record IsTakenIn (fields : Headers) (q : OutRequest) : Type 0 where
+-- the fields of a head, as filters left them, are the list of a request (as each map of the headers of a request is by its type)
+pub record IsRequestList (fields : Headers) : Type 0 where
   pub kind : fields.kind ≡ kinds.Request
   pub list : IsHeaders fields
+
+-- THEY MAKE A HEAD that a reader takes in: they are such a list, its path is a target by itself, and the head has room in a reader
+pub record IsTakenIn (fields : Headers) (q : OutRequest) : Type 0 where
+  pub listed : IsRequestList fields
   pub target : GivesTarget (method_of q.head) (path_of q.head) (own_target (path_of q.head))
   pub room : HasRoom q
 
@@ -75,8 +78,9 @@ Carries by_close items = ⊥
 
 -- ---- what an exchange sent up
 
--- ONE CONNECTION AND A FRONT OF ONE REQUEST, as the gateway frames it and with its tail, which is read as that request alone: whatever a reader of requests
--- makes of the bytes that went, whether more may come or the connection is closed there, is a front of the items of this one request.
+-- ONE CONNECTION AND A FRONT OF ONE REQUEST, as the gateway frames it and with its tail, which is never read as two, whatever path filters left and however
+-- long a head: what a reader of requests makes of the bytes that went, whether more may come or the connection is closed there, is a front of the items of
+-- this one request, or nothing. And where its head is one that a reader takes in, they are read as that one.
 pub record IsReadFront (h : Head) (first : Exchange) (t : List Traffic) : Type 0 where
   pub request : OutRequest
   pub made : IsMadeOf h first request
@@ -84,6 +88,7 @@ pub record IsReadFront (h : Head) (first : Exchange) (t : List Traffic) : Type 0
   pub front : IsFront items (body_items request.pieces request.ending)
   pub is : t ≡ opens ∷ map byte (items_wire request.framing (out.head request.head ∷ items))
   pub bytes : IsFront (bytes_in t) (out_wire request)
+  pub never : IsRequestList made.fields → Carries request.framing items → IsNeverTwo request (bytes_in t)
   pub read : IsTakenIn made.fields request → Carries request.framing items → IsReadAsOne request (bytes_in t)
 
 pub data IsRead (h : Head) (first : Exchange) (t : List Traffic) : Type 0 where

@@ -1,21 +1,24 @@
 // What goes up is read as one request. The functions have nothing to do: their contracts are the laws.
 ghost use Rattle.read_back_laws.specs.Examples.{FilterExample, RefusedReadings};
 ghost use Rattle.read_back_laws.specs.Laws.{RequestsAreReadAsOne, RequestsOfTheProductAreReadAsOne, RequestsOfWorkersAreReadAsOne};
-ghost use Rattle.read_back_laws.specs.OneRequest.{ReadAsOne};
+ghost use Rattle.read_back_laws.specs.OneRequest.{NeverTwo, ReadAsOne};
 ghost use Rattle.read_back_laws.specs.Runs.{FilterRun};
 
 use store_model::Shared;
 
 /// A front of the bytes of a request that a reader takes in is read as a front of that request's items, whether more may come or none does; and all of them as
-/// exactly those items, which use up all of them. One request begins among them, and the bytes of its body are those of its pieces, joined.
+/// exactly those items, which use up all of them. One request begins among them, and the bytes of its body are those of its pieces, joined. And whatever path
+/// a head of a list has and however long it is, a front of the bytes is read as such a front or as nothing.
 pub fn fronts_are_read_as_one()
-    ensures { ReadAsOne }
+    ensures readable { ReadAsOne }
+    ensures written { NeverTwo }
 {}
 
 /// Over the turns of a new worker, whatever filters do: what each exchange sends up on its connection is a front of the bytes of one request, which the gateway
-/// frames. Where the fields that filters left in its head are a list of a request with a path that is a target, in a head that a reader has room for, and its
-/// body, as far as it went, is such as the framing carries, a reader makes of those bytes a front of the items of that one request, whether the connection is
-/// closed there or not: so no server sees two requests where one was meant. Where all of it went, the reader takes exactly that request and has nothing left.
+/// frames. Where the fields that filters left in its head are a list of a request, and its body, as far as it went, is such as the framing carries, a reader
+/// makes of those bytes a front of the items of that one request or nothing, whatever its path is and however long its head, and whether the connection is
+/// closed there or not: so no server sees two requests where one was meant. Where the path is a target and a reader has room for the head, and all of it went,
+/// the reader takes exactly that request and has nothing left.
 pub fn requests_are_read_as_one<H>()
     ensures { RequestsAreReadAsOne H }
 {}
@@ -31,7 +34,8 @@ pub fn requests_of_the_product_are_read_as_one<S: Shared>()
 {}
 
 /// A filter that changes the path, the fields and the body of a POST makes a request that a reader takes as one; and what the definitions refuse: two
-/// requests, a value with an end of line in it, and a body of other than the bytes that are told.
+/// requests, a value with an end of line in it, and a body of other than the bytes that are told. One of more bytes, were it sent, would be read as two
+/// requests; a path that is no target is not.
 pub fn worked_readings()
     ensures filter { FilterExample }
     ensures refused { RefusedReadings }
