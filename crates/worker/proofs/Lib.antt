@@ -9,3 +9,4 @@ pub mod Alone
 pub mod TurnLaws
 pub mod Firsts
 pub mod Stirs
+pub mod Wished

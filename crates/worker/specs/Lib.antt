@@ -11,6 +11,7 @@ pub mod Turn
 pub mod Filled
 pub mod State
 pub mod Wants
+pub mod Wishes
 pub mod Making
 pub mod Turned
 pub mod NoCalls

@@ -13,6 +13,7 @@ use Rattle.outbox.specs.Places.{octets_in, marks_at}
 use Rattle.outbox.specs.declared.place.Place.TheVariants.{Peer}
 use Rattle.worker.specs.declared.room.Room.{Room}
 use Rattle.worker.specs.declared.types.Line.{Line}
+use Rattle.worker.specs.declared.types.Wish.{Wish}
 use Rattle.worker.specs.Plan.{Plan}
 use Rattle.worker.specs.Rooms.{is_dead}
 use Rattle.worker.specs.Steps.{line_reading, at_most_last}
@@ -69,6 +70,17 @@ due_on (Some x) = if x.is_headed || x.is_answered then None else x.due
 abbrev pub with_lines : Option ℕ → List Line → Option ℕ
 with_lines due [] = due
 with_lines due (line ∷ lines) = with_lines (earlier due (due_on line.exchange)) lines
+
+-- ---- the same by what each line wants where nothing waits
+
+abbrev pub wished : (Wish → Bool) → List Wish → List ℕ
+wished takes each = map (λ w. w.number) (filter takes each)
+
+abbrev pub with_wishes : Option ℕ → List Wish → Option ℕ
+with_wishes due [] = due
+with_wishes due (w ∷ each) = with_wishes (earlier due w.due) each
+
+-- ---- all that a worker wants
 
 -- a VM that is told of items, and is not dead, looks for notices each 50 milliseconds
 abbrev pub looks_one : Plan → Room → ℕ → Bool

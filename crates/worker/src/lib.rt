@@ -16,6 +16,7 @@ mod span;
 mod turning;
 mod types;
 mod wanted;
+mod wishes;
 mod worker;
 
 pub use calls::{call_back, call_live};
@@ -24,5 +25,7 @@ pub use lines::Lines;
 pub use no_machines::NoMachines;
 pub use room::Room;
 pub use turning::settle;
-pub use types::{Asked, Bodies, Change, ContextAt, Job, Line, NewContext, Next, Own, Reads, Rules};
+pub use types::{
+    Asked, Bodies, Change, ContextAt, Job, Line, NewContext, Next, Own, Reads, Rules, Wish,
+};
 pub use worker::{Turn, Worker};

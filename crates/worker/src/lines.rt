@@ -1,6 +1,7 @@
 // The open lines, by their numbers.
 ghost use Rattle.std.specs.List.{list_any, position_or_len};
-ghost use Rattle.std.specs.Prelude.{◌≡◌, [], ◌∷◌, ◌++◌, ◌==◌, ◌&&◌, OnOk, IfOk, length, map, filter, reverse, position, slice_get, option_map, Some, None, insert, nat_lt, not};
+ghost use Rattle.worker.specs.Wishes.{wish_of};
+ghost use Rattle.std.specs.Prelude.{◌≡◌, [], ◌∷◌, ◌++◌, ◌==◌, ◌&&◌, OnOk, IfOk, IfSome, length, map, filter, reverse, position, slice_get, option_map, Some, None, insert, nat_lt, not};
 ghost use Rattle.worker.specs.Rooms.{moves, is_over, exchange_moves, exchange_ends, has_open, place_in, place_of, marking, in_exchange, in_line, at_some, at_place, all_lines};
 ghost use Rattle.worker.specs.Changes.{changed};
 ghost use Rattle.worker.specs.Steps.{drops_at, new_line, place_for, is_late, line_in};
@@ -9,7 +10,8 @@ ghost use Rattle.exchange.specs.Maps.{request_map, response_map, request_trailer
 ghost use Rattle.exchange.specs.Passing.{dies, expires, chain_of, passed_on};
 
 use crate::span::Span;
-use crate::types::{Asked, Change, Line};
+use crate::types::{Asked, Change, Line, Wish};
+use crate::wishes::Wishes;
 use exchange::{
     Exchange, Filter, Hub, act, answer, close, die, expire, is_due, mark, pair_count, pass_on,
     put_in, refuse, resume,
@@ -28,18 +30,20 @@ pub struct Lines {
     pub(crate) list: Vec<Line>,
     /// Nothing is due on lines at other places, so that an event costs no more for lines on which nothing happens.
     pub(crate) due: Span,
+    /// What each wants, so that it is asked again only of lines to which something was done.
+    pub(crate) wishes: Wishes,
 }
 
 impl Model for Lines {
     ghost use Rattle.std.specs.Prelude.{List};
     ghost use Rattle.worker.specs.declared.types.Line.{Line};
-    ghost use Rattle.worker.specs.Stirring.{StirsWithin};
+    ghost use Rattle.worker.specs.Wishes.{Sound};
 
     ghost Value = { List Line };
 
     ghost view = { λ l. l.list.items };
 
-    ghost invariant = { λ l. StirsWithin l.due l.list.items };
+    ghost invariant = { λ l. Sound l.due l.wishes l.list.items };
 }
 
 fn has_filter(filters: &[Filter], vm: VmNo, context: ContextId) -> bool
@@ -239,13 +243,14 @@ fn expire_each(alloc: Global, lines: Vec<Line>, hub: &mut Hub) -> Result<Vec<Lin
 
 impl Lines {
     /// No line is open.
-    #[tactic(auto, using(crate::proofs::Stirs::stirs_all))]
+    #[tactic(auto, using(crate::proofs::Wished::sound_all))]
     pub fn new(alloc: Global) -> Self
         ensures { result ≡ [] }
     {
         Lines {
             list: Vec::new(alloc),
             due: Span::all(),
+            wishes: Wishes::new(alloc),
         }
     }
 
@@ -304,13 +309,30 @@ impl Lines {
     }
 
     /// Forgets where something was due, where nothing is.
-    #[tactic(auto, using(crate::proofs::Stirs::stirs_calm))]
+    #[tactic(auto, using(crate::proofs::Wished::sound_calm))]
     pub fn calm(&mut self)
         ensures { self.new ≡ self.old }
     {
         if self.moving().is_none() && self.ending().is_none() {
             self.due = Span::none();
         }
+    }
+
+    /// Asks again what is wanted on lines to which something was done.
+    #[tactic(auto, using(crate::proofs::Wished::sound_renewed))]
+    pub(crate) fn renew(&mut self)
+        ensures { self.new ≡ self.old }
+    {
+        // Where there is no memory for it, it is asked of each line when it is needed.
+        let _ = self.wishes.renew(self.list.as_slice());
+    }
+
+    /// What each line wants, where nothing was done to any since it was asked.
+    #[tactic(auto, using(crate::proofs::Wished::fits_whole))]
+    pub(crate) fn wishes(&self) -> Option<&[Wish]>
+        ensures { IfSome result (λ each. each.now ≡ map wish_of self.now) }
+    {
+        self.wishes.all()
     }
 
     /// Whether a response is due on some line.
@@ -321,7 +343,7 @@ impl Lines {
     }
 
     /// Something is done to the exchange of the line at a place.
-    #[tactic(auto, using(crate::proofs::Stirs::stirs_set))]
+    #[tactic(auto, using(crate::proofs::Wished::sound_set))]
     pub fn change(
         &mut self,
         alloc: Global,
@@ -338,11 +360,12 @@ impl Lines {
             return Ok(());
         }
         self.due = self.due.with(place);
+        self.wishes.touch(place);
         change_line(alloc, what, &mut self.list[place], hub)
     }
 
     /// The stage that is to be asked on the line at a place.
-    #[tactic(auto, using(crate::proofs::Stirs::stirs_set))]
+    #[tactic(auto, using(crate::proofs::Wished::sound_set))]
     pub fn ask(
         &mut self,
         alloc: Global,
@@ -355,11 +378,12 @@ impl Lines {
             return Ok(None);
         }
         self.due = self.due.with(place);
+        self.wishes.touch(place);
         ask_line(alloc, &mut self.list[place], hub)
     }
 
     /// The exchange of the line at a place, whose end has come.
-    #[tactic(auto, using(crate::proofs::Stirs::stirs_set))]
+    #[tactic(auto, using(crate::proofs::Wished::sound_set))]
     pub fn end(&mut self, place: usize) -> Option<(LineNo, Exchange)>
         ensures { ended_at place (slice_get self.old place) self.old ≡ (result, self.new) }
     {
@@ -367,46 +391,50 @@ impl Lines {
             return None;
         }
         self.due = self.due.with(place);
+        self.wishes.touch(place);
         end_line(&mut self.list[place])
     }
 
     /// A VM died: all lines are answered or let through.
-    #[tactic(auto, using(crate::proofs::Stirs::stirs_all))]
+    #[tactic(auto, using(crate::proofs::Wished::sound_all))]
     pub fn die(&mut self, alloc: Global, hub: &mut Hub, vm: VmNo) -> Result<(), OutOfMemory>
         ensures { OnOk result (all_lines (dies vm) self.old hub.old ≡ (self.new, hub.new)) }
     {
         self.due = Span::all();
+        self.wishes.touch_all();
         let old = std::mem::replace(&mut self.list, Vec::new(alloc));
         self.list = die_all(alloc, vm, old, hub)?;
         Ok(())
     }
 
     /// Responses that are due are answered for.
-    #[tactic(auto, using(crate::proofs::Stirs::stirs_all))]
+    #[tactic(auto, using(crate::proofs::Wished::sound_all))]
     pub fn expire(&mut self, alloc: Global, hub: &mut Hub) -> Result<(), OutOfMemory>
         ensures { OnOk result (all_lines expires self.old hub.old ≡ (self.new, hub.new)) }
     {
         self.due = Span::all();
+        self.wishes.touch_all();
         let old = std::mem::replace(&mut self.list, Vec::new(alloc));
         self.list = expire_each(alloc, old, hub)?;
         Ok(())
     }
 
     /// A line is there no more.
-    #[tactic(auto, using(crate::proofs::Stirs::stirs_all))]
+    #[tactic(auto, using(crate::proofs::Wished::sound_all))]
     pub fn remove(&mut self, place: Option<usize>)
         ensures { self.new ≡ drops_at self.old place }
     {
         if let Some(place) = place {
             if place < self.list.len() {
                 self.due = Span::all();
+                self.wishes.touch_all();
                 let _ = self.list.remove(place);
             }
         }
     }
 
     /// A line more.
-    #[tactic(auto, using(crate::proofs::Stirs::stirs_all, crate::proofs::Places::place_within))]
+    #[tactic(auto, using(crate::proofs::Wished::sound_all, crate::proofs::Places::place_within))]
     pub fn open(&mut self, alloc: Global, number: LineNo) -> Result<(), OutOfMemory>
         ensures { OnOk result (self.new ≡ insert self.old (place_for number self.old) (new_line number)) }
     {
@@ -418,6 +446,7 @@ impl Lines {
             exchange: None,
         };
         self.due = Span::all();
+        self.wishes.touch_all();
         self.list.insert(place, line)?;
         Ok(())
     }

@@ -247,6 +247,13 @@ fn put_filter_on(line: &mut Line, k: usize, f: Filter)
     }
 }
 
+/// An exchange begins on a line.
+fn begin_on(line: &mut Line, x: Exchange)
+    ensures { line.new ≡ with_exchange x line.old }
+{
+    line.exchange = Some(x);
+}
+
 impl Lines {
     /// The line of a number.
     pub fn line(&self, number: LineNo) -> Option<&Line>
@@ -266,7 +273,7 @@ impl Lines {
     }
 
     /// The stages of the exchange of the line at a place are made.
-    #[tactic(auto, using(crate::proofs::Stirs::stirs_set))]
+    #[tactic(auto, using(crate::proofs::Wished::sound_set))]
     pub(crate) fn enter(
         &mut self,
         alloc: Global,
@@ -283,11 +290,12 @@ impl Lines {
             return Ok(());
         }
         self.due = self.due.with(place);
+        self.wishes.touch(place);
         enter_line(alloc, dead, &mut self.list[place], hub)
     }
 
     /// What the reader of a side of a line says next, if there is one.
-    #[tactic(auto, using(crate::proofs::Stirs::stirs_set))]
+    #[tactic(auto, using(crate::proofs::Wished::sound_set))]
     pub(crate) fn hear(&mut self, number: LineNo, up: bool) -> Result<Option<Step>, OutOfMemory>
         ensures { IfOk result (λ s. HearsOn up number (line_reading up (line_in number self.old)) self.old s self.new) }
     {
@@ -298,11 +306,12 @@ impl Lines {
             return Ok(None);
         }
         self.due = self.due.with(place);
+        self.wishes.touch(place);
         hear_line(&mut self.list[place], up)
     }
 
     /// What is kept of an item that was read.
-    #[tactic(auto, using(crate::proofs::Stirs::stirs_set))]
+    #[tactic(auto, using(crate::proofs::Wished::sound_set))]
     pub(crate) fn note(&mut self, number: LineNo, up: bool, item: &Item)
         ensures { self.new ≡ on_line (change_line (noted up item.now)) number self.old }
     {
@@ -313,11 +322,12 @@ impl Lines {
             return;
         }
         self.due = self.due.with(place);
+        self.wishes.touch(place);
         note_line(&mut self.list[place], up, item);
     }
 
     /// What is kept of the head of a response.
-    #[tactic(auto, using(crate::proofs::Stirs::stirs_set))]
+    #[tactic(auto, using(crate::proofs::Wished::sound_set))]
     pub(crate) fn keep_response(&mut self, number: LineNo, head: &Head)
         ensures { self.new ≡ on_line (change_line (keeps_response (seen_head head.now))) number self.old }
     {
@@ -328,11 +338,12 @@ impl Lines {
             return;
         }
         self.due = self.due.with(place);
+        self.wishes.touch(place);
         keep_response_on(&mut self.list[place], head);
     }
 
     /// A filter's context is known.
-    #[tactic(auto, using(crate::proofs::Stirs::stirs_set))]
+    #[tactic(auto, using(crate::proofs::Wished::sound_set))]
     pub(crate) fn note_filter(&mut self, number: LineNo, k: usize, f: Filter)
         ensures { self.new ≡ on_line (change_line (with_filter k f)) number self.old }
     {
@@ -343,25 +354,28 @@ impl Lines {
             return;
         }
         self.due = self.due.with(place);
+        self.wishes.touch(place);
         put_filter_on(&mut self.list[place], k, f);
     }
 
     /// An exchange begins on a line.
-    #[tactic(auto, using(crate::proofs::Stirs::stirs_set))]
+    #[tactic(auto, using(crate::proofs::Wished::sound_set))]
     pub(crate) fn begin(&mut self, number: LineNo, x: Exchange)
         ensures { self.new ≡ on_line (with_exchange x) number self.old }
     {
         let Some(place) = self.place_in(number) else {
             return;
         };
-        if place < self.list.len() {
-            self.due = self.due.with(place);
-            self.list[place].exchange = Some(x);
+        if place >= self.list.len() {
+            return;
         }
+        self.due = self.due.with(place);
+        self.wishes.touch(place);
+        begin_on(&mut self.list[place], x);
     }
 
     /// The client of a line is gone.
-    #[tactic(auto, using(crate::proofs::Stirs::stirs_set))]
+    #[tactic(auto, using(crate::proofs::Wished::sound_set))]
     pub(crate) fn lose(&mut self, number: LineNo)
         ensures { self.new ≡ on_line lost number self.old }
     {
@@ -372,11 +386,12 @@ impl Lines {
             return;
         }
         self.due = self.due.with(place);
+        self.wishes.touch(place);
         lose_line(&mut self.list[place]);
     }
 
     /// A side of a line has more, or has ended.
-    #[tactic(auto, using(crate::proofs::Stirs::stirs_set))]
+    #[tactic(auto, using(crate::proofs::Wished::sound_set))]
     pub(crate) fn come(
         &mut self,
         number: LineNo,
@@ -393,6 +408,7 @@ impl Lines {
             return Ok(());
         }
         self.due = self.due.with(place);
+        self.wishes.touch(place);
         line_further(&mut self.list[place], up, ends, bytes)
     }
 }

@@ -59,6 +59,18 @@ impl Span {
         }
     }
 
+    /// Whether these are all places that there are.
+    pub fn is_all(self) -> bool {
+        self.is_all
+    }
+
+    /// Whether there is no place.
+    pub fn is_none(self) -> bool
+        ensures { result ≡ true → (k : ℕ) → Covers self k → ⊥ }
+    {
+        !self.is_all && !self.is_any
+    }
+
     /// None is below this place.
     pub fn start(self) -> usize
         ensures { (k : ℕ) → Covers self k → result ≤ k }

@@ -34,6 +34,15 @@ pub struct Line {
     pub exchange: Option<Exchange>,
 }
 
+/// What a line wants where nothing waits for its peers: whether bytes of its client and of its server are taken, and when its response is due.
+#[derive(Clone, Copy)]
+pub struct Wish {
+    pub number: LineNo,
+    pub down: bool,
+    pub up: bool,
+    pub due: Option<u64>,
+}
+
 /// A side of a line that is being read, and what was read of it.
 #[derive(Drop)]
 pub struct Reads {

@@ -1,18 +1,20 @@
 // What a worker asks of its world.
 ghost use Rattle.worker.specs.Plan.{plan_of};
-ghost use Rattle.std.specs.Prelude.{◌≡◌, ◌≤◌, [], true, false, None, Some, OnOk, option_copied, if◌then◌else◌, length};
+ghost use Rattle.std.specs.Prelude.{◌≡◌, ◌≤◌, [], true, false, None, Some, OnOk, option_copied, if◌then◌else◌, length, take, ◌+◌, ◌++◌, ◌∷◌};
 ghost use Rattle.std.specs.Option.{option_map};
 ghost use Rattle.worker.specs.Steps.{line_reading, at_most_last};
 ghost use Rattle.gate_io.specs.declared.event.Side.TheVariants.{Down, Up};
 ghost use Rattle.worker.specs.Turn.{vms_in};
-ghost use Rattle.worker.specs.Wants.{has_room, reads_more, is_wanted, wanted_of, earlier, due_of, with_ticks, ticks_up_to, due_on, with_lines, looks_one, looks, with_notices, due_in, wants_of};
+ghost use Rattle.worker.specs.Wants.{has_room, reads_more, is_wanted, wanted_of, earlier, due_of, with_ticks, ticks_up_to, due_on, with_lines, looks_one, looks, with_notices, due_in, wants_of, wished, with_wishes};
+ghost use Rattle.worker.specs.Wishes.{takes_more, takes_up, falls_due, wish_of};
 
 use crate::agenda::{contexts_of, registers_at, vm_of, vms_in};
+use crate::lines::Lines;
 use crate::room::Room;
-use crate::types::{Line, Rules};
+use crate::types::{Line, Rules, Wish};
 use contexts::{Context, Tick};
 use exchange::Exchange;
-use gate_base::{LineList, OutOfMemory};
+use gate_base::{LineList, LineNo, OutOfMemory};
 use gate_io::{Side, Wants};
 use h1_stream::MessageReader;
 use outbox::Outbox;
@@ -23,12 +25,11 @@ const ENOUGH: usize = 65_536;
 /// How often notices are looked for, in nanoseconds.
 const NOTICE_PERIOD: u64 = 50_000_000;
 
-/// Whether less than 65,536 bytes wait on a side of a line. It is not looked for where nothing waits at all.
-#[tactic(auto, using(crate::proofs::Places::room_in_none))]
+/// Whether less than 65,536 bytes wait on a side of a line.
 fn has_room(outbox: &Outbox, side: Side, line: &Line) -> bool
     ensures { result ≡ has_room outbox.now side line.now }
 {
-    outbox.waiting().is_empty() || !outbox.is_full(line.number, side)
+    !outbox.is_full(line.number, side)
 }
 
 /// Whether less than 65,536 bytes of a text are unread.
@@ -118,7 +119,8 @@ fn ticks_up_to(room: &Room, count: u8) -> Option<u64>
 
 /// When the response of an exchange is due.
 fn due_on(x: &Option<Exchange>) -> Option<u64>
-    ensures { result ≡ due_on x.now }
+    ensures of_world { result ≡ due_on x.now }
+    ensures of_line { result ≡ falls_due x.now }
 {
     match x {
         None => None,
@@ -132,11 +134,85 @@ fn due_on(x: &Option<Exchange>) -> Option<u64>
     }
 }
 
-/// Takes all numbers out of a list, which keeps its memory.
-fn empty(numbers: &mut LineList)
-    ensures { numbers.new ≡ [] }
+/// Whether less than 65,536 bytes of a reader's text are unread.
+fn takes_more(reader: &MessageReader) -> bool
+    ensures { result ≡ takes_more reader.now }
 {
-    while let Some(_) = numbers.pop() {}
+    reader.unread_len() < ENOUGH
+}
+
+/// The same of the server's text, if there is a connection.
+fn takes_up(x: &Option<Exchange>) -> bool
+    ensures { result ≡ takes_up x.now }
+{
+    match x {
+        None => false,
+        Some(x) => match &x.reader {
+            None => false,
+            Some(reader) => takes_more(reader),
+        },
+    }
+}
+
+/// What a line wants where nothing waits for its peers.
+pub(crate) fn wish_of(line: &Line) -> Wish
+    ensures { result ≡ wish_of line.now }
+{
+    Wish {
+        number: line.number,
+        down: takes_more(&line.requests),
+        up: takes_up(&line.exchange),
+        due: due_on(&line.exchange),
+    }
+}
+
+/// Takes numbers off a list until so many are left. It keeps its memory.
+fn cut(numbers: &mut LineList, count: usize)
+    requires { count ≤ length numbers.old }
+    ensures { numbers.new ≡ take count numbers.old }
+{
+    while numbers.len() > count {
+        let _ = numbers.pop();
+    }
+}
+
+/// A number stands at a place of a list, and is not written where it does already. What stands behind it does not count.
+fn put_at(numbers: &mut LineList, at: usize, number: LineNo) -> Result<(), OutOfMemory>
+    requires { at ≤ length numbers.old }
+    ensures there { OnOk result (take (at + 1) numbers.new ≡ take at numbers.old ++ number ∷ []) }
+    ensures length { OnOk result (at + 1 ≤ length numbers.new) }
+{
+    if at < numbers.len() && *numbers.get(at) == number {
+        return Ok(());
+    }
+    cut(numbers, at);
+    numbers.push(number)
+}
+
+/// What lines want by what is known of each, where nothing waits. What stands in the lists already is not written again.
+fn wished_on(due: Option<u64>, each: &[Wish], wants: &mut Wants) -> Result<(), OutOfMemory>
+    ensures down { OnOk result (wants.new.down ≡ wished (λ w. w.down) each.now) }
+    ensures up { OnOk result (wants.new.up ≡ wished (λ w. w.up) each.now) }
+    ensures due { OnOk result (wants.new.due ≡ with_wishes due each.now) }
+{
+    let mut downs = 0;
+    let mut ups = 0;
+    let mut first = due;
+    for wish in each {
+        if wish.down {
+            put_at(&mut wants.down, downs, wish.number)?;
+            downs += 1;
+        }
+        if wish.up {
+            put_at(&mut wants.up, ups, wish.number)?;
+            ups += 1;
+        }
+        first = earlier(first, wish.due);
+    }
+    cut(&mut wants.down, downs);
+    cut(&mut wants.up, ups);
+    wants.due = first;
+    Ok(())
 }
 
 /// What lines want, each looked at once: of which bytes are taken, and the earliest of a moment and of their responses.
@@ -150,8 +226,8 @@ fn wants_on(
     ensures up { OnOk result (wants.new.up ≡ wanted_of Up outbox.now lines.now) }
     ensures due { OnOk result (wants.new.due ≡ with_lines due lines.now) }
 {
-    empty(&mut wants.down);
-    empty(&mut wants.up);
+    cut(&mut wants.down, 0);
+    cut(&mut wants.up, 0);
     let mut first = due;
     for line in lines {
         let wanted = are_wanted(outbox, line);
@@ -165,6 +241,33 @@ fn wants_on(
     }
     wants.due = first;
     Ok(())
+}
+
+/// Whether nothing waits.
+fn nothing_waits(outbox: &Outbox) -> bool
+    ensures { result ≡ true → outbox.now ≡ [] }
+{
+    outbox.waiting().is_empty()
+}
+
+/// The same, where nothing waits by what is known of the lines already.
+#[tactic(auto, using(crate::proofs::Wished::wished_due))]
+fn wants_of_lines(
+    outbox: &Outbox,
+    due: Option<u64>,
+    lines: &Lines,
+    wants: &mut Wants,
+) -> Result<(), OutOfMemory>
+    ensures down { OnOk result (wants.new.down ≡ wanted_of Down outbox.now lines.now) }
+    ensures up { OnOk result (wants.new.up ≡ wanted_of Up outbox.now lines.now) }
+    ensures due { OnOk result (wants.new.due ≡ with_lines due lines.now) }
+{
+    if nothing_waits(outbox) {
+        if let Some(each) = lines.wishes() {
+            return wished_on(due, each, wants);
+        }
+    }
+    wants_on(outbox, due, lines.as_slice(), wants)
 }
 
 /// Whether a VM looks for notices.
@@ -219,7 +322,7 @@ pub(crate) fn wants_of(
     ensures { OnOk result (wants.new ≡ wants_of (plan_of rules.now) room.now outbox.now) }
 {
     let ticks = ticks_up_to(room, vms_in(room));
-    wants_on(outbox, ticks, room.lines.as_slice(), wants)?;
+    wants_of_lines(outbox, ticks, &room.lines, wants)?;
     wants.due = due_by(rules, room, wants.due);
     Ok(())
 }

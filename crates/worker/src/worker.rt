@@ -217,10 +217,11 @@ fn face(
     Ok(())
 }
 
-/// Takes out what is sent.
+/// Takes out what is sent, and looks at what lines want from now on.
 fn take_sent(alloc: Global, room: &mut Room) -> Vec<Sent>
     ensures room { filled result.items room.new ≡ room.old }
     ensures empty { room.new.hub.sent ≡ [] }
 {
+    room.lines.renew();
     std::mem::replace(&mut room.hub.sent, Queue::new(alloc)).into_vec()
 }

@@ -10,7 +10,7 @@ use Rattle.worker.proofs.lines.Lines.ending.Goals as goal
 
 pub loop-at-init : goal.loop-at-init
 loop-at-init c =
-    let within = subst (λ (ls : List Line). StirsWithin c.self.inside.due ls) c.self.view_is c.self.invariant in
+    let within = subst (λ (ls : List Line). StirsWithin c.self.inside.due ls) c.self.view_is c.self.invariant.stirs in
     fails_before is_over over_stirs c.self.inside.due c.args.self.now within c.start-at.result c.start-at.ensures
 
 pub returns-then-is_over : goal.returns-then-is_over
@@ -31,6 +31,6 @@ loop-at-preserved c =
 
 pub returns : goal.returns
 returns c =
-    let within = subst (λ (ls : List Line). StirsWithin c.self.inside.due ls) c.self.view_is c.self.invariant in
+    let within = subst (λ (ls : List Line). StirsWithin c.self.inside.due ls) c.self.view_is c.self.invariant.stirs in
     let all = fails_behind is_over over_stirs c.self.inside.due c.args.self.now within c.loop-at.at (λ k low covered. let bound = c.end-at-end.ensures.ends k (let less : k < length c.self.inside.list.items = subst (λ (ls : List Line). k < length ls) (sym c.self.view_is) low in omega (arith, less, c.len.ensures)) covered in omega (arith, bound, c.loop-at-test.false)) c.loop-at.invariant in
     sym (none_is is_over c.args.self.now all)

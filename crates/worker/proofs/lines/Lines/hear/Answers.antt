@@ -1,7 +1,11 @@
 use Rattle.std.proofs.Common.{◌≡◌, Some}
 use Rattle.worker.specs.Rooms.{place_in}
 use Rattle.worker.proofs.Readings.{hears_at, if_ok}
+use Rattle.worker.proofs.Wished.{sound_set}
 use Rattle.worker.proofs.lines.Lines.hear.Goals as goal
+
+pub invariant_of-self : goal.invariant_of-self
+invariant_of-self c = sound_set _ _ _ _ _ _ _ c.self.invariant c.with-self-inside.ensures.here c.with-self-inside.ensures.others c.touch.ensures
 
 pub returns : goal.returns
 returns c =

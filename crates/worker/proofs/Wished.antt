@@ -1,0 +1,186 @@
+-- What is known of the lines stays so.
+use Rattle.std.proofs.Common.{◌≡◌, ◌≤◌, ◌<◌, ℕ, zero, suc, ◌+◌, List, [], ◌∷◌, length, map, Bool, true, false, cond, refl, sym, ap, ◌∙◌, subst, arith, Option, Some, None, ◌⊎◌, inl, inr, nat_lt}
+use Rattle.std.specs.Prelude.{slice_get, slice_set, position, filter, option_map}
+use Rattle.std.proofs.lemmas.Option.{slice_get-map, slice_get_past}
+use Rattle.gate_io.specs.declared.event.Sent.{Sent}
+use Rattle.gate_io.specs.declared.event.Side.TheVariants.{Down, Up}
+use Rattle.worker.specs.Rooms.{moves, is_over}
+use Rattle.worker.specs.Stirring.{Covers, StirsWithin}
+use Rattle.worker.specs.Steps.{exchange_reading}
+use Rattle.worker.specs.Wants.{is_wanted, wanted_of, with_lines, earlier, due_on, reads_more, wished, with_wishes}
+use Rattle.worker.specs.Wishes.{wish_of, takes_on, takes_up, falls_due, Fits, Touched, Sound}
+use Rattle.exchange.specs.declared.types.Exchange.{Exchange}
+use Rattle.http1_model.specs.Unread.{Reading}
+use Rattle.worker.specs.declared.span.Span.{Span}
+use Rattle.worker.specs.declared.types.Line.{Line}
+use Rattle.worker.specs.declared.types.Wish.{Wish}
+use Rattle.worker.specs.declared.wishes.Wishes.{Wishes}
+use Rattle.worker.proofs.Firsts.{low_or_high}
+use Rattle.worker.proofs.Stirs.{stirs_set, stirs_all, stirs_calm}
+
+-- a member that is not set is as it was
+get_other : {X : Type 0} (xs : List X) (at k : ℕ) (x : X) → (k ≡ at) ⊎ (slice_get (slice_set xs at x) k ≡ slice_get xs k)
+get_other [] at k x = inr refl
+get_other (z ∷ zs) zero zero x = inl refl
+get_other (z ∷ zs) zero (suc k) x = inr refl
+get_other (z ∷ zs) (suc at) zero x = inr refl
+get_other (z ∷ zs) (suc at) (suc k) x = by (get_other zs at k x)
+  where
+    by : (k ≡ at) ⊎ (slice_get (slice_set zs at x) k ≡ slice_get zs k) → (suc k ≡ suc at) ⊎ (slice_get (slice_set (z ∷ zs) (suc at) x) (suc k) ≡ slice_get (z ∷ zs) (suc k))
+    by (inl same) = inl (ap suc same)
+    by (inr there) = inr there
+
+fits_set : (old new : Span) (each : List Wish) (lines : List Line) (at : ℕ) (line : Line) → Fits old each lines → Covers new at → ((k : ℕ) → Covers old k → Covers new k)
+    → Fits new each (slice_set lines at line)
+fits_set old new each lines at line fits here others = record { at = λ k. by k (fits.at k) (get_other lines at k line) }
+  where
+    by : (k : ℕ) → Covers old k ⊎ (slice_get each k ≡ option_map wish_of (slice_get lines k)) → (k ≡ at) ⊎ (slice_get (slice_set lines at line) k ≡ slice_get lines k)
+        → Covers new k ⊎ (slice_get each k ≡ option_map wish_of (slice_get (slice_set lines at line) k))
+    by k known (inl same) = inl (subst (λ (n : ℕ). Covers new n) (sym same) here)
+    by k (inl was) (inr there) = inl (others k was)
+    by k (inr is) (inr there) = inr (is ∙ sym (ap (λ (o : Option Line). option_map wish_of o) there))
+
+pub fits_all : (span : Span) (each : List Wish) (lines : List Line) → span.is_all ≡ true → Fits span each lines
+fits_all span each lines all = record { at = λ k. inl (λ not_all. absurd (cc)) }
+
+pub fits_each : (span : Span) (each : List Wish) (lines : List Line) → each ≡ map wish_of lines → Fits span each lines
+fits_each span each lines is = record { at = λ k. inr (ap (λ (ws : List Wish). slice_get ws k) is ∙ slice_get-map wish_of lines k) }
+
+-- whatever is put at a place that is covered
+pub sound_set : (old new : Span) (was is : Wishes) (lines : List Line) (at : ℕ) (line : Line) → Sound old was lines
+    → Covers new at → ((k : ℕ) → Covers old k → Covers new k) → Touched was at is → Sound new is (slice_set lines at line)
+sound_set old new was is lines at line sound here others touched = record {
+  stirs = stirs_set old new lines at line sound.stirs here others;
+  fits = subst (λ each. Fits is.touched each.items (slice_set lines at line)) (sym touched.same)
+      (fits_set was.touched is.touched was.each.items lines at line sound.fits touched.here touched.others);
+}
+
+-- all are covered
+pub sound_all : (span : Span) (wishes : Wishes) (lines : List Line) → span.is_all ≡ true → wishes.touched.is_all ≡ true → Sound span wishes lines
+sound_all span wishes lines due touched = record { stirs = stirs_all span lines due; fits = fits_all wishes.touched wishes.each.items lines touched }
+
+-- nothing is due
+pub sound_calm : (old new : Span) (wishes : Wishes) (lines : List Line) → Sound old wishes lines → position moves lines ≡ None → position is_over lines ≡ None → Sound new wishes lines
+sound_calm old new wishes lines sound first next = record { stirs = stirs_calm new lines first next; fits = sound.fits }
+
+-- they were looked at again
+pub sound_renewed : (due : Span) (was is : Wishes) (lines : List Line) → Sound due was lines → Fits is.touched is.each.items lines → Sound due is lines
+sound_renewed due was is lines sound fits = record { stirs = sound.stirs; fits = fits }
+
+-- lists that give the same at each place are the same
+all_same : {X Y : Type 0} (f : X → Y) (ys : List Y) (xs : List X) → ((k : ℕ) → slice_get ys k ≡ option_map f (slice_get xs k)) → ys ≡ map f xs
+all_same f [] [] same = refl
+all_same f [] (x ∷ xs) same = let at = same 0 in absurd (cc)
+all_same f (y ∷ ys) [] same = let at = same 0 in absurd (cc)
+all_same f (y ∷ ys) (x ∷ xs) same = by (all_same f ys xs (λ k. same (suc k))) (same 0)
+  where
+    by : ys ≡ map f xs → Some y ≡ Some (f x) → y ∷ ys ≡ f x ∷ map f xs
+    by rest head = let first : y ≡ f x = (cc) in (cc)
+
+pub fits_whole : (span : Span) (each : List Wish) (lines : List Line) → Fits span each lines → ((k : ℕ) → Covers span k → ⊥) → each ≡ map wish_of lines
+fits_whole span each lines fits none = all_same wish_of each lines (λ k. by k (fits.at k))
+  where
+    by : (k : ℕ) → Covers span k ⊎ (slice_get each k ≡ option_map wish_of (slice_get lines k)) → slice_get each k ≡ option_map wish_of (slice_get lines k)
+    by k (inl covered) = absurd (none k covered)
+    by k (inr is) = is
+
+-- ---- what is wanted, by what each line wants
+
+up_same : (line : Line) → takes_up line.exchange ≡ is_wanted Up [] line
+up_same line = by line.exchange
+  where
+    on : (o : Option Reading) → takes_on o ≡ reads_more o
+    on None = refl
+    on (Some reading) = refl
+
+    by : (x : Option Exchange) → takes_up x ≡ reads_more (exchange_reading x)
+    by None = refl
+    by (Some x) = on x.reader
+
+due_same : (x : Option Exchange) → falls_due x ≡ due_on x
+due_same None = refl
+due_same (Some x) = refl
+
+-- one line more
+module _ (takes : Wish → Bool) (wants : Line → Bool) (same : (line : Line) → takes (wish_of line) ≡ wants line) where
+  pub wished_is : (lines : List Line) → wished takes (map wish_of lines) ≡ map (λ (line : Line). line.number) (filter wants lines)
+  wished_is [] = refl
+  wished_is (x ∷ xs) = by (wished_is xs) (takes (wish_of x)) (wants x) (same x)
+    where
+      by : wished takes (map wish_of xs) ≡ map (λ (line : Line). line.number) (filter wants xs) → (a b : Bool) → a ≡ b
+          → map (λ (w : Wish). w.number) (cond a (wish_of x ∷ filter takes (map wish_of xs)) (filter takes (map wish_of xs)))
+          ≡ map (λ (line : Line). line.number) (cond b (x ∷ filter wants xs) (filter wants xs))
+      by rest true true is = ap (λ (ns : List ℕ). x.number ∷ ns) rest
+      by rest false false is = rest
+      by rest true false is = absurd (cc)
+      by rest false true is = absurd (cc)
+
+pub wished_down : (each : List Wish) (waiting : List Sent) (lines : List Line) → waiting ≡ [] → each ≡ map wish_of lines → wished (λ w. w.down) each ≡ wanted_of Down waiting lines
+wished_down each waiting lines none is =
+    ap (λ (ws : List Wish). wished (λ w. w.down) ws) is ∙ wished_is (λ w. w.down) (is_wanted Down []) (λ line. refl) lines ∙ sym (ap (λ (w : List Sent). wanted_of Down w lines) none)
+
+pub wished_up : (each : List Wish) (waiting : List Sent) (lines : List Line) → waiting ≡ [] → each ≡ map wish_of lines → wished (λ w. w.up) each ≡ wanted_of Up waiting lines
+wished_up each waiting lines none is =
+    ap (λ (ws : List Wish). wished (λ w. w.up) ws) is ∙ wished_is (λ w. w.up) (is_wanted Up []) up_same lines ∙ sym (ap (λ (w : List Sent). wanted_of Up w lines) none)
+
+due_in_all : (due : Option ℕ) (lines : List Line) → with_wishes due (map wish_of lines) ≡ with_lines due lines
+due_in_all due [] = refl
+due_in_all due (x ∷ xs) = ap (λ (d : Option ℕ). with_wishes (earlier due d) (map wish_of xs)) (due_same x.exchange) ∙ due_in_all (earlier due (due_on x.exchange)) xs
+
+pub wished_due : (due : Option ℕ) (each : List Wish) (lines : List Line) → each ≡ map wish_of lines → with_wishes due each ≡ with_lines due lines
+wished_due due each lines is = ap (λ (ws : List Wish). with_wishes due ws) is ∙ due_in_all due lines
+
+-- ---- lines that are looked at again, one after the other
+
+-- what is known, but for places that were touched and are still to come
+pub record FitsFrom (touched : Span) (from : ℕ) (each : List Wish) (lines : List Line) : Type 0 where
+  pub at : (k : ℕ) → (Covers touched k × from ≤ k) ⊎ (slice_get each k ≡ option_map wish_of (slice_get lines k))
+
+pub fits_start : (touched : Span) (from : ℕ) (each : List Wish) (lines : List Line) → Fits touched each lines → ((k : ℕ) → Covers touched k → from ≤ k) → FitsFrom touched from each lines
+fits_start touched from each lines fits low = record { at = λ k. by k (fits.at k) }
+  where
+    by : (k : ℕ) → Covers touched k ⊎ (slice_get each k ≡ option_map wish_of (slice_get lines k)) → (Covers touched k × from ≤ k) ⊎ (slice_get each k ≡ option_map wish_of (slice_get lines k))
+    by k (inl covered) = inl (covered, low k covered)
+    by k (inr is) = inr is
+
+set_here : {X : Type 0} (xs : List X) (at : ℕ) (x : X) → at < length xs → slice_get (slice_set xs at x) at ≡ Some x
+set_here [] at x low = absurd (omega arith)
+set_here (z ∷ zs) zero x low = refl
+set_here (z ∷ zs) (suc at) x low = set_here zs at x (omega arith)
+
+pub fits_next : (touched : Span) (at : ℕ) (each : List Wish) (lines : List Line) (line : Line) → FitsFrom touched at each lines → slice_get lines at ≡ Some line → at < length each
+    → FitsFrom touched (at + 1) (slice_set each at (wish_of line)) lines
+fits_next touched at each lines line fits there low = record { at = λ k. by k (fits.at k) (get_other each at k (wish_of line)) }
+  where
+    here : (k : ℕ) → k ≡ at → (Covers touched k × at + 1 ≤ k) ⊎ (slice_get (slice_set each at (wish_of line)) k ≡ option_map wish_of (slice_get lines k))
+    here k same = inr (subst (λ (n : ℕ). slice_get (slice_set each at (wish_of line)) n ≡ option_map wish_of (slice_get lines n)) (sym same)
+        (set_here each at (wish_of line) low ∙ sym (ap (λ (o : Option Line). option_map wish_of o) there)))
+
+    further : (k : ℕ) → (Covers touched k × at ≤ k) → k < at + 1 ⊎ at + 1 ≤ k → (Covers touched k × at + 1 ≤ k) ⊎ (slice_get (slice_set each at (wish_of line)) k ≡ option_map wish_of (slice_get lines k))
+    further k covered (inr high) = inl (covered.0, high)
+    further k covered (inl less) = here k (let past = covered.1 in omega (arith, less, past))
+
+    by : (k : ℕ) → (Covers touched k × at ≤ k) ⊎ (slice_get each k ≡ option_map wish_of (slice_get lines k)) → (k ≡ at) ⊎ (slice_get (slice_set each at (wish_of line)) k ≡ slice_get each k)
+        → (Covers touched k × at + 1 ≤ k) ⊎ (slice_get (slice_set each at (wish_of line)) k ≡ option_map wish_of (slice_get lines k))
+    by k known (inl same) = here k same
+    by k (inr is) (inr other) = inr (other ∙ is)
+    by k (inl covered) (inr other) = further k covered (low_or_high k (at + 1))
+
+pub fits_end : (touched : Span) (end : ℕ) (each : List Wish) (lines : List Line) → length each ≡ length lines → ((k : ℕ) → k < length lines → Covers touched k → k < end) → FitsFrom touched end each lines
+    → each ≡ map wish_of lines
+fits_end touched end each lines long high fits = all_same wish_of each lines (λ k. by k (fits.at k))
+  where
+    by : (k : ℕ) → (Covers touched k × end ≤ k) ⊎ (slice_get each k ≡ option_map wish_of (slice_get lines k)) → slice_get each k ≡ option_map wish_of (slice_get lines k)
+    by k (inr is) = is
+    by k (inl covered) = past (low_or_high k (length lines))
+      where
+        past : k < length lines ⊎ length lines ≤ k → slice_get each k ≡ option_map wish_of (slice_get lines k)
+        past (inl low) = let less = high k low covered.0 in absurd (omega (arith, less, covered.1))
+        past (inr behind) =
+            slice_get_past each k (let same = long in omega (arith, same, behind))
+            ∙ sym (ap (λ (o : Option Line). option_map wish_of o) (slice_get_past lines k behind))
+
+pub length_set : {X : Type 0} (xs : List X) (at : ℕ) (x : X) → length (slice_set xs at x) ≡ length xs
+length_set [] at x = refl
+length_set (z ∷ zs) zero x = refl
+length_set (z ∷ zs) (suc at) x = ap suc (length_set zs at x)

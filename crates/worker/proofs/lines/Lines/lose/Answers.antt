@@ -1,0 +1,5 @@
+use Rattle.worker.proofs.Wished.{sound_set}
+use Rattle.worker.proofs.lines.Lines.lose.Goals as goal
+
+pub invariant_of-self : goal.invariant_of-self
+invariant_of-self c = sound_set _ _ _ _ _ _ _ c.self.invariant c.with-self-inside.ensures.here c.with-self-inside.ensures.others c.touch.ensures

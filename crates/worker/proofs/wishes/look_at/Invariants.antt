@@ -1,0 +1,7 @@
+use Rattle.std.proofs.Common.{◌≡◌, length}
+use Rattle.worker.proofs.Wished.{FitsFrom}
+use Rattle.worker.proofs.wishes.look_at.Given as goal
+
+-- what is known, but for places that are still to be looked at
+abbrev pub invariant-loop-at : goal.invariant-loop-at
+invariant-loop-at l = (length l.each.items ≡ length l.lines) × FitsFrom l.fn.touched l.at l.each.items l.lines

@@ -1,0 +1,45 @@
+-- What each line wants where nothing waits for its peers, and what of that is known.
+use Rattle.std.specs.Prelude.{◌≡◌, ℕ, Bool, false, ◌||◌, List, length, nat_lt, Option, None, Some, option_map, slice_get, if◌then◌else◌, ◌⊎◌}
+use Rattle.exchange.specs.declared.types.Exchange.{Exchange}
+use Rattle.http1_model.specs.Unread.{Reading}
+use Rattle.worker.specs.Stirring.{Covers, StirsWithin}
+use Rattle.worker.specs.declared.span.Span.{Span}
+use Rattle.worker.specs.declared.types.Line.{Line}
+use Rattle.worker.specs.declared.types.Wish.{Wish}
+use Rattle.worker.specs.declared.wishes.Wishes.{Wishes}
+
+-- less than 65,536 bytes of a text are unread
+abbrev pub takes_more : Reading → Bool
+takes_more reading = nat_lt (length reading.unread) 65536
+
+abbrev pub takes_on : Option Reading → Bool
+takes_on None = false
+takes_on (Some reading) = takes_more reading
+
+-- of the server's text, if there is a connection
+abbrev pub takes_up : Option Exchange → Bool
+takes_up None = false
+takes_up (Some x) = takes_on x.reader
+
+-- when a response that is waited for is due
+abbrev pub falls_due : Option Exchange → Option ℕ
+falls_due None = None
+falls_due (Some x) = if x.is_headed || x.is_answered then None else x.due
+
+abbrev pub wish_of : Line → Wish
+wish_of line = record { number = line.number; down = takes_more line.requests; up = takes_up line.exchange; due = falls_due line.exchange }
+
+-- at other places the lines want what they wanted
+pub record Fits (touched : Span) (each : List Wish) (lines : List Line) : Type 0 where
+  pub at : (k : ℕ) → Covers touched k ⊎ (slice_get each k ≡ option_map wish_of (slice_get lines k))
+
+-- something was done at a place more
+pub record Touched (was : Wishes) (at : ℕ) (is : Wishes) : Type 0 where
+  pub here : Covers is.touched at
+  pub others : (k : ℕ) → Covers was.touched k → Covers is.touched k
+  pub same : is.each ≡ was.each
+
+-- what is known of the lines: where something may be due, and what they want
+pub record Sound (due : Span) (wishes : Wishes) (lines : List Line) : Type 0 where
+  pub stirs : StirsWithin due lines
+  pub fits : Fits wishes.touched wishes.each.items lines
