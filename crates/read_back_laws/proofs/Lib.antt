@@ -5,3 +5,4 @@ pub mod Sends
 pub mod Readings
 pub mod Worked
 pub mod Running
+pub mod Lists

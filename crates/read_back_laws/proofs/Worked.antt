@@ -32,7 +32,7 @@ use Rattle.read_back_laws.proofs.Sends.{whole_suits}
 
 -- ---- what comes
 
-asked_list : IsHeaders asked_head.fields
+pub asked_list : IsHeaders asked_head.fields
 unfolding httparse_on_literals token.is_token_byte
 asked_list = record {
   shape = (record { name_is = refl; value = refl }, (record { name_is = refl; value = refl }, (record { name_is = refl; value = refl }, (record { name_is = refl; value = refl }, record { kept = refl; few = lit≤ tt }))));

@@ -3,3 +3,4 @@ pub mod Sent
 pub mod Laws
 pub mod Examples
 pub mod Runs
+pub mod Lists

@@ -1,6 +1,7 @@
 // What goes up is read as one request. The functions have nothing to do: their contracts are the laws.
 ghost use Rattle.read_back_laws.specs.Examples.{FilterExample, RefusedReadings};
 ghost use Rattle.read_back_laws.specs.Laws.{RequestsAreReadAsOne, RequestsOfTheProductAreReadAsOne, RequestsOfWorkersAreReadAsOne};
+ghost use Rattle.read_back_laws.specs.Lists.{FiltersKeepLists, HeadsHaveLists, ListExample};
 ghost use Rattle.read_back_laws.specs.OneRequest.{NeverTwo, ReadAsOne};
 ghost use Rattle.read_back_laws.specs.Runs.{FilterRun};
 
@@ -45,4 +46,13 @@ pub fn worked_readings()
 /// in them is one connection and the bytes of one request in chunks.
 pub fn worked_turns()
     ensures { FilterRun }
+{}
+
+/// The list of a request stays one whatever filters call on it, by any calls that put a field behind, replace one, remove those of a name or set all: so no
+/// call brings in a name or a value with an end of line. The fields of a head that was judged, of a target in another than the absolute form, are one. And a
+/// list with another path and one field more, made so.
+pub fn filters_keep_lists()
+    ensures kept { FiltersKeepLists }
+    ensures first { HeadsHaveLists }
+    ensures worked { ListExample }
 {}

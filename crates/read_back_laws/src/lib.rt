@@ -4,6 +4,7 @@
 mod laws;
 
 pub use laws::{
-    fronts_are_read_as_one, requests_are_read_as_one, requests_of_the_product_are_read_as_one,
-    requests_of_workers_are_read_as_one, worked_readings, worked_turns,
+    filters_keep_lists, fronts_are_read_as_one, requests_are_read_as_one,
+    requests_of_the_product_are_read_as_one, requests_of_workers_are_read_as_one, worked_readings,
+    worked_turns,
 };
