@@ -2,7 +2,6 @@
 #![tactic(auto)]
 
 mod lines;
-mod members;
 mod place;
 mod reader;
 mod section;

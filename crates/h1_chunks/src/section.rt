@@ -1,8 +1,8 @@
 // The fields of a trailer section.
 ghost use Rattle.std.specs.List.{list_any};
-ghost use Rattle.std.specs.Prelude.{◌≡◌, ◌≤◌, List, [], None, length, take, drop, bytes_eq, map, All, IfOk, IfSome, IfNone, OnOk, OnErr};
+ghost use Rattle.std.specs.Prelude.{◌≡◌, ◌≤◌, List, [], None, codes, length, take, drop, bytes_eq, map, All, IfOk, IfSome, IfNone, OnOk, OnErr};
 ghost use Rattle.http_header.specs.Token.{lowercase};
-ghost use Rattle.http1_model.specs.Fields.{is_listed};
+ghost use Rattle.http1_model.specs.Fields.{is_listed, is_named, values_of};
 ghost use Rattle.http1_model.specs.Lines.{head_limit, whole};
 ghost use Rattle.http1_model.specs.Trailers.{trailer_names, kept_trailers, section_cut, IsSection};
 ghost use Rattle.httparse.specs.Grammar.{LineEnd, Field, ReadsSection};
@@ -11,9 +11,10 @@ ghost use Rattle.header_maps.specs.Faults.{add_fault};
 ghost use Rattle.header_maps.specs.Kept.{byte_limit};
 ghost use Rattle.header_maps.specs.Operations.{added};
 ghost use Rattle.h1_chunks.specs.Spans.{AreTaken, pairs_if};
+ghost use Rattle.h1_text.specs.Names.{AreMarked};
 
-use crate::members::{is_same_word, lists};
 use gate_base::OutOfMemory;
+use h1_text::{ListedNames, is_same_word, listed_among, lists};
 use header_maps::{HeaderEnd, HeaderList};
 use httparse::Status;
 use httparse::spans::{EMPTY_HEADER_SPAN, HeaderSpan, parse_headers};
@@ -80,20 +81,73 @@ impl<'t> Fields<'t> {
         false
     }
 
+    /// Whether one of the fields is Connection.
+    fn has_connection(&self) -> bool
+        ensures { result ≡ list_any (is_named (codes "connection")) (fields_of self.now) }
+    {
+        for span in self.spans {
+            let (field, _) = self.pair_at(span);
+            if is_same_word(field, b"connection") {
+                return true;
+            }
+        }
+        false
+    }
+
+    /// The names of the fields, those marked that a Connection field lists, where there is one and there is memory for it.
+    fn listed_names(&self, alloc: Global) -> Option<ListedNames>
+        ensures { IfSome result (AreMarked (values_of (codes "connection") (fields_of self.now))) }
+    {
+        if self.has_connection() {
+            listed_among(alloc, self.text, self.spans).ok()
+        } else {
+            None
+        }
+    }
+
+    /// Whether a Connection field lists a name, in any case of letters, by the marks of names, where it is one of those.
+    fn is_among(&self, listed: &Option<ListedNames>, name: &[u8]) -> bool
+        requires { IfSome listed.now (AreMarked (values_of (codes "connection") (fields_of self.now))) }
+        ensures { result ≡ is_listed (lowercase name.now) (fields_of self.now) }
+    {
+        let Some(listed) = listed else {
+            return self.is_listed(name);
+        };
+        match listed.is_listed(name) {
+            Some(is_listed) => is_listed,
+            None => self.is_listed(name),
+        }
+    }
+
+    /// The fields that are kept, in order, with their names in lower case, by the marks of those that Connection lists.
+    fn kept_by(
+        &self,
+        alloc: Global,
+        listed: &Option<ListedNames>,
+    ) -> Result<HeaderList, OutOfMemory>
+        requires taken { AreTaken (fields_of self.now) }
+        requires short { length self.now.text.now ≤ head_limit }
+        requires listed { IfSome listed.now (AreMarked (values_of (codes "connection") (fields_of self.now))) }
+        ensures { IfOk result (λ list. list.pairs ≡ kept_trailers (fields_of self.now)) }
+    {
+        let mut list = HeaderList::new(alloc);
+        for span in self.spans {
+            let (name, value) = self.pair_at(span);
+            if !is_trailer_name(name) && !self.is_among(listed, name) {
+                put(&mut list, alloc, name, value)?;
+            }
+        }
+        Ok(list)
+    }
+
     /// The fields that are kept, in order, with their names in lower case.
     fn kept(&self, alloc: Global) -> Result<HeaderList, OutOfMemory>
         requires taken { AreTaken (fields_of self.now) }
         requires short { length self.now.text.now ≤ head_limit }
         ensures { IfOk result (λ list. list.pairs ≡ kept_trailers (fields_of self.now)) }
     {
-        let mut list = HeaderList::new(alloc);
-        for span in self.spans {
-            let (name, value) = self.pair_at(span);
-            if !is_trailer_name(name) && !self.is_listed(name) {
-                put(&mut list, alloc, name, value)?;
-            }
-        }
-        Ok(list)
+        let listed = self.listed_names(alloc);
+        self.kept_by(alloc, &listed)
     }
 }
 

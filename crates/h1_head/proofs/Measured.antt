@@ -1,19 +1,16 @@
 -- Lemmas on the number that Content-Length tells.
 use Rattle.std.proofs.Common.{◌≡◌, ℕ, suc, ◌+◌, ◌*◌, ◌<◌, ◌≤◌, Bool, true, false, cond, ◌&&◌, ◌==◌, List, [], ◌∷◌, ◌++◌, length, Option, None, Some, refl, sym, ap, ◌∙◌, arith}
 use Rattle.std.proofs.lemmas.Bool.{cond-false, and_right, lt-leb, eqb-true, false≢true}
-use Rattle.std.proofs.lemmas.List.{length-map}
-use Rattle.std.proofs.lemmas.List.Splits.{length-slice_split}
 use Rattle.std.specs.Prelude.{IfNone, IfSome, is_some}
 use Rattle.std.specs.Option.{option_and_then}
-use Rattle.std.specs.List.{flat_map, list_all, slice_split}
+use Rattle.std.specs.List.{flat_map, list_all}
 use Rattle.std.specs.Char.{digit_value}
 use Rattle.std.specs.Str.Parse.{digits_value_after, digits_value}
 use Rattle.http1_model.specs.Length.{length_limit, number_of, is_number, all_as, one_number, told_measure, request_measure}
-use Rattle.httparse.specs.Grammar.{trim_ows}
 use Rattle.http1_model.specs.Fields.{Pair, members, is_named, values_of}
 use Rattle.http1_model.proofs.FieldLemmas.{values_of-named}
 use Rattle.h1_head.specs.Measures.{fits, agreed, AreOne}
-use Rattle.h1_head.proofs.Lists.{is_comma}
+use Rattle.h1_text.proofs.Splits.{members_some}
 
 -- more digits write no smaller number
 pub digits_value_after-grows : (n : ℕ) (ds : List ℕ) → n ≤ digits_value_after 10 n ds
@@ -83,10 +80,6 @@ request_measure-told minor [] number one = absurd (omega (arith, one.some))
 request_measure-told minor (value ∷ values) number one = ap told_measure one.one
 
 -- ---- one line after another
-
--- a value has a member
-members_some : (v : List ℕ) → 0 < length (members v)
-members_some v = omega (arith, length-map (slice_split is_comma v) trim_ows, length-slice_split is_comma v)
 
 agreed-members : (known : Option ℕ) (ms more : List (List ℕ)) → 0 < length ms
     → agreed known (ms ++ more) ≡ option_and_then (λ n. agreed (Some n) more) (agreed known ms)

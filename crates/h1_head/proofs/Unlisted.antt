@@ -1,8 +1,8 @@
 -- Fields that are taken out of a list, one name after another.
-use Rattle.std.proofs.Common.{◌≡◌, ℕ, Bool, true, false, cond, not, ◌&&◌, ◌||◌, List, [], ◌∷◌, filter, length, nat_le, nat_lt, bytes_eq, Option, None, Some, Result, Ok, Err, OnOk, OnErr, IsOk, refl, sym, ap, ◌∙◌, subst, arith}
+use Rattle.std.proofs.Common.{◌≡◌, ℕ, zero, suc, ◌+◌, ◌<◌, Bool, true, false, cond, not, ◌&&◌, ◌||◌, List, [], ◌∷◌, ◌++◌, filter, length, drop, get_or, nat_le, nat_lt, bytes_eq, Option, None, Some, Result, Ok, Err, OnOk, OnErr, IsOk, refl, sym, ap, ◌∙◌, subst, arith}
 use Rattle.std.proofs.lemmas.Bool.{and_parts, and_from, false≢true}
 use Rattle.std.proofs.lemmas.Bool.Decides.{nat_tests}
-use Rattle.std.proofs.lemmas.List.{length-map}
+use Rattle.std.proofs.lemmas.List.{length-map, drop_more, append_assoc}
 use Rattle.std.proofs.lemmas.Slice.Eq.{bytes_eq-Decides}
 use Rattle.std.specs.Char.{to_ascii_lowercase}
 use Rattle.std.specs.List.{list_all, list_any}
@@ -159,3 +159,48 @@ removed_leaves r m old new cause ok err sure h = by_name (is_field_name m) refl
     by_name false is_none =
         leaves m old.pairs new.pairs h
         (ap (λ (l : Headers). l.pairs) (stays r err (cause ∙ ap (λ b. first_fault b true true) is_none)) ∙ no_name m old.pairs h is_none)
+
+-- ---- one field after another
+
+all_at : (fields : List Pair) (i : ℕ) (d : Pair) → i < length fields → list_all is_kept_field fields ≡ true → is_kept_field (get_or fields i d) ≡ true
+all_at [] i d lt h = absurd (omega arith)
+all_at (f ∷ fields) zero d lt h = (and_parts (is_kept_field f) (list_all is_kept_field fields) h).0
+all_at (f ∷ fields) (suc i) d lt h = all_at fields i d (omega arith) (and_parts (is_kept_field f) (list_all is_kept_field fields) h).1
+
+-- what is unlisted from a place on, by the field that stands there
+unlisted_from : (values : List (List ℕ)) (fields : List Pair) (i : ℕ) (d f : Pair) → i < length fields → f ≡ get_or fields i d
+    → list_all is_kept_field fields ≡ true
+    → unlisted values (drop i fields)
+    ≡ cond (list_any (lists (lowercase f.0)) values) (unlisted values (drop (i + 1) fields)) ((lowercase f.0, f.1) ∷ unlisted values (drop (i + 1) fields))
+unlisted_from values fields i d f lt is kept =
+    ap (unlisted values) (drop_more fields i d lt)
+    ∙ ap (λ (g : Pair). unlisted values (g ∷ drop (i + 1) fields)) (sym is)
+    ∙ by_test (list_any (lists f.0) values)
+    ∙ ap (λ (n : List ℕ). cond (list_any (lists n) values) behind ((n, f.1) ∷ behind)) (sym named.lower)
+  where
+    behind : List Pair
+    behind = unlisted values (drop (i + 1) fields)
+
+    named : IsNamed f
+    named = kept_named f (subst (λ (g : Pair). is_kept_field g ≡ true) (sym is) (all_at fields i d lt kept))
+
+    by_test : (b : Bool) → cond (not b) (f ∷ behind) behind ≡ cond b behind ((f.0, f.1) ∷ behind)
+    by_test true = refl
+    by_test false = refl
+
+-- one field more is left, or is not
+pub left_step : (values : List (List ℕ)) (fields : List Pair) (i : ℕ) (d f : Pair) (left new all : List Pair) (b : Bool) → i < length fields
+    → f ≡ get_or fields i d → list_all is_kept_field fields ≡ true → b ≡ list_any (lists (lowercase f.0)) values
+    → new ≡ cond b left (left ++ (lowercase f.0, f.1) ∷ []) → left ++ unlisted values (drop i fields) ≡ all
+    → new ++ unlisted values (drop (i + 1) fields) ≡ all
+left_step values fields i d f left new all b lt is kept listed put so_far =
+    ap (λ (ps : List Pair). ps ++ behind) put ∙ by_test b
+    ∙ ap (λ t. left ++ cond t behind ((lowercase f.0, f.1) ∷ behind)) listed
+    ∙ ap (λ (ps : List Pair). left ++ ps) (sym (unlisted_from values fields i d f lt is kept)) ∙ so_far
+  where
+    behind : List Pair
+    behind = unlisted values (drop (i + 1) fields)
+
+    by_test : (t : Bool) → cond t left (left ++ (lowercase f.0, f.1) ∷ []) ++ behind ≡ left ++ cond t behind ((lowercase f.0, f.1) ∷ behind)
+    by_test true = refl
+    by_test false = append_assoc left ((lowercase f.0, f.1) ∷ []) behind

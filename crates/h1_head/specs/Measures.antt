@@ -24,11 +24,6 @@ abbrev pub seen_measure_result : Result measure.Measure ℕ → Result model.Mea
 seen_measure_result (Ok m) = Ok (seen_measure m)
 seen_measure_result (Err number) = Err number
 
--- the members behind a comma, if there was one
-abbrev pub rest_members : Option (List ℕ) → List (List ℕ)
-rest_members None = []
-rest_members (Some rest) = members rest
-
 -- the number agrees with what is known
 abbrev pub fits : Option ℕ → ℕ → Bool
 fits None n = true

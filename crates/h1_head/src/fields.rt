@@ -8,8 +8,8 @@ ghost use Rattle.h1_head.specs.Lengths.{IsBetween, IsConnectionOf};
 ghost use Rattle.h1_head.specs.Spans.{AreLines, IsRead};
 
 use crate::lengths::Lengths;
-use crate::members::{is_same_word, lists};
 use gate_base::{Members, Octets, OutOfMemory};
+use h1_text::{ListedNames, has_many_members, is_same_word, listed_among, lists};
 use header_maps::{HeaderEnd, HeaderList};
 use httparse::spans::HeaderSpan;
 use std::alloc::Global;
@@ -24,6 +24,15 @@ pub enum Lines<'t> {
 
 impl<'t> Lines<'t> {
     ghost use Rattle.std.specs.Prelude.{◌∷◌, ◌++◌, []};
+
+    /// Whether they may list so many names that going through all of them for each field is dear.
+    fn are_long(self) -> bool {
+        match self {
+            Lines::Absent => false,
+            Lines::One(value) => has_many_members(value),
+            Lines::Many => true,
+        }
+    }
 
     /// These, and one line more behind them, of this value.
     fn and(self, value: &'t [u8]) -> Self
@@ -79,11 +88,13 @@ impl<'t> Noted<'t> {
     }
 }
 
-/// What the Connection fields of a head say, looked up once a head: their lines, and between which lengths all names lie that they list.
-#[derive(Clone, Copy)]
+/// What the Connection fields of a head say, looked up once a head: their lines, and, where they list few names, between which lengths all
+/// names lie that they list, else which of the head's own names they list.
+#[derive(Drop)]
 pub struct Connection<'t> {
     pub lines: Lines<'t>,
     pub lengths: Lengths,
+    pub listed: Option<ListedNames>,
 }
 
 /// The fields of a head: its text, of 65,536 bytes at most, and the spans of their names and values.
@@ -116,7 +127,8 @@ pub fn is_hop_name(name: &[u8]) -> bool
 }
 
 impl<'t> Fields<'t> {
-    ghost use Rattle.std.specs.Prelude.{codes};
+    ghost use Rattle.std.specs.Prelude.{codes, IfSome};
+    ghost use Rattle.h1_text.specs.Names.{AreMarked};
     ghost use Rattle.http1_model.specs.Listed.{with_fields};
     ghost use Rattle.h1_head.specs.Held.{fields_of};
     ghost use Rattle.h1_head.specs.Noted.{AreNoted};
@@ -198,13 +210,33 @@ impl<'t> Fields<'t> {
         }
     }
 
-    /// What the Connection fields say, whose lines were looked up.
-    pub fn connection(&self, lines: Lines<'t>) -> Connection<'t>
+    /// The names of these fields, and `close`, those marked that the Connection fields list, where the lines are long and there is memory for it.
+    fn marked_for(&self, alloc: Global, lines: Lines<'t>) -> Option<ListedNames>
+        ensures { IfSome result (AreMarked (values_of (codes "connection") (fields_of self.now))) }
+    {
+        if lines.are_long() {
+            listed_among(alloc, self.text, self.spans).ok()
+        } else {
+            None
+        }
+    }
+
+    /// What the Connection fields say, whose lines were looked up. Where there is no memory for it, names are looked for as where few are listed.
+    pub fn connection(&self, alloc: Global, lines: Lines<'t>) -> Connection<'t>
         requires { AreLines (values_of (codes "connection") (fields_of self.now)) lines }
         ensures { IsConnectionOf (fields_of self.now) result }
     {
-        let lengths = self.lengths_by(lines);
-        Connection { lines, lengths }
+        let listed = self.marked_for(alloc, lines);
+        let lengths = if listed.is_some() {
+            Lengths::none()
+        } else {
+            self.lengths_by(lines)
+        };
+        Connection {
+            lines,
+            lengths,
+            listed,
+        }
     }
 
     /// The values of the Connection fields, in order, whose lines were looked up.
@@ -239,17 +271,42 @@ impl<'t> Fields<'t> {
         }
     }
 
-    /// Whether a Connection field lists a name, in any case of letters, by what these fields say; a name that is shorter or longer than all
-    /// that they list is looked for no further.
+    /// Whether a Connection field lists a name, in any case of letters, by the marks of names, where it is one of those.
+    fn is_marked(&self, listed: &ListedNames, lines: Lines<'t>, name: &[u8]) -> bool
+        requires lines { AreLines (values_of (codes "connection") (fields_of self.now)) lines }
+        requires marked { AreMarked (values_of (codes "connection") (fields_of self.now)) listed.now }
+        ensures { result ≡ is_listed (lowercase name.now) (fields_of self.now) }
+    {
+        match listed.is_listed(name) {
+            Some(is_listed) => is_listed,
+            None => self.is_listed_by(lines, name),
+        }
+    }
+
+    /// Whether a Connection field lists a name, in any case of letters; one that is shorter or longer than all that they list is looked for no
+    /// further.
+    #[inline(always)]
+    fn is_among_few(&self, lengths: Lengths, lines: Lines<'t>, name: &[u8]) -> bool
+        requires lines { AreLines (values_of (codes "connection") (fields_of self.now)) lines }
+        requires lengths { (name : List ℕ) → is_listed name (fields_of self.now) ≡ true → IsBetween lengths (length name) }
+        ensures { result ≡ is_listed (lowercase name.now) (fields_of self.now) }
+    {
+        if !lengths.has(name.len()) {
+            return false;
+        }
+        self.is_listed_by(lines, name)
+    }
+
+    /// Whether a Connection field lists a name, in any case of letters, by what these fields say.
     #[inline(always)]
     pub fn is_among(&self, connection: &Connection<'t>, name: &[u8]) -> bool
         requires { IsConnectionOf (fields_of self.now) connection.now }
         ensures { result ≡ is_listed (lowercase name.now) (fields_of self.now) }
     {
-        if !connection.lengths.has(name.len()) {
-            return false;
+        match &connection.listed {
+            Some(listed) => self.is_marked(listed, connection.lines, name),
+            None => self.is_among_few(connection.lengths, connection.lines, name),
         }
-        self.is_listed_by(connection.lines, name)
     }
 
     /// Whether a field of this name, in any case of letters, is dropped, by what the Connection fields say; `host` may pass, as

@@ -5,11 +5,12 @@ ghost use Rattle.http1_model.specs.Length.{number_of, told_measure, request_meas
 ghost use Rattle.h1_head.specs.Held.{fields_of};
 ghost use Rattle.h1_head.specs.Noted.{AreNoted};
 ghost use Rattle.h1_head.specs.Spans.{AreLines};
-ghost use Rattle.h1_head.specs.Measures.{rest_members, agreed, AreTold, seen_measure, seen_measure_result};
+ghost use Rattle.h1_text.specs.Members.{rest_members};
+ghost use Rattle.h1_head.specs.Measures.{agreed, AreTold, seen_measure, seen_measure_result};
 
 use crate::fields::{Fields, Lines, Noted};
 use crate::head::Length;
-use crate::members::{first_member, is_same_word, trim};
+use h1_text::{first_member, is_same_word, trim};
 
 /// The largest length that a message may tell, 2^63 - 1.
 const LENGTH_LIMIT: u64 = 0x7fff_ffff_ffff_ffff;

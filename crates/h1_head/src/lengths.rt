@@ -3,7 +3,7 @@ ghost use Rattle.std.specs.Prelude.{◌≡◌, ◌≤◌, true, List, ℕ, lengt
 ghost use Rattle.http1_model.specs.Fields.{lists};
 ghost use Rattle.h1_head.specs.Lengths.{IsBetween};
 
-use crate::members::first_member;
+use h1_text::first_member;
 
 /// A shortest and a longest length, between which names lie.
 #[derive(Clone, Copy)]

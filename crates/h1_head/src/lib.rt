@@ -8,7 +8,6 @@ mod length;
 mod lengths;
 mod lines;
 mod listed;
-mod members;
 mod parts;
 mod read;
 mod request;

@@ -91,7 +91,7 @@ fn targeted(
     let Some(target) = target_of(alloc, method, target)? else {
         return Ok(Err(400));
     };
-    let connection = fields.connection(noted.connection);
+    let connection = fields.connection(alloc, noted.connection);
     let list = match request_list(alloc, method, &target, host, fields, &connection) {
         Ok(list) => list,
         Err(end) => return Ok(Err(refusal_of(end, 400)?)),

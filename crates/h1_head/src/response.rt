@@ -56,7 +56,7 @@ fn response_judged(
         seen_answer answer ≡ response_judged to_head minor status (fields_of fields.now)) }
 {
     let noted = fields.noted();
-    let connection = fields.connection(noted.connection);
+    let connection = fields.connection(alloc, noted.connection);
     let list = match response_list(alloc, status, fields, &connection) {
         Ok(list) => list,
         Err(end) => return Ok(Err(refusal_of(end, 502)?)),

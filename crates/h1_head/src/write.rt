@@ -8,8 +8,8 @@ ghost use Rattle.h1_head.specs.Seen.{seen_head};
 
 use crate::fields::is_hop_name;
 use crate::head::Head;
-use crate::members::{is_same_word, lists};
 use gate_base::{Octets, OutOfMemory};
+use h1_text::{is_same_word, lists};
 use header_maps::{HeaderList, Texts};
 use std::alloc::Global;
 

@@ -105,11 +105,16 @@ fn unbounded_next(alloc: Global, kind: Kind, ended: bool, text: &[u8]) -> Result
 }
 
 /// The trailers that a message keeps: none that its head's Connection lists, and a request's have no `host`.
-fn left_trailers(kind: Kind, connection: &Members<Octets>, trailers: HeaderList) -> HeaderList
+fn left_trailers(
+    alloc: Global,
+    kind: Kind,
+    connection: &Members<Octets>,
+    trailers: HeaderList,
+) -> HeaderList
     requires { list_all is_kept_field trailers.pairs ≡ true }
     ensures { result.pairs ≡ trailers_left (asked_of kind) connection.now trailers.pairs }
 {
-    let mut trailers = without_listed(connection, trailers);
+    let mut trailers = without_listed(alloc, connection, trailers);
     match kind {
         Kind::Request => {
             // The name of a field is never refused.
@@ -133,7 +138,7 @@ fn end_next(
     ensures within { IsWithin used result }
     ensures flagged { IsFlagged result }
 {
-    let fields = left_trailers(kind, connection, trailers);
+    let fields = left_trailers(alloc, kind, connection, trailers);
     if fields.is_empty() {
         return piece(Octets::new(alloc), true, used, due_next(kind));
     }
@@ -160,7 +165,7 @@ fn end_behind(
     }
     match reader.copy().next(alloc, text)? {
         ChunkStep::End { trailers, used } => {
-            if left_trailers(kind, connection, trailers).is_empty() {
+            if left_trailers(alloc, kind, connection, trailers).is_empty() {
                 Ok(Some(used))
             } else {
                 Ok(None)

@@ -198,6 +198,6 @@ pub fn listed(alloc: Global, words: &str) -> Result<Octets, OutOfMemory> {
     let Ok(fields) = two_fields(alloc) else {
         return Octets::from_slice(alloc, b"no fields");
     };
-    let left = without_listed(&values, fields);
+    let left = without_listed(alloc, &values, fields);
     crate::lists::shown(alloc, &left)
 }

@@ -1,6 +1,7 @@
 use Rattle.std.proofs.Common.{◌≡◌, ◌+◌, length, option_copied, Option, None, Some, List, ℕ}
 use Rattle.http1_model.specs.Fields.{members}
-use Rattle.h1_head.specs.Measures.{rest_members, agreed}
+use Rattle.h1_head.specs.Measures.{agreed}
+use Rattle.h1_text.specs.Members.{rest_members}
 use Rattle.h1_head.proofs.length.agreed.Given as goal
 
 -- what is left decides

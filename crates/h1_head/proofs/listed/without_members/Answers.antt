@@ -1,5 +1,5 @@
 use Rattle.std.proofs.Common.{List, ℕ, Option, Bor, option_copied, sym, ap, ◌∙◌}
-use Rattle.h1_head.specs.Measures.{rest_members}
+use Rattle.h1_text.specs.Members.{rest_members}
 use Rattle.h1_head.specs.Unnamed.{unnamed}
 use Rattle.h1_head.proofs.Unlisted.{unnamed-cons, unnamed-nil, removed_leaves}
 use Rattle.h1_head.proofs.listed.without_members.Goals as goal

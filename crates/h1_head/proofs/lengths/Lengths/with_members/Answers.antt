@@ -1,5 +1,5 @@
 use Rattle.std.proofs.Common.{List, ℕ, Option, Bor, option_copied, ap, ◌∙◌, inr}
-use Rattle.h1_head.specs.Measures.{rest_members}
+use Rattle.h1_text.specs.Members.{rest_members}
 use Rattle.h1_head.proofs.ListedLengths.{member_noted, none_left}
 use Rattle.h1_head.proofs.lengths.Lengths.with_members.Goals as goal
 

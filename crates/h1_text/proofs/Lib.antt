@@ -1,0 +1,4 @@
+pub mod Marked
+pub mod Splits
+pub mod Values
+pub mod Worked

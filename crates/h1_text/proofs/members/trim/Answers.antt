@@ -1,0 +1,43 @@
+use Rattle.std.proofs.Common.{◌≡◌, ℕ, List, length, reverse, slice_range, sym, ap, ◌∙◌, arith}
+use Rattle.std.proofs.lemmas.List.{reverse-reverse}
+use Rattle.httparse.specs.Grammar.{skip_ows, trim_ows}
+use Rattle.httparse.proofs.TrimLemmas.{skip_ows_yes, skip_ows_no, slice_first, slice_last, slice_empty}
+use Rattle.h1_text.proofs.members.trim.Goals.{then-loop-start-test+else-is_blank, else-loop-start-test, then-loop-end-test+else-is_blank-2, else-loop-end-test}
+use Rattle.h1_text.proofs.members.trim.Goals as goal
+
+pub loop-end-init : goal.loop-end-init
+unfolding trim_ows
+loop-end-init c =
+    let here = slice_range c.args.bytes.now c.loop-start.start (length c.args.bytes.now) in
+    let stays : skip_ows here ≡ here =
+    elim c.loop-start-test.branch [
+      | then-loop-start-test+else-is_blank w ↦
+          let first = slice_first c.args.bytes.now c.loop-start.start (length c.args.bytes.now) w.loop-start-test.true (omega arith) in
+          skip_ows_no first w.if-is_blank.ensures
+      | else-loop-start-test w ↦
+          let empty = slice_empty c.args.bytes.now c.loop-start.start (length c.args.bytes.now) (omega arith) (omega arith) in
+          ap skip_ows empty ∙ sym empty
+    ] in (
+      c.loop-start.invariant.0,
+      omega arith,
+      ap (λ (t : List ℕ). reverse (skip_ows (reverse t))) (c.loop-start.invariant.1 ∙ stays),
+    )
+
+pub loop-end-preserved : goal.loop-end-preserved
+loop-end-preserved c =
+    let last = slice_last c.args.bytes.now _ _ c.loop-end-test.true c.loop-end.invariant.1 in (
+      omega arith,
+      omega arith,
+      c.loop-end.invariant.2 ∙ ap reverse (skip_ows_yes last c.if-is_blank-2.ensures),
+    )
+
+pub returns : goal.returns
+returns c =
+    elim c.loop-end-test.branch [
+      | then-loop-end-test+else-is_blank-2 w ↦
+          let last = slice_last c.args.bytes.now _ _ w.loop-end-test.true c.loop-end.invariant.1 in
+          sym (c.loop-end.invariant.2 ∙ ap reverse (skip_ows_no last w.if-is_blank-2.ensures) ∙ reverse-reverse _)
+      | else-loop-end-test w ↦
+          let empty = slice_empty c.args.bytes.now c.loop-start.start c.loop-end.end (omega arith) c.loop-end.invariant.1 in
+          empty ∙ sym (c.loop-end.invariant.2 ∙ ap (λ (t : List ℕ). reverse (skip_ows (reverse t))) empty)
+    ]

@@ -1,0 +1,4 @@
+pub mod Examples
+pub mod Members
+pub mod Names
+pub mod Spans

@@ -1,0 +1,18 @@
+//! The text of HTTP/1.1 messages: the members of lists in values, and which names they are.
+#![tactic(auto)]
+
+ghost use Rattle.h1_text.specs.Examples.{SearchExamples, MarkExamples};
+
+mod listed;
+mod members;
+mod names;
+
+pub use listed::listed_among;
+pub use members::{first_member, has_many_members, is_same_word, lists, trim};
+pub use names::{ListedNames, NameTree};
+
+/// Names that are looked for, and their marks, worked on names that are written out.
+pub fn name_examples()
+    ensures search { SearchExamples }
+    ensures marks { MarkExamples }
+{}
