@@ -1,6 +1,7 @@
 pub mod Allowed
 pub mod Heard
 pub mod Homes
+pub mod Keeping
 pub mod Lines
 pub mod LogLine
 pub mod Numbers

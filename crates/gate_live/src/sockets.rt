@@ -126,6 +126,7 @@ fn send_at<P: Duplex>(
 
 impl<P: Duplex> Sockets<P> {
     ghost use Rattle.std.specs.Prelude.{[], IsTrue, IsSomeAnd};
+    ghost use Rattle.gate_live.specs.Keeping.{Arrives, Begins, Heard, WasHeard};
     ghost use Rattle.gate_live.specs.Spent.{IsDue, IsOfLine, IsSpent};
 
     /// The sockets over a poll, with lines from an origin that it watches, which send to this upstream server.
@@ -155,7 +156,7 @@ impl<P: Duplex> Sockets<P> {
     }
 
     /// Waits until something happens that the worker wants or has to know.
-    #[tactic(auto, using(crate::proofs::Due::due_of_line))]
+    #[tactic(auto, using(crate::proofs::Due::due_of_line, crate::proofs::Kept::was_heard))]
     pub fn wait<R: Clock + Wait>(
         &mut self,
         alloc: Global,
@@ -165,6 +166,7 @@ impl<P: Duplex> Sockets<P> {
         ensures allowed { IfOk result (IsAllowed wants.now) }
         ensures read { IfOk result (LiesIn self.new.room.bytes.items) }
         ensures due { IfOk result (λ what. IsDue what wants.now.due self.new.seen self.new) }
+        ensures heard { IfOk result (λ what. WasHeard P.gave P.took what self.new.lines.items) }
     {
         if self.turns == 0 {
             self.look(rt, Some(Duration::ZERO))?;
@@ -249,7 +251,7 @@ impl<P: Duplex> Sockets<P> {
     }
 
     /// What is heard next, from one line after the other.
-    #[tactic(auto, using(crate::proofs::Due::line_of_event))]
+    #[tactic(auto, using(crate::proofs::Due::line_of_event, crate::proofs::Kept::kept_same, crate::proofs::Kept::more_kept, crate::proofs::Kept::next_heard))]
     fn heard<R: Wait>(
         &mut self,
         alloc: Global,
@@ -259,6 +261,7 @@ impl<P: Duplex> Sockets<P> {
         ensures allowed { IfOk result (λ told. IfSome told (IsAllowed wants.now)) }
         ensures read { IfOk result (λ told. IfSome told (LiesIn self.new.room.bytes.items)) }
         ensures line { IfOk result (λ told. IfSome told IsOfLine) }
+        ensures heard { IfOk result (λ told. Heard P.gave P.took self.old.lines.items told self.new.lines.items) }
     {
         if let Some(line) = self.arrive(rt) {
             return Ok(Some(What::Opened { line }));
@@ -310,7 +313,8 @@ impl<P: Duplex> Sockets<P> {
 
     /// The number of a line that comes. One that can't be kept is closed.
     fn arrive<R: Wait>(&mut self, rt: &R) -> Option<LineNo>
-        ensures { vec_len self.old.lines ≤ most_lines → vec_len self.new.lines ≤ most_lines }
+        ensures line { Arrives self.old.lines.items result self.new.lines.items }
+        ensures few { vec_len self.old.lines ≤ most_lines → vec_len self.new.lines ≤ most_lines }
     {
         for _ in 0..u32::MAX {
             let Guest { number, stream } = self.origin.next(rt)?;
@@ -321,13 +325,17 @@ impl<P: Duplex> Sockets<P> {
         None
     }
 
-    /// Keeps a line. False says that it was closed: enough are kept, or the system or the memory refuses one more.
+    /// Keeps a line of a number that no other has. False says that it was closed: enough are kept, or the system or the memory refuses one more.
     fn begin(&mut self, number: LineNo, stream: TcpStream) -> bool
-        ensures { vec_len self.old.lines ≤ most_lines → vec_len self.new.lines ≤ most_lines }
+        ensures line { Begins self.old.lines.items number result self.new.lines.items }
+        ensures few { vec_len self.old.lines ≤ most_lines → vec_len self.new.lines ≤ most_lines }
     {
         if self.lines.len() >= MOST_LINES {
             return false;
         }
+        let None = place_of(&self.lines, number) else {
+            return false;
+        };
         let token = token_of(number, Side::Down);
         let Ok(down) = P::over(stream, self.poll.registry(), token, false) else {
             return false;
@@ -338,7 +346,10 @@ impl<P: Duplex> Sockets<P> {
             up: None,
             refused: false,
         };
-        self.lines.push(line).is_ok()
+        if self.lines.push(line).is_err() {
+            return false;
+        }
+        true
     }
 
     /// Begins the upstream connection of a line.

@@ -1,7 +1,11 @@
-use Rattle.std.proofs.Common.{◌≤◌, vec_len}
+use Rattle.std.proofs.Common.{◌≡◌, ◌≤◌, vec_len}
 use Rattle.gate_live.specs.Lines.{most_lines}
 use Rattle.gate_live.proofs.sockets.Sockets.arrive.Given as goal
 
--- what was closed at once is not among the lines
+-- no line was kept so far
 abbrev pub invariant-loop : goal.invariant-loop
-invariant-loop g l = vec_len l.fn.self.lines ≤ most_lines → vec_len l.self.lines ≤ most_lines
+invariant-loop g l =
+    record {
+      same : l.self.lines.items ≡ l.fn.self.lines.items;
+      few : vec_len l.fn.self.lines ≤ most_lines → vec_len l.self.lines ≤ most_lines;
+    }

@@ -1,0 +1,89 @@
+-- Lines of which nothing is heard.
+use Rattle.std.proofs.Common.{◌≡◌, inl, inr, ℕ, zero, suc, List, [], ◌∷◌, Option, None, Some, set, length, sym, subst}
+use Rattle.std.specs.Prelude.{slice_get, remove}
+use Rattle.gate_io.specs.declared.event.What.{What}
+use Rattle.gate_io.specs.declared.event.What.TheVariants.{Opened, Bytes, End, Gone, Joined, Refused, Room, Clock, Stop}
+use Rattle.gate_live.specs.Keeping.{Stood, AreKept, Heard, WasHeard}
+use Rattle.gate_live.specs.Lines.{IsHeardAt, HeardIn, HeardNext, Forgets, next_place}
+use Rattle.gate_live.specs.Passing.{HeardOn}
+use Rattle.gate_live.specs.Told.{IsOf}
+use Rattle.gate_live.specs.declared.line.Line.{Line}
+use Rattle.gate_live.proofs.Hearing.{heard_same, heard_more}
+
+stood : {P : Type 0} (gave took : P → Option (List ℕ)) (lines : List (Line P)) (i : ℕ) (now : Line P) → slice_get lines i ≡ Some now → Stood gave took lines now
+stood gave took lines i now at = record { at = i; line = now; stands = at; heard = heard_same gave took now }
+
+pub kept_same : {P : Type 0} (gave took : P → Option (List ℕ)) (lines : List (Line P)) → AreKept gave took lines lines
+kept_same gave took lines = record { each = stood gave took lines }
+
+stood_more : {P : Type 0} (gave took : P → Option (List ℕ)) (a b : List (Line P)) (now : Line P) → AreKept gave took a b → Stood gave took b now → Stood gave took a now
+stood_more gave took a b now first two =
+    let one = first.each two.at two.line two.stands in
+    record { at = one.at; line = one.line; stands = one.stands; heard = heard_more gave took one.line two.line None now one.heard two.heard }
+
+pub kept_more : {P : Type 0} (gave took : P → Option (List ℕ)) (a b c : List (Line P)) → AreKept gave took a b → AreKept gave took b c → AreKept gave took a c
+kept_more gave took a b c first second = record { each = λ i now at. stood_more gave took a b now first (second.each i now at) }
+
+-- behind a line that stood
+further : {P : Type 0} (gave took : P → Option (List ℕ)) (x : Line P) (xs : List (Line P)) (now : Line P) → Stood gave took xs now → Stood gave took (x ∷ xs) now
+further gave took x xs now s = record { at = suc s.at; line = s.line; stands = s.stands; heard = s.heard }
+
+set_each : {P : Type 0} (gave took : P → Option (List ℕ)) (lines : List (Line P)) (at : ℕ) (line next : Line P) → slice_get lines at ≡ Some line → HeardOn gave took line None next
+    → (i : ℕ) (now : Line P) → slice_get (set lines at next) i ≡ Some now → Stood gave took lines now
+set_each gave took [] at line next stands heard i now is = cc
+set_each {P} gave took (x ∷ xs) zero line next stands heard zero now is =
+    let h : Some next ≡ Some now = is in
+    let e : next ≡ now = cc in record { at = 0; line = line; stands = stands; heard = subst (λ (y : Line P). HeardOn gave took line None y) e heard }
+set_each gave took (x ∷ xs) zero line next stands heard (suc i) now is = further gave took x xs now (stood gave took xs i now is)
+set_each gave took (x ∷ xs) (suc at) line next stands heard zero now is = stood gave took (x ∷ xs) 0 now is
+set_each gave took (x ∷ xs) (suc at) line next stands heard (suc i) now is = further gave took x xs now (set_each gave took xs at line next stands heard i now is)
+
+remove_each : {P : Type 0} (gave took : P → Option (List ℕ)) (lines : List (Line P)) (at : ℕ) (i : ℕ) (now : Line P) → slice_get (remove lines at) i ≡ Some now → Stood gave took lines now
+remove_each gave took [] zero i now is = cc
+remove_each gave took [] (suc at) i now is = cc
+remove_each gave took (x ∷ xs) zero i now is = further gave took x xs now (stood gave took xs i now is)
+remove_each gave took (x ∷ xs) (suc at) zero now is = stood gave took (x ∷ xs) 0 now is
+remove_each gave took (x ∷ xs) (suc at) (suc i) now is = further gave took x xs now (remove_each gave took xs at i now is)
+
+forgets_kept : {P : Type 0} (gave took : P → Option (List ℕ)) (a b : List (Line P)) (at : ℕ) (c : List (Line P)) → AreKept gave took a b → Forgets b at c → AreKept gave took a c
+forgets_kept {P} gave took a b at c kept (inl same) = subst (λ (ls : List (Line P)). AreKept gave took a ls) (sym same) kept
+forgets_kept {P} gave took a b at c kept (inr gone) =
+    subst (λ (ls : List (Line P)). AreKept gave took a ls) (sym gone.lines) (kept_more gave took a b (remove b at) kept (record { each = remove_each gave took b at }))
+
+-- nothing was heard of the next line
+pub next_kept : {P : Type 0} (gave took : P → Option (List ℕ)) (old : List (Line P)) (next : ℕ) (new : List (Line P)) → HeardNext gave took old next None new → AreKept gave took old new
+next_kept {P} gave took old next new (inl h) = subst (λ (ls : List (Line P)). AreKept gave took old ls) (sym h.1) (kept_same gave took old)
+next_kept gave took old next new (inr h) =
+    forgets_kept gave took old (set old (next_place next (length old)) h.behind) (next_place next (length old)) new
+    (record { each = set_each gave took old (next_place next (length old)) h.line h.behind h.stands h.heard }) h.lines
+
+-- nothing was heard of some lines, and then of the next
+pub more_kept : {P : Type 0} (gave took : P → Option (List ℕ)) (a b : List (Line P)) (next : ℕ) (c : List (Line P)) → AreKept gave took a b → HeardNext gave took b next None c → AreKept gave took a c
+more_kept gave took a b next c kept h = kept_more gave took a b c kept (next_kept gave took b next c h)
+
+in_turn : {P : Type 0} (gave took : P → Option (List ℕ)) (a b : List (Line P)) (at : ℕ) (what : What) (c : List (Line P)) (line : ℕ) → IsOf line what → AreKept gave took a b → IsHeardAt b at what → HeardIn gave took b at (Some what) c → Heard gave took a (Some what) c
+in_turn gave took a b at (Bytes l side bytes) c line is kept of heard = record { between = b; kept = kept; at = at; of = of; heard = heard }
+in_turn gave took a b at (End l side) c line is kept of heard = record { between = b; kept = kept; at = at; of = of; heard = heard }
+in_turn gave took a b at (Gone l side) c line is kept of heard = record { between = b; kept = kept; at = at; of = of; heard = heard }
+in_turn gave took a b at (Joined l) c line is kept of heard = record { between = b; kept = kept; at = at; of = of; heard = heard }
+in_turn gave took a b at (Refused l) c line is kept of heard = record { between = b; kept = kept; at = at; of = of; heard = heard }
+in_turn gave took a b at (Room l side) c line is kept of heard = record { between = b; kept = kept; at = at; of = of; heard = heard }
+in_turn gave took a b at (Opened l) c line is kept of heard = absurd is
+in_turn gave took a b at Clock c line is kept of heard = absurd is
+in_turn gave took a b at Stop c line is kept of heard = absurd is
+
+-- nothing was heard of some, and then this of the next
+pub next_heard : {P : Type 0} (gave took : P → Option (List ℕ)) (a b : List (Line P)) (next : ℕ) (what : What) (c : List (Line P)) → AreKept gave took a b → IsHeardAt b (next_place next (length b)) what → HeardNext gave took b next (Some what) c → Heard gave took a (Some what) c
+next_heard gave took a b next what c kept of (inl h) = cc (h.0)
+next_heard gave took a b next what c kept of (inr h) = in_turn gave took a b (next_place next (length b)) what c of.line.number of.of kept of h
+
+pub was_heard : {P : Type 0} (gave took : P → Option (List ℕ)) (old : List (Line P)) (what : What) (new : List (Line P)) → Heard gave took old (Some what) new → WasHeard gave took what new
+was_heard gave took old (Bytes l side bytes) new h = (old, h)
+was_heard gave took old (End l side) new h = (old, h)
+was_heard gave took old (Gone l side) new h = (old, h)
+was_heard gave took old (Joined l) new h = (old, h)
+was_heard gave took old (Refused l) new h = (old, h)
+was_heard gave took old (Room l side) new h = (old, h)
+was_heard gave took old (Opened l) new h = (old, h)
+was_heard gave took old Clock new h = absurd h
+was_heard gave took old Stop new h = absurd h
