@@ -9,3 +9,4 @@ mod Denying
 mod Bare
 mod Unasked
 mod Marks
+mod Gone

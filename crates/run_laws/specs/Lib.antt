@@ -3,3 +3,4 @@ pub mod Homes
 pub mod Denying
 pub mod Bare
 pub mod Marks
+pub mod Gone

@@ -1,6 +1,7 @@
 // What is run of the machines of a worker. The functions have nothing to do: their contracts are the laws.
 ghost use Rattle.run_laws.specs.Bare.{RunsAllItAsks};
 ghost use Rattle.run_laws.specs.Denying.{DenyingExample};
+ghost use Rattle.run_laws.specs.Gone.{GoneEndNext, GoneExamples};
 ghost use Rattle.run_laws.specs.Homes.{BeginsAtHome, StaysAtHome, LiveVmsKeepMachines, RunsOverLives};
 ghost use Rattle.run_laws.specs.Marks.{ChangesAreTold, DeathsDropMarks, MarkExamples, WorkersRaiseNone};
 ghost use Rattle.run_laws.specs.Runs.{RunsWhatIsAsked};
@@ -75,4 +76,10 @@ pub fn marks_fall<H>()
     ensures changes { ChangesAreTold }
     ensures raised { WorkersRaiseNone H }
     ensures worked { MarkExamples }
+{}
+
+/// Where the client of a line is gone, host calls are told only with the end of its exchange that this has ended: that end comes next, and no callback before it.
+pub fn gone_end_next<H>()
+    ensures next { GoneEndNext H }
+    ensures worked { GoneExamples }
 {}

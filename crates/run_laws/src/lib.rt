@@ -4,6 +4,6 @@
 mod laws;
 
 pub use laws::{
-    begins_at_home, live_vms_keep_machines, marks_fall, runs_all_it_asks, runs_over_lives,
-    runs_what_is_asked, stays_at_home, worked_runs,
+    begins_at_home, gone_end_next, live_vms_keep_machines, marks_fall, runs_all_it_asks,
+    runs_over_lives, runs_what_is_asked, stays_at_home, worked_runs,
 };
