@@ -14,7 +14,7 @@ use Rattle.worker.specs.Plan.{Plan}
 use Rattle.worker.specs.Steps.{Both, both, line_reading, exchange_reading, exchange_of_line, change_line, change_exchange, with_reader, read_on, new_line, further, further_back, with_further, further_on, is_open, is_answered_in}
 use Rattle.worker.specs.declared.types.Line.{Line}
 use Rattle.reading_laws.specs.Lines.{AreAbove, AreRising}
-use Rattle.reading_laws.specs.Servers.{HasServed, ServersReadWhatCame}
+use Rattle.reading_laws.specs.Servers.{HasServed, HasHeardNothing, ServersReadWhatCame, ServersReadSince}
 use Rattle.reading_laws.specs.Turns.{OneTurn, Turns, AreWhole, happened}
 use Rattle.reading_laws.proofs.Readers.{ReaderGoes}
 use Rattle.reading_laws.proofs.Alike.{Alike, AreAlike}
@@ -282,3 +282,70 @@ servers_read H calling plan config seed host turns to n l x r turned whole there
     = served_turns calling plan [] turns (both host (first_room config seed)) to turned whole (refl, record { few = record { rising = tt; few = omega arith }; each = tt }) in
     subst (λ (o : Option Exchange). HasServed n (happened turns) (is_answered_in o) r) some
     (found_served (Reads (happened turns)) n to.room.lines l (sym (line_in_found n to.room.lines) ∙ there) all.1.each r (ap exchange_reading some ∙ reads))
+
+-- ---- since a turn behind which nothing had come of a line's server
+
+-- of one line alone
+abbrev Only : ℕ → List What → Kind
+Only n ws m a r = m ≡ n → HasServed n ws a r
+
+only_lasts : (n : ℕ) (ws : List What) → Lasts (Only n ws)
+only_lasts n ws =
+    let all = reads_last ws in
+    record {
+      hears = λ m a old h p says is. all.hears n a old h (p is) says;
+      young = λ m a method is. all.young n a method;
+      answered = λ m a b r p goes is. all.answered n a b r (p is) goes;
+    }
+
+only_leads : (n : ℕ) (ws : List What) (w : What) → Leads (Only n ws) (Only n (ws ++ w ∷ [])) w
+only_leads n ws w =
+    let all = reads_lead ws w in
+    record {
+      fed = λ stops bytes m says r p is. all.fed stops bytes n (subst (Says w true stops bytes) is says) r (p is);
+      beside = λ m a r never p is. all.beside n a r (λ stops bytes says. never stops bytes (subst (Says w true stops bytes) (sym is) says)) (p is);
+      shut = λ m r p is. all.shut n r (p is);
+    }
+
+only_turns : {H : Type 0} (calling : Calling H) (plan : Plan) (n : ℕ) (ws : List What) (turns : List (OneTurn H)) (from to : Both H) → Turns calling plan from turns to → AreWhole turns → Ready (FewServed (Only n ws)) from.room
+    → Ready (FewServed (Only n (ws ++ happened turns))) to.room
+only_turns {H} calling plan n ws [] from to turned whole ready =
+    subst (λ (b : Both H). Ready (FewServed (Only n (ws ++ []))) b.room) (sym turned) (subst (λ (vs : List What). Ready (FewServed (Only n vs)) from.room) (sym (append-nil ws)) ready)
+only_turns calling plan n ws (t ∷ turns) from to turned whole ready =
+    let w : What = t.event.what in
+    let one : Ready (FewServed (Only n (ws ++ w ∷ []))) t.end.state.room
+    = turn_reached calling plan from t.event t.met t.end (FewServed (Only n ws)) (FewServed (Only n (ws ++ w ∷ []))) (served_spans (Only n ws) (Only n (ws ++ w ∷ [])) w (only_lasts n ws) (only_lasts n (ws ++ w ∷ [])) (only_leads n ws w)) turned.0 whole.0 ready in
+    subst (λ (vs : List What). Ready (FewServed (Only n vs)) to.room) (append_assoc ws (w ∷ []) (happened turns)) (only_turns calling plan n (ws ++ w ∷ []) turns t.end.state to turned.1 whole.1 one)
+
+-- nothing has come, so it is a reader of no events
+heard_none : (n : ℕ) (a : Bool) (o : Option Reading) → HasHeardNothing o → (r : Reading) → o ≡ Some r → HasServed n [] a r
+heard_none n a o (inl none) r is = let e : ◌≡◌ {A = Option Reading} None (Some r) = sym none ∙ is in absurd (cc)
+heard_none n a o (inr (method, fresh)) r is =
+    let e : Some (new_reading (Some method)) ≡ Some r = sym fresh ∙ is in
+    let one : new_reading (Some method) ≡ r = cc in
+    subst (λ (q : Reading). HasServed n [] a q) one (record { method = method; before = []; run = []; rest = []; is = refl; reads = read_none (Some method) n Up; listens = λ d. refl })
+
+nothing_above : (n : ℕ) (lines : List Line) → AreAbove n lines → EachServed (Only n []) lines
+nothing_above n [] above = tt
+nothing_above n (l ∷ lines) above = ((λ r is same. absurd (omega (arith, above.0, same))), nothing_above n lines above.1)
+
+nothing_heard : (n : ℕ) (lines : List Line) → AreRising lines → HasHeardNothing (line_reading true (found_in n lines)) → EachServed (Only n []) lines
+nothing_heard n [] rising nothing = tt
+nothing_heard n (l ∷ lines) rising nothing = by_test (λ h. nothing_heard n lines rising.1 h) (l.number == n) refl nothing
+  where
+    by_test : (HasHeardNothing (line_reading true (found_in n lines)) → EachServed (Only n []) lines) → (b : Bool) → (l.number == n) ≡ b
+        → HasHeardNothing (line_reading true (if b then Some l else found_in n lines)) → EachServed (Only n []) (l ∷ lines)
+    by_test later true e h =
+        ((λ r is same. heard_none n (is_answered_in l.exchange) (exchange_reading l.exchange) h r is), nothing_above n lines (subst (λ (k : ℕ). AreAbove k lines) (equal_by l.number n e) rising.0))
+    by_test later false e h = ((λ r is same. absurd (other_by l.number n e same)), later h)
+
+pub servers_since : (H : Type 0) → ServersReadSince H
+servers_since H calling plan config seed host earlier later mid to n l x r before whole nothing turned whole_later there some reads =
+    let first : Ready (FewServed (Reads (happened earlier))) mid.room
+    = served_turns calling plan [] earlier (both host (first_room config seed)) mid before whole (refl, record { few = record { rising = tt; few = omega arith }; each = tt }) in
+    let few : AreFew mid.room.lines = first.1.few in
+    let begins : Ready (FewServed (Only n [])) mid.room
+    = (first.0, record { few = few; each = nothing_heard n mid.room.lines few.rising (subst (λ (o : Option Line). HasHeardNothing (line_reading true o)) (line_in_found n mid.room.lines) nothing) }) in
+    let all : Ready (FewServed (Only n (happened later))) to.room = only_turns calling plan n [] later mid to turned whole_later begins in
+    let found : Only n (happened later) n (is_answered_in l.exchange) r = found_served (Only n (happened later)) n to.room.lines l (sym (line_in_found n to.room.lines) ∙ there) all.1.each r (ap exchange_reading some ∙ reads) in
+    subst (λ (o : Option Exchange). HasServed n (happened later) (is_answered_in o) r) some (found refl)

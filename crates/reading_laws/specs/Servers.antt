@@ -1,14 +1,14 @@
 -- What the readers of servers read, over all turns of a worker.
-use Rattle.std.specs.Prelude.{◌≡◌, ℕ, Bool, false, List, [], ◌++◌, Some}
+use Rattle.std.specs.Prelude.{◌≡◌, ◌⊎◌, ℕ, Bool, true, false, List, [], ◌++◌, Option, None, Some}
 use Rattle.course.specs.Called.{Calling}
 use Rattle.exchange.specs.declared.types.Exchange.{Exchange}
 use Rattle.gate_config.specs.declared.config.Config.{Config}
 use Rattle.gate_io.specs.declared.event.Side.TheVariants.{Up}
 use Rattle.gate_io.specs.declared.event.What.{What}
-use Rattle.http1_model.specs.Unread.{Reading}
+use Rattle.http1_model.specs.Unread.{Reading, new_reading}
 use Rattle.worker.specs.Making.{first_room}
 use Rattle.worker.specs.Plan.{Plan}
-use Rattle.worker.specs.Steps.{Both, both, line_in}
+use Rattle.worker.specs.Steps.{Both, both, line_in, line_reading}
 use Rattle.worker.specs.declared.types.Line.{Line}
 use Rattle.reading_laws.specs.Spelled.{IsReadOf}
 use Rattle.reading_laws.specs.Turns.{OneTurn, Turns, AreWhole, happened}
@@ -31,3 +31,18 @@ ServersReadWhatCame H =
     (x : Exchange) (r : Reading)
     → Turns calling plan (both host (first_room config seed)) turns to → AreWhole turns → line_in n to.room.lines ≡ Some l → l.exchange ≡ Some x
     → x.reader ≡ Some r → HasServed n (happened turns) x.is_answered r
+
+-- the line has no connection to a server, or one of which nothing has come
+abbrev pub HasHeardNothing : Option Reading → Type 0
+HasHeardNothing o = (o ≡ None) ⊎ ((method : List ℕ) × (o ≡ Some (new_reading (Some method))))
+
+-- SINCE A TURN behind which the line had no connection to its server, or one of which nothing had come: what the server's reader has read later is of events
+-- behind that turn alone. So bytes that came by then, of whatever connection, are in none that is opened later; and the turn that opens one ends with a
+-- reader of which nothing has come, unless its own event is taken behind the opening (`worked_late_response` of `turn_laws`; not where nothing is due).
+abbrev pub ServersReadSince : (H : Type 0) → Type 0
+ServersReadSince H =
+    (calling : Calling H) (plan : Plan) (config : Config) (seed : List ℕ) (host : H) (earlier later : List (OneTurn H)) (mid to : Both H) (n : ℕ) (l : Line)
+    (x : Exchange) (r : Reading)
+    → Turns calling plan (both host (first_room config seed)) earlier mid → AreWhole earlier → HasHeardNothing (line_reading true (line_in n mid.room.lines))
+    → Turns calling plan mid later to → AreWhole later → line_in n to.room.lines ≡ Some l → l.exchange ≡ Some x → x.reader ≡ Some r
+    → HasServed n (happened later) x.is_answered r

@@ -4,7 +4,7 @@ ghost use Rattle.reading_laws.specs.Cuts.{CutsDoNotMatter};
 ghost use Rattle.reading_laws.specs.Examples.{ReadingExamples};
 ghost use Rattle.reading_laws.specs.Laws.{LinesReadWhatCame, NumbersReadOnce};
 ghost use Rattle.reading_laws.specs.Limits.{LinesKeepLimits, UnreadStaysShort};
-ghost use Rattle.reading_laws.specs.Servers.{ServersReadWhatCame};
+ghost use Rattle.reading_laws.specs.Servers.{ServersReadSince, ServersReadWhatCame};
 
 use store_model::Shared;
 
@@ -38,6 +38,11 @@ pub fn cuts_do_not_matter()
 /// opened is not said.)
 pub fn servers_read_what_came<H>()
     ensures { ServersReadWhatCame H }
+{}
+
+/// Since a turn behind which a line had no connection to its server, or one of which nothing had come, that is of the events behind this turn alone.
+pub fn servers_read_since<H>()
+    ensures { ServersReadSince H }
 {}
 
 /// Whatever turns a new worker has had, each of which came to rest, and whatever its world gave: the numbers of its lines rise, so each is the one that is
