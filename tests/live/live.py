@@ -183,6 +183,10 @@ class Upstream:
         elif path == "/late":
             time.sleep(0.5)
             s.sendall(answer(b"late"))
+        elif path.startswith("/due/first/"):
+            # About when its deadline of 40 milliseconds falls due, a little before or behind.
+            time.sleep(0.0385 + int(path.split("-")[1]) % 8 * 0.0005)
+            s.sendall(answer(path.encode()))
         elif path.startswith("/big/"):
             s.sendall(answer(b"0123456789" * (int(path.split("/")[2]) // 10)))
         elif path == "/echo":
@@ -629,6 +633,34 @@ def deadline(gateway, upstream):
         get(s, reader, "/behind", b"/behind")
 
 
+def due_response(gateway, upstream):
+    """A response that comes as its deadline falls due is never taken for that of the next request, which the line sent with the first."""
+    failures = []
+
+    def some(number):
+        try:
+            for n in range(40):
+                mark = "%d-%d" % (number, n)
+                with gateway.connect() as s:
+                    reader = Reader(s)
+                    s.sendall(request("/due/first/" + mark) + request("/due/second/" + mark))
+                    for path in ("/due/first/", "/due/second/"):
+                        first, fields = reader.head()
+                        got = (status_of(first), reader.body(fields))
+                        if got != ("504", b""):
+                            expect(got, ("200", (path + mark).encode()))
+        except Exception as e:  # told by the case
+            failures.append(e)
+
+    threads = [threading.Thread(target=some, args=(n,)) for n in range(6)]
+    for t in threads:
+        t.start()
+    for t in threads:
+        t.join(PATIENCE * 3)
+    if failures:
+        raise AssertionError("%d of 6 threads: %r" % (len(failures), failures[0]))
+
+
 def short_lines(gateway, upstream):
     """Six hundred lines, one request each, twenty at once: more than a queue between workers holds, each is answered."""
     failures = []
@@ -814,6 +846,7 @@ GROUPS = [
         [(metered, 3)],
     ),
     ("a deadline", 1, "deadline_ms = 300", b"", [(deadline, 1)], lambda err: err == b""),
+    ("responses at their deadlines", 1, "deadline_ms = 40", b"", [(due_response, 240)], lambda err: err == b""),
     ("short lines", 3, "", b"", [(short_lines, 600)]),
     ("a filter that tells", 1, WITH_A_TELLER % "", TOLD, [(random_bytes, 1), (logged, 1)], lambda err: err == LOGGED),
     ("its random bytes", 1, WITH_A_TELLER % "", TOLD, [(random_bytes, 1)]),
