@@ -12,3 +12,6 @@ pub mod Contexts
 pub mod Events
 pub mod Stepping
 pub mod Turns
+pub mod DeadEntered
+pub mod DeadRooms
+pub mod DeadLives

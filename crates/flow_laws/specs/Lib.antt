@@ -12,3 +12,4 @@ pub mod Events
 pub mod Stepping
 pub mod Turns
 pub mod Steps
+pub mod Dead

@@ -1,6 +1,7 @@
 // What flows through one direction of an exchange. The functions have nothing to do: their contracts are the laws.
 ghost use Rattle.flow_laws.specs.Besides.{OtherLinesLeave, OtherDirectionLeaves, QuietStepsLeave};
 ghost use Rattle.flow_laws.specs.Contexts.{CallsAreRuns, ContextsLeave};
+ghost use Rattle.flow_laws.specs.Dead.{TheDeadAreCalledNoMore, UncalledExample, VmsDie};
 ghost use Rattle.flow_laws.specs.Deaths.{AllLinesLeave, DeathsEndMoves, DeathsGoOn, DeathsReach};
 ghost use Rattle.flow_laws.specs.Effects.{AskingElsewhereLeaves, CallbacksAreRuns, MildEffectsAreOthers};
 ghost use Rattle.flow_laws.specs.Elsewhere.{OtherDirectionMoves, OtherLinesMove};
@@ -109,4 +110,12 @@ pub fn turns_pass_bodies<H>()
 /// A worker, worked, whose filter changes the body of a request.
 pub fn worked_bodies()
     ensures { RoomExample }
+{}
+
+/// From the moment a VM is dead, by whatever cause, no callback of it comes: over any steps of any turns of a worker that began without lines, whatever its machines
+/// do, stores reply and lines bring. A VM is dead once a callback of it trapped or spent its fuel, its start or a configuration answered 0, or no id was left for it.
+pub fn the_dead_are_called_no_more<H>()
+    ensures uncalled { TheDeadAreCalledNoMore H }
+    ensures causes { VmsDie }
+    ensures worked { UncalledExample }
 {}
