@@ -15,3 +15,4 @@ pub mod Turns
 pub mod DeadEntered
 pub mod DeadRooms
 pub mod DeadLives
+pub mod Created

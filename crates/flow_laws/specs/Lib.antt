@@ -13,3 +13,4 @@ pub mod Stepping
 pub mod Turns
 pub mod Steps
 pub mod Dead
+pub mod Created

@@ -1,6 +1,7 @@
 // What flows through one direction of an exchange. The functions have nothing to do: their contracts are the laws.
 ghost use Rattle.flow_laws.specs.Besides.{OtherLinesLeave, OtherDirectionLeaves, QuietStepsLeave};
 ghost use Rattle.flow_laws.specs.Contexts.{CallsAreRuns, ContextsLeave};
+ghost use Rattle.flow_laws.specs.Created.{ContextsAreOfTheirVms, CreatedExample};
 ghost use Rattle.flow_laws.specs.Dead.{TheDeadAreCalledNoMore, UncalledExample, VmsDie};
 ghost use Rattle.flow_laws.specs.Deaths.{AllLinesLeave, DeathsEndMoves, DeathsGoOn, DeathsReach};
 ghost use Rattle.flow_laws.specs.Effects.{AskingElsewhereLeaves, CallbacksAreRuns, MildEffectsAreOthers};
@@ -118,4 +119,11 @@ pub fn the_dead_are_called_no_more<H>()
     ensures uncalled { TheDeadAreCalledNoMore H }
     ensures causes { VmsDie }
     ensures worked { UncalledExample }
+{}
+
+/// A context that is made for a filter of an exchange is of the VM that runs the filter's plug-in, which lives, with that plug-in's root, and under the id that is
+/// next there.
+pub fn contexts_are_of_their_vms()
+    ensures made { ContextsAreOfTheirVms }
+    ensures worked { CreatedExample }
 {}

@@ -1,0 +1,45 @@
+-- Why a context is of the VM of its filter.
+use Rattle.std.proofs.Common.{◌≡◌, ℕ, Bool, true, false, not, ◌||◌, refl, subst}
+use Rattle.std.specs.Prelude.{Option, None, Some}
+use Rattle.contexts.specs.Creating.{next_id, plugin_in}
+use Rattle.course.specs.declared.host.Death.TheVariants as deaths
+use Rattle.exchange.specs.declared.types.Filter.{Filter}
+use Rattle.worker.specs.declared.room.Room.{Room}
+use Rattle.worker.specs.declared.types.NewContext.{NewContext}
+use Rattle.worker.specs.Rooms.{is_dead, died}
+use Rattle.worker.specs.Steps.{filter_at, is_drawn_out, may_stream, new_one, with_stream, streaming, creating_filter}
+use Rattle.body_laws.proofs.Spent.{of_if, neither}
+use Rattle.flow_laws.specs.Created.{IsOfItsVm, ContextsAreOfTheirVms, CreatedExample}
+
+same_new : (c d : NewContext) → Some c ≡ Some d → c ≡ d
+same_new c d is = cc
+
+none_new : {A : Type 0} (c : NewContext) → None ≡ Some c → A
+none_new c is = absurd (cc)
+
+not_false : (b : Bool) → not b ≡ false → b ≡ true
+not_false true is = refl
+not_false false is = absurd (cc)
+
+pub of_their_vms : ContextsAreOfTheirVms
+of_their_vms number k room c made = by_filter (filter_at number k room.lines) refl made
+  where
+    by_root : (f : Filter) → filter_at number k room.lines ≡ Some f → (o : Option ℕ) → (plugin_in room.hub.contexts f.plugin).root ≡ o → (streaming number k f o room).0 ≡ Some c → IsOfItsVm number k room c
+    by_root f at None root is = none_new c is
+    by_root f at (Some r) root is =
+        of_if (λ (p : Option NewContext × Room). p.0 ≡ Some c → IsOfItsVm number k room c) (is_dead f.vm room || not (may_stream f.vm r room.hub.contexts)) (None, room) _ (λ some none. none_new c none)
+        (λ lives.
+        of_if (λ (p : Option NewContext × Room). p.0 ≡ Some c → IsOfItsVm number k room c) (is_drawn_out f.vm room.hub.contexts) (None, died f.vm deaths.Ids room) (with_stream number k f r room)
+        (λ out none. none_new c none)
+        (λ more new.
+        let same : new_one f.vm (next_id room.hub.contexts f.vm) r ≡ c = same_new (new_one f.vm (next_id room.hub.contexts f.vm) r) c new in
+        let each = neither (is_dead f.vm room) (not (may_stream f.vm r room.hub.contexts)) lives in
+        subst (λ (d : NewContext). IsOfItsVm number k room d) same
+        (record { filter = f; at = at; vm = refl; lives = each.0; root = root; has_root = not_false (may_stream f.vm r room.hub.contexts) each.1; context = refl }))) is
+
+    by_filter : (o : Option Filter) → filter_at number k room.lines ≡ o → (creating_filter number k o room).0 ≡ Some c → IsOfItsVm number k room c
+    by_filter None at is = none_new c is
+    by_filter (Some f) at is = by_root f at (plugin_in room.hub.contexts f.plugin).root refl is
+
+pub created_example : CreatedExample
+created_example = record { made = refl; dead = refl }
