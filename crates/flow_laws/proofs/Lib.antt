@@ -16,3 +16,4 @@ pub mod DeadEntered
 pub mod DeadRooms
 pub mod DeadLives
 pub mod Created
+pub mod TurnExamples

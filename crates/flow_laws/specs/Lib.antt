@@ -14,3 +14,4 @@ pub mod Turns
 pub mod Steps
 pub mod Dead
 pub mod Created
+pub mod TurnExamples

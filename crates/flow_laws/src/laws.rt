@@ -12,6 +12,7 @@ ghost use Rattle.flow_laws.specs.Readings.{ReadingLeaves};
 ghost use Rattle.flow_laws.specs.RoomExamples.{RoomExample};
 ghost use Rattle.flow_laws.specs.Stepping.{StepsBeside};
 ghost use Rattle.flow_laws.specs.Steps.{MovesAreSteps, PutsAreSteps};
+ghost use Rattle.flow_laws.specs.TurnExamples.{TurnExample};
 ghost use Rattle.flow_laws.specs.Turns.{TurnsGoOn, TurnsPassBodies};
 ghost use Rattle.flow_laws.specs.Workers.{LastStagesPass, MeanwhileRuns, OwnPartsSend, RunsGoOn, UnchangedPass, WorkersPassBodies};
 
@@ -126,4 +127,10 @@ pub fn the_dead_are_called_no_more<H>()
 pub fn contexts_are_of_their_vms()
     ensures made { ContextsAreOfTheirVms }
     ensures worked { CreatedExample }
+{}
+
+/// Steps of a worker, worked, that meet the premises of `turns_pass_bodies`: the head of a request and two bytes of its body are put, and a filter holds the head. That law
+/// says of them that no byte left, and the two wait.
+pub fn worked_turns()
+    ensures { TurnExample }
 {}
