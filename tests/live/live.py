@@ -720,6 +720,16 @@ def quiet(gateway, upstream):
         time.sleep(1)
 
 
+def late_ticks(gateway, upstream):
+    """Ticks that take longer than their period keep nobody from being heard: requests on two lines, and a third line that comes later, are answered."""
+    with gateway.connect() as s, gateway.connect() as t:
+        for n in range(3):
+            get(s, Reader(s), "/told/%d/" % n, b"/told/%d/" % n)
+            get(t, Reader(t), "/beside/%d" % n, b"/beside/%d" % n)
+        with gateway.connect() as u:
+            get(u, Reader(u), "/later", b"/later")
+
+
 def has_ticked(err):
     """Three ticks of those ten that a second has at a period of 100 milliseconds, and nothing else."""
     return err.count(b"info a tick\n") >= 3 and err.replace(b"info a tick\n", b"") == b""
@@ -851,6 +861,7 @@ GROUPS = [
     ("a filter that tells", 1, WITH_A_TELLER % "", TOLD, [(random_bytes, 1), (logged, 1)], lambda err: err == LOGGED),
     ("its random bytes", 1, WITH_A_TELLER % "", TOLD, [(random_bytes, 1)]),
     ("ticks", 1, WITH_A_TELLER % 'configuration = "tick"\n', TOLD, [(quiet, 1)], has_ticked),
+    ("late ticks", 1, WITH_A_TELLER % 'configuration = "slow"\n', TOLD, [(late_ticks, 3)], lambda err: err == b""),
     ("lines that are not read", 1, "", b"", [(unread, 363)]),
 ]
 

@@ -27,18 +27,27 @@ static void answer_random(void) {
     proxy_send_local_response(200, 0, 0, text, sizeof text, 0, 0, (u32)-1);
 }
 
+// A tick takes longer than its period.
+static u32 is_slow;
+
 CALLBACK(proxy_on_configure) u32 proxy_on_configure(u32 context, u32 size) {
     begin();
     u8 *text = 0;
     u32 got = 0;
     if (proxy_get_buffer_bytes(PLUGIN_CONFIGURATION, 0, 16, &text, &got) == OK && got != 0) {
-        proxy_set_tick_period_milliseconds(100);
+        is_slow = text[0] == 's';
+        proxy_set_tick_period_milliseconds(is_slow ? 1 : 100);
     }
     return 1;
 }
 
 CALLBACK(proxy_on_tick) void proxy_on_tick(u32 context) {
     begin();
+    if (is_slow) {
+        for (volatile u32 n = 0; n < 500000; n++) {
+        }
+        return;
+    }
     log_text(INFO, "a tick");
 }
 

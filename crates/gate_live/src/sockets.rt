@@ -181,6 +181,8 @@ impl<P: Duplex> Sockets<P> {
                 return Ok(What::Stop);
             }
             if self.look_until(rt, wants.due)? {
+                // The system is asked in front of what is heard next: ticks that are always late would keep it from being asked.
+                self.turns = 0;
                 return Ok(What::Clock);
             }
         }
