@@ -18,7 +18,7 @@ pub record IsWritten (text : List ℕ) (g : Given) : Type 0 where
   pub toml : parse_document text ≡ Some document
   -- each of its keys is listed, and each value of the configuration is that of its key
   pub says : Says g document
-  -- the numbers are in their bounds, names differ, no route has a filter twice or more than 16, and the router takes each path behind those before it
+  -- workers, fuel, pages and the numbers of entries are in their bounds, names differ, no route has a filter twice or more than 16, and the router takes each path behind those before it
   pub kept : IsKept g.workers g.vms g.plugins g.routes
 
 -- a text that gives a configuration says that configuration
