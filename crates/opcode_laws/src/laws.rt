@@ -1,12 +1,14 @@
 //! What each opcode's byte does, worked by hand. The functions have nothing to do: their contracts are the laws.
 
 ghost use Rattle.std.specs.Prelude.{◌≡◌, [], ◌∷◌};
-ghost use Rattle.opcode_laws.specs.Bytes.{combines, compares, floats_from, loads, makes, stores};
+ghost use Rattle.gate_base.specs.declared.cause.Cause.TheVariants as cause;
+ghost use Rattle.opcode_laws.specs.Bytes.{combines, compares, floats_from, loads, makes, stores, traps, counts_modulo};
 ghost use Rattle.wasm_syntax.specs.declared.opcode.TheConstants.{OPCODES};
 ghost use Rattle.wasm_syntax.specs.declared.types.Value.TheVariants as value;
 
-/// What each load reads of nine written-out bytes, at address 0, and by an offset of 1 where they stand one further: how many of them, the
-/// lowest first, and whether a first bit that is set makes a negative number (Core 1.0 sections 4.4.4 and 5.4.3).
+/// What each load reads of nine written-out bytes: at address 0; where they stand one further, by an offset of 1, and at address 1; and where they stand two
+/// further, by that offset at that address. It is told how many of them, the lowest first, and whether a first bit that is set makes a negative number (Core
+/// 1.0 sections 4.4.4 and 5.4.4).
 pub fn loads_by_their_bytes()
     ensures i32_load { loads 0x28 (value.I32 3013775744) }
     ensures i64_load { loads 0x29 (value.I64 17863200012815733120) }
@@ -22,7 +24,8 @@ pub fn loads_by_their_bytes()
     ensures i64_load32_u { loads 0x35 (value.I64 3013775744) }
 {}
 
-/// What each store makes of eight bytes 9, at address 0: how many bytes of the value it puts there, the lowest first (Core 1.0 sections 4.4.4 and 5.4.3).
+/// What each store makes of eight bytes 9, in the same four ways: how many bytes of the value it puts there, the lowest first, and that the bytes in front
+/// stay (Core 1.0 sections 4.4.4 and 5.4.4).
 pub fn stores_by_their_bytes()
     ensures i32_store { stores 0x36 (value.I32 67305985) (1 ∷ 2 ∷ 3 ∷ 4 ∷ 9 ∷ 9 ∷ 9 ∷ 9 ∷ []) }
     ensures i64_store { stores 0x37 (value.I64 578437695752307201) (1 ∷ 2 ∷ 3 ∷ 4 ∷ 5 ∷ 6 ∷ 7 ∷ 8 ∷ []) }
@@ -111,7 +114,43 @@ pub fn i64_operations_by_their_bytes()
     ensures rotr { combines 0x8A (value.I64 18446744073709551606) (value.I64 3) (value.I64 16140901064495857662) }
 {}
 
-/// What each conversion makes of a number that is too wide, or whose first bit is set (Core 1.0 sections 4.3.3 and 5.4.5).
+/// What each shift and rotation of -10 makes by as many bits as the number has, and by three more: it is counted modulo the width, so that the one leaves the
+/// number and the other is what it makes by three (Core 1.0 section 4.3.2).
+pub fn shifts_by_the_width()
+    ensures i32_shl { counts_modulo 0x74 value.I32 32 4294967286 4294967216 }
+    ensures i32_shr_s { counts_modulo 0x75 value.I32 32 4294967286 4294967294 }
+    ensures i32_shr_u { counts_modulo 0x76 value.I32 32 4294967286 536870910 }
+    ensures i32_rotl { counts_modulo 0x77 value.I32 32 4294967286 4294967223 }
+    ensures i32_rotr { counts_modulo 0x78 value.I32 32 4294967286 3758096382 }
+    ensures i64_shl { counts_modulo 0x86 value.I64 64 18446744073709551606 18446744073709551536 }
+    ensures i64_shr_s { counts_modulo 0x87 value.I64 64 18446744073709551606 18446744073709551614 }
+    ensures i64_shr_u { counts_modulo 0x88 value.I64 64 18446744073709551606 2305843009213693950 }
+    ensures i64_rotl { counts_modulo 0x89 value.I64 64 18446744073709551606 18446744073709551543 }
+    ensures i64_rotr { counts_modulo 0x8A value.I64 64 18446744073709551606 16140901064495857662 }
+{}
+
+/// What has no quotient: a division by 0, signed or not, and its remainder, trap, and so does the signed quotient of the least number by -1; the signed
+/// remainder of that is 0, and without a sign it is a division like another (Core 1.0 section 4.3.2).
+pub fn divisions_without_quotient()
+    ensures i32_div_s_by_zero { traps 0x6D (value.I32 7) (value.I32 0) cause.Divide }
+    ensures i32_div_u_by_zero { traps 0x6E (value.I32 7) (value.I32 0) cause.Divide }
+    ensures i32_rem_s_by_zero { traps 0x6F (value.I32 7) (value.I32 0) cause.Divide }
+    ensures i32_rem_u_by_zero { traps 0x70 (value.I32 7) (value.I32 0) cause.Divide }
+    ensures i32_div_s_of_least { traps 0x6D (value.I32 2147483648) (value.I32 4294967295) cause.Overflow }
+    ensures i32_div_u_of_least { combines 0x6E (value.I32 2147483648) (value.I32 4294967295) (value.I32 0) }
+    ensures i32_rem_s_of_least { combines 0x6F (value.I32 2147483648) (value.I32 4294967295) (value.I32 0) }
+    ensures i32_rem_u_of_least { combines 0x70 (value.I32 2147483648) (value.I32 4294967295) (value.I32 2147483648) }
+    ensures i64_div_s_by_zero { traps 0x7F (value.I64 7) (value.I64 0) cause.Divide }
+    ensures i64_div_u_by_zero { traps 0x80 (value.I64 7) (value.I64 0) cause.Divide }
+    ensures i64_rem_s_by_zero { traps 0x81 (value.I64 7) (value.I64 0) cause.Divide }
+    ensures i64_rem_u_by_zero { traps 0x82 (value.I64 7) (value.I64 0) cause.Divide }
+    ensures i64_div_s_of_least { traps 0x7F (value.I64 9223372036854775808) (value.I64 18446744073709551615) cause.Overflow }
+    ensures i64_div_u_of_least { combines 0x80 (value.I64 9223372036854775808) (value.I64 18446744073709551615) (value.I64 0) }
+    ensures i64_rem_s_of_least { combines 0x81 (value.I64 9223372036854775808) (value.I64 18446744073709551615) (value.I64 0) }
+    ensures i64_rem_u_of_least { combines 0x82 (value.I64 9223372036854775808) (value.I64 18446744073709551615) (value.I64 9223372036854775808) }
+{}
+
+/// What each conversion makes of a number that is too wide, or whose first bit is set (Core 1.0 sections 4.3.4 and 5.4.5).
 pub fn conversions_by_their_bytes()
     ensures i32_wrap_i64 { makes 0xA7 (value.I64 4294967301) (value.I32 5) }
     ensures i64_extend_i32_s { makes 0xAC (value.I32 2147483648) (value.I64 18446744071562067968) }

@@ -8,11 +8,11 @@ use Rattle.opcode_laws.proofs.laws.stores_by_their_bytes.Goals as goal
 pub returns : goal.returns
 unfolding nests unsigned_at signed_at repeated chain_reads memory_argument operands instruction expression
 returns c = record {
-  i32_store = refl;
-  i64_store = refl;
-  i32_store8 = refl;
-  i32_store16 = refl;
-  i64_store8 = refl;
-  i64_store16 = refl;
-  i64_store32 = refl;
+  i32_store = (refl, refl, refl, refl);
+  i64_store = (refl, refl, refl, refl);
+  i32_store8 = (refl, refl, refl, refl);
+  i32_store16 = (refl, refl, refl, refl);
+  i64_store8 = (refl, refl, refl, refl);
+  i64_store16 = (refl, refl, refl, refl);
+  i64_store32 = (refl, refl, refl, refl);
 }
