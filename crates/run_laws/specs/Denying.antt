@@ -1,4 +1,4 @@
--- A MODULE THAT IS WRITTEN OUT, and that is run: it answers 403 to the head of each request. And another that stops each request.
+-- A MODULE THAT IS WRITTEN OUT, and that is run: for the head of a request it asks for an answer 403. And another, that returns Pause alone.
 use Rattle.std.specs.Option.{option_map}
 use Rattle.std.specs.Prelude.{◌≡◌, ℕ, pos, negsuc, true, List, [], ◌∷◌, None, Some, is_some, codes}
 use Rattle.abi_maps.specs.Streams.{no_fields}

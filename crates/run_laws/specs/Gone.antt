@@ -1,4 +1,4 @@
--- A CLIENT THAT IS GONE: of the exchange on its line host calls are told with its end, which comes next, before any callback.
+-- A CLIENT THAT IS GONE: the end of the exchange on its line comes next, before any callback. What host calls are told meanwhile is not said.
 use Rattle.std.specs.Prelude.{◌≡◌, ℕ, true, false, List, [], ◌∷◌, None, Some, slice_get}
 use Rattle.contexts.specs.Making.{no_contexts}
 use Rattle.course.specs.Called.{Calling}

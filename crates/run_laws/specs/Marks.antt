@@ -1,4 +1,5 @@
--- THE MARK that an answer was asked for, by which host calls judge whether one may still be: what drops it, and that a worker itself never raises it.
+-- THE MARK that an answer was asked for, by which host calls judge whether one may still be: what drops it, and that no step raises it where machines never ask for
+-- an answer.
 use Rattle.std.specs.Prelude.{◌≡◌, ℕ, Bool, true, false, List, [], Option, None, Some, slice_get}
 use Rattle.contexts.specs.Reached.{exchange_at, view_at}
 use Rattle.contexts.specs.declared.parts.Contexts.{Contexts}
@@ -57,7 +58,8 @@ abbrev pub LineIsTold : (k : ℕ) → Room → Type 0
 LineIsTold k room =
     (line : Line) (x : Exchange) (v : ExchangeView) → slice_get room.lines k ≡ Some line → line.exchange ≡ Some x → view_at room.hub.contexts.exchanges x.place ≡ Some v → IsTold x v
 
--- WHAT IS DONE TO AN EXCHANGE IS TOLD, and drops its mark: an effect, the action of a callback, what was read, a refusal.
+-- WHAT IS DONE TO AN EXCHANGE IS TOLD, and drops its mark, where its place among the contexts is still taken: an effect, the action of a callback, what was read, a
+-- refusal. That the place stays taken is not said; and that a client is gone is no such change.
 pub record ChangesAreTold : Type 0 where
   pub by_context : (change : Changes) (vm context k : ℕ) (room : Room) → place_of vm context room.lines ≡ Some k → LineIsTold k (on_context change vm context room)
   pub by_number : (change : Changes) (number k : ℕ) (room : Room) → place_in number room.lines ≡ Some k → LineIsTold k (on_number change number room)
@@ -68,7 +70,7 @@ AskNone {H} calling n =
     (host : H) (vm : ℕ) (name : Callback) (context first second now : ℕ) (h : Contexts) → IsUnasked n h
     → AllEnds (λ c. IsUnasked n c.contexts) (calling host vm name context first second now h)
 
--- NOTHING BUT A CALLBACK RAISES A MARK: where callbacks do not, no step does.
+-- WORKERS RAISE NO MARK: where callbacks never do, in any state, no step does. Of machines of which one may ask for an answer it says nothing.
 abbrev pub WorkersRaiseNone : Type 0 → Type 0
 WorkersRaiseNone H =
     (calling : Calling H) (n : ℕ) → AskNone calling n → (plan : Plan) (next : Next) (host : H) (room : Room) (ms : List Met) (e : Both H) → IsUnasked n room.hub.contexts

@@ -41,8 +41,8 @@ pub fn live_vms_keep_machines()
     callbacks_change_their_own();
 }
 
-/// Over the whole life of a worker that was made of a configuration, each callback of a VM that was made with its machine and that is not held for dead is run,
-/// and where the module exports it, of the function that it exports.
+/// Over the whole life of a worker that was made of a configuration, each callback of a VM that was made with its machine
+/// and that is not held for dead is run, and where the module exports it, of the function that it exports.
 pub fn runs_over_lives()
     ensures { RunsOverLives }
 {
@@ -63,14 +63,17 @@ pub fn runs_all_it_asks()
     made_vms_are_in_place();
 }
 
-/// Two modules that are written out, run as a worker asks them: one answers 403 to the head of a request, and one stops it.
+/// Two modules that are written out, asked for the head of a request by the function that a worker calls: one asks for an answer 403 to its stream and returns
+/// Pause, and dies where fuel is short; the other returns Pause and asks for nothing. Contexts and fuel are written by hand: no worker's turn is run here, and
+/// no answer is sent.
 pub fn worked_runs()
     ensures { DenyingExample }
 {}
 
 /// The mark that an answer was asked for, by which host calls refuse a second one: where a callback died no exchange on a line has it, whatever the callback left; where
-/// an effect, an action, what was read or a refusal was done to an exchange on a line, that has it not, and host calls are told of it what is so: whether it was answered, has
-/// ended, and has its response head out; and no step of a worker raises the mark but by a callback.
+/// an effect, an action, what was read or a refusal was done to an exchange on a line, that has it not, and where its place is still taken, host calls are told of it
+/// what is so: whether it was answered, has ended, and has its response head out. And of machines that never ask for an answer of an exchange, no step raises its mark:
+/// of machines of which one may, that says nothing.
 pub fn marks_fall<H>()
     ensures deaths { DeathsDropMarks }
     ensures changes { ChangesAreTold }
@@ -78,7 +81,8 @@ pub fn marks_fall<H>()
     ensures worked { MarkExamples }
 {}
 
-/// Where the client of a line is gone, host calls are told only with the end of its exchange that this has ended: that end comes next, and no callback before it.
+/// Where a worker is at rest but for the parts of its turn, and the first of these is that the client of a line is gone, the end of that line's exchange comes next,
+/// and no callback before it. What host calls are told meanwhile is not said.
 pub fn gone_end_next<H>()
     ensures next { GoneEndNext H }
     ensures worked { GoneExamples }
