@@ -6,6 +6,7 @@ mod Callbacks
 mod Steps
 mod Homes
 mod Denying
+mod Made
 mod Bare
 mod Unasked
 mod Marks

@@ -3,6 +3,7 @@ ghost use Rattle.run_laws.specs.Bare.{RunsAllItAsks};
 ghost use Rattle.run_laws.specs.Denying.{DenyingExample};
 ghost use Rattle.run_laws.specs.Gone.{GoneEndNext, GoneExamples};
 ghost use Rattle.run_laws.specs.Homes.{BeginsAtHome, StaysAtHome, LiveVmsKeepMachines, RunsOverLives};
+ghost use Rattle.run_laws.specs.Made.{MadeExample, VmsAreMadeWithMachines};
 ghost use Rattle.run_laws.specs.Marks.{ChangesAreTold, DeathsDropMarks, MarkExamples, WorkersRaiseNone};
 ghost use Rattle.run_laws.specs.Runs.{RunsWhatIsAsked};
 
@@ -41,7 +42,14 @@ pub fn live_vms_keep_machines()
     callbacks_change_their_own();
 }
 
-/// Over the whole life of a worker that was made of a configuration, each callback of a VM that was made with its machine
+/// The machines that are made of the VMs of a configuration: a VM whose entry holds the code of its module has its machine, on which nothing has run, at its
+/// number and with the pages and the fuel that the entry tells. One whose entry holds none has none. Worked are two VMs, of which the second alone holds code.
+pub fn vms_are_made_with_machines()
+    ensures machines { VmsAreMadeWithMachines }
+    ensures worked { MadeExample }
+{}
+
+/// Over the whole life of a worker that was made of a configuration, each callback of a VM that was made with its machine (`vms_are_made_with_machines`)
 /// and that is not held for dead is run, and where the module exports it, of the function that it exports.
 pub fn runs_over_lives()
     ensures { RunsOverLives }
