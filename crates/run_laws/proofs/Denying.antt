@@ -1,13 +1,15 @@
 -- The worked modules, by computation.
-use Rattle.std.proofs.Common.{◌≡◌, true, [], ◌∷◌, None, Some, is_some, refl, ap, subst}
+use Rattle.std.proofs.Common.{◌≡◌, true, false, [], ◌∷◌, None, Some, is_some, refl, ap, subst}
 use Rattle.std.specs.Option.{option_map}
 use Rattle.abi_maps.specs.Streams.{no_fields}
 use Rattle.contexts.specs.Reached.{exchange_at}
-use Rattle.contexts.specs.declared.parts.Exchange.{Exchange}
+use Rattle.contexts.specs.declared.parts.Exchange.{Exchange as Held}
+use Rattle.contexts.specs.declared.parts.ExchangeView.{ExchangeView}
 use Rattle.contexts.specs.declared.parts.What.TheVariants as what
 use Rattle.course.specs.Called.{Called}
 use Rattle.course.specs.declared.host.CallEnd.TheVariants as call_end
 use Rattle.course.specs.declared.host.Death.TheVariants as death
+use Rattle.exchange.specs.declared.types.Exchange.{Exchange}
 use Rattle.proxy_links.specs.Judging.{target_of}
 use Rattle.store_model.specs.Program.{Program, done, ask, measure}
 use Rattle.vm_host.specs.Calling.{running}
@@ -19,7 +21,7 @@ use Rattle.vm_host.specs.Vms as vms
 use Rattle.vm_host.specs.declared.slots.Vms.{Vms}
 use Rattle.wasm_syntax.specs.Nested.{nests}
 use Rattle.wasm_syntax.specs.ReductionRuns.{walk}
-use Rattle.run_laws.specs.Marks.{is_asking, MarkExamples}
+use Rattle.run_laws.specs.Marks.{is_asking, told_behind, MarkExamples}
 use Rattle.run_laws.specs.Denying.{denies, stops, at_home, asked_of, poor, DenyingExample}
 
 -- what a program that asks nothing is done with
@@ -64,7 +66,7 @@ left : is_some (slot_in came.host 0).live ≡ true
 unfolding calling calling_slot calling_live vms.running running dispatching target_of walk nests
 left = refl
 
-marked : option_map (λ (x : Exchange). x.view.is_answering) (exchange_at came.contexts.exchanges 0) ≡ Some true
+marked : option_map (λ (x : Held). x.view.is_answering) (exchange_at came.contexts.exchanges 0) ≡ Some true
 unfolding calling calling_slot calling_live vms.running running dispatching target_of walk nests
 marked = refl
 
@@ -125,9 +127,20 @@ asking_if : (c : Called Vms) → came ≡ c → is_asking (exchange_at c.context
 unfolding calling calling_slot calling_live vms.running running dispatching target_of walk nests
 asking_if c is = subst (λ (d : Called Vms). is_asking (exchange_at d.contexts.exchanges 0) ≡ true) is refl
 
+dropped_if : (c : Called Vms) (x : Exchange) → came ≡ c → option_map (λ (v : ExchangeView). v.is_answering) (told_behind c x) ≡ Some false
+unfolding calling calling_slot calling_live vms.running running dispatching target_of walk nests
+dropped_if c x is = subst (λ (d : Called Vms). option_map (λ (v : ExchangeView). v.is_answering) (told_behind d x) ≡ Some false) is refl
+
+told_if : (c : Called Vms) (x : Exchange) → came ≡ c → option_map (λ (v : ExchangeView). v.is_answered) (told_behind c x) ≡ Some true
+unfolding calling calling_slot calling_live vms.running running dispatching target_of walk nests
+told_if c x is = subst (λ (d : Called Vms). option_map (λ (v : ExchangeView). v.is_answered) (told_behind d x) ≡ Some true) is refl
+
 pub mark_examples : MarkExamples
 mark_examples = record {
   returning_asks_none = λ n host vm name context first second now h is. is;
   before = refl;
   behind = λ c is. asking_if c (done_of nothing (asked_of denies) c is);
+  on_its_line = λ c x. refl;
+  dropped = λ c x is. dropped_if c x (done_of nothing (asked_of denies) c is);
+  told = λ c x is. told_if c x (done_of nothing (asked_of denies) c is);
 }

@@ -1,5 +1,6 @@
 -- THE MARK that an answer was asked for, by which host calls judge whether one may still be: what drops it, and that no step raises it where machines never ask for
 -- an answer.
+use Rattle.std.specs.Option.{option_map}
 use Rattle.std.specs.Prelude.{◌≡◌, ℕ, Bool, true, false, List, [], Option, None, Some, slice_get}
 use Rattle.contexts.specs.Reached.{exchange_at, view_at}
 use Rattle.contexts.specs.declared.parts.Contexts.{Contexts}
@@ -23,6 +24,7 @@ use Rattle.worker.specs.declared.types.Line.{Line}
 use Rattle.worker.specs.declared.types.Next.{Next}
 use Rattle.worker.specs.declared.types.Own.{Own}
 use Rattle.run_laws.specs.Denying.{denies, at_home, asked_of}
+use Rattle.run_laws.specs.Gone.{with_one}
 
 -- an answer was asked for
 abbrev pub is_asking : Option Held → Bool
@@ -82,8 +84,24 @@ WorkersRaiseNone H =
 abbrev pub returning : Calling (Unit {0})
 returning host vm name context first second now h = done (called_back (call_ends.Returned None) [] host h)
 
+-- a room with these contexts, in which the exchange of the first place is on line 7, whatever else is so of it
+abbrev pub on_line_7 : Contexts → Exchange → Room
+on_line_7 h x = record (with_one (record x { place = 0 })) { hub = record { moment = 0; contexts = h; sent = [] } }
+
+-- an exchange is answered
+abbrev pub is_now_answered : Changes
+is_now_answered number x hub = (record x { is_answered = true }, hub)
+
+-- what host calls are told of the exchange of the first place
+abbrev pub told_behind : Called Vms → Exchange → Option ExchangeView
+told_behind c x = view_at (on_number is_now_answered 7 (on_line_7 c.contexts x)).hub.contexts.exchanges 0
+
 pub record MarkExamples : Type 0 where
   -- there are callbacks that ask for no answer; and before the module that denies is asked none was asked for, and behind it one was
   pub returning_asks_none : (n : ℕ) → AskNone returning n
   pub before : IsUnasked 0 at_home
   pub behind : (c : Called Vms) → asked_of denies ≡ done c → is_asking (exchange_at c.contexts.exchanges 0) ≡ true
+  -- then the exchange is answered, on its line: its place is still taken, the mark is dropped, and host calls are told that it was answered
+  pub on_its_line : (c : Called Vms) (x : Exchange) → place_in 7 (on_line_7 c.contexts x).lines ≡ Some 0
+  pub dropped : (c : Called Vms) (x : Exchange) → asked_of denies ≡ done c → option_map (λ (v : ExchangeView). v.is_answering) (told_behind c x) ≡ Some false
+  pub told : (c : Called Vms) (x : Exchange) → asked_of denies ≡ done c → option_map (λ (v : ExchangeView). v.is_answered) (told_behind c x) ≡ Some true

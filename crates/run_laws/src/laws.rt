@@ -81,7 +81,7 @@ pub fn worked_runs()
 /// The mark that an answer was asked for, by which host calls refuse a second one: where a callback died no exchange on a line has it, whatever the callback left; where
 /// an effect, an action, what was read or a refusal was done to an exchange on a line, that has it not, and where its place is still taken, host calls are told of it
 /// what is so: whether it was answered, has ended, and has its response head out. And of machines that never ask for an answer of an exchange, no step raises its mark:
-/// of machines of which one may, that says nothing.
+/// of machines of which one may, that says nothing. Worked is the mark behind the module that asks for 403, and that it falls once its exchange is answered.
 pub fn marks_fall<H>()
     ensures deaths { DeathsDropMarks }
     ensures changes { ChangesAreTold }
