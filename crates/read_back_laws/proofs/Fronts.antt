@@ -149,6 +149,19 @@ octets_begun : (bytes : List ℕ) (last : Item) → begun (last ∷ []) ≡ 0 �
 octets_begun [] last is = is
 octets_begun (b ∷ bytes) last is = octets_begun bytes last is
 
+begun_join : (a b : List Item) → begun (a ++ b) ≡ begun a + begun b
+begun_join [] b = omega arith
+begun_join (request h ∷ a) b = omega (arith, begun_join a b)
+begun_join (interim h ∷ a) b = begun_join a b
+begun_join (response h ∷ a) b = begun_join a b
+begun_join (octet c ∷ a) b = begun_join a b
+begun_join (end ∷ a) b = begun_join a b
+begun_join (trailers fields ∷ a) b = begun_join a b
+
+-- in a front of items in which one request begins, at most one begins
+pub few_begin : (front behind all : List Item) → front ++ behind ≡ all → begun all ≡ 1 → begun front ≤ 1
+few_begin front behind all is one = omega (arith, begun_join front behind, ap begun is, one)
+
 octets_all : (bytes : List ℕ) (last : Item) → octets_in (last ∷ []) ≡ [] → octets_in (map octet bytes ++ last ∷ []) ≡ bytes
 octets_all [] last is = is
 octets_all (b ∷ bytes) last is = ap (λ l. b ∷ l) (octets_all bytes last is)
@@ -222,6 +235,7 @@ said_bound by_close is = absurd (cc)
 pub read_as_one : (q : OutRequest) (sent more : List ℕ) → sent ++ more ≡ out_wire q → IsReadableRequest q.framing q.head → Suits q.framing q.pieces q.ending false [] → IsReadAsOne q sent
 read_as_one q sent more front readable suits = record {
   front = λ ended items why reads. by_front ended items why reads;
+  few = λ ended items why reads. let f = by_front ended items why reads in few_begin (map item_at items) f.0 (in_items q) f.1 (ap suc b.begins);
   whole = λ all ended. subst (λ (t : List ℕ). IsReadAs t ended None head (in_items q) (stop_behind ended None)) (sym all) (read ended);
   one = ap suc b.begins;
   carried = b.all;

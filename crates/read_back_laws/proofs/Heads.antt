@@ -28,7 +28,7 @@ use Rattle.http1_model.proofs.GrammarLines.{AreParts, first_line, whole_lines-he
 use Rattle.http1_model.proofs.Growth.{head_cut_fits}
 use Rattle.http1_model.proofs.Readings.{item_is_no_stop, step_stays}
 use Rattle.read_back_laws.specs.OneRequest.{IsWritten, IsNeverTwo}
-use Rattle.read_back_laws.proofs.Fronts.{read_as_one, one_begins}
+use Rattle.read_back_laws.proofs.Fronts.{few_begin, read_as_one, one_begins}
 
 -- ---- a path of a list is no absolute target
 
@@ -165,7 +165,11 @@ readable_of framing h w target few short =
     record { kind = w.kind; list = w.list; target = target; tail = w.tail; no_host = w.no_host; framed = w.framed; told = w.told; few = few; short = short }
 
 pub never_two : (q : OutRequest) (sent more : List ℕ) → sent ++ more ≡ out_wire q → IsWritten q.framing q.head → Suits q.framing q.pieces q.ending false [] → IsNeverTwo q sent
-never_two q sent more front w suits = record { front = λ ended items why reads. by_items ended items why reads; one = one_begins q w.framed suits }
+never_two q sent more front w suits = record {
+  front = λ ended items why reads. by_items ended items why reads;
+  few = λ ended items why reads. let f = by_items ended items why reads in few_begin (map item_at items) f.0 (in_items q) f.1 (one_begins q w.framed suits);
+  one = one_begins q w.framed suits;
+}
   where
     list : RequestList q.head
     list = request_list q.head w.kind w.list

@@ -1,5 +1,5 @@
 -- The worked request of a filter, and what is refused, by computation.
-use Rattle.std.proofs.Common.{◌≡◌, ℕ, ◌+◌, Bool, true, false, List, [], ◌∷◌, ◌++◌, map, length, None, codes, refl, ap, ◌∙◌, sym, subst, arith, lit≤}
+use Rattle.std.proofs.Common.{◌≡◌, ◌≤◌, ℕ, Bool, true, false, List, [], ◌∷◌, ◌++◌, map, length, None, codes, refl, ap, ◌∙◌, sym, subst, arith, lit≤}
 use Rattle.std.proofs.lemmas.List.{append-nil, append_assoc}
 use Rattle.std.specs.Fmt.{digits}
 use Rattle.http_header.specs.Token as token
@@ -14,7 +14,7 @@ use Rattle.h1_write.proofs.Lines.{request_line_read_back}
 use Rattle.h1_write.proofs.Requests.{request_head_read_back}
 use Rattle.http1_model.specs.Examples.{worked_wire}
 use Rattle.http1_model.specs.Framing.{by_length, by_chunks, head_wire}
-use Rattle.http1_model.specs.Messages.{Item, request, interim, response, octet, end, trailers, head, rest, SpellsFrom}
+use Rattle.http1_model.specs.Messages.{Placed, Stop, head, rest, SpellsFrom, Messages}
 use Rattle.http1_model.specs.ReadingLaws.{item_at}
 use Rattle.http1_model.specs.Target.{GivesTarget}
 use Rattle.http1_model.specs.Head.{found, SpellsStep}
@@ -127,15 +127,6 @@ filter_example = record {
 
 -- ---- what is refused
 
-begun_join : (a b : List Item) → begun (a ++ b) ≡ begun a + begun b
-begun_join [] b = omega arith
-begun_join (request h ∷ a) b = omega (arith, begun_join a b)
-begun_join (interim h ∷ a) b = begun_join a b
-begun_join (response h ∷ a) b = begun_join a b
-begun_join (octet c ∷ a) b = begun_join a b
-begun_join (end ∷ a) b = begun_join a b
-begun_join (trailers fields ∷ a) b = begun_join a b
-
 worked_list : IsHeaders worked_request.head.fields
 unfolding httparse_on_literals token.is_token_byte
 worked_list = record {
@@ -164,14 +155,20 @@ worked_is = refl
 two_worked : List OutRequest
 two_worked = worked_request ∷ worked_request ∷ []
 
-two_refused : (q : OutRequest) → IsReadAsOne q (worked_wire ++ worked_wire) → ⊥
+-- a reader reads both, so what is said of all that it reads is refused
+two_begin : ((ended : Bool) (items : List Placed) (why : Stop) → Messages (worked_wire ++ worked_wire) ended None items why → begun (map item_at items) ≤ 1) → ⊥
 unfolding two_worked
-two_refused q one =
+two_begin few =
     let r = request_line_read_back two_worked false (worked_readable, tt, (worked_readable, tt, tt)) in
     let same : out_wire worked_request ++ (out_wire worked_request ++ []) ≡ worked_wire ++ worked_wire = (λ i. worked_is i ++ (append-nil (worked_is i)) i) in
-    let f = one.front false r.placed rest (subst (λ t. SpellsFrom t false None head 0 r.placed rest) same r.spelled) in
     let both : begun (map item_at r.placed) ≡ 2 = ap begun r.are in
-    omega (arith, both, begun_join (map item_at r.placed) f.0, ap begun f.1, one.one)
+    omega (arith, both, few false r.placed rest (subst (λ t. SpellsFrom t false None head 0 r.placed rest) same r.spelled))
+
+two_refused : (q : OutRequest) → IsReadAsOne q (worked_wire ++ worked_wire) → ⊥
+two_refused q one = two_begin one.few
+
+twice_refused : (q : OutRequest) → IsNeverTwo q (worked_wire ++ worked_wire) → ⊥
+twice_refused q never = two_begin never.few
 
 -- ---- a body of more bytes than are told
 
@@ -229,6 +226,7 @@ pub refused_readings : RefusedReadings
 unfolding httparse_on_literals token.is_token_byte
 refused_readings = record {
   two = two_refused;
+  two_never = twice_refused;
   smuggled = λ h. no_truth h.shape.1.1.1.1.kept;
   longer = λ c. omega (arith, c.0);
   longer_front = λ c. omega (arith, c.0);

@@ -103,11 +103,12 @@ odd_fields = record {
 abbrev pub odd_request : OutRequest
 odd_request = record { framing = by_chunks; head = sent_head odd_fields (up_tail 1); pieces = codes "XY" ∷ []; ending = last_bytes (codes "Z") }
 
--- WHAT IS REFUSED: two requests are no one; a value with an end of line and another field behind it is none of a list of headers; and three bytes are no body
--- of two, whether or not they are its last. What is asked is no idle word: a body of more bytes than are told, which no framing carries, would be read as two
--- requests. A path that is no target hides no second request.
+-- WHAT IS REFUSED: two requests are read as no one, and are not "never read as two", whichever request one names; a value with an end of line and another field
+-- behind it is none of a list of headers; and three bytes are no body of two, whether or not they are its last, nor one byte where it is the last. What is asked
+-- is no idle word: a body of more bytes than are told, which no framing carries, would be read as two requests. A path that is no target hides no second request.
 pub record RefusedReadings : Type 0 where
   pub two : (q : OutRequest) → IsReadAsOne q (worked_wire ++ worked_wire) → ⊥
+  pub two_never : (q : OutRequest) → IsNeverTwo q (worked_wire ++ worked_wire) → ⊥
   pub smuggled : IsHeaders (record made_fields { pairs = (codes ":method", codes "POST") ∷ (codes ":scheme", codes "http") ∷ (codes ":authority", codes "a") ∷ (codes ":path", codes "/") ∷ (codes "x-b", codes "2" ++ crlf_bytes ++ codes "content-length: 9") ∷ [] }) → ⊥
   pub longer : Carries (by_length 2) (piece (codes "abc") true ∷ []) → ⊥
   pub longer_front : Carries (by_length 2) (piece (codes "abc") false ∷ []) → ⊥

@@ -1,5 +1,5 @@
 -- What a reader makes of the bytes of one request, and of a front of them.
-use Rattle.std.specs.Prelude.{◌≡◌, suc, ℕ, Bool, true, false, not, List, [], ◌∷◌, ◌++◌, map, None, codes, bytes_eq}
+use Rattle.std.specs.Prelude.{◌≡◌, ◌≤◌, suc, ℕ, Bool, true, false, not, List, [], ◌∷◌, ◌++◌, map, None, codes, bytes_eq}
 use Rattle.std.specs.List.{list_all}
 use Rattle.header_maps.specs.Kept.{IsHeaders}
 use Rattle.header_maps.specs.declared.kind.ListKind.TheVariants as kinds
@@ -41,17 +41,20 @@ carried_by by_chunks pieces ending = body_bytes pieces ending
 carried_by by_close pieces ending = body_bytes pieces ending
 
 -- READ AS ONE REQUEST, of bytes that are a front of those of a request: whatever a reader of requests makes of them, whether or not more may come, are a front
--- of the items of that request, among which one request begins. And where they are all its bytes, it reads exactly those items, which use up all of them.
+-- of the items of that request, so that at most one request begins in them. And where they are all its bytes, it reads exactly those items, which use up all of
+-- them. (`one` is so of every request, whatever it holds, by what its items are: it says nothing of the bytes, and is there to be read beside `front`.)
 pub record IsReadAsOne (q : OutRequest) (bytes : List ℕ) : Type 0 where
   pub front : (ended : Bool) (items : List Placed) (why : Stop) → Messages bytes ended None items why → (behind : List Item) × (map item_at items ++ behind ≡ in_items q)
+  pub few : (ended : Bool) (items : List Placed) (why : Stop) → Messages bytes ended None items why → begun (map item_at items) ≤ 1
   pub whole : bytes ≡ out_wire q → (ended : Bool) → IsReadAs bytes ended None head (in_items q) (stop_behind ended None)
   pub one : begun (in_items q) ≡ 1
   pub carried : octets_in (in_items q) ≡ carried_by q.framing q.pieces q.ending
 
 -- NEVER READ AS TWO, of bytes that are a front of those of a request: whatever a reader of requests makes of them, whether or not more may come, is a front of
--- the items of that request, or nothing at all, as where it refuses the head; and one request begins among these items.
+-- the items of that request, or nothing at all, as where it refuses the head; so at most one request begins in it. (`one` again says nothing of the bytes.)
 pub record IsNeverTwo (q : OutRequest) (bytes : List ℕ) : Type 0 where
   pub front : (ended : Bool) (items : List Placed) (why : Stop) → Messages bytes ended None items why → (behind : List Item) × (map item_at items ++ behind ≡ in_items q)
+  pub few : (ended : Bool) (items : List Placed) (why : Stop) → Messages bytes ended None items why → begun (map item_at items) ≤ 1
   pub one : begun (in_items q) ≡ 1
 
 -- A head as it goes out, of which this alone is known: its list is one of a request, and the fields behind it and its framing are such as a gateway writes.
