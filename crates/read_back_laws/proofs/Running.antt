@@ -1,9 +1,11 @@
 -- The worked turns of a filter, by computation.
-use Rattle.std.proofs.Common.{◌≡◌, ℕ, Bool, true, false, List, [], ◌∷◌, ◌++◌, map, None, codes, refl, inl, inr, lit<, lit≤}
+use Rattle.std.proofs.Common.{◌≡◌, ℕ, Bool, true, false, List, [], ◌∷◌, ◌++◌, map, None, Some, codes, refl, ap, ◌∙◌, sym, subst, inl, inr, lit<, lit≤}
+use Rattle.std.proofs.lemmas.List.{append-nil}
 use Rattle.std.specs.Fmt.{digits}
 use Rattle.course.specs.Course.{Course, ends, hears, Met, heard, Reaches}
 use Rattle.course.specs.Heard.{Hears, hands}
 use Rattle.course.specs.declared.host.Callback.TheVariants as callbacks
+use Rattle.exchange.specs.Heads.{path_of, route_in}
 use Rattle.exchange_laws.specs.Traffic.{opens, byte, ups}
 use Rattle.gate_io.specs.declared.event.Side.TheVariants.{Down}
 use Rattle.gate_io.specs.declared.event.What.TheVariants as whats
@@ -16,13 +18,18 @@ use Rattle.http1_model.specs.Unread.{Reading, head_part, piece, new_reading, fed
 use Rattle.httparse.proofs.OnLiterals.{httparse_on_literals}
 use Rattle.matchit.proofs.OnLiterals.{matchit_on_literals}
 use Rattle.worker.specs.Settling.{settling}
+use Rattle.worker.specs.Steps.{exchange_for}
 use Rattle.worker.specs.Turn.{Outcome, outcome, turn}
 use Rattle.line_laws.specs.Examples.{event}
 use Rattle.line_laws.specs.Logs.{WriteLogs}
+use Rattle.line_laws.specs.Requests.{IsBegun}
 use Rattle.line_laws.specs.Turns.{Done, Turns, sent_in}
-use Rattle.read_back_laws.specs.Examples.{asked_text, posted, filter_plan}
+use Rattle.read_back_laws.specs.Examples.{asked_text, first, posted, filter_plan, made_fields, made_request}
+use Rattle.read_back_laws.specs.OneRequest.{IsReadAsOne}
 use Rattle.read_back_laws.specs.Runs.{rewriting, filter_worker, filter_wire, FilterRun}
-use Rattle.read_back_laws.proofs.Worked.{posted_spelled}
+use Rattle.read_back_laws.specs.Sent.{bytes_in}
+use Rattle.read_back_laws.proofs.Sends.{bytes_are}
+use Rattle.read_back_laws.proofs.Worked.{posted_judged, posted_spelled, made_taken, made_carries, made_is, made_read}
 
 -- ---- the end of a course that calls no store, behind what it hears; or this, where it has none there
 
@@ -122,6 +129,18 @@ writes_logs host vm callbacks.RequestHeaders context one two now h = tt
 writes_logs host vm callbacks.RequestBody context one two now h = tt
 writes_logs host vm name context one two now h = tt
 
+-- ---- what went up in them is read as one request
+
+route_is : route_in filter_plan.routes (path_of posted.fields) ≡ Some 0
+unfolding httparse_on_literals digits matchit_on_literals is_token_byte
+route_is = refl
+
+begins : IsBegun filter_plan posted first
+begins = record { place = 0; now = 0; dead = []; is = ap (λ r. exchange_for filter_plan 0 0 [] posted r) (sym route_is); judged = posted_judged }
+
+went_is : bytes_in (ups 1 (sent_in turns)) ≡ filter_wire
+went_is = ap bytes_in goes_up ∙ bytes_are filter_wire
+
 pub filter_run : FilterRun
 filter_run = record {
   logs = writes_logs;
@@ -130,4 +149,10 @@ filter_run = record {
   run = runs;
   happened = refl;
   up = goes_up;
+  begun = begins;
+  made = record { fields = made_fields; head = refl; framing = refl };
+  meant = ([], append-nil (bytes_in (ups 1 (sent_in turns))) ∙ (went_is ∙ sym made_is));
+  taken = made_taken;
+  carries = made_carries;
+  read = subst (IsReadAsOne made_request) (sym went_is) made_read;
 }

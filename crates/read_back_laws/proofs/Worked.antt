@@ -22,7 +22,7 @@ use Rattle.http1_model.proofs.Examples.{slash_target}
 use Rattle.http1_model.proofs.Readings.{step_stays}
 use Rattle.line_laws.specs.Examples.{worked_request}
 use Rattle.line_laws.specs.Requests.{IsJudged, HasRoom}
-use Rattle.read_back_laws.specs.Examples.{short_post, overrun, two_items, odd_fields, odd_request, asked_head, asked_text, posted, made_fields, made_request, made_wire, FilterExample, RefusedReadings}
+use Rattle.read_back_laws.specs.Examples.{short_post, overrun, two_items, odd_fields, odd_request, asked_head, asked_text, posted, made_fields, made_request, made_wire, cut_request, cut_text, FilterExample, RefusedReadings}
 use Rattle.read_back_laws.specs.OneRequest.{begun, IsNeverTwo, IsReadAsOne}
 use Rattle.read_back_laws.specs.Sent.{IsTakenIn, Carries}
 use Rattle.read_back_laws.proofs.Fronts.{read_as_one}
@@ -53,7 +53,7 @@ asked_readable = record {
   short = lit≤ tt;
 }
 
-posted_judged : IsJudged posted
+pub posted_judged : IsJudged posted
 posted_judged = record { text = head_wire (by_length 2) asked_head; used = length (head_wire (by_length 2) asked_head); spells = request_head_read_back (by_length 2) asked_head asked_readable }
 
 asked_is : head_wire (by_length 2) asked_head ≡ asked_text
@@ -83,12 +83,18 @@ made_room : HasRoom made_request
 unfolding httparse_on_literals token.is_token_byte digits
 made_room = record { few = lit≤ tt; short = lit≤ tt }
 
-made_taken : IsTakenIn made_fields made_request
+pub made_taken : IsTakenIn made_fields made_request
 unfolding httparse_on_literals
 made_taken = record { listed = record { kind = refl; list = made_list }; target = made_target; room = made_room }
 
-made_carries : Carries by_chunks (body_items made_request.pieces made_request.ending)
+pub made_carries : Carries by_chunks (body_items made_request.pieces made_request.ending)
 made_carries = (refl, tt)
+
+parted_taken : IsTakenIn made_fields cut_request
+parted_taken = record { listed = made_taken.listed; target = made_taken.target; room = record { few = made_room.few; short = made_room.short } }
+
+parted_carries : Carries by_chunks (body_items cut_request.pieces cut_request.ending)
+parted_carries = (refl, tt)
 
 made_readable : IsReadableRequest by_chunks made_request.head
 made_readable =
@@ -105,11 +111,18 @@ made_readable =
       short = made_room.short;
     }
 
-made_is : out_wire made_request ≡ made_wire
+pub made_is : out_wire made_request ≡ made_wire
 unfolding httparse_on_literals token.is_token_byte digits
 made_is = refl
 
-made_read : IsReadAsOne made_request made_wire
+parted_is : out_wire cut_request ≡ cut_text
+unfolding httparse_on_literals token.is_token_byte digits
+parted_is = refl
+
+parted_read : IsReadAsOne cut_request cut_text
+parted_read = read_as_one cut_request cut_text [] (append-nil cut_text ∙ sym parted_is) made_readable (whole_suits by_chunks cut_request.pieces cut_request.ending parted_carries)
+
+pub made_read : IsReadAsOne made_request made_wire
 made_read = read_as_one made_request made_wire [] (append-nil made_wire ∙ sym made_is) made_readable (whole_suits by_chunks made_request.pieces made_request.ending made_carries)
 
 pub filter_example : FilterExample
@@ -123,6 +136,12 @@ filter_example = record {
   carries = made_carries;
   wire = made_is;
   read = made_read;
+  cut_made = record { fields = made_fields; head = refl; framing = refl };
+  cut_fields = refl;
+  cut_taken = parted_taken;
+  cut_carries = parted_carries;
+  cut_is = parted_is;
+  cut_read = parted_read;
 }
 
 -- ---- what is refused

@@ -36,7 +36,7 @@ asked_text = line (codes "POST / HTTP/1.1") ++ line (codes "host: a") ++ line (c
 abbrev pub posted : Head
 posted = request_read (by_length 2) asked_head
 
--- ---- what filters make of it: another path, another field, and three bytes, which are cut in two
+-- ---- what filters make of it: another path, another field, and three bytes
 
 abbrev pub made_fields : Headers
 made_fields = record {
@@ -45,7 +45,11 @@ made_fields = record {
 }
 
 abbrev pub made_request : OutRequest
-made_request = record { framing = by_chunks; head = sent_head made_fields (up_tail 1); pieces = codes "XY" ∷ []; ending = last_bytes (codes "Z") }
+made_request = record { framing = by_chunks; head = sent_head made_fields (up_tail 1); pieces = []; ending = last_bytes (codes "XYZ") }
+
+-- and with its body cut in two
+abbrev pub cut_request : OutRequest
+cut_request = record { framing = by_chunks; head = sent_head made_fields (up_tail 1); pieces = codes "XY" ∷ []; ending = last_bytes (codes "Z") }
 
 abbrev pub made_head_wire : List ℕ
 made_head_wire =
@@ -53,7 +57,10 @@ made_head_wire =
     ++ line (codes "connection: close") ++ line []
 
 abbrev pub made_wire : List ℕ
-made_wire = made_head_wire ++ line (codes "2") ++ line (codes "XY") ++ line (codes "1") ++ line (codes "Z") ++ line (codes "0") ++ line []
+made_wire = made_head_wire ++ line (codes "3") ++ line (codes "XYZ") ++ line (codes "0") ++ line []
+
+abbrev pub cut_text : List ℕ
+cut_text = made_head_wire ++ line (codes "2") ++ line (codes "XY") ++ line (codes "1") ++ line (codes "Z") ++ line (codes "0") ++ line []
 
 -- one route with one filter, which filters the bodies of requests
 abbrev pub filter_plan : Plan
@@ -70,7 +77,8 @@ abbrev pub first : Exchange
 first = exchange_for filter_plan 0 0 [] posted (Some 0)
 
 -- WHAT IS ASKED OF FILTERS IS MET by those: the head that came was judged, the request is one that an exchange with a filter makes of it, its fields make a
--- head that a reader takes in, and its body is such as chunks carry; so a reader takes its bytes as that one request.
+-- head that a reader takes in, and its body is such as chunks carry; so a reader takes its bytes as that one request. It is the request that goes up in the
+-- worked turns (`Runs`). And so it is of the same with its body cut in two chunks.
 pub record FilterExample : Type 0 where
   pub text : head_wire (by_length 2) asked_head ≡ asked_text
   pub judged : IsJudged posted
@@ -81,6 +89,12 @@ pub record FilterExample : Type 0 where
   pub carries : Carries by_chunks (body_items made_request.pieces made_request.ending)
   pub wire : out_wire made_request ≡ made_wire
   pub read : IsReadAsOne made_request made_wire
+  pub cut_made : IsMadeOf posted first cut_request
+  pub cut_fields : cut_made.fields ≡ made_fields
+  pub cut_taken : IsTakenIn made_fields cut_request
+  pub cut_carries : Carries by_chunks (body_items cut_request.pieces cut_request.ending)
+  pub cut_is : out_wire cut_request ≡ cut_text
+  pub cut_read : IsReadAsOne cut_request cut_text
 
 -- ---- a body of more bytes than are told: it holds a second request
 

@@ -9,18 +9,22 @@ use Rattle.course.specs.declared.host.CallEnd.TheVariants.{Returned}
 use Rattle.course.specs.declared.host.Callback.{Callback}
 use Rattle.course.specs.declared.host.Callback.TheVariants as callbacks
 use Rattle.exchange.specs.Maps.{put_request}
-use Rattle.exchange_laws.specs.Traffic.{opens, byte, ups}
+use Rattle.exchange_laws.specs.Traffic.{opens, byte, ups, IsFront}
 use Rattle.gate_base.specs.declared.level.Level.TheVariants.{Info}
 use Rattle.gate_io.specs.declared.event.Event.{Event}
 use Rattle.gate_io.specs.declared.event.Side.TheVariants.{Down}
 use Rattle.gate_io.specs.declared.event.What.TheVariants as whats
-use Rattle.httparse.specs.Ascii.{crlf_bytes}
+use Rattle.h1_write.specs.Lines.{out_wire}
+use Rattle.h1_write.specs.Round.{body_items}
 use Rattle.store_model.specs.Program.{Program, done}
 use Rattle.worker.specs.Steps.{Both, both}
 use Rattle.line_laws.specs.Examples.{event}
 use Rattle.line_laws.specs.Logs.{WriteLogs}
+use Rattle.line_laws.specs.Requests.{IsBegun, IsMadeOf}
 use Rattle.line_laws.specs.Turns.{Done, Turns, new_room, sent_in}
-use Rattle.read_back_laws.specs.Examples.{asked_text, filter_plan, made_fields, made_head_wire}
+use Rattle.read_back_laws.specs.Examples.{asked_text, filter_plan, first, made_fields, made_request, made_wire, posted}
+use Rattle.read_back_laws.specs.OneRequest.{IsReadAsOne}
+use Rattle.read_back_laws.specs.Sent.{bytes_in, IsTakenIn, Carries}
 
 -- A machine whose filter sets other fields with another path when it is asked about the head of a request, and writes three bytes in place of the body when it
 -- is asked about that; each time it answers Continue. It exports nothing else.
@@ -41,11 +45,13 @@ filter_worker = both 0 (new_room filter_contexts)
 abbrev pub filter_events : List Event
 filter_events = event (whats.Opened 1) ∷ event (whats.Bytes 1 Down (asked_text ++ codes "ab")) ∷ []
 
--- what goes up
+-- what goes up: the bytes of the request of `FilterExample`
 abbrev pub filter_wire : List ℕ
-filter_wire = made_head_wire ++ codes "3" ++ crlf_bytes ++ codes "XYZ" ++ crlf_bytes ++ codes "0" ++ crlf_bytes ++ crlf_bytes
+filter_wire = made_wire
 
--- there are such turns, and that goes up in them
+-- THERE ARE SUCH TURNS, and that goes up in them. The exchange in them began as that of the example, whose request is one that it makes, of fields that make a
+-- head which a reader takes in, and of a body that is carried: so all that is asked is met by what went up in turns, and their own bytes are read as that one
+-- request.
 pub record FilterRun : Type 0 where
   pub logs : WriteLogs rewriting
   pub turns : List (Done ℕ)
@@ -53,3 +59,9 @@ pub record FilterRun : Type 0 where
   pub run : Turns rewriting filter_plan filter_worker turns to
   pub happened : map (λ (t : Done ℕ). t.event) turns ≡ filter_events
   pub up : ups 1 (sent_in turns) ≡ opens ∷ map byte filter_wire
+  pub begun : IsBegun filter_plan posted first
+  pub made : IsMadeOf posted first made_request
+  pub meant : IsFront (bytes_in (ups 1 (sent_in turns))) (out_wire made_request)
+  pub taken : IsTakenIn made.fields made_request
+  pub carries : Carries made_request.framing (body_items made_request.pieces made_request.ending)
+  pub read : IsReadAsOne made_request (bytes_in (ups 1 (sent_in turns)))
