@@ -25,7 +25,7 @@ use Rattle.line_laws.proofs.Turning.{all_go_up_one_by_one}
 use Rattle.line_laws.proofs.Wholly.{workers_go_up}
 use Rattle.read_back_laws.specs.Laws.{RequestsAreReadAsOne, RequestsOfWorkersAreReadAsOne, RequestsOfTheProductAreReadAsOne}
 use Rattle.read_back_laws.specs.OneRequest.{IsWritten}
-use Rattle.read_back_laws.specs.Sent.{bytes_in, IsRequestList, IsTakenIn, IsReadFront, IsRead, nothing_went, one_went, IsReadWhole, AreRead, EachIsRead, OpenIsRead, ReadBy}
+use Rattle.read_back_laws.specs.Sent.{bytes_in, IsRequestList, IsTakenIn, IsReadAsAny, IsReadFront, IsRead, nothing_went, one_went, IsReadWhole, AreRead, EachIsRead, OpenIsRead, ReadBy}
 use Rattle.read_back_laws.proofs.Fronts.{read_as_one}
 use Rattle.read_back_laws.proofs.Heads.{readable_of, never_two}
 use Rattle.read_back_laws.proofs.Measures.{IsFramed, up_framed, IsUpTail, tail_is}
@@ -54,6 +54,14 @@ module _ (plan : Plan) (h : Head) (first : Exchange) (begun : IsBegun plan h fir
   readable : (q : OutRequest) (made : IsMadeOf h first q) → IsTakenIn made.fields q → IsReadableRequest q.framing q.head
   readable q made taken = readable_of q.framing q.head (written q made taken.listed) taken.target taken.room.few taken.room.short
 
+  -- ---- of every request that is named
+
+  any_read : (t : List Traffic) → IsReadAsAny h first t
+  any_read t = record {
+    never = λ q made front listed carries. never_two q (bytes_in t) front.0 front.1 (written q made listed) (whole_suits q.framing q.pieces q.ending carries);
+    read = λ q made front taken carries. read_as_one q (bytes_in t) front.0 front.1 (readable q made taken) (whole_suits q.framing q.pieces q.ending carries);
+  }
+
   -- ---- a front of it, and all of it
 
   front_read : (t : List Traffic) → IsOneRequest h first t → IsReadFront h first t
@@ -66,6 +74,7 @@ module _ (plan : Plan) (h : Head) (first : Exchange) (begun : IsBegun plan h fir
     bytes = (items_wire q.framing c.front.0, joined);
     never = λ listed carries. never_two q (bytes_in t) (items_wire q.framing c.front.0) joined (written q made listed) (c.suits carries);
     read = λ taken carries. read_as_one q (bytes_in t) (items_wire q.framing c.front.0) joined (readable q made taken) (c.suits carries);
+    any = any_read t;
   }
     where
       c : Completed r.request.framing r.items
@@ -94,6 +103,7 @@ module _ (plan : Plan) (h : Head) (first : Exchange) (begun : IsBegun plan h fir
     bytes = all;
     read = λ taken carries.
         read_as_one a.request (bytes_in t) [] (append-nil (bytes_in t) ∙ all) (readable a.request a.made taken) (whole_suits a.request.framing a.request.pieces a.request.ending carries);
+    any = any_read t;
   }
     where
       all : bytes_in t ≡ out_wire a.request

@@ -1,4 +1,4 @@
--- Over all turns of a worker, what goes up on a connection is read as one request.
+-- Over all turns of a worker, how what goes up on a connection is read.
 use Rattle.std.specs.Prelude.{ℕ, Bool, List}
 use Rattle.contexts.specs.declared.parts.Contexts.{Contexts}
 use Rattle.course.specs.Called.{Calling}
@@ -17,8 +17,9 @@ use Rattle.line_laws.specs.Logs.{WriteLogs}
 use Rattle.line_laws.specs.Turns.{Done, Turns, Worked, new_room, sent_in}
 use Rattle.read_back_laws.specs.Sent.{ReadBy}
 
--- NO SERVER SEES TWO REQUESTS WHERE ONE WAS MEANT: whatever turns a new worker has had, whatever its filters do, what each exchange sent up on its connection
--- is read as one request at most, where what filters made of its head and its body is such as a reader takes in.
+-- ONE REQUEST AT MOST is read, by a reader like the gateway's own, of what each exchange sent up on its connection, whatever turns a new worker has had and
+-- whatever its filters do, where the fields of its head are a list of a request and its body is such as the framing carries: those that the law names, and any
+-- that spell what went. That the fields are those that filters left in the exchange's map is not said, nor that the body is carried.
 abbrev pub RequestsAreReadAsOne : (H : Type 0) → Type 0
 RequestsAreReadAsOne H =
     (calling : Calling H) (plan : Plan) (contexts : Contexts) (host : H) (turns : List (Done H)) (to : Both H) (n : ℕ) → WriteLogs calling

@@ -1,4 +1,4 @@
--- What an exchange sent up, with any filters, is read as one request.
+-- What an exchange sent up, with any filters, as a reader of requests reads it.
 use Rattle.std.specs.Prelude.{◌≡◌, ◌≤◌, ◌+◌, ◌||◌, ℕ, Bool, true, false, List, [], ◌∷◌, map, length, Option, None, Some}
 use Rattle.std.specs.List.{flat_map, list_all}
 use Rattle.exchange.specs.declared.types.Exchange.{Exchange}
@@ -27,9 +27,9 @@ bytes_in (opens ∷ t) = bytes_in t
 bytes_in (byte b ∷ t) = b ∷ bytes_in t
 bytes_in (closes ∷ t) = bytes_in t
 
--- ---- what is asked of what filters made
+-- ---- what is asked of a request that was made
 
--- the fields of a head, as filters left them, are the list of a request (as each map of the headers of a request is by its type)
+-- the fields of a head are the list of a request (as each map of the headers of a request is by its type)
 pub record IsRequestList (fields : Headers) : Type 0 where
   pub kind : fields.kind ≡ kinds.Request
   pub list : IsHeaders fields
@@ -78,9 +78,20 @@ Carries by_close items = ⊥
 
 -- ---- what an exchange sent up
 
--- ONE CONNECTION AND A FRONT OF ONE REQUEST, as the gateway frames it and with its tail, which is never read as two, whatever path filters left and however
--- long a head: what a reader of requests makes of the bytes that went, whether more may come or the connection is closed there, is a front of the items of
--- this one request, or nothing. And where its head is one that a reader takes in, they are read as that one.
+-- WHICHEVER REQUEST IS NAMED for the one that was meant, of any fields, pieces and ending, framed as the gateway frames that exchange and with its tail: where
+-- what went is a front of its bytes, its fields are a list and its body is carried, what a reader of requests makes of what went, whether more may come or the
+-- connection is closed there, is a front of the items of that request, or nothing; and where its head is one that a reader takes in, what went is read as that
+-- one. So the fields that filters left and the body that they wrote may be put here. (Where what went is a front of no such request's bytes, nothing is said: that
+-- a gateway writes what such fields spell, and nothing else, is no clause of this crate.)
+pub record IsReadAsAny (h : Head) (first : Exchange) (t : List Traffic) : Type 0 where
+  pub never : (q : OutRequest) (made : IsMadeOf h first q) → IsFront (bytes_in t) (out_wire q) → IsRequestList made.fields → Carries q.framing (body_items q.pieces q.ending) → IsNeverTwo q (bytes_in t)
+  pub read : (q : OutRequest) (made : IsMadeOf h first q) → IsFront (bytes_in t) (out_wire q) → IsTakenIn made.fields q → Carries q.framing (body_items q.pieces q.ending) → IsReadAsOne q (bytes_in t)
+
+-- ONE CONNECTION AND A FRONT OF ONE REQUEST, as the gateway frames it and with its tail: there are fields and a body that spell what went. Where these are a
+-- list and are carried, it is never read as two, whatever the path is and however long the head: what a reader of requests makes of the bytes that went, whether
+-- more may come or the connection is closed there, is a front of the items of that request, or nothing. And where its head is one that a reader takes in, they
+-- are read as that one. (That these fields are those of the exchange's map is not said; and of a body that went in part, the rest of `request` is made up: as
+-- many zeros as are missing of a length, or none.) `any` says the same of every request that is named.
 pub record IsReadFront (h : Head) (first : Exchange) (t : List Traffic) : Type 0 where
   pub request : OutRequest
   pub made : IsMadeOf h first request
@@ -90,18 +101,21 @@ pub record IsReadFront (h : Head) (first : Exchange) (t : List Traffic) : Type 0
   pub bytes : IsFront (bytes_in t) (out_wire request)
   pub never : IsRequestList made.fields → Carries request.framing items → IsNeverTwo request (bytes_in t)
   pub read : IsTakenIn made.fields request → Carries request.framing items → IsReadAsOne request (bytes_in t)
+  pub any : IsReadAsAny h first t
 
 pub data IsRead (h : Head) (first : Exchange) (t : List Traffic) : Type 0 where
   nothing_went : t ≡ [] → IsRead h first t
   one_went : IsReadFront h first t → IsRead h first t
 
--- ALL OF IT went: a reader takes it as that one request, its end at the last byte, and nothing is left over
+-- ALL OF IT went: there are fields and a body that spell it, and where these are such as a reader takes in, it takes it as that one request, its end at the last
+-- byte, and nothing is left over. `any` says of every request that is named what it says of a front.
 pub record IsReadWhole (h : Head) (first : Exchange) (t : List Traffic) : Type 0 where
   pub request : OutRequest
   pub made : IsMadeOf h first request
   pub is : t ≡ opens ∷ map byte (out_wire request)
   pub bytes : bytes_in t ≡ out_wire request
   pub read : IsTakenIn made.fields request → Carries request.framing (body_items request.pieces request.ending) → IsReadAsOne request (bytes_in t)
+  pub any : IsReadAsAny h first t
 
 -- ---- exchange by exchange
 
