@@ -1,4 +1,4 @@
-// What goes up is read as one request. The functions have nothing to do: their contracts are the laws.
+// How what goes up is read. The functions have nothing to do: their contracts are the laws.
 ghost use Rattle.read_back_laws.specs.Examples.{FilterExample, RefusedReadings};
 ghost use Rattle.read_back_laws.specs.Laws.{RequestsAreReadAsOne, RequestsOfTheProductAreReadAsOne, RequestsOfWorkersAreReadAsOne};
 ghost use Rattle.read_back_laws.specs.Lists.{FiltersKeepLists, HeadsHaveLists, ListExample};
@@ -8,18 +8,21 @@ ghost use Rattle.read_back_laws.specs.Runs.{FilterRun};
 use store_model::Shared;
 
 /// A front of the bytes of a request that a reader takes in is read as a front of that request's items, whether more may come or none does; and all of them as
-/// exactly those items, which use up all of them. One request begins among them, and the bytes of its body are those of its pieces, joined. And whatever path
-/// a head of a list has and however long it is, a front of the bytes is read as such a front or as nothing.
+/// exactly those items, which use up all of them. At most one request begins in what is read, and the bytes of its body are those of its pieces, joined. And
+/// whatever path a head of a list has and however long it is, a front of the bytes is read as such a front or as nothing. So it is of every request, of any
+/// fields, pieces and ending.
 pub fn fronts_are_read_as_one()
     ensures readable { ReadAsOne }
     ensures written { NeverTwo }
 {}
 
 /// Over the turns of a new worker, whatever filters do: what each exchange sends up on its connection is a front of the bytes of one request, which the gateway
-/// frames. Where the fields that filters left in its head are a list of a request, and its body, as far as it went, is such as the framing carries, a reader
-/// makes of those bytes a front of the items of that one request or nothing, whatever its path is and however long its head, and whether the connection is
-/// closed there or not: so no server sees two requests where one was meant. Where the path is a target and a reader has room for the head, and all of it went,
-/// the reader takes exactly that request and has nothing left.
+/// frames: there are fields and a body that spell what went. Where these are a list of a request, and the body, as far as it went, is such as the framing
+/// carries, a reader like the gateway's own makes of those bytes a front of the items of that one request or nothing, whatever its path is and however long its
+/// head, and whether the connection is closed there or not. Where the path is a target and a reader has room for the head, and all of it went, the reader takes
+/// exactly that request and has nothing left. The same is said of every request that one names (`IsReadAsAny`), so framed, whose fields are a list and whose
+/// body is carried, and of whose bytes what went is a front: at most one request begins in what such a reader makes of it. That the fields are those of the
+/// exchange's map, and that the body is as long as its head tells, is not said: of a gateway that wrote what no such request spells, this would say nothing.
 pub fn requests_are_read_as_one<H>()
     ensures { RequestsAreReadAsOne H }
 {}
@@ -34,16 +37,17 @@ pub fn requests_of_the_product_are_read_as_one<S: Shared>()
     ensures { RequestsOfTheProductAreReadAsOne S S.performs }
 {}
 
-/// A filter that changes the path, the fields and the body of a POST makes a request that a reader takes as one; and what the definitions refuse: two
-/// requests, a value with an end of line in it, and a body of other than the bytes that are told. One of more bytes, were it sent, would be read as two
-/// requests; a path that is no target is not.
+/// A filter that changes the path, the fields and the body of a POST makes a request that a reader takes as one, and so it is with its body cut in two; and what
+/// the definitions refuse: two requests, whether they are to be read as one or never as two, a value with an end of line in it, and a body of more bytes than are
+/// told, or of fewer where its last item went. One of more bytes, were it sent, would be read as two requests; a path that is no target is not.
 pub fn worked_readings()
     ensures filter { FilterExample }
     ensures refused { RefusedReadings }
 {}
 
 /// There are turns of a worker in which a filter sets another path and other fields, and writes three bytes in place of the two of a body; and what goes up
-/// in them is one connection and the bytes of one request in chunks.
+/// in them is one connection and the bytes of one request in chunks, that of `worked_readings`: these turns meet all that is asked, and the bytes that went up in
+/// them are read as that one request.
 pub fn worked_turns()
     ensures { FilterRun }
 {}

@@ -1,4 +1,5 @@
-//! What goes up on a connection to the server is read as one request, whatever filters do.
+//! What goes up on a connection to the server is read as one request at most by a reader like the gateway's own, where the fields of its head are a list of a
+//! request and its body is such as its framing carries.
 #![tactic(auto)]
 
 mod laws;
