@@ -64,8 +64,8 @@ pub fn worked_waiting()
     ensures { WaitingExample }
 {}
 
-/// VMs start at the first event, and not again: two plug-ins of one VM, which is told of its start once, and then each root of its configuration;
-/// three on two VMs, beside one that no plug-in names; and a VM that answers 0, after which nothing more is called of it.
+/// VMs start at the first event: two plug-ins of one VM, which is told of its start once, and then each root of its configuration, and at the next event
+/// nothing starts again; three on two VMs, beside one that no plug-in names; and a VM that answers 0, after which nothing more is called of it in that turn.
 pub fn worked_starts()
     ensures one_vm { OneVmExample }
     ensures two_vms { TwoVmsExample }
@@ -79,13 +79,15 @@ pub fn worked_leaving()
     ensures stop { StopExample }
 {}
 
-/// Where a worker is at rest, and at an event's moment no tick and no deadline is due, the event comes first: it finds the worker as the turn before left it.
+/// Where a worker has begun and is at rest, and at the moment of an event other than Stop no tick and no deadline is due, the event comes first: it finds the
+/// worker as the turn before left it, but for that moment and the notices that are left of its turn.
 pub fn events_come_first<H>()
     ensures { EventsComeFirst H }
 {}
 
-/// A deadline falls due at the event at which a response comes: the next request of the line goes up first, and the response is taken for its own. In two
-/// turns, the first of which is told that time passed, nothing is taken for it.
+/// A deadline falls due at the event at which a response comes: the next request of the line goes up first, and the response is taken for its own. In a turn
+/// that is told only that time passed the same goes out but for that response: the first connection is closed, and nothing is due behind it. (By the
+/// definitions, bytes that a world gave in a later turn would still be taken for the second request; no clause says so.)
 pub fn worked_late_response()
     ensures { LateExample }
 {}
