@@ -34,13 +34,14 @@ pub fn cuts_do_not_matter()
 {}
 
 /// The same of the server of an exchange that is open: the reader of its response came from a new one by text that, joined, is exactly what a run of the
-/// events spells on the line's server's side, up to the last event while the exchange was not answered. (That the run begins where the connection was
-/// opened is not said.)
+/// events spells on the line's server's side, up to the last event while the exchange was not answered. That the run begins where the connection was
+/// opened is not said: it may be short, or empty, so that a reader which lost the first bytes, or all, is not excluded.
 pub fn servers_read_what_came<H>()
     ensures { ServersReadWhatCame H }
 {}
 
-/// Since a turn behind which a line had no connection to its server, or one of which nothing had come, that is of the events behind this turn alone.
+/// Since a turn behind which a line had no connection to its server, or one of which nothing had come, that is of the events behind this turn alone. The run may be
+/// short, or empty, here too.
 pub fn servers_read_since<H>()
     ensures { ServersReadSince H }
 {}
