@@ -114,7 +114,7 @@ pub fn worked_bodies()
     ensures { RoomExample }
 {}
 
-/// From the moment a VM is dead, by whatever cause, no callback of it comes: over any steps of any turns of a worker that began without lines, whatever its machines
+/// From behind the step in which a VM died, by whatever cause, no callback of it comes: over any steps of any turns of a worker that began without lines, whatever its machines
 /// do, stores reply and lines bring. A VM is dead once a callback of it trapped or spent its fuel, its start or a configuration answered 0, or no id was left for it.
 pub fn the_dead_are_called_no_more<H>()
     ensures uncalled { TheDeadAreCalledNoMore H }
@@ -122,15 +122,15 @@ pub fn the_dead_are_called_no_more<H>()
     ensures worked { UncalledExample }
 {}
 
-/// A context that is made for a filter of an exchange is of the VM that runs the filter's plug-in, which lives, with that plug-in's root, and under the id that is
-/// next there.
+/// A context that is made for a filter of an exchange is of the VM that the filter tells, which lives and has a root of the number of that plug-in's root, and under the id
+/// that is next there.
 pub fn contexts_are_of_their_vms()
     ensures made { ContextsAreOfTheirVms }
     ensures worked { CreatedExample }
 {}
 
-/// Steps of a worker, worked, that meet the premises of `turns_pass_bodies`: the head of a request and two bytes of its body are put, and a filter holds the head. That law
-/// says of them that no byte left, and the two wait.
+/// Steps of a worker, worked, that meet the premises of `turns_pass_bodies`: the head of a request and two bytes of its body are put. That law
+/// says of them that no byte left, and the two are inside.
 pub fn worked_turns()
     ensures { TurnExample }
 {}
