@@ -1,4 +1,4 @@
--- OF WHICH VM A CONTEXT IS: the context of a filter is made for the VM that runs the filter's plug-in, where that lives, and that VM alone is told.
+-- OF WHICH VM A CONTEXT IS: the context of a filter is made for the VM that the filter tells, where that lives and has a root of the number of its plug-in's root.
 use Rattle.std.specs.Prelude.{◌≡◌, ℕ, false, true, [], ◌∷◌, None, Some}
 use Rattle.contexts.specs.Creating.{next_id, plugin_in}
 use Rattle.exchange.specs.declared.types.Filter.{Filter}
@@ -10,7 +10,7 @@ use Rattle.worker.specs.declared.types.NewContext.{NewContext}
 use Rattle.worker.specs.Rooms.{is_dead}
 use Rattle.worker.specs.Steps.{filter_at, may_stream, new_one, creating}
 
--- It is of the VM of the filter at that place, which is not dead, under the id that is next there, with the root of the filter's plug-in, which that VM has.
+-- It is of the VM of the filter at that place, which is not dead, under the id that is next there, with the number of the root of the filter's plug-in, of which that VM has a root.
 pub record IsOfItsVm (number k : ℕ) (room : Room) (c : NewContext) : Type 0 where
   pub filter : Filter
   pub at : filter_at number k room.lines ≡ Some filter

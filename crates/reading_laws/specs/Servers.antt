@@ -14,7 +14,7 @@ use Rattle.reading_laws.specs.Spelled.{IsReadOf}
 use Rattle.reading_laws.specs.Turns.{OneTurn, Turns, AreWhole, happened}
 
 -- THE READER OF A SERVER: a reader of the response to some method read exactly what a run of the events spells on the line's server's side, and while its
--- exchange was not answered no event is behind that run. (That the run begins where the connection was opened is not said.)
+-- exchange was not answered no event is behind that run. (That the run begins where the connection was opened is not said: it may be short, or empty.)
 pub record HasServed (n : ℕ) (ws : List What) (answered : Bool) (r : Reading) : Type 0 where
   pub method : List ℕ
   pub before : List What
@@ -37,8 +37,7 @@ abbrev pub HasHeardNothing : Option Reading → Type 0
 HasHeardNothing o = (o ≡ None) ⊎ ((method : List ℕ) × (o ≡ Some (new_reading (Some method))))
 
 -- SINCE A TURN behind which the line had no connection to its server, or one of which nothing had come: what the server's reader has read later is of events
--- behind that turn alone. So bytes that came by then, of whatever connection, are in none that is opened later; and the turn that opens one ends with a
--- reader of which nothing has come, unless its own event is taken behind the opening (`worked_late_response` of `turn_laws`; not where nothing is due).
+-- behind that turn alone. So bytes that came by then, of whatever connection, are in none that is opened later.
 abbrev pub ServersReadSince : (H : Type 0) → Type 0
 ServersReadSince H =
     (calling : Calling H) (plan : Plan) (config : Config) (seed : List ℕ) (host : H) (earlier later : List (OneTurn H)) (mid to : Both H) (n : ℕ) (l : Line)

@@ -94,7 +94,7 @@ late_sends =
     ∷ sent.Bytes 1 Down (line_of (codes "HTTP/1.1 200 ") ++ line_of (codes "content-length: 3") ++ second_date ++ line_of [] ++ codes "abc")
     ∷ sent.Close 1 Up ∷ []
 
--- The same in two turns: what is due is done first, at the same moment. Then only what comes over the new connection is left to come.
+-- A turn that is told only that time passed, at the same moment: what is due is done in it, and the first connection is closed.
 abbrev pub first : Course (Outcome (List Call))
 first = turn (calling_by []) due_plan two_requests (event 1000000000 whats.Clock)
 
