@@ -1,15 +1,16 @@
 -- Why a context is of the VM of its filter.
-use Rattle.std.proofs.Common.{◌≡◌, ℕ, Bool, true, false, not, ◌||◌, refl, subst}
-use Rattle.std.specs.Prelude.{Option, None, Some}
+use Rattle.std.proofs.Common.{◌≡◌, ℕ, Bool, true, false, cond, not, ◌||◌, List, [], ◌∷◌, ◌++◌, filter, refl, subst}
+use Rattle.std.specs.Prelude.{Option, None, Some, option_map, slice_get}
 use Rattle.contexts.specs.Creating.{next_id, plugin_in}
 use Rattle.course.specs.declared.host.Death.TheVariants as deaths
 use Rattle.exchange.specs.declared.types.Filter.{Filter}
+use Rattle.gate_config.specs.declared.entries.PluginEntry.{PluginEntry}
 use Rattle.worker.specs.declared.room.Room.{Room}
 use Rattle.worker.specs.declared.types.NewContext.{NewContext}
 use Rattle.worker.specs.Rooms.{is_dead, died}
-use Rattle.worker.specs.Steps.{filter_at, is_drawn_out, may_stream, new_one, with_stream, streaming, creating_filter}
+use Rattle.worker.specs.Steps.{filter_at, is_drawn_out, may_stream, new_one, with_stream, streaming, creating_filter, filter_of, filters_by, filters_of, is_gone, plugins_at}
 use Rattle.body_laws.proofs.Spent.{of_if, neither}
-use Rattle.flow_laws.specs.Created.{IsOfItsVm, ContextsAreOfTheirVms, CreatedExample}
+use Rattle.flow_laws.specs.Created.{IsOfItsVm, ContextsAreOfTheirVms, TellTheirVms, FiltersTellTheirVms, CreatedExample}
 
 same_new : (c d : NewContext) → Some c ≡ Some d → c ≡ d
 same_new c d is = cc
@@ -41,5 +42,28 @@ of_their_vms number k room c made = by_filter (filter_at number k room.lines) re
     by_filter None at is = none_new c is
     by_filter (Some f) at is = by_root f at (plugin_in room.hub.contexts f.plugin).root refl is
 
+-- ---- the filters of a new exchange
+
+all_tell : (plugins : List PluginEntry) (ps : List ℕ) → TellTheirVms plugins (filters_of plugins ps)
+all_tell plugins [] = tt
+all_tell plugins (p ∷ ps) = by_entry (all_tell plugins ps) (slice_get plugins p) refl
+  where
+    by_entry : TellTheirVms plugins (filters_of plugins ps) → (o : Option PluginEntry) → slice_get plugins p ≡ o → TellTheirVms plugins (filters_by (option_map (filter_of p) o) ++ filters_of plugins ps)
+    by_entry later None at = later
+    by_entry later (Some e) at = (record { entry = e; at = at; vm = refl }, later)
+
+-- so do those of them that are left
+left_tell : (plugins : List PluginEntry) (keeps : Filter → Bool) (fs : List Filter) → TellTheirVms plugins fs → TellTheirVms plugins (filter keeps fs)
+left_tell plugins keeps [] all = tt
+left_tell plugins keeps (f ∷ fs) all = by_test (keeps f) (left_tell plugins keeps fs all.1)
+  where
+    by_test : (b : Bool) → TellTheirVms plugins (filter keeps fs) → TellTheirVms plugins (cond b (f ∷ filter keeps fs) (filter keeps fs))
+    by_test true later = (all.0, later)
+    by_test false later = later
+
+pub filters_tell : FiltersTellTheirVms
+filters_tell plan place now dead h route =
+    left_tell plan.plugins (λ (f : Filter). not (is_gone dead f)) (filters_of plan.plugins (plugins_at plan.routes route)) (all_tell plan.plugins (plugins_at plan.routes route))
+
 pub created_example : CreatedExample
-created_example = record { made = refl; dead = refl }
+created_example = record { made = refl; dead = refl; filters = refl }

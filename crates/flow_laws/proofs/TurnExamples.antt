@@ -20,7 +20,7 @@ use Rattle.body_laws.specs.Deeds.{standing}
 use Rattle.chain_laws.specs.PassThrough.{IsNew, IsInOrder}
 use Rattle.flow_laws.specs.Besides.{OthersAreAlien, IsWhole}
 use Rattle.flow_laws.specs.Rooms.{IsOn, running, run_buffers, IsAsked, IsMove, asked_exchange}
-use Rattle.flow_laws.specs.TurnExamples.{TurnExample, asked_of, holding, one_vm, starts, begins, head_and_two, one_is_due, first_put, head_held, bytes_left}
+use Rattle.flow_laws.specs.TurnExamples.{TurnExample, asked_of, holding, one_vm, starts, begins, head_and_two, one_is_due, first_put, head_held, bytes_left, holds_head, what_is_held}
 use Rattle.flow_laws.specs.Turns.{MayStep, moves_own, puts_own, LeavesBuffer, LeaveBuffers, Steps, no_step, one_step, HavePassed}
 use Rattle.flow_laws.proofs.Turns.{turns_pass}
 
@@ -222,15 +222,22 @@ held_inside : (passed : HavePassed held_from_begins) → flow head_held.room.hub
 held_inside passed =
     subst (λ (w : Exchange). flow head_held.room.hub.contexts w.request ≡ codes "ab") (only head_held.room (x_in head_held) passed.last on_held passed.on) refl
 
+held_head : (passed : HavePassed held_from_begins) → what_is_held passed.last.request ≡ holds_head
+held_head passed =
+    subst (λ (w : Exchange). what_is_held w.request ≡ holds_head) (only head_held.room (x_in head_held) passed.last on_held passed.on) refl
+
 held_passed : HavePassed held_from_begins
 held_passed = turns_pass ℕ holding one_vm false 1 1 starts begins head_held head_and_two held_from_begins on_begins new_at_head (omega arith) head_in_order
 
 pub turn_example : TurnExample
 turn_example = record {
+  none_called = refl;
+  one_called = refl;
   held = held_from_begins;
   held_new = new_at_head;
   held_passed = held_passed;
   held_left = held_left;
+  held_head = held_head;
   held_sent = refl;
   held_inside = held_inside;
 }

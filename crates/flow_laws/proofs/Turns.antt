@@ -3,10 +3,12 @@ use Rattle.std.proofs.Common.{◌≡◌, ◌≤◌, ℕ, zero, suc, Bool, List, 
 use Rattle.std.specs.Prelude.{None, drop}
 use Rattle.std.proofs.lemmas.List.{append_assoc, append-nil}
 use Rattle.course.specs.Called.{Called, Calling}
-use Rattle.course.specs.Course.{Course, ends, Met, Reaches}
+use Rattle.course.proofs.Once.{once}
+use Rattle.course.specs.Course.{Course, ends, runs_then, Met, Reaches}
 use Rattle.exchange.specs.declared.types.Exchange.{Exchange}
 use Rattle.exchange.specs.Passing.{chain_of, put_in}
 use Rattle.filter_chain.specs.declared.item.Item.{Item}
+use Rattle.filter_chain.specs.Chains.{asked}
 use Rattle.filter_chain.specs.Flow.{flow}
 use Rattle.filter_chain.specs.Items.{joined}
 use Rattle.worker.specs.declared.room.Room.{Room}
@@ -18,12 +20,13 @@ use Rattle.worker.specs.Steps.{Both, both, step}
 use Rattle.worker.specs.Turn.{emptied, facing}
 use Rattle.flow_laws.specs.Besides.{IsWhole}
 use Rattle.body_laws.specs.Deeds.{Deed, turns, left_by}
+use Rattle.chain_laws.specs.Acts.{buffer_called}
 use Rattle.chain_laws.specs.PassThrough.{IsInOrder, PassesThrough}
 use Rattle.chain_laws.proofs.Through.{new_keeps}
 use Rattle.flow_laws.specs.Rooms.{IsOn, running, Leaves, leaves, Meanwhile, nothing, other, IsMove, IsPut, moved_exchange, moved_room, moves, puts, others, Run, rests, goes, part_deeds, run_deeds, part_items, run_items, part_buffers, run_buffers}
 use Rattle.flow_laws.specs.Stepping.{in_hand}
-use Rattle.flow_laws.specs.Steps.{MoveEnds}
-use Rattle.flow_laws.specs.Turns.{MayStep, moves_own, puts_own, is_beside, IsOf, AreOf, LeavesBuffer, LeaveBuffers, Steps, no_step, one_step, next_turn, HavePassed, TurnsPassBodies, HaveGoneOn, TurnsGoOn}
+use Rattle.flow_laws.specs.Steps.{MoveEnds, callback_program}
+use Rattle.flow_laws.specs.Turns.{MayStep, moves_own, puts_own, is_beside, IsOf, AreOf, LeavesBuffer, BuffersAreOne, LeaveBuffers, Steps, no_step, one_step, next_turn, HavePassed, TurnsPassBodies, HaveGoneOn, TurnsGoOn}
 use Rattle.chain_laws.specs.Sound.{IsSound}
 use Rattle.body_laws.specs.Deeds.{standing}
 use Rattle.flow_laws.specs.Workers.{IsIdleRun, RunGoesOn}
@@ -218,3 +221,12 @@ turns_go_on H calling plan response n count x b e items steps on sound = by_coun
               subst (λ (i : ℕ). RunGoesOn w.run (run_buffers i w.run)) same ((runs_go_on H).last_stage response n j x w.last b.room e.room w.run sound_);
           unchanged = λ is. absurd (cc is);
         }
+
+-- ---- what the body callback of a step left is one
+
+pub buffers_are_one : (H : Type 0) → BuffersAreOne H
+buffers_are_one H calling response n count x b ms _ _ (moves_own q may) k first second left right =
+    let same : left.0 ≡ right.0 = (once ms ms (runs_then (callback_program calling b.host q) ends) left.0 right.0 left.1 right.1 refl).1 in
+    left.2 ∙ (ap (λ (c : Called H). buffer_called k c.contexts (asked b.room.hub.contexts (chain_of response x))) same ∙ sym right.2)
+buffers_are_one H calling response n count x b ms _ _ (puts_own more later is put) k first second left right = left ∙ sym right
+buffers_are_one H calling response n count x b ms _ _ (is_beside also may) k first second left right = left ∙ sym right

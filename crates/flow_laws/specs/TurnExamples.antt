@@ -11,9 +11,11 @@ use Rattle.course.specs.declared.host.Callback.TheVariants as callbacks
 use Rattle.exchange.specs.declared.types.Exchange.{Exchange}
 use Rattle.exchange.specs.declared.types.Filter.{Filter}
 use Rattle.exchange.specs.Examples as exchanges
+use Rattle.filter_chain.specs.declared.item.Held.{Held}
 use Rattle.filter_chain.specs.declared.item.Held.TheVariants as held
 use Rattle.filter_chain.specs.declared.item.Item.{Item}
 use Rattle.filter_chain.specs.declared.item.Item.TheVariants.{Head, Piece}
+use Rattle.filter_chain.specs.declared.stage.Stage.{Stage}
 use Rattle.filter_chain.specs.Flow.{flow}
 use Rattle.filter_chain.specs.Items.{joined}
 use Rattle.http1_model.specs.Messages.{body, counted}
@@ -122,11 +124,22 @@ head_held = stepped first_put
 abbrev pub bytes_left : {b e : Both ℕ} {items : List Item} {steps : Steps holding one_vm false 1 1 starts b items e} → HavePassed steps → List ℕ
 bytes_left {b} {e} {items} {steps} passed = joined (left_by false 1 (run_deeds passed.run) (running None starts b.room))
 
+-- what each stage for the request holds of it, where its head is held
+abbrev pub holds_head : List Held
+holds_head = held.Head false ∷ []
+
+abbrev pub what_is_held : List Stage → List Held
+what_is_held ss = map (λ (s : Stage). s.held) ss
+
 pub record TurnExample : Type 0 where
+  -- no callback is called when what was read is put, and then one is
+  pub none_called : first_put.host ≡ 0
+  pub one_called : head_held.host ≡ 1
   -- The head is held, and the first piece waits at the filter. The law says that no byte left.
   pub held : Steps holding one_vm false 1 1 starts begins head_and_two head_held
   pub held_new : IsNew (standing false (running None starts begins.room))
   pub held_passed : HavePassed held
   pub held_left : (passed : HavePassed held) → bytes_left passed ≡ []
+  pub held_head : (passed : HavePassed held) → what_is_held passed.last.request ≡ holds_head
   pub held_sent : head_held.room.hub.sent ≡ []
   pub held_inside : (passed : HavePassed held) → flow head_held.room.hub.contexts passed.last.request ≡ codes "ab"

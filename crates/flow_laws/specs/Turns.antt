@@ -76,6 +76,11 @@ LeavesBuffer {H} {calling} {response} {n} {count} {x} {b} {ms} k (moves_own q ma
 LeavesBuffer k (puts_own items later is put) bytes = bytes ≡ []
 LeavesBuffer k (is_beside nx may) bytes = bytes ≡ []
 
+-- OF EACH STEP THAT IS ONE list of bytes: by what the step met its callback has one end.
+abbrev pub BuffersAreOne : Type 0 → Type 0
+BuffersAreOne H = (calling : Calling H) (response : Bool) (n count : ℕ) (x : Exchange) (b : Both H) (ms : List Met) (nx : Next) (items : List Item)
+    (may : MayStep calling response n count x b ms nx items) (k : ℕ) (one other : List ℕ) → LeavesBuffer k may one → LeavesBuffer k may other → one ≡ other
+
 -- those of each step, one behind the other
 abbrev pub LeaveBuffers : {H : Type 0} {calling : Calling H} {plan : Plan} {response : Bool} {n count : ℕ} {x : Exchange} {b e : Both H} {items : List Item}
     → ℕ → Steps calling plan response n count x b items e → List ℕ → Type 0

@@ -1,7 +1,7 @@
 // What flows through one direction of an exchange. The functions have nothing to do: their contracts are the laws.
 ghost use Rattle.flow_laws.specs.Besides.{OtherLinesLeave, OtherDirectionLeaves, QuietStepsLeave};
 ghost use Rattle.flow_laws.specs.Contexts.{CallsAreRuns, ContextsLeave};
-ghost use Rattle.flow_laws.specs.Created.{ContextsAreOfTheirVms, CreatedExample};
+ghost use Rattle.flow_laws.specs.Created.{ContextsAreOfTheirVms, CreatedExample, FiltersTellTheirVms};
 ghost use Rattle.flow_laws.specs.Dead.{TheDeadAreCalledNoMore, UncalledExample, VmsDie};
 ghost use Rattle.flow_laws.specs.Deaths.{AllLinesLeave, DeathsEndMoves, DeathsGoOn, DeathsReach};
 ghost use Rattle.flow_laws.specs.Effects.{AskingElsewhereLeaves, CallbacksAreRuns, MildEffectsAreOthers};
@@ -13,7 +13,7 @@ ghost use Rattle.flow_laws.specs.RoomExamples.{RoomExample};
 ghost use Rattle.flow_laws.specs.Stepping.{StepsBeside};
 ghost use Rattle.flow_laws.specs.Steps.{MovesAreSteps, PutsAreSteps};
 ghost use Rattle.flow_laws.specs.TurnExamples.{TurnExample};
-ghost use Rattle.flow_laws.specs.Turns.{TurnsGoOn, TurnsPassBodies};
+ghost use Rattle.flow_laws.specs.Turns.{BuffersAreOne, TurnsGoOn, TurnsPassBodies};
 ghost use Rattle.flow_laws.specs.Workers.{LastStagesPass, MeanwhileRuns, OwnPartsSend, RunsGoOn, UnchangedPass, WorkersPassBodies};
 
 /// Of one direction of the exchange on a line: what left its chain, and what is held and waits then, is what was to pass, whole and in order, whatever
@@ -101,12 +101,14 @@ pub fn steps_beside<H>()
 /// Over all steps of a worker, in turns one behind the other, of one direction of an exchange: what left its chain, and what its stages hold and what waits at
 /// them behind the last stage with a body callback, is what the body callbacks of that stage left, or where no buffer is changed what was put; what left and
 /// what is in the chain is the head, the pieces and the end or the trailers that were put, in order; once the end has left, all has. The deeds that
-/// tell this are those of the steps, and by each of its own the exchange, which had not ended, writes each item that leaves. From any state between steps the same goes on (`goes_on`), with stages that were let through too. In each step
+/// tell this are those of the steps, and by each of its own the exchange, which had not ended, writes each item that leaves. What the body callback of a step left is one
+/// list of bytes, by what the step met (`one`). From any state between steps the same goes on (`goes_on`), with stages that were let through too. In each step
 /// every callback returns, those for bodies and trailers of the direction with Continue; the exchange is neither answered nor closed; no stage is in two
 /// chains, the contexts of the direction's stages are there, and callbacks of others leave what these hold as it was.
 pub fn turns_pass_bodies<H>()
     ensures turns { TurnsPassBodies H }
     ensures goes_on { TurnsGoOn H }
+    ensures one { BuffersAreOne H }
 {}
 
 /// A worker, worked, whose filter changes the body of a request.
@@ -114,23 +116,25 @@ pub fn worked_bodies()
     ensures { RoomExample }
 {}
 
-/// From behind the step in which a VM died, by whatever cause, no callback of it comes: over any steps of any turns of a worker that began without lines, whatever its machines
-/// do, stores reply and lines bring. A VM is dead once a callback of it trapped or spent its fuel, its start or a configuration answered 0, or no id was left for it.
+/// From behind the step in which a VM died, by whatever cause, no callback of it comes: over any steps of any turns of a worker that began without lines, whatever its
+/// machines do, stores reply and lines bring. Of the functions in which a callback ends: a VM is dead once one of it trapped or spent its fuel, its start or a configuration
+/// answered 0, or no id was left for it. Worked without lines.
 pub fn the_dead_are_called_no_more<H>()
     ensures uncalled { TheDeadAreCalledNoMore H }
     ensures causes { VmsDie }
     ensures worked { UncalledExample }
 {}
 
-/// A context that is made for a filter of an exchange is of the VM that the filter tells, which lives and has a root of the number of that plug-in's root, and under the id
-/// that is next there.
+/// A context that is made for a filter of an exchange is of the VM that the filter tells, which lives and has a root of the number of the plug-in's root, and under the
+/// id that is next there. Where an exchange begins, each of its filters tells the VM of its plug-in's entry in the configuration.
 pub fn contexts_are_of_their_vms()
     ensures made { ContextsAreOfTheirVms }
+    ensures named { FiltersTellTheirVms }
     ensures worked { CreatedExample }
 {}
 
-/// Steps of a worker, worked, that meet the premises of `turns_pass_bodies`: the head of a request and two bytes of its body are put. That law
-/// says of them that no byte left, and the two are inside.
+/// Steps of a worker, worked, that meet the premises of `turns_pass_bodies`: the head of a request and two bytes of its body are put, one callback is called, and then the
+/// filter holds the head. That law says of them that no byte left, and the two wait.
 pub fn worked_turns()
     ensures { TurnExample }
 {}
