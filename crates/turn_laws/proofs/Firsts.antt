@@ -20,7 +20,7 @@ use Rattle.exchange.specs.Passing.{expires}
 use Rattle.worker.specs.Rooms.{all_lines, with_lines, is_any, is_over, is_released, moves, next_of, moves_or, frees_or, ends_or, begins_or_rests}
 use Rattle.worker.specs.Settling.{rests, settling, settling_step}
 use Rattle.worker.specs.Steps.{Both, works, happens, is_late, expires_all}
-use Rattle.worker.specs.Turn.{turn_by, facing, at_moment, comes_to, deadlines, most_steps, notices_of, starts_of, vms_in}
+use Rattle.worker.specs.Turn.{Outcome, turn_by, facing, at_moment, comes_to, deadlines, most_steps, notices_of, starts_of, vms_in}
 use Rattle.worker.specs.declared.room.Room.{Room}
 use Rattle.worker.specs.declared.types.Job.{Job}
 use Rattle.worker.specs.declared.types.Job.TheVariants as jobs
@@ -31,7 +31,9 @@ use Rattle.turn_laws.proofs.Answer.{head_is_read, nothing_behind}
 use Rattle.turn_laws.proofs.Following.{end_by, ends_there, Meets, reaches_by}
 use Rattle.turn_laws.proofs.Passage.{response_is_read, body_is_read}
 use Rattle.turn_laws.specs.Answer.{behind_head}
-use Rattle.turn_laws.specs.Firsts.{NothingIsDue, ComesFirst, LateExample, late, late_met, late_sends, first, first_sends}
+use Rattle.turn_laws.specs.Passage.{third_met}
+use Rattle.turn_laws.specs.Tables.{Call}
+use Rattle.turn_laws.specs.Firsts.{NothingIsDue, ComesFirst, LateExample, late, late_met, late_sends, first, first_sends, behind, behind_sends}
 
 -- ---- a room in which nothing is to be done but the parts of a turn
 
@@ -174,6 +176,30 @@ first_due : NothingIsDue 1000000001 (end_by (heard (hands (head_part worked_head
 unfolding settling matchit_on_literals is_token_byte
 first_due = record { begun = refl; at_rest = refl; no_tick = refl; no_deadline = refl }
 
+-- the turn behind that one
+abbrev then_late : Course (Outcome (List Call))
+then_late = behind (end_by (heard (hands (head_part worked_head) behind_head) ∷ []) first).state
+
+behind_ends : ends_there third_met then_late ≡ true
+unfolding settling matchit_on_literals is_token_byte
+behind_ends = refl
+
+behind_meets : Meets third_met then_late
+unfolding settling matchit_on_literals is_token_byte
+behind_meets = (response_is_read, (body_is_read, (nothing_behind, tt)))
+
+behind_asks : (end_by third_met then_late).state.host ≡ []
+unfolding settling matchit_on_literals is_token_byte
+behind_asks = refl
+
+behind_hands : (end_by third_met then_late).sent ≡ behind_sends
+unfolding settling httparse_on_literals httpdate_on_literals digits year_from month_from matchit_on_literals is_token_byte
+behind_hands = refl
+
+behind_leaves : map (λ (l : Line). l.number) (end_by third_met then_late).state.room.lines ≡ 1 ∷ []
+unfolding settling matchit_on_literals is_token_byte
+behind_leaves = refl
+
 pub late_example : LateExample
 late_example = record {
   at_once = record { end = end_by late_met late; reaches = reaches_by late_met late it_ends it_meets; called = it_asks; hands_over = it_sends; leaves = it_leaves };
@@ -185,4 +211,5 @@ late_example = record {
     leaves = first_leaves;
   };
   nothing_due = first_due;
+  taken = record { end = end_by third_met then_late; reaches = reaches_by third_met then_late behind_ends behind_meets; called = behind_asks; hands_over = behind_hands; leaves = behind_leaves };
 }

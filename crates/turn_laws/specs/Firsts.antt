@@ -94,7 +94,7 @@ late_sends =
     ∷ sent.Bytes 1 Down (line_of (codes "HTTP/1.1 200 ") ++ line_of (codes "content-length: 3") ++ second_date ++ line_of [] ++ codes "abc")
     ∷ sent.Close 1 Up ∷ []
 
--- A turn that is told only that time passed, at the same moment: what is due is done in it, and the first connection is closed.
+-- What is due is done in a turn of its own, which is told only that time passed, at the same moment. The first connection is closed in it.
 abbrev pub first : Course (Outcome (List Call))
 first = turn (calling_by []) due_plan two_requests (event 1000000000 whats.Clock)
 
@@ -105,8 +105,20 @@ first_sends =
     ∷ sent.Connect 1
     ∷ sent.Bytes 1 Up goes_up ∷ []
 
+-- THE SAME BYTES IN A TURN BEHIND THAT ONE: an event names a line and no connection, so they are taken for the response of the second request all the same. Only
+-- a world that gives nothing more of a connection which its worker has closed keeps them off.
+abbrev pub behind : Both (List Call) → Course (Outcome (List Call))
+behind from = turn (calling_by []) due_plan from (event 1000000001 (whats.Bytes 1 Up (worked_response_text ++ codes "abc")))
+
+abbrev pub behind_sends : List Sent
+behind_sends =
+    sent.Bytes 1 Down (line_of (codes "HTTP/1.1 200 ") ++ line_of (codes "content-length: 3") ++ second_date ++ line_of [] ++ codes "abc")
+    ∷ sent.Close 1 Up ∷ []
+
 pub record LateExample : Type 0 where
   pub at_once : Comes late late_met [] late_sends (1 ∷ [])
   pub apart : Comes first (heard (hands (head_part worked_head) behind_head) ∷ []) [] first_sends (1 ∷ [])
   -- and then nothing is due at the next moment
   pub nothing_due : NothingIsDue 1000000001 apart.end.state.room
+  -- and bytes that are given at that moment are taken for the second request, whichever connection they came over
+  pub taken : Comes (behind apart.end.state) third_met [] behind_sends (1 ∷ [])

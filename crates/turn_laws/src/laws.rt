@@ -86,8 +86,9 @@ pub fn events_come_first<H>()
 {}
 
 /// A deadline falls due at the event at which a response comes: the next request of the line goes up first, and the response is taken for its own. In a turn
-/// that is told only that time passed the same goes out but for that response: the first connection is closed, and nothing is due behind it. (By the
-/// definitions, bytes that a world gave in a later turn would still be taken for the second request; no clause says so.)
+/// that is told only that time passed the same goes out but for that response: the first connection is closed, and nothing is due behind it. Bytes
+/// that a world gives in the turn behind that one are taken for the second request all the same: only a world that gives nothing of a closed connection
+/// keeps them off.
 pub fn worked_late_response()
     ensures { LateExample }
 {}
