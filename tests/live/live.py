@@ -520,30 +520,39 @@ def refusing(gateway, upstream):
             reader.body(fields)
 
 
-def many(gateway, upstream):
-    """Lines of several workers, at once."""
+def at_once(count, one):
+    """Does so many things at once, each by its number; it fails where one fails."""
     failures = []
 
-    def one(number):
+    def guarded(number):
         try:
-            with gateway.connect() as s:
-                reader = Reader(s)
-                for n in range(20):
-                    get(s, reader, "/w/%d/%d" % (number, n), b"/w/%d/%d" % (number, n))
-                body = b"%d" % number * 10000
-                s.sendall(request("/echo", body))
-                first, fields = reader.head()
-                expect(reader.body(fields) == body, True)
+            one(number)
         except Exception as e:  # told by the case
             failures.append(e)
 
-    threads = [threading.Thread(target=one, args=(n,)) for n in range(30)]
+    threads = [threading.Thread(target=guarded, args=(n,)) for n in range(count)]
     for t in threads:
         t.start()
     for t in threads:
         t.join(PATIENCE * 3)
     if failures:
-        raise AssertionError("%d of 30 lines: %r" % (len(failures), failures[0]))
+        raise AssertionError("%d of %d: %r" % (len(failures), count, failures[0]))
+
+
+def many(gateway, upstream):
+    """Lines of several workers, at once."""
+
+    def one(number):
+        with gateway.connect() as s:
+            reader = Reader(s)
+            for n in range(20):
+                get(s, reader, "/w/%d/%d" % (number, n), b"/w/%d/%d" % (number, n))
+            body = b"%d" % number * 10000
+            s.sendall(request("/echo", body))
+            first, fields = reader.head()
+            expect(reader.body(fields) == body, True)
+
+    at_once(30, one)
 
 
 def by_curl(gateway, upstream):
@@ -663,23 +672,13 @@ def due_response(gateway, upstream):
 
 def short_lines(gateway, upstream):
     """Six hundred lines, one request each, twenty at once: more than a queue between workers holds, each is answered."""
-    failures = []
 
     def some(number):
-        try:
-            for n in range(30):
-                with gateway.connect() as s:
-                    get(s, Reader(s), "/s/%d/%d" % (number, n), b"/s/%d/%d" % (number, n))
-        except Exception as e:  # told by the case
-            failures.append(e)
+        for n in range(30):
+            with gateway.connect() as s:
+                get(s, Reader(s), "/s/%d/%d" % (number, n), b"/s/%d/%d" % (number, n))
 
-    threads = [threading.Thread(target=some, args=(n,)) for n in range(20)]
-    for t in threads:
-        t.start()
-    for t in threads:
-        t.join(PATIENCE * 3)
-    if failures:
-        raise AssertionError("%d of 20 threads: %r" % (len(failures), failures[0]))
+    at_once(20, some)
 
 
 # The random bytes that a filter had in each group.
@@ -759,7 +758,11 @@ def unread(gateway, upstream):
                 pass  # closed at once
             lines.append(s)
         time.sleep(1.5)
-    if not base + 200 < gateway.descriptors() < base + 300:
+    for _ in range(100):
+        if base + 200 < gateway.descriptors() < base + 300:
+            break
+        time.sleep(0.1)
+    else:
         raise AssertionError("%d descriptors before, %d with 360 lines" % (base, gateway.descriptors()))
     with gateway.connect() as s:
         expect(is_answered(s, "/no/room"), False)
