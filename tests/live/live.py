@@ -644,30 +644,20 @@ def deadline(gateway, upstream):
 
 def due_response(gateway, upstream):
     """A response that comes as its deadline falls due is never taken for that of the next request, which the line sent with the first."""
-    failures = []
 
     def some(number):
-        try:
-            for n in range(40):
-                mark = "%d-%d" % (number, n)
-                with gateway.connect() as s:
-                    reader = Reader(s)
-                    s.sendall(request("/due/first/" + mark) + request("/due/second/" + mark))
-                    for path in ("/due/first/", "/due/second/"):
-                        first, fields = reader.head()
-                        got = (status_of(first), reader.body(fields))
-                        if got != ("504", b""):
-                            expect(got, ("200", (path + mark).encode()))
-        except Exception as e:  # told by the case
-            failures.append(e)
+        for n in range(40):
+            mark = "%d-%d" % (number, n)
+            with gateway.connect() as s:
+                reader = Reader(s)
+                s.sendall(request("/due/first/" + mark) + request("/due/second/" + mark))
+                for path in ("/due/first/", "/due/second/"):
+                    first, fields = reader.head()
+                    got = (status_of(first), reader.body(fields))
+                    if got != ("504", b""):
+                        expect(got, ("200", (path + mark).encode()))
 
-    threads = [threading.Thread(target=some, args=(n,)) for n in range(6)]
-    for t in threads:
-        t.start()
-    for t in threads:
-        t.join(PATIENCE * 3)
-    if failures:
-        raise AssertionError("%d of 6 threads: %r" % (len(failures), failures[0]))
+    at_once(6, some)
 
 
 def short_lines(gateway, upstream):
