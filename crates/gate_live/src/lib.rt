@@ -7,6 +7,7 @@ mod lingering;
 mod live_site;
 mod live_world;
 mod log_line;
+mod moments;
 mod origin;
 mod peer;
 mod room;

@@ -4,8 +4,9 @@ ghost use Rattle.gate_io.specs.Events.{Follows, Obeys, is_stop};
 ghost use Rattle.gate_live.specs.Spent.{IsBefore, IsEarly, IsOfLine, is_clock};
 
 use crate::log_line::log_line;
+use crate::moments::Moments;
 use crate::peer::Peer;
-use crate::sockets::{Sockets, moment};
+use crate::sockets::Sockets;
 use gate_base::{Level, LineNo, OutOfMemory};
 use gate_io::{Event, Side, Wants, What, World, WorldEnd};
 use std::alloc::Global;
@@ -133,7 +134,10 @@ impl<R: Net + Clock + Wait> LiveWorld<R> {
                 what: What::Stop,
             });
         }
-        if let Some(now) = fallen_due(&self.rt, wants.due, self.now, self.told)? {
+        let moments = &mut self.sockets.moments;
+        if let Some(now) = fallen_due(&self.rt, moments, wants.due, self.now, self.told)? {
+            // The system is asked in front of what is heard next, as in `Sockets::wait`.
+            self.sockets.turns = 0;
             self.now = now;
             self.told = true;
             return Ok(Event {
@@ -143,7 +147,8 @@ impl<R: Net + Clock + Wait> LiveWorld<R> {
         }
         let what = self.sockets.wait(alloc, &self.rt, wants)?;
         let seen = self.now.max(self.sockets.seen());
-        let now = moment_of(&what, wants.due, self.now, moment(&self.rt)?.max(seen));
+        let moment = self.sockets.moments.now(&self.rt)?.max(seen);
+        let now = moment_of(&what, wants.due, self.now, moment);
         self.now = now;
         self.told = is_clock(&what);
         self.stopped = is_stop(&what);
@@ -155,6 +160,7 @@ impl<R: Net + Clock + Wait> LiveWorld<R> {
 /// last event.
 fn fallen_due<R: Clock>(
     rt: &R,
+    moments: &mut Moments,
     due: Option<u64>,
     last: u64,
     told: bool,
@@ -172,7 +178,7 @@ fn fallen_due<R: Clock>(
     if told {
         return Ok(None);
     }
-    let now = moment(rt)?.max(last);
+    let now = moments.now(rt)?.max(last);
     if due <= now { Ok(Some(now)) } else { Ok(None) }
 }
 

@@ -8,6 +8,7 @@ ghost use Rattle.gate_live.specs.Told.{LiesIn};
 use crate::duplex::Duplex;
 use crate::line::Line;
 use crate::lingering::{LINGER, Lingering, MOST_LEFT, MOST_LINGERING};
+use crate::moments::Moments;
 use crate::origin::{Guest, Origin};
 use crate::room::Room;
 use crate::upstream::Upstream;
@@ -48,11 +49,12 @@ pub struct Sockets<P> {
     /// The place of the line that is heard next.
     next: usize,
     /// How many events are given before the system is asked again.
-    turns: u32,
+    pub(crate) turns: u32,
     /// How many connections to servers lingered so far, modulo 2^32.
     closed: u32,
     /// The last moment at which the moment that was asked for was looked at.
     seen: u64,
+    pub(crate) moments: Moments,
 }
 
 /// The token of a side of a line.
@@ -70,14 +72,6 @@ fn side_of(token: Token) -> Side {
         Side::Down
     } else {
         Side::Up
-    }
-}
-
-/// The moment, in nanoseconds since 1970.
-pub fn moment<R: Clock>(rt: &R) -> Result<u64, WorldEnd> {
-    match rt.since_1970() {
-        Ok(since) => Ok(u64::try_from(since.as_nanos()).unwrap_or(u64::MAX)),
-        Err(_) => Err(WorldEnd::Failed),
     }
 }
 
@@ -152,6 +146,7 @@ impl<P: Duplex> Sockets<P> {
             turns: 0,
             closed: 0,
             seen: 0,
+            moments: Moments::new(),
         })
     }
 
@@ -210,9 +205,8 @@ impl<P: Duplex> Sockets<P> {
             self.look(rt, None)?;
             return Ok(false);
         };
-        let now = moment(rt)?;
+        let now = self.moments.now(rt)?;
         self.seen = now;
-        self.drop_lingering(now);
         if let Some(due) = due {
             if due <= now {
                 return Ok(true);
@@ -223,15 +217,18 @@ impl<P: Duplex> Sockets<P> {
     }
 
     /// Lets those go that lingered for long enough.
-    fn drop_lingering(&mut self, now: u64)
-        ensures { self.new.seen ≡ self.old.seen }
-    {
-        self.lingering.retain(|client| now < client.until);
+    fn drop_lingering<R: Clock>(&mut self, rt: &R) -> Result<(), WorldEnd> {
+        if !self.lingering.is_empty() {
+            let now = self.moments.now(rt)?;
+            self.lingering.retain(|client| now < client.until);
+        }
+        Ok(())
     }
 
     /// Asks the system what is ready.
-    fn look<R: Clock>(&mut self, _rt: &R, timeout: Option<Duration>) -> Result<(), WorldEnd> {
+    fn look<R: Clock>(&mut self, rt: &R, timeout: Option<Duration>) -> Result<(), WorldEnd> {
         self.turns = TURNS;
+        self.drop_lingering(rt)?;
         if self.poll.poll(&mut self.events, timeout).is_err() {
             return Err(WorldEnd::Failed);
         }
@@ -461,7 +458,7 @@ impl<P: Duplex> Sockets<P> {
     fn linger<R: Clock>(&mut self, rt: &R, token: Token, peer: P, waiting: Waiting)
         ensures { self.new.lines ≡ self.old.lines }
     {
-        let Ok(now) = moment(rt) else {
+        let Ok(now) = self.moments.now(rt) else {
             return;
         };
         let mut closed = Lingering {
