@@ -1,5 +1,5 @@
 // Names, and which of them the members of values are.
-ghost use Rattle.std.specs.Prelude.{◌≡◌, ◌<◌, ◌+◌, ◌++◌, ◌∷◌, [], ◌||◌, ℕ, List, length, IfOk, IfSome, false, slice_index_or, slice_get};
+ghost use Rattle.std.specs.Prelude.{◌≡◌, ◌<◌, ◌+◌, ◌++◌, ◌∷◌, [], ◌||◌, ◌⊎◌, ℕ, List, length, IfOk, IfSome, IfNone, None, false, slice_index_or, slice_get};
 ghost use Rattle.std.specs.List.{list_any};
 ghost use Rattle.http_header.specs.Token.{lowercase};
 ghost use Rattle.http1_model.specs.Fields.{lists};
@@ -143,7 +143,9 @@ impl NameTree {
     }
 
     /// Puts a name in, where it is not there and there is room for it.
-    pub fn put(&mut self, alloc: Global, name: &[u8]) -> Result<(), OutOfMemory> {
+    pub fn put(&mut self, alloc: Global, name: &[u8]) -> Result<(), OutOfMemory>
+        ensures { IfOk result (λ _. (self.new.names ≡ self.old.names) ⊎ (self.new.names ≡ self.old.names ++ name.now ∷ [])) }
+    {
         let count = self.names.len();
         if count >= NAME_LIMIT {
             return Ok(());
@@ -200,6 +202,7 @@ impl NameTree {
         number: u8,
     ) -> Result<(), OutOfMemory>
         requires { byte < 128 }
+        ensures { self.new.names ≡ self.old.names }
     {
         let way = self.way(name, place);
         if let Next::Node(at) = way.next
@@ -228,7 +231,9 @@ impl NameTree {
     }
 
     /// Says what is left of the names of a node, behind the byte that a name has there.
-    fn set(&mut self, at: u8, name: &[u8], next: Next) {
+    fn set(&mut self, at: u8, name: &[u8], next: Next)
+        ensures { self.new.names ≡ self.old.names }
+    {
         if let Some(node) = self.nodes.get_mut(at as usize) {
             node.next[byte_at(name, node.place)] = next;
         }
@@ -252,7 +257,8 @@ pub struct ListedNames {
 impl ListedNames {
     /// The names of a tree, none of which is marked.
     pub fn of(alloc: Global, tree: NameTree) -> Result<Self, OutOfMemory>
-        ensures { IfOk result (AreMarked []) }
+        ensures tree { IfOk result (λ listed. listed.tree ≡ tree) }
+        ensures marks { IfOk result (AreMarked []) }
     {
         let count = tree.names.len();
         Ok(ListedNames {
@@ -299,7 +305,8 @@ impl ListedNames {
 
     /// Whether a member of the values is this name, in any case of letters; none where it is no name of the tree.
     pub fn is_listed(&self, name: &[u8]) -> Option<bool>
-        ensures { (values : List (List ℕ)) → AreMarked values self.now → IfSome result (λ b. b ≡ list_any (lists (lowercase name.now)) values) }
+        ensures some { (values : List (List ℕ)) → AreMarked values self.now → IfSome result (λ b. b ≡ list_any (lists (lowercase name.now)) values) }
+        ensures none { IfNone result (found self.now.tree (lowercase name.now) ≡ None) }
     {
         match self.tree.found(name) {
             Some(number) => Some(self.mark_of(number)),

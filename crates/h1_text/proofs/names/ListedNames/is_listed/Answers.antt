@@ -3,8 +3,8 @@ use Rattle.http_header.specs.Token.{lowercase}
 use Rattle.h1_text.proofs.Marked.{met_is_listed, found_within}
 use Rattle.h1_text.proofs.names.ListedNames.is_listed.Goals as goal
 
-pub returns-in-Some : goal.returns-in-Some
-returns-in-Some c =
+pub returns-in-Some-clause-some : goal.returns-in-Some-clause-some
+returns-in-Some-clause-some c =
     let tree = c.args.self.now.tree in
     let name = lowercase c.args.name.now in
     let h = sym c.found.ensures ∙ c.in-Some.is in
