@@ -6,12 +6,12 @@ use Rattle.http1_model.specs.Lines.{Cut, whole, too_large, unfinished}
 
 -- the cut that a value says
 abbrev pub seen_cut : code.Cut → Cut
-seen_cut (cuts.Whole len) = whole len
+seen_cut (cuts.Whole len lines) = whole len
 seen_cut cuts.TooLarge = too_large
 seen_cut cuts.Unfinished = unfinished
 
 -- a whole head lies within so many bytes
 abbrev pub IsCutWithin : ℕ → code.Cut → Type 0
-IsCutWithin n (cuts.Whole len) = len ≤ n
+IsCutWithin n (cuts.Whole len lines) = len ≤ n
 IsCutWithin n cuts.TooLarge = ⊤
 IsCutWithin n cuts.Unfinished = ⊤

@@ -14,8 +14,8 @@ const LINE_LIMIT: usize = 100;
 /// Where a head ends, as far as it has come.
 #[derive(Clone, Copy)]
 pub enum Cut {
-    /// A whole head of so many bytes, its empty line with it.
-    Whole { len: usize },
+    /// A whole head of so many bytes, its empty line with it, and of so many lines between its first line and that one.
+    Whole { len: usize, lines: usize },
     /// It has grown past a limit before its empty line came.
     TooLarge,
     /// Its empty line has not come.
@@ -84,7 +84,10 @@ fn section_cut(at: usize, lines: usize, len: usize) -> Cut
     if lines > LINE_LIMIT {
         Cut::TooLarge
     } else {
-        Cut::Whole { len: at + len }
+        Cut::Whole {
+            len: at + len,
+            lines,
+        }
     }
 }
 

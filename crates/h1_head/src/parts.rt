@@ -19,6 +19,9 @@ use std::alloc::{AllocError, Global};
 /// How many fields a head may have.
 pub const FIELD_LIMIT: usize = 100;
 
+/// How many fields a head has at most that has few: their spans are cleared in a third of the time.
+pub const FEW_FIELDS: usize = 32;
+
 /// A head that is taken in, or the status of its refusal.
 pub type Answer = Result<Head, u16>;
 

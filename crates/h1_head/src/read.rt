@@ -11,8 +11,14 @@ use crate::response::response_answer;
 use gate_base::OutOfMemory;
 use std::alloc::Global;
 
-/// What the whole head of that kind gives that takes the first `len` bytes of a text.
-fn answer(alloc: Global, text: &[u8], len: usize, kind: Kind) -> Result<Answer, OutOfMemory>
+/// What the whole head of that kind gives that takes the first `len` bytes of a text, of so many lines behind its first.
+fn answer(
+    alloc: Global,
+    text: &[u8],
+    len: usize,
+    lines: usize,
+    kind: Kind,
+) -> Result<Answer, OutOfMemory>
     requires fits { len ≤ length text.now }
     requires limit { len ≤ head_limit }
     requires cut { head_cut text.now ≡ whole len }
@@ -20,8 +26,8 @@ fn answer(alloc: Global, text: &[u8], len: usize, kind: Kind) -> Result<Answer, 
     ensures { IfOk result (λ answer. IsAnswerOf kind (take len text.now) (seen_answer answer)) }
 {
     match kind {
-        Kind::Request => request_answer(alloc, text, len),
-        Kind::Response { to_head } => response_answer(alloc, text, len, to_head),
+        Kind::Request => request_answer(alloc, text, len, lines),
+        Kind::Response { to_head } => response_answer(alloc, text, len, lines, to_head),
     }
 }
 
@@ -36,7 +42,7 @@ pub fn read_head(alloc: Global, text: &[u8], kind: Kind) -> Result<HeadStep, Out
     let skipped = skip_empty_lines(text);
     let rest = &text[skipped..];
     match head_cut(rest) {
-        Cut::Whole { len } => match answer(alloc, rest, len, kind)? {
+        Cut::Whole { len, lines } => match answer(alloc, rest, len, lines, kind)? {
             Ok(head) => Ok(HeadStep::Head {
                 head,
                 used: skipped + len,

@@ -19,7 +19,7 @@ ghost use Rattle.h1_head.specs.Targets.{seen_target};
 
 use crate::fields::{Connection, Fields, Lines, Noted};
 use crate::length::request_measure;
-use crate::parts::{Answer, FIELD_LIMIT, measured, refusal_of};
+use crate::parts::{Answer, FEW_FIELDS, FIELD_LIMIT, measured, refusal_of};
 use crate::target::{Target, is_visible, target_of};
 use gate_base::OutOfMemory;
 use header_maps::{HeaderEnd, HeaderList};
@@ -146,27 +146,83 @@ fn spans_of(text: &[u8], headers: &mut [HeaderSpan]) -> Option<RequestSpans>
     }
 }
 
+/// What a request head gives that was found in the first `len` bytes of a text.
+fn found_answer(
+    alloc: Global,
+    text: &[u8],
+    len: usize,
+    head: &RequestSpans,
+    headers: &[HeaderSpan],
+) -> Result<Answer, OutOfMemory>
+    requires fits { len ≤ length text.now }
+    requires limit { len ≤ head_limit }
+    requires cut { head_cut text.now ≡ whole len }
+    requires filled { skipped text.now ≡ 0 }
+    requires within { IsRequestWithin (take len text.now) headers.now head.now }
+    requires read { All (λ s. IsRead (header_bytes (take len text.now) s)) (take head.now.headers headers.now) }
+    requires found { IsRequestOf (take len text.now) headers.now head.now }
+    ensures { IfOk result (λ answer. IsAnswer (take len text.now) (seen_answer answer)) }
+{
+    let front = &text[..len];
+    judged(
+        alloc,
+        head.method.of(front),
+        head.path.of(front),
+        head.version,
+        &Fields {
+            text: front,
+            spans: &headers[..head.headers],
+        },
+    )
+}
+
 /// What the whole request head gives that takes the first `len` bytes of a text.
-pub fn request_answer(alloc: Global, text: &[u8], len: usize) -> Result<Answer, OutOfMemory>
+fn answer_of_many(alloc: Global, text: &[u8], len: usize) -> Result<Answer, OutOfMemory>
     requires fits { len ≤ length text.now }
     requires limit { len ≤ head_limit }
     requires cut { head_cut text.now ≡ whole len }
     requires filled { skipped text.now ≡ 0 }
     ensures { IfOk result (λ answer. IsAnswer (take len text.now) (seen_answer answer)) }
 {
-    let front = &text[..len];
     let mut headers = [EMPTY_HEADER_SPAN; FIELD_LIMIT];
-    match spans_of(front, &mut headers) {
-        Some(head) => judged(
-            alloc,
-            head.method.of(front),
-            head.path.of(front),
-            head.version,
-            &Fields {
-                text: front,
-                spans: &headers[..head.headers],
-            },
-        ),
+    match spans_of(&text[..len], &mut headers) {
+        Some(head) => found_answer(alloc, text, len, &head, &headers),
         None => Ok(Err(400)),
+    }
+}
+
+/// The same, looked for with room for few fields first: where it has more of them, or is none, with room for all.
+fn answer_of_few(alloc: Global, text: &[u8], len: usize) -> Result<Answer, OutOfMemory>
+    requires fits { len ≤ length text.now }
+    requires limit { len ≤ head_limit }
+    requires cut { head_cut text.now ≡ whole len }
+    requires filled { skipped text.now ≡ 0 }
+    ensures { IfOk result (λ answer. IsAnswer (take len text.now) (seen_answer answer)) }
+{
+    let mut headers = [EMPTY_HEADER_SPAN; FEW_FIELDS];
+    match spans_of(&text[..len], &mut headers) {
+        Some(head) => found_answer(alloc, text, len, &head, &headers),
+        None => answer_of_many(alloc, text, len),
+    }
+}
+
+/// What the whole request head gives that takes the first `len` bytes of a text. How many lines it has behind its first says what room is made
+/// for its fields.
+pub fn request_answer(
+    alloc: Global,
+    text: &[u8],
+    len: usize,
+    lines: usize,
+) -> Result<Answer, OutOfMemory>
+    requires fits { len ≤ length text.now }
+    requires limit { len ≤ head_limit }
+    requires cut { head_cut text.now ≡ whole len }
+    requires filled { skipped text.now ≡ 0 }
+    ensures { IfOk result (λ answer. IsAnswer (take len text.now) (seen_answer answer)) }
+{
+    if lines <= FEW_FIELDS {
+        answer_of_few(alloc, text, len)
+    } else {
+        answer_of_many(alloc, text, len)
     }
 }

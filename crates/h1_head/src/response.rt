@@ -13,7 +13,7 @@ ghost use Rattle.h1_head.specs.Seen.{seen_answer, IsListed};
 
 use crate::fields::{Connection, Fields};
 use crate::length::{bodied, response_measure};
-use crate::parts::{Answer, FIELD_LIMIT, measured, refusal_of};
+use crate::parts::{Answer, FEW_FIELDS, FIELD_LIMIT, measured, refusal_of};
 use gate_base::OutOfMemory;
 use header_maps::{HeaderEnd, HeaderList};
 use httparse::Status;
@@ -83,8 +83,38 @@ fn spans_of(text: &[u8], headers: &mut [HeaderSpan]) -> Option<ResponseSpans>
     }
 }
 
+/// What a response head gives that was found in the first `len` bytes of a text.
+fn found_answer(
+    alloc: Global,
+    text: &[u8],
+    len: usize,
+    to_head: bool,
+    head: &ResponseSpans,
+    headers: &[HeaderSpan],
+) -> Result<Answer, OutOfMemory>
+    requires fits { len ≤ length text.now }
+    requires limit { len ≤ head_limit }
+    requires cut { head_cut text.now ≡ whole len }
+    requires filled { skipped text.now ≡ 0 }
+    requires within { IsResponseWithin (take len text.now) headers.now head.now }
+    requires read { All (λ s. IsRead (header_bytes (take len text.now) s)) (take head.now.headers headers.now) }
+    requires found { IsResponseOf (take len text.now) headers.now head.now }
+    ensures { IfOk result (λ answer. IsResponseAnswer to_head (take len text.now) (seen_answer answer)) }
+{
+    response_judged(
+        alloc,
+        to_head,
+        head.version,
+        head.code,
+        &Fields {
+            text: &text[..len],
+            spans: &headers[..head.headers],
+        },
+    )
+}
+
 /// What the whole response head gives that takes the first `len` bytes of a text.
-pub fn response_answer(
+fn answer_of_many(
     alloc: Global,
     text: &[u8],
     len: usize,
@@ -96,19 +126,51 @@ pub fn response_answer(
     requires filled { skipped text.now ≡ 0 }
     ensures { IfOk result (λ answer. IsResponseAnswer to_head (take len text.now) (seen_answer answer)) }
 {
-    let front = &text[..len];
     let mut headers = [EMPTY_HEADER_SPAN; FIELD_LIMIT];
-    match spans_of(front, &mut headers) {
-        Some(head) => response_judged(
-            alloc,
-            to_head,
-            head.version,
-            head.code,
-            &Fields {
-                text: front,
-                spans: &headers[..head.headers],
-            },
-        ),
+    match spans_of(&text[..len], &mut headers) {
+        Some(head) => found_answer(alloc, text, len, to_head, &head, &headers),
         None => Ok(Err(502)),
+    }
+}
+
+/// The same, looked for with room for few fields first: where it has more of them, or is none, with room for all.
+fn answer_of_few(
+    alloc: Global,
+    text: &[u8],
+    len: usize,
+    to_head: bool,
+) -> Result<Answer, OutOfMemory>
+    requires fits { len ≤ length text.now }
+    requires limit { len ≤ head_limit }
+    requires cut { head_cut text.now ≡ whole len }
+    requires filled { skipped text.now ≡ 0 }
+    ensures { IfOk result (λ answer. IsResponseAnswer to_head (take len text.now) (seen_answer answer)) }
+{
+    let mut headers = [EMPTY_HEADER_SPAN; FEW_FIELDS];
+    match spans_of(&text[..len], &mut headers) {
+        Some(head) => found_answer(alloc, text, len, to_head, &head, &headers),
+        None => answer_of_many(alloc, text, len, to_head),
+    }
+}
+
+/// What the whole response head gives that takes the first `len` bytes of a text. How many lines it has behind its first says what room is made
+/// for its fields.
+pub fn response_answer(
+    alloc: Global,
+    text: &[u8],
+    len: usize,
+    lines: usize,
+    to_head: bool,
+) -> Result<Answer, OutOfMemory>
+    requires fits { len ≤ length text.now }
+    requires limit { len ≤ head_limit }
+    requires cut { head_cut text.now ≡ whole len }
+    requires filled { skipped text.now ≡ 0 }
+    ensures { IfOk result (λ answer. IsResponseAnswer to_head (take len text.now) (seen_answer answer)) }
+{
+    if lines <= FEW_FIELDS {
+        answer_of_few(alloc, text, len, to_head)
+    } else {
+        answer_of_many(alloc, text, len, to_head)
     }
 }
