@@ -20,23 +20,29 @@ enum Held {
     Call,
 }
 
-/// Counts the turns of workers 1 and 2 and the shared calls on the first VM and on others, and may hold a worker.
+/// Counts the turns of each of workers 1 to 4 and the shared calls on the first VM and on others, and may hold a worker.
 #[derive(Drop)]
 pub struct Watch {
     first: AtomicU64,
     second: AtomicU64,
+    third: AtomicU64,
+    fourth: AtomicU64,
     calls: AtomicU64,
     others: AtomicU64,
     given_up: AtomicU64,
     held: Held,
+    tells_calls: bool,
 }
 
 impl Watch {
-    /// A gate that nobody has passed. It holds a turn for the word `turn`, a call for `call`, and else nobody.
+    /// A gate that nobody has passed. It holds a turn for the word `turn`, a call for `call`, and else nobody. For `load` it tells no calls: how
+    /// often workers ask a store for notices is left to their threads.
     pub fn new(word: &str) -> Self {
         Watch {
             first: AtomicU64::new(0),
             second: AtomicU64::new(0),
+            third: AtomicU64::new(0),
+            fourth: AtomicU64::new(0),
             calls: AtomicU64::new(0),
             others: AtomicU64::new(0),
             given_up: AtomicU64::new(0),
@@ -45,6 +51,7 @@ impl Watch {
                 "call" => Held::Call,
                 _ => Held::Nobody,
             },
+            tells_calls: !matches!(word, "load"),
         }
     }
 
@@ -70,6 +77,12 @@ impl Watch {
             2 => {
                 self.second.fetch_add(1, Ordering::SeqCst);
             }
+            3 => {
+                self.third.fetch_add(1, Ordering::SeqCst);
+            }
+            4 => {
+                self.fourth.fetch_add(1, Ordering::SeqCst);
+            }
             _ => {}
         }
     }
@@ -86,16 +99,32 @@ impl Watch {
         }
     }
 
-    /// Puts how many turns and shared calls there were, and whether a worker that was held was not let go, at the end of a text.
-    pub fn tell(&self, alloc: Global, told: &mut String) -> Result<(), OutOfMemory> {
+    /// Puts how many turns each of the workers 1 to 4 made at the end of a text.
+    fn tell_turns(&self, alloc: Global, told: &mut String) -> Result<(), OutOfMemory> {
         told.push_str("turns ")?;
         tell_number(alloc, told, self.first.load(Ordering::SeqCst))?;
-        told.push_str(" and ")?;
+        told.push_str(" ")?;
         tell_number(alloc, told, self.second.load(Ordering::SeqCst))?;
+        told.push_str(" ")?;
+        tell_number(alloc, told, self.third.load(Ordering::SeqCst))?;
+        told.push_str(" ")?;
+        tell_number(alloc, told, self.fourth.load(Ordering::SeqCst))
+    }
+
+    /// Puts how many shared calls there were on the first VM and on others at the end of a text.
+    fn tell_calls(&self, alloc: Global, told: &mut String) -> Result<(), OutOfMemory> {
         told.push_str(", calls ")?;
         tell_number(alloc, told, self.calls.load(Ordering::SeqCst))?;
         told.push_str(" and ")?;
-        tell_number(alloc, told, self.others.load(Ordering::SeqCst))?;
+        tell_number(alloc, told, self.others.load(Ordering::SeqCst))
+    }
+
+    /// Puts how many turns and shared calls there were, and whether a worker that was held was not let go, at the end of a text.
+    pub fn tell(&self, alloc: Global, told: &mut String) -> Result<(), OutOfMemory> {
+        self.tell_turns(alloc, told)?;
+        if self.tells_calls {
+            self.tell_calls(alloc, told)?;
+        }
         told.push_str(", given up ")?;
         tell_number(alloc, told, self.given_up.load(Ordering::SeqCst))
     }

@@ -104,8 +104,9 @@ impl Stage {
 }
 
 /// `serve GATE START WRITE WORD,WORD..`: runs the command of these words over what is laid out, where the site's start of one number and the
-/// output's write of one number fail, 0 for none, and the gate holds a turn for the word `turn` and a call for `call`. How it ended, what it wrote to
-/// standard error and to standard output, with what the site was started, what each world took that came back, and what passed the gate.
+/// output's write of one number fail, 0 for none, and the gate holds a turn for the word `turn` and a call for `call`, and tells no calls for
+/// `load`. How it ended, what it wrote to standard error and to standard output, with what the site was started, what each world took that came
+/// back, and what passed the gate.
 pub fn served<R: Threads + Wait + Sync>(
     rt: &R,
     alloc: Global,
