@@ -23,7 +23,8 @@ use Rattle.http1_model.specs.Fields.{Pair}
 use Rattle.http1_model.specs.Lines.{whole_lines, section_of, cut_lines, whole}
 use Rattle.http1_model.specs.Trailers.{window_section, section_cut}
 use Rattle.http1_model.proofs.GrammarLines.{whole_lines-section, section_of-section, cut_at-whole}
-use Rattle.h1_chunks.specs.Spans.{fields_at, IsTaken, AreTaken}
+use Rattle.h1_text.specs.Spans.{fields_at}
+use Rattle.h1_chunks.specs.Spans.{IsTaken, AreTaken}
 
 -- ---- fields that a list takes
 

@@ -2,7 +2,7 @@
 use Rattle.std.specs.Prelude.{List}
 use Rattle.http1_model.specs.Fields.{Pair}
 use Rattle.h1_chunks.specs.declared.section.Fields.{Fields}
-use Rattle.h1_chunks.specs.Spans.{fields_at}
+use Rattle.h1_text.specs.Spans.{fields_at}
 
 -- their names and values
 abbrev pub fields_of : Fields → List Pair

@@ -1,9 +1,6 @@
 -- The places and steps of the model that the code's values say.
 use Rattle.std.specs.Prelude.{◌≤◌, ◌<◌, ⊤, ℕ}
 use Rattle.http1_model.specs.Chunks as model
-use Rattle.http1_model.specs.Lines as lines
-use Rattle.h1_chunks.specs.declared.lines.Cut as cut
-use Rattle.h1_chunks.specs.declared.lines.Cut.TheVariants as cuts
 use Rattle.h1_chunks.specs.declared.size.SizeStep as size
 use Rattle.h1_chunks.specs.declared.size.SizeStep.TheVariants as sizes
 use Rattle.h1_chunks.specs.declared.place.Place as place
@@ -41,15 +38,3 @@ SoughtWithin n (soughts.Data at left) = (at < n) × (0 < left)
 SoughtWithin n (soughts.Section at) = at ≤ n
 SoughtWithin n soughts.Waiting = ⊤
 SoughtWithin n soughts.Malformed = ⊤
-
--- the cut that a value says
-abbrev pub seen_cut : cut.Cut → lines.Cut
-seen_cut (cuts.Whole len) = lines.whole len
-seen_cut cuts.TooLarge = lines.too_large
-seen_cut cuts.Unfinished = lines.unfinished
-
--- a whole section lies within so many bytes
-abbrev pub CutWithin : ℕ → cut.Cut → Type 0
-CutWithin n (cuts.Whole len) = len ≤ n
-CutWithin n cuts.TooLarge = ⊤
-CutWithin n cuts.Unfinished = ⊤

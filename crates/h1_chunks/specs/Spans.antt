@@ -1,15 +1,9 @@
 -- The fields of a section, as the spans of its text say them.
-use Rattle.std.specs.Prelude.{◌≡◌, ◌≤◌, ℕ, List, length, map, All, Option, true}
+use Rattle.std.specs.Prelude.{◌≡◌, ◌≤◌, ℕ, List, length, All, Option, true}
 use Rattle.std.specs.Option.{option_map}
-use Rattle.httparse.specs.declared.spans.HeaderSpan.{HeaderSpan}
-use Rattle.httparse.specs.Spans.{header_bytes}
 use Rattle.header_maps.specs.Headers.{Headers}
 use Rattle.header_maps.specs.Judged.{is_field_name, is_field_value}
 use Rattle.http1_model.specs.Fields.{Pair}
-
--- the names and values that the spans cover
-abbrev pub fields_at : List ℕ → List HeaderSpan → List Pair
-fields_at text spans = map (header_bytes text) spans
 
 -- a header list takes the name and the value
 pub record IsTaken (field : Pair) : Type 0 where

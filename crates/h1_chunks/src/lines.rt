@@ -1,83 +1,15 @@
-// The lines of a trailer section, and where it ends.
-ghost use Rattle.std.specs.Prelude.{◌≡◌, ◌+◌, ◌^◌, ◌<◌, ◌≤◌, [], ◌∷◌, length, take, drop, IfSome, MatchOption};
-ghost use Rattle.http1_model.specs.Lines.{whole_lines, is_empty_line, head_limit, cut_at, cut_open};
+// Where a trailer section ends.
+ghost use Rattle.std.specs.Prelude.{◌≡◌, length};
+ghost use Rattle.http1_model.specs.Lines.{head_limit};
 ghost use Rattle.http1_model.specs.Trailers.{section_cut, window_section};
-ghost use Rattle.h1_chunks.specs.Seen.{seen_cut, CutWithin};
+ghost use Rattle.h1_text.specs.Cuts.{seen_cut, IsCutWithin};
 
-use memchr::memchr;
-
-/// How many bytes of a section may come.
-const SECTION_LIMIT: usize = 65_536;
-
-/// How many field lines a section may have.
-const LINE_LIMIT: usize = 100;
-
-/// Where a section ends, as far as it has come.
-#[derive(Clone, Copy)]
-pub enum Cut {
-    /// A whole section of so many bytes, its empty line with it.
-    Whole { len: usize },
-    /// It has grown past a limit before its empty line came.
-    TooLarge,
-    /// Its empty line has not come.
-    Unfinished,
-}
-
-/// The length of the first line of a text with its end, if that line is whole.
-fn line_len(text: &[u8]) -> Option<usize>
-    ensures within { IfSome result (λ len. (0 < len) × (len ≤ length text.now)) }
-    ensures lines { MatchOption result (whole_lines text.now ≡ [])
-        (λ len. whole_lines text.now ≡ take len text.now ∷ whole_lines (drop len text.now)) }
-{
-    let at = memchr(b'\n', text)?;
-    Some(at + 1)
-}
-
-/// The length of the line at a place, if it is whole.
-fn line_len_at(text: &[u8], at: usize) -> Option<usize>
-    requires { at ≤ length text.now }
-    ensures within { IfSome result (λ len. (0 < len) × (at + len ≤ length text.now)) }
-    ensures lines { MatchOption result (whole_lines (drop at text.now) ≡ [])
-        (λ len. whole_lines (drop at text.now) ≡ take len (drop at text.now) ∷ whole_lines (drop len (drop at text.now))) }
-{
-    line_len(&text[at..])
-}
-
-/// Whether a line is an LF, or a CR and an LF.
-fn is_empty_line(line: &[u8]) -> bool
-    ensures { result ≡ is_empty_line line.now }
-{
-    matches!(line, b"\n" | b"\r\n")
-}
-
-/// What stands where no empty line has come in so many bytes and so many lines.
-fn open_cut(bytes: usize, lines: usize) -> Cut
-    ensures { seen_cut result ≡ cut_open bytes lines }
-{
-    if bytes >= SECTION_LIMIT || lines > LINE_LIMIT {
-        Cut::TooLarge
-    } else {
-        Cut::Unfinished
-    }
-}
-
-/// What stands where an empty line of so many bytes comes at a place, behind so many lines.
-fn closed_cut(at: usize, lines: usize, len: usize) -> Cut
-    requires { at + len < 2 ^ 64 }
-    ensures cut { seen_cut result ≡ cut_at at (lines, len) }
-    ensures within { CutWithin (at + len) result }
-{
-    if lines > LINE_LIMIT {
-        Cut::TooLarge
-    } else {
-        Cut::Whole { len: at + len }
-    }
-}
+use h1_text::{BYTE_LIMIT, Cut, closed_cut, is_empty_line, line_len_at, open_cut};
 
 /// Where the section at the front of a text ends, of which all is looked at.
 fn window_section(window: &[u8]) -> Cut
     ensures cut { seen_cut result ≡ window_section window.now }
-    ensures within { CutWithin (length window.now) result }
+    ensures within { IsCutWithin (length window.now) result }
 {
     let mut at = 0;
     let mut lines = 0;
@@ -94,8 +26,8 @@ fn window_section(window: &[u8]) -> Cut
 /// Where the trailer section that a text begins with ends, by its first 65,536 bytes (RFC 9112 section 7.1.2).
 pub fn section_cut(text: &[u8]) -> Cut
     ensures cut { seen_cut result ≡ section_cut text.now }
-    ensures within { CutWithin (length text.now) result }
-    ensures limit { CutWithin head_limit result }
+    ensures within { IsCutWithin (length text.now) result }
+    ensures limit { IsCutWithin head_limit result }
 {
-    window_section(&text[..text.len().min(SECTION_LIMIT)])
+    window_section(&text[..text.len().min(BYTE_LIMIT)])
 }

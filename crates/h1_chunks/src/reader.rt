@@ -5,10 +5,11 @@ ghost use Rattle.http1_model.specs.Trailers.{piece_limit};
 ghost use Rattle.h1_chunks.specs.Answers.{is_data, seen_run, Answers, UsesWithin};
 ghost use Rattle.h1_chunks.specs.Seen.{seen_place};
 
-use crate::lines::{Cut, section_cut};
+use crate::lines::section_cut;
 use crate::place::{Place, Sought};
 use crate::section::trailers;
 use gate_base::{Octets, OutOfMemory};
+use h1_text::Cut;
 use header_maps::HeaderList;
 use std::alloc::Global;
 use std::marker::Model;
@@ -162,7 +163,7 @@ impl ChunkReader {
     {
         let rest = &text[at..];
         match section_cut(rest) {
-            Cut::Whole { len } => match trailers(alloc, rest, len)? {
+            Cut::Whole { len, .. } => match trailers(alloc, rest, len)? {
                 Some(trailers) => {
                     self.place = Place::Over;
                     Ok(ChunkStep::End {

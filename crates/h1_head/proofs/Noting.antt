@@ -12,7 +12,8 @@ use Rattle.h1_text.proofs.Values.{values_named, values_other, fields_at-next}
 use Rattle.h1_head.specs.declared.fields.Lines.{Lines}
 use Rattle.h1_head.specs.declared.fields.Noted.{Noted}
 use Rattle.h1_head.specs.Noted.{AreNoted}
-use Rattle.h1_head.specs.Spans.{AreLines, AreMany, fields_at}
+use Rattle.h1_text.specs.Spans.{fields_at}
+use Rattle.h1_head.specs.Spans.{AreLines, AreMany}
 
 -- a line behind one, and behind more
 pub one_more : (values : List (List ℕ)) (first second : List ℕ) → values ≡ first ∷ [] → AreMany (values ++ second ∷ [])

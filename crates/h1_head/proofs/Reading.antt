@@ -12,7 +12,7 @@ use Rattle.http1_model.specs.Length.{Measure}
 use Rattle.http1_model.specs.Target.{TargetForm}
 use Rattle.http1_model.specs.Lines.{head_cut, skipped, whole}
 use Rattle.http1_model.proofs.GrammarLines.{head_fills, response_fills}
-use Rattle.h1_head.specs.Spans.{fields_at}
+use Rattle.h1_text.specs.Spans.{fields_at}
 
 -- the judgement of equal parts
 judged_along : (m m' t t' : List ℕ) (v v' : ℕ) (fs fs' : List Pair) (a : Result Head ℕ) → m ≡ m' → t ≡ t' → v ≡ v' → fs ≡ fs'

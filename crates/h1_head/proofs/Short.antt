@@ -10,7 +10,7 @@ use Rattle.http1_model.specs.Fields.{is_named, values_of}
 use Rattle.http1_model.specs.Head.{host_of}
 use Rattle.http1_model.specs.Target.{Target, origin, absolute, asterisk, Scheme, http, is_path_value, is_options, scheme_of, absolute_path, is_absolute_path, absolute_parts, target_of, IsTargetOf}
 use Rattle.http1_model.proofs.FieldLemmas.{values_of-named, values_of-other}
-use Rattle.h1_head.specs.Spans.{fields_at}
+use Rattle.h1_text.specs.Spans.{fields_at}
 
 -- ---- Host
 

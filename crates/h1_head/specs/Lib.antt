@@ -1,4 +1,3 @@
-pub mod Cuts
 pub mod Held
 pub mod Lengths
 pub mod Measures

@@ -1,15 +1,9 @@
 -- The fields of a head, as the spans of its text say them.
-use Rattle.std.specs.Prelude.{◌≡◌, ℕ, List, [], ◌∷◌, map, true}
+use Rattle.std.specs.Prelude.{◌≡◌, ℕ, List, [], ◌∷◌, true}
 use Rattle.header_maps.specs.Judged.{is_field_name, is_field_value}
-use Rattle.httparse.specs.declared.spans.HeaderSpan.{HeaderSpan}
-use Rattle.httparse.specs.Spans.{header_bytes}
 use Rattle.http1_model.specs.Fields.{Pair}
 use Rattle.h1_head.specs.declared.fields.Lines as code
 use Rattle.h1_head.specs.declared.fields.Lines.TheVariants as lines
-
--- the names and values that the spans cover
-abbrev pub fields_at : List ℕ → List HeaderSpan → List Pair
-fields_at text spans = map (header_bytes text) spans
 
 -- a list may take the field without looking at it again
 pub record IsRead (field : Pair) : Type 0 where

@@ -17,7 +17,7 @@ mod write;
 
 pub use head::{Head, HeadStep, Kind, Length, TargetForm};
 pub use item::Item;
-pub use lines::{Cut, head_cut, line_len, skip_empty_lines};
+pub use lines::{head_cut, skip_empty_lines};
 pub use listed::without_listed;
 pub use read::read_head;
 pub use write::{

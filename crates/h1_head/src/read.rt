@@ -4,11 +4,12 @@ ghost use Rattle.http1_model.specs.Lines.{head_cut, head_limit, skipped, whole};
 ghost use Rattle.h1_head.specs.Seen.{seen_answer, seen_step, IsAnswerOf, Spells, UsesWithin};
 
 use crate::head::{HeadStep, Kind};
-use crate::lines::{Cut, head_cut, skip_empty_lines};
+use crate::lines::{head_cut, skip_empty_lines};
 use crate::parts::Answer;
 use crate::request::request_answer;
 use crate::response::response_answer;
 use gate_base::OutOfMemory;
+use h1_text::Cut;
 use std::alloc::Global;
 
 /// What the whole head of that kind gives that takes the first `len` bytes of a text, of so many lines behind its first.

@@ -9,7 +9,8 @@ use crate::body::body_next;
 use crate::next::{Due, Next, Stop, head_next};
 use crate::unread::Unread;
 use gate_base::OutOfMemory;
-use h1_head::{Cut, Item, Kind, head_cut, line_len, skip_empty_lines};
+use h1_head::{Item, Kind, head_cut, skip_empty_lines};
+use h1_text::{Cut, line_len};
 use std::alloc::Global;
 use std::marker::Model;
 

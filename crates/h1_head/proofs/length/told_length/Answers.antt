@@ -5,7 +5,7 @@ use Rattle.httparse.specs.declared.spans.HeaderSpan.{HeaderSpan}
 use Rattle.std.specs.List.{flat_map}
 use Rattle.http1_model.specs.Fields.{Pair, members, values_of, is_named}
 use Rattle.http1_model.proofs.FieldLemmas.{values_of-other}
-use Rattle.h1_head.specs.Spans.{fields_at}
+use Rattle.h1_text.specs.Spans.{fields_at}
 use Rattle.h1_head.proofs.Lists.{fields_at-more}
 use Rattle.h1_head.proofs.Measured.{told-line, values_of-some, some_line, told-next, told-none, told-end, agreed-first}
 use Rattle.h1_head.proofs.length.told_length.Goals.{then-is_same_word+else-is_none, else-is_same_word}

@@ -3,7 +3,7 @@ use Rattle.std.specs.Prelude.{codes}
 use Rattle.std.specs.List.{flat_map}
 use Rattle.http1_model.specs.Fields.{members, values_of}
 use Rattle.h1_head.specs.Measures.{agreed}
-use Rattle.h1_head.specs.Spans.{fields_at}
+use Rattle.h1_text.specs.Spans.{fields_at}
 use Rattle.h1_head.proofs.length.told_length.Given as goal
 
 -- what is left decides; while nothing is told no line has come, and then one has

@@ -14,7 +14,7 @@ loop-len-init c = record {
 
 pub returns-then-is_empty_line-clause-cut : goal.returns-then-is_empty_line-clause-cut
 returns-then-is_empty_line-clause-cut c =
-    c.section_cut.ensures.cut
+    c.closed_cut.ensures.cut
     ∙ cut_from-end _ c.args.window.now _ _ _ c.in-Some-line_len_at.ensures.within.1 c.in-Some-line_len_at.ensures.lines (sym c.if-is_empty_line.ensures)
     ∙ c.loop-len.invariant.cut
 

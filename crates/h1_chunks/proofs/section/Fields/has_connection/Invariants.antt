@@ -2,7 +2,7 @@ use Rattle.std.proofs.Common.{◌≡◌, drop}
 use Rattle.std.specs.Prelude.{codes}
 use Rattle.std.specs.List.{list_any}
 use Rattle.http1_model.specs.Fields.{is_named}
-use Rattle.h1_chunks.specs.Spans.{fields_at}
+use Rattle.h1_text.specs.Spans.{fields_at}
 use Rattle.h1_chunks.proofs.section.Fields.has_connection.Given as goal
 
 -- what is left decides

@@ -1,6 +1,6 @@
 use Rattle.std.proofs.Common.{◌≡◌, ◌≤◌, ◌++◌, length, drop}
 use Rattle.http1_model.specs.Trailers.{trailers_among, kept_trailers}
-use Rattle.h1_chunks.specs.Spans.{fields_at}
+use Rattle.h1_text.specs.Spans.{fields_at}
 use Rattle.h1_chunks.proofs.section.Fields.kept_by.Given as goal
 
 -- those kept so far, and those kept of what is left

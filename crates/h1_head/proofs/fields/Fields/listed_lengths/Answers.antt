@@ -2,7 +2,7 @@ use Rattle.std.proofs.Common.{◌∷◌, ◌+◌, drop, ap, sym, ◌∙◌, List
 use Rattle.std.proofs.lemmas.List.{drop_all}
 use Rattle.httparse.specs.declared.spans.HeaderSpan.{HeaderSpan}
 use Rattle.http1_model.specs.Fields.{Pair}
-use Rattle.h1_head.specs.Spans.{fields_at}
+use Rattle.h1_text.specs.Spans.{fields_at}
 use Rattle.h1_head.proofs.Lists.{fields_at-more}
 use Rattle.h1_head.proofs.ListedLengths.{line_noted, line_passed, no_line_left}
 use Rattle.h1_head.proofs.fields.Fields.listed_lengths.Goals.{then-is_same_word, else-is_same_word}

@@ -1,6 +1,6 @@
 use Rattle.std.proofs.Common.{take}
 use Rattle.h1_head.specs.Noted.{AreNoted}
-use Rattle.h1_head.specs.Spans.{fields_at}
+use Rattle.h1_text.specs.Spans.{fields_at}
 use Rattle.h1_head.proofs.fields.Fields.noted.Given as goal
 
 -- those of the fields so far

@@ -1,6 +1,6 @@
 use Rattle.std.proofs.Common.{arith, add-one}
 use Rattle.http1_model.proofs.LineLemmas.{whole_lines-no_feed, whole_lines-feed}
-use Rattle.h1_chunks.proofs.lines.line_len.Goals as goal
+use Rattle.h1_text.proofs.lines.line_len.Goals as goal
 
 pub returns-in_err-at-clause-lines : goal.returns-in_err-at-clause-lines
 returns-in_err-at-clause-lines c =
