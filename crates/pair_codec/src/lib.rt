@@ -4,9 +4,11 @@
 mod end;
 mod laws;
 mod reading;
+mod serialised;
 mod writing;
 
 pub use end::PairsEnd;
 pub use laws::{pairs_are_read_back, worked_pairs};
 pub use reading::read_pairs;
+pub use serialised::Serialised;
 pub use writing::{write_list, write_pairs};
