@@ -1,23 +1,22 @@
 // The calls that change maps.
-ghost use Rattle.std.specs.Prelude.{◌≡◌, ◌≤◌, ◌<◌, length, true, Some, IfOk, OnErr};
+ghost use Rattle.std.specs.Prelude.{◌≡◌, ◌≤◌, ◌<◌, length, IfOk, OnErr};
 ghost use Rattle.abi_types.specs.GuestAt.{Keeps, StillWaits};
 ghost use Rattle.contexts.specs.Reached.{seen, put};
 ghost use Rattle.abi_model.specs.Calls.{does, told, Ends, RestsAfterCall, AreShort};
 ghost use Rattle.abi_model.specs.Table.{Are, row_of};
 ghost use Rattle.abi_model.specs.declared.table.HostCall.TheVariants as call;
-ghost use Rattle.std.specs.List.{list_all};
-ghost use Rattle.header_maps.specs.Kept.{byte_limit, is_short};
-ghost use Rattle.abi_maps.specs.Maps.{map_for as map_for_of, Becomes, on_map, mapped, set_by, added_to, replaced_in, removed_from, set_from, changing_map, own_add_header_map_value, own_replace_header_map_value, own_remove_header_map_value, own_set_header_map_pairs};
+ghost use Rattle.header_maps.specs.Kept.{byte_limit};
+ghost use Rattle.abi_maps.specs.Maps.{map_for as map_for_of, Becomes, on_map, mapped, added_to, replaced_in, removed_from, set_from, changing_map, own_add_header_map_value, own_replace_header_map_value, own_remove_header_map_value, own_set_header_map_pairs};
 
+use crate::given::set;
 use crate::maps::map_for;
 use abi_model::{
     HostCall, HostEnd, Inputs, LocalCall, Outcome, Param, answer, call_row, local_call,
 };
 use abi_types::Guest;
 use contexts::Contexts;
-use gate_base::{OutOfMemory, Pairs, VmNo};
+use gate_base::{OutOfMemory, VmNo};
 use header_maps::{HeaderEnd, HeaderList};
-use pair_codec::{PairsEnd, read_pairs};
 use std::alloc::{AllocError, Global};
 
 /// What a map becomes: the list that was changed, or the status of the refusal.
@@ -75,36 +74,6 @@ fn removed(
 {
     let mut list = list.copy(alloc)?;
     let end = list.remove(name);
-    changed(list, end)
-}
-
-/// A copy of a list, with the pairs of a serialised form in place of all.
-fn set(
-    alloc: Global,
-    list: &HeaderList,
-    bytes: &[u8],
-) -> Result<Result<HeaderList, u32>, OutOfMemory>
-    requires { length bytes.now ≤ byte_limit }
-    ensures { IfOk result (λ r. r ≡ set_from bytes.now list.now) }
-{
-    match read_pairs(alloc, bytes) {
-        Err(PairsEnd::NotPairs) => Ok(Err(4)),
-        Err(PairsEnd::OutOfMemory) => Err(AllocError),
-        Ok(pairs) => set_pairs(alloc, list, &pairs),
-    }
-}
-
-/// A copy of a list, with the given pairs in place of all.
-fn set_pairs(
-    alloc: Global,
-    list: &HeaderList,
-    pairs: &Pairs,
-) -> Result<Result<HeaderList, u32>, OutOfMemory>
-    requires { list_all is_short pairs.now ≡ true }
-    ensures { IfOk result (λ r. r ≡ set_by (Some pairs.now) list.now) }
-{
-    let mut list = list.copy(alloc)?;
-    let end = list.set_all(alloc, pairs);
     changed(list, end)
 }
 

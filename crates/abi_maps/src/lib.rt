@@ -3,6 +3,7 @@
 
 mod buffers;
 mod changing;
+mod given;
 mod laws;
 mod maps;
 mod reached;

@@ -1,23 +1,22 @@
 // The calls on streams, and the local response.
-ghost use Rattle.std.specs.Prelude.{◌≡◌, ◌≤◌, ◌<◌, length, true, Some, IfOk, OnOk, OnErr};
+ghost use Rattle.std.specs.Prelude.{◌≡◌, ◌≤◌, ◌<◌, length, IfOk, OnOk, OnErr};
 ghost use Rattle.abi_types.specs.GuestAt.{Keeps, StillWaits};
 ghost use Rattle.contexts.specs.Reached.{seen, put};
 ghost use Rattle.abi_model.specs.Calls.{does, told, Ends, RestsAfterCall, AreShort};
 ghost use Rattle.abi_model.specs.Table.{Are, row_of};
 ghost use Rattle.abi_model.specs.declared.table.HostCall.TheVariants as call;
-ghost use Rattle.std.specs.List.{list_all};
-ghost use Rattle.header_maps.specs.Kept.{byte_limit, is_short};
-ghost use Rattle.abi_maps.specs.Streams.{is_too_late as is_too_late_of, fields_by, fields_from as fields_from_of, asked_with, continuing, closing, answering, own_continue_stream, own_close_stream, own_send_local_response};
+ghost use Rattle.header_maps.specs.Kept.{byte_limit};
+ghost use Rattle.abi_maps.specs.Streams.{is_too_late as is_too_late_of, fields_from as fields_from_of, asked_with, continuing, closing, answering, own_continue_stream, own_close_stream, own_send_local_response};
 
+use crate::given::set;
 use abi_model::{
     HostCall, HostEnd, Inputs, LocalCall, Outcome, Param, answer, call_row, local_call,
 };
 use abi_types::Guest;
 use contexts::{Contexts, ExchangeView, What};
-use gate_base::{Octets, OutOfMemory, Pairs, VmNo};
-use header_maps::{HeaderEnd, HeaderList, ListKind};
-use pair_codec::{PairsEnd, read_pairs};
-use std::alloc::{AllocError, Global};
+use gate_base::{Octets, OutOfMemory, VmNo};
+use header_maps::HeaderList;
+use std::alloc::Global;
 
 /// How many bytes the body of a local response may have.
 const BODY_LIMIT: usize = 1_048_576;
@@ -63,29 +62,14 @@ fn close_stream(contexts: &mut Contexts, vm: VmNo, stream: u64) -> Result<Outcom
     Ok(answer(0))
 }
 
-/// The fields of pairs, or the status why there are none.
-fn fields_of(alloc: Global, pairs: &Pairs) -> Result<Result<HeaderList, u32>, OutOfMemory>
-    requires { list_all is_short pairs.now ≡ true }
-    ensures { IfOk result (λ r. r ≡ fields_by (Some pairs.now)) }
-{
-    match HeaderList::of(alloc, ListKind::Plain, pairs) {
-        Ok(list) => Ok(Ok(list)),
-        Err(HeaderEnd::BadName | HeaderEnd::BadValue) => Ok(Err(2)),
-        Err(HeaderEnd::TooMany) => Ok(Err(10)),
-        Err(HeaderEnd::OutOfMemory) => Err(AllocError),
-    }
-}
-
 /// The fields of a serialised form, or the status why there are none.
+#[tactic(auto, using(crate::proofs::Refused::fields_are_set))]
 fn fields_from(alloc: Global, bytes: &[u8]) -> Result<Result<HeaderList, u32>, OutOfMemory>
     requires { length bytes.now ≤ byte_limit }
     ensures { IfOk result (λ r. r ≡ fields_from_of bytes.now) }
 {
-    match read_pairs(alloc, bytes) {
-        Err(PairsEnd::NotPairs) => Ok(Err(4)),
-        Err(PairsEnd::OutOfMemory) => Err(AllocError),
-        Ok(pairs) => fields_of(alloc, &pairs),
-    }
+    let none = HeaderList::new(alloc);
+    set(alloc, &none, bytes)
 }
 
 /// Whether an answer was asked for or given, or it is too late for one.
