@@ -1,3 +1,4 @@
+pub mod Dated
 pub mod Examples
 pub mod FramingProofs
 pub mod Moments

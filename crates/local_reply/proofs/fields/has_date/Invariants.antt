@@ -1,9 +1,0 @@
-use Rattle.std.proofs.Common.{◌≡◌, drop}
-use Rattle.http1_model.specs.LocalReply.{has_date}
-use Rattle.http1_model.specs.Wire.{sent_among, sent_fields}
-use Rattle.local_reply.proofs.fields.has_date.Given as goal
-
--- what is left decides
-abbrev pub invariant-loop-at : goal.invariant-loop-at
-invariant-loop-at l =
-    has_date (sent_among l.fields.pairs (drop l.at l.fields.pairs)) ≡ has_date (sent_fields l.fields.pairs)
