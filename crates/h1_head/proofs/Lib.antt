@@ -1,5 +1,6 @@
 pub mod ListedLengths
 pub mod Lists
+pub mod Marking
 pub mod Measured
 pub mod Noting
 pub mod Origin

@@ -1,5 +1,6 @@
 pub mod Held
 pub mod Lengths
+pub mod Marked
 pub mod Measures
 pub mod Noted
 pub mod Seen
