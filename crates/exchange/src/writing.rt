@@ -84,7 +84,7 @@ pub(crate) fn request_bytes(
 {
     let mut out = Octets::new(alloc);
     push_start(&mut out, fields)?;
-    push_fields(&mut out, fields.texts())?;
+    push_fields(alloc, &mut out, fields.texts())?;
     push_framing(&mut out, framing)?;
     push_field(&mut out, b"via", via_value(minor))?;
     push_field(&mut out, b"connection", b"close")?;
@@ -125,7 +125,7 @@ pub(crate) fn response_bytes(
 {
     let mut out = Octets::new(alloc);
     push_start(&mut out, fields)?;
-    push_fields(&mut out, fields.texts())?;
+    push_fields(alloc, &mut out, fields.texts())?;
     push_framing(&mut out, framing)?;
     push_date(&mut out, fields, now)?;
     push_close(&mut out, stays)?;
@@ -139,7 +139,7 @@ pub fn interim_bytes(alloc: Global, fields: &HeaderList) -> Result<Octets, OutOf
 {
     let mut out = Octets::new(alloc);
     push_start(&mut out, fields)?;
-    push_fields(&mut out, fields.texts())?;
+    push_fields(alloc, &mut out, fields.texts())?;
     out.extend_from_slice(b"\r\n")?;
     Ok(out)
 }
@@ -182,11 +182,11 @@ fn with_connection(
 }
 
 /// Puts the end of a chunked body with these trailers at the end.
-fn push_trailers(out: &mut Octets, fields: &Texts) -> Result<(), OutOfMemory>
+fn push_trailers(alloc: Global, out: &mut Octets, fields: &Texts) -> Result<(), OutOfMemory>
     ensures { OnOk result (out.new ≡ out.old ++ body_end (sent_fields fields.now)) }
 {
     out.extend_from_slice(b"0\r\n")?;
-    push_fields(out, fields)?;
+    push_fields(alloc, out, fields)?;
     out.extend_from_slice(b"\r\n")
 }
 
@@ -204,7 +204,7 @@ pub(crate) fn trailer_bytes(
         Framing::Nothing | Framing::Length(_) | Framing::UntilClose => Ok(out),
         Framing::Chunked => {
             let fields = with_connection(alloc, connection, trailers)?;
-            push_trailers(&mut out, &fields)?;
+            push_trailers(alloc, &mut out, &fields)?;
             Ok(out)
         }
     }

@@ -63,7 +63,7 @@ pub fn trailer_bytes(alloc: Global, fields: &HeaderList) -> Result<Octets, OutOf
 {
     let mut out = Octets::new(alloc);
     out.extend_from_slice(b"0\r\n")?;
-    push_fields(&mut out, fields.texts())?;
+    push_fields(alloc, &mut out, fields.texts())?;
     out.extend_from_slice(b"\r\n")?;
     Ok(out)
 }

@@ -73,7 +73,7 @@ pub fn head_bytes(alloc: Global, head: &Head, framing: Framing) -> Result<Octets
 {
     let mut out = Octets::new(alloc);
     push_start(&mut out, head)?;
-    push_fields(&mut out, head.fields.texts())?;
+    push_fields(alloc, &mut out, head.fields.texts())?;
     push_framing(&mut out, framing)?;
     push_tail(&mut out, &head.tail)?;
     out.extend_from_slice(b"\r\n")?;

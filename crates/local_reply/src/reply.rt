@@ -112,7 +112,7 @@ pub fn local(
 {
     let mut out = Octets::new(alloc);
     push_status_line(&mut out, status)?;
-    push_fields(&mut out, fields.texts())?;
+    push_fields(alloc, &mut out, fields.texts())?;
     push_length(&mut out, status, body)?;
     push_date(&mut out, fields, now)?;
     push_close(&mut out, closes)?;
