@@ -34,6 +34,13 @@ place_of (Bytes line side bytes) = Peer line side
 place_of (Close line side) = Peer line side
 place_of (Log level text) = Journal
 
+-- the bytes of a piece, and none of another member
+abbrev pub bytes_in : Sent → List ℕ
+bytes_in (Connect line) = []
+bytes_in (Bytes line side bytes) = bytes
+bytes_in (Close line side) = []
+bytes_in (Log level text) = []
+
 -- what a member puts at its place
 abbrev pub marks_in : Sent → List Mark
 marks_in (Connect line) = opening ∷ []

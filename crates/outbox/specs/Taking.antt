@@ -1,5 +1,5 @@
 -- How much of a member a world takes.
-use Rattle.std.specs.Prelude.{◌≡◌, ℕ, Bool, List, [], ◌∷◌, ◌++◌, drop, Option, None, Some, Result, Ok, Err}
+use Rattle.std.specs.Prelude.{◌≡◌, ◌≤◌, ℕ, Bool, List, [], ◌∷◌, ◌++◌, length, drop, Option, None, Some, Result, Ok, Err}
 use Rattle.gate_io.specs.declared.event.Sent.{Sent}
 use Rattle.gate_io.specs.declared.event.Sent.TheVariants.{Connect, Bytes, Close, Log}
 use Rattle.gate_io.specs.declared.passed.Passed.{Passed}
@@ -13,6 +13,13 @@ rest_of n (Connect line) = Connect line
 rest_of n (Bytes line side bytes) = Bytes line side (drop n bytes)
 rest_of n (Close line side) = Close line side
 rest_of n (Log level text) = Log level text
+
+-- a piece has so many bytes
+abbrev pub IsWithin : ℕ → Sent → Type 0
+IsWithin n (Connect line) = Unit {0}
+IsWithin n (Bytes line side bytes) = n ≤ length bytes
+IsWithin n (Close line side) = Unit {0}
+IsWithin n (Log level text) = Unit {0}
 
 -- nothing is left of a member that was taken
 abbrev pub none_left : {E : Type 0} → Result (Unit {0}) E → Result (Option ℕ) E

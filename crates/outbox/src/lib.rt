@@ -1,6 +1,7 @@
 //! What a worker sends: how it is handed to its world, and what waits.
 #![tactic(auto)]
 
+mod held;
 mod joining;
 mod laws;
 mod member;
@@ -9,6 +10,7 @@ mod outbox;
 mod place;
 mod sorted;
 
+pub use held::Held;
 pub use joining::joined;
 pub use laws::{
     clearing_drops_one_place, deliveries_add_up, empty_pieces_are_nothing, joining_keeps_marks,

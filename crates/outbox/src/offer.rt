@@ -6,9 +6,9 @@ ghost use Rattle.outbox.specs.Places.{marks_at, place_of};
 ghost use Rattle.outbox.specs.Sorted.{rank_of, IsSorted, IsEndOf, IsBehind};
 ghost use Rattle.outbox.specs.Taking.{rest_of, none_left, WasOffered};
 
-use crate::place::{place_of, rank_of};
+use crate::held::{Held, place_of, rank_of, shorten};
 use crate::sorted::{end_near_last, put_behind, waits_before};
-use gate_base::{LineNo, Octets, OutOfMemory};
+use gate_base::{LineNo, OutOfMemory};
 use gate_io::{Sent, Side, World};
 use std::alloc::Global;
 
@@ -48,7 +48,7 @@ fn offer_piece<W: World>(
 pub fn offer_member<W: World>(
     alloc: Global,
     world: &mut W,
-    member: &Sent,
+    member: &Held,
 ) -> Result<Option<usize>, OutOfMemory>
     ensures last { W.last world.new ≡ W.last world.old }
     ensures nature { W.nature world.new ≡ W.nature world.old }
@@ -56,36 +56,20 @@ pub fn offer_member<W: World>(
     ensures offered { WasOffered (W.nature world.old).takes_whole (W.trace world.old) member.now result (W.trace world.new) }
     ensures some { IfOk result (λ taken. IfSome taken (λ n. IsFilled (rest_of n member.now))) }
 {
-    match member {
+    match &member.member {
         Sent::Connect { line } => none_left(world.connect(alloc, *line)),
-        Sent::Bytes { line, side, bytes } => {
-            offer_piece(alloc, world, *line, *side, bytes.as_slice())
-        }
+        Sent::Bytes { line, side, .. } => offer_piece(alloc, world, *line, *side, member.rest()),
         Sent::Close { line, side } => none_left(world.close(alloc, *line, *side)),
         Sent::Log { level, text } => none_left(world.log(alloc, *level, text.as_slice())),
     }
 }
 
-/// Takes so many bytes off the front of a piece. Where that is none, it stays where it is.
-pub fn shorten(alloc: Global, member: &mut Sent, n: usize) -> Result<(), OutOfMemory>
-    requires { IsFilled (rest_of n member.old) }
-    ensures { OnOk result (member.new ≡ rest_of n member.old) }
-{
-    if n == 0 {
-        return Ok(());
-    }
-    if let Sent::Bytes { bytes, .. } = member {
-        *bytes = Octets::from_slice(alloc, &bytes.as_slice()[n..])?;
-    }
-    Ok(())
-}
-
 /// Puts what is left of a member behind what waits.
 fn put_rest(
     alloc: Global,
-    left: &mut Vec<Sent>,
+    left: &mut Vec<Held>,
     end: usize,
-    member: Sent,
+    member: Held,
     n: usize,
 ) -> Result<(), OutOfMemory>
     requires sorted { IsSorted left.old.items }
@@ -103,9 +87,9 @@ fn put_rest(
 fn offer_first<W: World>(
     alloc: Global,
     world: &mut W,
-    left: &mut Vec<Sent>,
+    left: &mut Vec<Held>,
     end: usize,
-    member: Sent,
+    member: Held,
 ) -> Result<(), OutOfMemory>
     requires sorted { IsSorted left.old.items }
     requires end { IsEndOf (rank_of member) end left.old.items }
@@ -126,8 +110,8 @@ fn offer_first<W: World>(
 pub fn offer<W: World>(
     alloc: Global,
     world: &mut W,
-    left: &mut Vec<Sent>,
-    member: Sent,
+    left: &mut Vec<Held>,
+    member: Held,
 ) -> Result<(), OutOfMemory>
     requires { IsSorted left.old.items }
     ensures last { W.last world.new ≡ W.last world.old }
@@ -150,7 +134,7 @@ pub fn offer<W: World>(
 fn offer_at<W: World>(
     alloc: Global,
     world: &mut W,
-    members: &mut Vec<Sent>,
+    members: &mut Vec<Held>,
     at: &mut usize,
 ) -> Result<(), OutOfMemory>
     requires within { at.old < length members.old.items }
@@ -181,7 +165,7 @@ fn offer_at<W: World>(
 pub fn offer_waiting<W: World>(
     alloc: Global,
     world: &mut W,
-    members: &mut Vec<Sent>,
+    members: &mut Vec<Held>,
 ) -> Result<(), OutOfMemory>
     requires { IsSorted members.old.items }
     ensures last { W.last world.new ≡ W.last world.old }
@@ -197,12 +181,12 @@ pub fn offer_waiting<W: World>(
     Ok(())
 }
 
-/// Offers members to the world behind what is left already. What is left is sorted.
+/// Offers members that wait to the world behind what is left already. What is left is sorted.
 pub fn offer_all<W: World>(
     alloc: Global,
     world: &mut W,
-    left: &mut Vec<Sent>,
-    members: Vec<Sent>,
+    left: &mut Vec<Held>,
+    members: Vec<Held>,
 ) -> Result<(), OutOfMemory>
     requires { IsSorted left.old.items }
     ensures last { W.last world.new ≡ W.last world.old }
@@ -213,6 +197,26 @@ pub fn offer_all<W: World>(
 {
     for member in members {
         offer(alloc, world, left, member)?;
+    }
+    Ok(())
+}
+
+/// Offers what a turn sends to the world behind what is left already. What is left is sorted.
+pub fn offer_sent<W: World>(
+    alloc: Global,
+    world: &mut W,
+    left: &mut Vec<Held>,
+    members: Vec<Sent>,
+) -> Result<(), OutOfMemory>
+    requires { IsSorted left.old.items }
+    ensures last { W.last world.new ≡ W.last world.old }
+    ensures nature { W.nature world.new ≡ W.nature world.old }
+    ensures faults { W.faults world.old ≤ W.faults world.new }
+    ensures offered { Offered (W.nature world.old).takes_whole (W.trace world.old) left.old.items (left.old.items ++ members.items) result (W.trace world.new) left.new.items }
+    ensures sorted { OnOk result (IsSorted left.new.items) }
+{
+    for member in members {
+        offer(alloc, world, left, Held::new(member))?;
     }
     Ok(())
 }

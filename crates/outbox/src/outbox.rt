@@ -1,5 +1,5 @@
 // What waits for a world that takes less than it is given.
-ghost use Rattle.std.specs.Prelude.{◌≡◌, ◌≤◌, ◌↔◌, ◌++◌, [], IsTrue, OnOk, OnErr};
+ghost use Rattle.std.specs.Prelude.{◌≡◌, ◌≤◌, ◌↔◌, ◌++◌, [], IsTrue, IfOk, OnOk, OnErr};
 ghost use Rattle.outbox.specs.Cleared.{cleared, without};
 ghost use Rattle.outbox.specs.Delivery.{Offered};
 ghost use Rattle.outbox.specs.Joined.{joined};
@@ -7,10 +7,10 @@ ghost use Rattle.std.specs.Bool.{OnTrue};
 ghost use Rattle.outbox.specs.Places.{IsFull, octets_in, marks_at};
 ghost use Rattle.outbox.specs.Sorted.{rank, IsSorted, IsSortedFrom};
 
+use crate::held::{Held, bytes_for, is_for, rank_of};
 use crate::joining::joined;
-use crate::member::{bytes_for, is_for};
-use crate::offer::{offer_all, offer_waiting};
-use crate::place::{Place, ended_by, rank, rank_of};
+use crate::offer::{offer_all, offer_sent, offer_waiting};
+use crate::place::{Place, ended_by, rank};
 use crate::sorted::end_of;
 use gate_base::{LineNo, OutOfMemory};
 use gate_io::{Sent, Side, What, World};
@@ -24,7 +24,7 @@ const FULL: usize = 65_536;
 /// What waits to be handed over, in order. Clauses see the list of its members.
 #[derive(Debug, Drop)]
 pub struct Outbox {
-    waiting: Vec<Sent>,
+    waiting: Vec<Held>,
     /// What waits was left by a world: it is sorted by places, so that a turn costs no more for what waits elsewhere than to offer it.
     is_sorted: bool,
 }
@@ -54,7 +54,7 @@ impl Outbox {
     }
 
     /// What waits, in order.
-    pub fn waiting(&self) -> &[Sent]
+    pub fn waiting(&self) -> &[Held]
         ensures { result.now ≡ self.now }
     {
         &self.waiting
@@ -74,7 +74,7 @@ impl Outbox {
         ensures ok { OnOk result (self.new ≡ self.old ++ sent.items) }
         ensures err { OnErr result (self.new ≡ self.old) }
     {
-        let mut sent = sent;
+        let mut sent = held(sent)?;
         self.is_sorted = false;
         self.waiting.append(&mut sent)?;
         Ok(())
@@ -126,7 +126,7 @@ impl Outbox {
     {
         let mut left = mem::replace(&mut self.waiting, Vec::new(alloc));
         offer_again(alloc, world, &mut left, self.is_sorted)?;
-        offer_all(alloc, world, &mut left, sent)?;
+        offer_sent(alloc, world, &mut left, sent)?;
         self.waiting = left;
         self.is_sorted = true;
         Ok(())
@@ -148,11 +148,22 @@ impl Outbox {
     }
 }
 
+/// Members of which nothing was taken.
+fn held(sent: Vec<Sent>) -> Result<Vec<Held>, OutOfMemory>
+    ensures { IfOk result (λ list. list.items ≡ sent.items) }
+{
+    let mut list = Vec::with_capacity(*sent.allocator(), sent.len())?;
+    for member in sent {
+        list.push(Held::new(member))?;
+    }
+    Ok(list)
+}
+
 /// Offers what waits, in order. What is left is sorted.
 fn offer_again<W: World>(
     alloc: Global,
     world: &mut W,
-    waiting: &mut Vec<Sent>,
+    waiting: &mut Vec<Held>,
     is_sorted: bool,
 ) -> Result<(), OutOfMemory>
     requires { OnTrue is_sorted (IsSorted waiting.old.items) }
@@ -170,7 +181,7 @@ fn offer_again<W: World>(
 }
 
 /// Whether at least 65,536 bytes of these wait for a place. Sorted ones, of which none is before it, are read as far as they are for it.
-fn is_full_in(members: &[Sent], place: &Place, is_sorted: bool) -> bool
+fn is_full_in(members: &[Held], place: &Place, is_sorted: bool) -> bool
     requires { OnTrue is_sorted (IsSortedFrom (rank place.now) members.now) }
     ensures { IsTrue result ↔ (65536 ≤ octets_in (marks_at place.now members.now)) }
 {
@@ -189,7 +200,7 @@ fn is_full_in(members: &[Sent], place: &Place, is_sorted: bool) -> bool
 }
 
 /// Drops what waits for a place.
-fn forget(waiting: &mut Vec<Sent>, place: &Place)
+fn forget(waiting: &mut Vec<Held>, place: &Place)
     ensures { waiting.new.items ≡ without place.now waiting.old.items }
 {
     waiting.retain(|member| !is_for(member, place));

@@ -2,7 +2,7 @@
 ghost use Rattle.std.specs.Prelude.{◌≡◌};
 ghost use Rattle.outbox.specs.Cleared.{ended_by};
 ghost use Rattle.outbox.specs.Places.{place_of};
-ghost use Rattle.outbox.specs.Sorted.{rank, rank_of};
+ghost use Rattle.outbox.specs.Sorted.{rank};
 ghost use Rattle.outbox.specs.declared.place.Place.TheVariants.{Peer};
 
 use gate_base::LineNo;
@@ -60,11 +60,4 @@ pub(crate) fn rank(place: &Place) -> u64
             }
         }
     }
-}
-
-/// The number by which a member is sorted.
-pub(crate) fn rank_of(member: &Sent) -> u64
-    ensures { result ≡ rank_of member.now }
-{
-    rank(&place_of(member))
 }

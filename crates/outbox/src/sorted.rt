@@ -4,13 +4,12 @@ ghost use Rattle.std.specs.Bool.{OnTrue, OnFalse};
 ghost use Rattle.outbox.specs.Places.{marks_at};
 ghost use Rattle.outbox.specs.Sorted.{rank, rank_of, IsSorted, IsEndOf, IsBehind};
 
-use crate::member::{are_one, as_one, is_empty};
-use crate::place::{Place, rank, rank_of};
+use crate::held::{Held, are_one, is_empty, join, rank_of};
+use crate::place::{Place, rank};
 use gate_base::OutOfMemory;
-use gate_io::Sent;
 
 /// How many of the members are of this rank or a lower one.
-pub fn end_of(members: &[Sent], most: u64) -> usize
+pub fn end_of(members: &[Held], most: u64) -> usize
     requires { IsSorted members.now }
     ensures { IsEndOf most result members.now }
 {
@@ -18,7 +17,7 @@ pub fn end_of(members: &[Sent], most: u64) -> usize
 }
 
 /// The same, where that is likely to be all of them.
-pub fn end_near_last(members: &[Sent], most: u64) -> usize
+pub fn end_near_last(members: &[Held], most: u64) -> usize
     requires { IsSorted members.now }
     ensures { IsEndOf most result members.now }
 {
@@ -30,7 +29,7 @@ pub fn end_near_last(members: &[Sent], most: u64) -> usize
 }
 
 /// Whether something waits for a place, where so many members are of its rank or a lower one.
-pub fn waits_before(members: &[Sent], end: usize, place: &Place) -> bool
+pub fn waits_before(members: &[Held], end: usize, place: &Place) -> bool
     requires sorted { IsSorted members.now }
     requires end { IsEndOf (rank place.now) end members.now }
     ensures some { OnTrue result (marks_at place.now members.now ≢ []) }
@@ -40,15 +39,14 @@ pub fn waits_before(members: &[Sent], end: usize, place: &Place) -> bool
 }
 
 /// Puts a member behind those of its place, where so many are of its rank or a lower one. Bytes behind bytes become one member.
-pub fn put_behind(members: &mut Vec<Sent>, end: usize, member: Sent) -> Result<(), OutOfMemory>
+pub fn put_behind(members: &mut Vec<Held>, end: usize, member: Held) -> Result<(), OutOfMemory>
     requires sorted { IsSorted members.old.items }
     requires end { IsEndOf (rank_of member) end members.old.items }
     ensures behind { OnOk result (IsBehind members.old.items member members.new.items) }
     ensures sorted { OnOk result (IsSorted members.new.items) }
 {
     if end > 0 && are_one(&members[end - 1], &member) {
-        let one = as_one(members.remove(end - 1), &member)?;
-        members.insert(end - 1, one)?;
+        join(&mut members[end - 1], &member)?;
         return Ok(());
     }
     if is_empty(&member) {

@@ -16,29 +16,29 @@ returns-in_err-offer_again-clause-offered g c =
     (subst (λ (l : List Sent). Offered {E = AllocError} whole a [] l c.offer_again.result b c.offer_again.new.waiting.items) all c.offer_again.ensures.offered)
 
 -- what waited was offered, and then what is sent
-pub returns-in_err-offer_all-clause-offered : goal.returns-in_err-offer_all-clause-offered
-returns-in_err-offer_all-clause-offered g c =
+pub returns-in_err-offer_sent-clause-offered : goal.returns-in_err-offer_sent-clause-offered
+returns-in_err-offer_sent-clause-offered g c =
     let whole = (g.W.World.nature c.args.world.now).takes_whole in
     let a = g.W.World.trace c.args.world.now in
     let b = g.W.World.trace c.offer_again.new.world in
-    let d = g.W.World.trace c.offer_all.new.world in
+    let d = g.W.World.trace c.offer_sent.new.world in
     let left = c.offer_again.new.waiting.items in
     let sent = c.args.sent.items in
     let all : c.replace-left.result.items ≡ c.args.self.now = ap (λ v. v.items) c.replace-left.ensures.value ∙ c.self.view_is in
-    offered_lost whole a d [] (c.args.self.now ++ sent) c.offer_all.new.left.items _ c.offer_all.result c.from_residual-in_err-offer_all.result c.from_residual-in_err-offer_all.ensures.0
-    (offered_more whole a b d [] c.args.self.now left c.offer_all.new.left.items sent c.offer_all.result
+    offered_lost whole a d [] (c.args.self.now ++ sent) c.offer_sent.new.left.items _ c.offer_sent.result c.from_residual-in_err-offer_sent.result c.from_residual-in_err-offer_sent.ensures.0
+    (offered_more whole a b d [] c.args.self.now left c.offer_sent.new.left.items sent c.offer_sent.result
     (subst (λ (l : List Sent). Offered {E = AllocError} whole a [] l (Ok tt) b left) all c.in_ok-offer_again.ensures.offered)
-    (subst (λ (w : Bool). Offered {E = AllocError} w b left (left ++ sent) c.offer_all.result d c.offer_all.new.left.items) (ap (λ (n : Nature). n.takes_whole) c.offer_again.ensures.nature) c.offer_all.ensures.offered))
+    (subst (λ (w : Bool). Offered {E = AllocError} w b left (left ++ sent) c.offer_sent.result d c.offer_sent.new.left.items) (ap (λ (n : Nature). n.takes_whole) c.offer_again.ensures.nature) c.offer_sent.ensures.offered))
 
 pub returns-clause-offered : goal.returns-clause-offered
 returns-clause-offered g c =
     let whole = (g.W.World.nature c.args.world.now).takes_whole in
     let a = g.W.World.trace c.args.world.now in
     let b = g.W.World.trace c.offer_again.new.world in
-    let d = g.W.World.trace c.offer_all.new.world in
+    let d = g.W.World.trace c.offer_sent.new.world in
     let left = c.offer_again.new.waiting.items in
     let sent = c.args.sent.items in
     let all : c.replace-left.result.items ≡ c.args.self.now = ap (λ v. v.items) c.replace-left.ensures.value ∙ c.self.view_is in
-    offered_more whole a b d [] c.args.self.now left c.offer_all.new.left.items sent (Ok tt)
+    offered_more whole a b d [] c.args.self.now left c.offer_sent.new.left.items sent (Ok tt)
     (subst (λ (l : List Sent). Offered {E = AllocError} whole a [] l (Ok tt) b left) all c.in_ok-offer_again.ensures.offered)
-    (subst (λ (w : Bool). Offered {E = AllocError} w b left (left ++ sent) (Ok tt) d c.offer_all.new.left.items) (ap (λ (n : Nature). n.takes_whole) c.offer_again.ensures.nature) c.in_ok-offer_all.ensures.offered)
+    (subst (λ (w : Bool). Offered {E = AllocError} w b left (left ++ sent) (Ok tt) d c.offer_sent.new.left.items) (ap (λ (n : Nature). n.takes_whole) c.offer_again.ensures.nature) c.in_ok-offer_sent.ensures.offered)
