@@ -1,18 +1,20 @@
 -- What is known of the lines stays so.
-use Rattle.std.proofs.Common.{◌≡◌, ◌≤◌, ◌<◌, ℕ, zero, suc, ◌+◌, List, [], ◌∷◌, length, map, Bool, true, false, cond, refl, sym, ap, ◌∙◌, subst, arith, Option, Some, None, ◌⊎◌, inl, inr, nat_lt}
-use Rattle.std.specs.Prelude.{slice_get, slice_set, position, filter, option_map}
-use Rattle.std.proofs.lemmas.Option.{slice_get-map, slice_get_past}
+use Rattle.std.proofs.Common.{◌≡◌, ◌==◌, get_or, ◌≤◌, ◌<◌, ℕ, zero, suc, ◌+◌, List, [], ◌∷◌, length, map, Bool, true, false, cond, refl, sym, ap, ◌∙◌, subst, arith, Option, Some, None, ◌⊎◌, inl, inr, nat_lt}
+use Rattle.std.specs.List.{position_or_len}
+use Rattle.std.specs.Prelude.{not, slice_get, slice_set, position, filter, option_map}
+use Rattle.std.proofs.lemmas.Option.{slice_get-map, slice_get_past, slice_get_read}
 use Rattle.gate_io.specs.declared.event.Sent.{Sent}
 use Rattle.gate_io.specs.declared.event.Side.TheVariants.{Down, Up}
 use Rattle.worker.specs.Rooms.{moves, is_over}
 use Rattle.worker.specs.Stirring.{Covers, StirsWithin}
 use Rattle.worker.specs.Steps.{exchange_reading}
 use Rattle.worker.specs.Wants.{is_wanted, wanted_of, with_lines, earlier, due_on, reads_more, wished, with_wishes}
-use Rattle.worker.specs.Wishes.{wish_of, takes_on, takes_up, falls_due, Fits, Touched, Sound}
+use Rattle.worker.specs.Wishes.{wish_of, takes_on, takes_up, falls_due, Fits, Touched, Sees, Sound}
 use Rattle.exchange.specs.declared.types.Exchange.{Exchange}
 use Rattle.http1_model.specs.Unread.{Reading}
 use Rattle.worker.specs.declared.span.Span.{Span}
 use Rattle.worker.specs.declared.types.Line.{Line}
+use Rattle.worker.specs.declared.types.Seen.{Seen}
 use Rattle.worker.specs.declared.types.Wish.{Wish}
 use Rattle.worker.specs.declared.wishes.Wishes.{Wishes}
 use Rattle.worker.proofs.Firsts.{low_or_high}
@@ -46,26 +48,66 @@ fits_all span each lines all = record { at = λ k. inl (λ not_all. absurd (cc))
 pub fits_each : (span : Span) (each : List Wish) (lines : List Line) → each ≡ map wish_of lines → Fits span each lines
 fits_each span each lines is = record { at = λ k. inr (ap (λ (ws : List Wish). slice_get ws k) is ∙ slice_get-map wish_of lines k) }
 
--- whatever is put at a place that is covered
-pub sound_set : (old new : Span) (was is : Wishes) (lines : List Line) (at : ℕ) (line : Line) → Sound old was lines
-    → Covers new at → ((k : ℕ) → Covers old k → Covers new k) → Touched was at is → Sound new is (slice_set lines at line)
-sound_set old new was is lines at line sound here others touched = record {
+pub length_set : {X : Type 0} (xs : List X) (at : ℕ) (x : X) → length (slice_set xs at x) ≡ length xs
+length_set [] at x = refl
+length_set (z ∷ zs) zero x = refl
+length_set (z ∷ zs) (suc at) x = ap suc (length_set zs at x)
+
+-- the first that passes is at the same place, where a member is set that passes as the one before did
+first_set : {X : Type 0} (p : X → Bool) (xs : List X) (at : ℕ) (x y : X) → slice_get xs at ≡ Some x → p y ≡ p x → position_or_len p (slice_set xs at y) ≡ position_or_len p xs
+first_set p [] at x y there same = refl
+first_set p (z ∷ xs) zero x y there same = let one : z ≡ x = (cc) in ap (λ (b : Bool). cond (not b) (1 + position_or_len p xs) 0) (same ∙ sym (ap p one))
+first_set p (z ∷ xs) (suc at) x y there same = ap (λ (n : ℕ). cond (not (p z)) (1 + n) 0) (first_set p xs at x y there same)
+
+place_set : {X : Type 0} (p : X → Bool) (xs : List X) (at : ℕ) (x y : X) → slice_get xs at ≡ Some x → p y ≡ p x → position p (slice_set xs at y) ≡ position p xs
+place_set p xs at x y there same =
+    let first = first_set p xs at x y there same in
+    let long = length_set xs at y in
+    let P : ℕ → ℕ → Type 0 = λ n m. cond (nat_lt n m) (Some n) None ≡ position p xs in
+    subst (λ (n : ℕ). P n (length (slice_set xs at y))) (sym first) (subst (λ (m : ℕ). P (position_or_len p xs) m) (sym long) refl)
+
+sees_set : (seen : Option Seen) (lines : List Line) (at : ℕ) (line before : Line) → Sees seen lines → slice_get lines at ≡ Some before → line.number ≡ before.number → Sees seen (slice_set lines at line)
+sees_set seen lines at line before sees there same = record {
+  at = λ s is. place_set (λ (l : Line). l.number == s.number) lines at before line there (ap (λ (n : ℕ). n == s.number) same) ∙ sees.at s is;
+}
+
+-- whatever is put at a place that is covered, with the number that was there
+pub sound_set : (old new : Span) (was is : Wishes) (seen : Option Seen) (lines : List Line) (at : ℕ) (line before : Line) → Sound old was seen lines
+    → Covers new at → ((k : ℕ) → Covers old k → Covers new k) → Touched was at is
+    → at < length lines → before ≡ get_or lines at before → line.number ≡ before.number → Sound new is seen (slice_set lines at line)
+sound_set old new was is seen lines at line before sound here others touched low value number = record {
+  sees = sees_set seen lines at line before sound.sees (slice_get_read lines (length lines) at before refl low value) number;
   stirs = stirs_set old new lines at line sound.stirs here others;
   fits = subst (λ each. Fits is.touched each.items (slice_set lines at line)) (sym touched.same)
       (fits_set was.touched is.touched was.each.items lines at line sound.fits touched.here touched.others);
 }
 
--- all are covered
-pub sound_all : (span : Span) (wishes : Wishes) (lines : List Line) → span.is_all ≡ true → wishes.touched.is_all ≡ true → Sound span wishes lines
-sound_all span wishes lines due touched = record { stirs = stirs_all span lines due; fits = fits_all wishes.touched wishes.each.items lines touched }
+-- all are covered, and none was looked for
+pub sound_all : (span : Span) (wishes : Wishes) (seen : Option Seen) (lines : List Line) → span.is_all ≡ true → wishes.touched.is_all ≡ true → seen ≡ None → Sound span wishes seen lines
+sound_all span wishes seen lines due touched none = record {
+  sees = record { at = λ s is. absurd (cc) };
+  stirs = stirs_all span lines due;
+  fits = fits_all wishes.touched wishes.each.items lines touched;
+}
 
 -- nothing is due
-pub sound_calm : (old new : Span) (wishes : Wishes) (lines : List Line) → Sound old wishes lines → position moves lines ≡ None → position is_over lines ≡ None → Sound new wishes lines
-sound_calm old new wishes lines sound first next = record { stirs = stirs_calm new lines first next; fits = sound.fits }
+pub sound_calm : (old new : Span) (wishes : Wishes) (seen : Option Seen) (lines : List Line) → Sound old wishes seen lines → position moves lines ≡ None → position is_over lines ≡ None → Sound new wishes seen lines
+sound_calm old new wishes seen lines sound first next = record { sees = sound.sees; stirs = stirs_calm new lines first next; fits = sound.fits }
 
 -- they were looked at again
-pub sound_renewed : (due : Span) (was is : Wishes) (lines : List Line) → Sound due was lines → Fits is.touched is.each.items lines → Sound due is lines
-sound_renewed due was is lines sound fits = record { stirs = sound.stirs; fits = fits }
+pub sound_renewed : (due : Span) (was is : Wishes) (seen : Option Seen) (lines : List Line) → Sound due was seen lines → Fits is.touched is.each.items lines → Sound due is seen lines
+sound_renewed due was is seen lines sound fits = record { sees = sound.sees; stirs = sound.stirs; fits = fits }
+
+-- another was looked for
+pub sound_seen : (due : Span) (wishes : Wishes) (was : Option Seen) (number place : ℕ) (lines : List Line) → Sound due wishes was lines
+    → position (λ (line : Line). line.number == number) lines ≡ Some place → Sound due wishes (Some (record { number = number; place = place })) lines
+sound_seen due wishes was number place lines sound found = record { sees = record { at = λ s is. by s is }; stirs = sound.stirs; fits = sound.fits }
+  where
+    by : (s : Seen) → ◌≡◌ {A = Option Seen} (Some (record { number = number; place = place })) (Some s) → position (λ (line : Line). line.number == s.number) lines ≡ Some s.place
+    by s is =
+        let n : number ≡ s.number = (cc) in
+        let p : place ≡ s.place = (cc) in
+        subst (λ (m : ℕ). position (λ (line : Line). line.number == m) lines ≡ Some s.place) n (found ∙ ap Some p)
 
 -- lists that give the same at each place are the same
 all_same : {X Y : Type 0} (f : X → Y) (ys : List Y) (xs : List X) → ((k : ℕ) → slice_get ys k ≡ option_map f (slice_get xs k)) → ys ≡ map f xs
@@ -179,8 +221,3 @@ fits_end touched end each lines long high fits = all_same wish_of each lines (λ
         past (inr behind) =
             slice_get_past each k (let same = long in omega (arith, same, behind))
             ∙ sym (ap (λ (o : Option Line). option_map wish_of o) (slice_get_past lines k behind))
-
-pub length_set : {X : Type 0} (xs : List X) (at : ℕ) (x : X) → length (slice_set xs at x) ≡ length xs
-length_set [] at x = refl
-length_set (z ∷ zs) zero x = refl
-length_set (z ∷ zs) (suc at) x = ap suc (length_set zs at x)

@@ -1,10 +1,11 @@
 -- What each line wants where nothing waits for its peers, and what of that is known.
-use Rattle.std.specs.Prelude.{◌≡◌, ℕ, Bool, false, ◌||◌, List, length, nat_lt, Option, None, Some, option_map, slice_get, if◌then◌else◌, ◌⊎◌}
+use Rattle.std.specs.Prelude.{◌≡◌, ◌==◌, position, ℕ, Bool, true, false, ◌||◌, List, length, nat_lt, Option, None, Some, option_map, slice_get, if◌then◌else◌, ◌⊎◌}
 use Rattle.exchange.specs.declared.types.Exchange.{Exchange}
 use Rattle.http1_model.specs.Unread.{Reading}
 use Rattle.worker.specs.Stirring.{Covers, StirsWithin}
 use Rattle.worker.specs.declared.span.Span.{Span}
 use Rattle.worker.specs.declared.types.Line.{Line}
+use Rattle.worker.specs.declared.types.Seen.{Seen}
 use Rattle.worker.specs.declared.types.Wish.{Wish}
 use Rattle.worker.specs.declared.wishes.Wishes.{Wishes}
 
@@ -39,7 +40,12 @@ pub record Touched (was : Wishes) (at : ℕ) (is : Wishes) : Type 0 where
   pub others : (k : ℕ) → Covers was.touched k → Covers is.touched k
   pub same : is.each ≡ was.each
 
--- what is known of the lines: where something may be due, and what they want
-pub record Sound (due : Span) (wishes : Wishes) (lines : List Line) : Type 0 where
+-- the line that was looked for stands there
+pub record Sees (seen : Option Seen) (lines : List Line) : Type 0 where
+  pub at : (s : Seen) → seen ≡ Some s → position (λ (line : Line). line.number == s.number) lines ≡ Some s.place
+
+-- what is known of the lines: where one of them stands, where something may be due, and what they want
+pub record Sound (due : Span) (wishes : Wishes) (seen : Option Seen) (lines : List Line) : Type 0 where
+  pub sees : Sees seen lines
   pub stirs : StirsWithin due lines
   pub fits : Fits wishes.touched wishes.each.items lines

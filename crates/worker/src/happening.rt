@@ -210,6 +210,7 @@ impl Room {
     ) -> Result<(), OutOfMemory>
         ensures { OnOk result (self.new ≡ comes up ends bytes.now number self.old) }
     {
+        self.lines.see(number);
         let line = self.lines.line(number);
         let x = exchange_of(line);
         if !is_open(line, up) || (up && is_answered(x)) {

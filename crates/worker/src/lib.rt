@@ -26,6 +26,6 @@ pub use no_machines::NoMachines;
 pub use room::Room;
 pub use turning::settle;
 pub use types::{
-    Asked, Bodies, Change, ContextAt, Job, Line, NewContext, Next, Own, Reads, Rules, Wish,
+    Asked, Bodies, Change, ContextAt, Job, Line, NewContext, Next, Own, Reads, Rules, Seen, Wish,
 };
 pub use worker::{Turn, Worker};

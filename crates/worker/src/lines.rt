@@ -1,7 +1,7 @@
 // The open lines, by their numbers.
 ghost use Rattle.std.specs.List.{list_any, position_or_len};
 ghost use Rattle.worker.specs.Wishes.{wish_of};
-ghost use Rattle.std.specs.Prelude.{◌≡◌, [], ◌∷◌, ◌++◌, ◌==◌, ◌&&◌, OnOk, IfOk, IfSome, length, map, filter, reverse, position, slice_get, option_map, Some, None, insert, nat_lt, not};
+ghost use Rattle.std.specs.Prelude.{◌≡◌, false, [], ◌∷◌, ◌++◌, ◌==◌, ◌&&◌, OnOk, IfOk, IfSome, length, map, filter, reverse, position, slice_get, option_map, Some, None, insert, nat_lt, not};
 ghost use Rattle.worker.specs.Rooms.{moves, is_over, exchange_moves, exchange_ends, has_open, place_in, place_of, marking, in_exchange, in_line, at_some, at_place, all_lines};
 ghost use Rattle.worker.specs.Changes.{changed};
 ghost use Rattle.worker.specs.Steps.{drops_at, new_line, place_for, is_late, line_in};
@@ -10,7 +10,7 @@ ghost use Rattle.exchange.specs.Maps.{request_map, response_map, request_trailer
 ghost use Rattle.exchange.specs.Passing.{dies, expires, chain_of, passed_on};
 
 use crate::span::Span;
-use crate::types::{Asked, Change, Line, Wish};
+use crate::types::{Asked, Change, Line, Seen, Wish};
 use crate::wishes::Wishes;
 use exchange::{
     Exchange, Filter, Hub, act, answer, close, die, expire, is_due, mark, pair_count, pass_on,
@@ -32,6 +32,8 @@ pub struct Lines {
     pub(crate) due: Span,
     /// What each wants, so that it is asked again only of lines to which something was done.
     pub(crate) wishes: Wishes,
+    /// Where the line stands of which the events of a turn speak, so that it is looked for once.
+    pub(crate) seen: Option<Seen>,
 }
 
 impl Model for Lines {
@@ -43,7 +45,7 @@ impl Model for Lines {
 
     ghost view = { λ l. l.list.items };
 
-    ghost invariant = { λ l. Sound l.due l.wishes l.list.items };
+    ghost invariant = { λ l. Sound l.due l.wishes l.seen l.list.items };
 }
 
 fn has_filter(filters: &[Filter], vm: VmNo, context: ContextId) -> bool
@@ -162,7 +164,8 @@ fn change_line(
     line: &mut Line,
     hub: &mut Hub,
 ) -> Result<(), OutOfMemory>
-    ensures { OnOk result (in_line (changed what) line.old hub.old ≡ (line.new, hub.new)) }
+    ensures done { OnOk result (in_line (changed what) line.old hub.old ≡ (line.new, hub.new)) }
+    ensures number { line.new.number ≡ line.old.number }
 {
     match &mut line.exchange {
         None => Ok(()),
@@ -251,6 +254,7 @@ impl Lines {
             list: Vec::new(alloc),
             due: Span::all(),
             wishes: Wishes::new(alloc),
+            seen: None,
         }
     }
 
@@ -272,7 +276,22 @@ impl Lines {
     pub fn place_in(&self, number: LineNo) -> Option<usize>
         ensures { result ≡ place_in number self.now }
     {
+        if let Some(seen) = self.seen {
+            if seen.number == number {
+                return Some(seen.place);
+            }
+        }
         self.list.iter().position(|line| line.number == number)
+    }
+
+    /// Looks for the line of a number, of which more is asked then.
+    #[tactic(auto, using(crate::proofs::Wished::sound_seen))]
+    pub(crate) fn see(&mut self, number: LineNo)
+        ensures { self.new ≡ self.old }
+    {
+        if let Some(place) = self.place_in(number) {
+            self.seen = Some(Seen { number, place });
+        }
     }
 
     /// Where the line stands whose open exchange has a context of a VM.
@@ -402,6 +421,7 @@ impl Lines {
     {
         self.due = Span::all();
         self.wishes.touch_all();
+        self.seen = None;
         let old = std::mem::replace(&mut self.list, Vec::new(alloc));
         self.list = die_all(alloc, vm, old, hub)?;
         Ok(())
@@ -414,6 +434,7 @@ impl Lines {
     {
         self.due = Span::all();
         self.wishes.touch_all();
+        self.seen = None;
         let old = std::mem::replace(&mut self.list, Vec::new(alloc));
         self.list = expire_each(alloc, old, hub)?;
         Ok(())
@@ -428,6 +449,7 @@ impl Lines {
             if place < self.list.len() {
                 self.due = Span::all();
                 self.wishes.touch_all();
+                self.seen = None;
                 let _ = self.list.remove(place);
             }
         }
@@ -447,6 +469,7 @@ impl Lines {
         };
         self.due = Span::all();
         self.wishes.touch_all();
+        self.seen = None;
         self.list.insert(place, line)?;
         Ok(())
     }
@@ -563,7 +586,8 @@ fn asked_by(
 }
 
 fn ask_line(alloc: Global, line: &mut Line, hub: &mut Hub) -> Result<Option<Asked>, OutOfMemory>
-    ensures { IfOk result (λ a. asks_line line.old hub.old ≡ (a, line.new, hub.new)) }
+    ensures done { IfOk result (λ a. asks_line line.old hub.old ≡ (a, line.new, hub.new)) }
+    ensures number { line.new.number ≡ line.old.number }
 {
     match &mut line.exchange {
         None => Ok(None),
@@ -572,7 +596,8 @@ fn ask_line(alloc: Global, line: &mut Line, hub: &mut Hub) -> Result<Option<Aske
 }
 
 fn end_line(line: &mut Line) -> Option<(LineNo, Exchange)>
-    ensures { ended_line line.old ≡ (result, line.new) }
+    ensures done { ended_line line.old ≡ (result, line.new) }
+    ensures number { line.new.number ≡ line.old.number }
 {
     let number = line.number;
     match std::mem::replace(&mut line.exchange, None) {

@@ -74,7 +74,8 @@ fn enter_line(
     line: &mut Line,
     hub: &mut Hub,
 ) -> Result<(), OutOfMemory>
-    ensures { OnOk result (in_line (entering dead.now) line.old hub.old ≡ (line.new, hub.new)) }
+    ensures done { OnOk result (in_line (entering dead.now) line.old hub.old ≡ (line.new, hub.new)) }
+    ensures number { line.new.number ≡ line.old.number }
 {
     match &mut line.exchange {
         None => Ok(()),
@@ -84,7 +85,8 @@ fn enter_line(
 
 /// What the reader of a side of a line says next, if there is one.
 fn hear_line(line: &mut Line, up: bool) -> Result<Option<Step>, OutOfMemory>
-    ensures { IfOk result (λ s. HearsLine up (line_reading up (Some line.old)) line.old s line.new) }
+    ensures done { IfOk result (λ s. HearsLine up (line_reading up (Some line.old)) line.old s line.new) }
+    ensures number { line.new.number ≡ line.old.number }
 {
     if !up {
         return Ok(Some(line.requests.next_item()?));
@@ -119,7 +121,8 @@ fn note(up: bool, item: &Item, x: &mut Exchange)
 
 /// The same of the exchange that is open on a line.
 fn note_line(line: &mut Line, up: bool, item: &Item)
-    ensures { line.new ≡ change_line (noted up item.now) line.old }
+    ensures done { line.new ≡ change_line (noted up item.now) line.old }
+    ensures number { line.new.number ≡ line.old.number }
 {
     if let Some(x) = &mut line.exchange {
         note(up, item, x);
@@ -148,7 +151,8 @@ fn keep_response(head: &Head, x: &mut Exchange)
 
 /// The same of the exchange that is open on a line.
 fn keep_response_on(line: &mut Line, head: &Head)
-    ensures { line.new ≡ change_line (keeps_response (seen_head head.now)) line.old }
+    ensures done { line.new ≡ change_line (keeps_response (seen_head head.now)) line.old }
+    ensures number { line.new.number ≡ line.old.number }
 {
     if let Some(x) = &mut line.exchange {
         keep_response(head, x);
@@ -165,7 +169,8 @@ fn lose_exchange(x: &mut Exchange)
 
 /// The client of a line is gone.
 fn lose_line(line: &mut Line)
-    ensures { line.new ≡ lost line.old }
+    ensures done { line.new ≡ lost line.old }
+    ensures number { line.new.number ≡ line.old.number }
 {
     if let Some(x) = &mut line.exchange {
         lose_exchange(x);
@@ -199,7 +204,8 @@ fn answer_further(x: &mut Exchange, ends: bool, bytes: &[u8]) -> Result<(), OutO
 
 /// The same of a side of a line.
 fn line_further(line: &mut Line, up: bool, ends: bool, bytes: &[u8]) -> Result<(), OutOfMemory>
-    ensures { OnOk result (line.new ≡ further_on up ends bytes.now line.old) }
+    ensures done { OnOk result (line.new ≡ further_on up ends bytes.now line.old) }
+    ensures number { line.new.number ≡ line.old.number }
 {
     if !up {
         return read_further(&mut line.requests, ends, bytes);
@@ -240,7 +246,8 @@ fn put_filter(x: &mut Exchange, k: usize, f: Filter)
 
 /// The same of the exchange that is open on a line.
 fn put_filter_on(line: &mut Line, k: usize, f: Filter)
-    ensures { line.new ≡ change_line (with_filter k f) line.old }
+    ensures done { line.new ≡ change_line (with_filter k f) line.old }
+    ensures number { line.new.number ≡ line.old.number }
 {
     if let Some(x) = &mut line.exchange {
         put_filter(x, k, f);
@@ -249,7 +256,8 @@ fn put_filter_on(line: &mut Line, k: usize, f: Filter)
 
 /// An exchange begins on a line.
 fn begin_on(line: &mut Line, x: Exchange)
-    ensures { line.new ≡ with_exchange x line.old }
+    ensures done { line.new ≡ with_exchange x line.old }
+    ensures number { line.new.number ≡ line.old.number }
 {
     line.exchange = Some(x);
 }

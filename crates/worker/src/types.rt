@@ -34,6 +34,13 @@ pub struct Line {
     pub exchange: Option<Exchange>,
 }
 
+/// A line that was looked for last, if any, and the place where it stands.
+#[derive(Clone, Copy)]
+pub struct Seen {
+    pub number: LineNo,
+    pub place: usize,
+}
+
 /// What a line wants where nothing waits for its peers: whether bytes of its client and of its server are taken, and when its response is due.
 #[derive(Clone, Copy)]
 pub struct Wish {
