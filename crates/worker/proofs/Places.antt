@@ -7,9 +7,6 @@ use Rattle.contexts.specs.Keyed.{found}
 use Rattle.contexts.specs.Reached.{tick_in, contains, context_no}
 use Rattle.worker.specs.declared.types.Line.{Line}
 use Rattle.exchange.specs.declared.types.Filter.{Filter}
-use Rattle.gate_io.specs.declared.event.Sent.{Sent}
-use Rattle.gate_io.specs.declared.event.Side.{Side}
-use Rattle.worker.specs.Wants.{has_room}
 use Rattle.worker.specs.Steps.{place_for, filters_by}
 use Rattle.worker.specs.Turn.{is_of, start_of, roots_from}
 use Rattle.worker.specs.declared.types.Job.{Job}
@@ -58,7 +55,3 @@ filters_some filters more o f is more_is = more_is ∙ sym (ap (λ (x : Option F
 pub none_starts : (vm : ℕ) (plugins : List Plugin) (before : List Job) → list_any (is_of vm) plugins ≡ false → before ≡ before ++ start_of vm plugins
 none_starts vm plugins before none =
     sym (ap (λ (b : Bool). before ++ cond b (jobs.Begin vm ∷ roots_from vm 0 true plugins) []) none ∙ append-nil before)
-
--- where nothing waits there is room
-pub room_in_none : (waiting : List Sent) (side : Side) (line : Line) → waiting ≡ [] → has_room waiting side line ≡ true
-room_in_none waiting side line none = ap (λ (w : List Sent). has_room w side line) none
