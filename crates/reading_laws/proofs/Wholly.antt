@@ -1,12 +1,15 @@
 -- Whole turns of a worker are turns, as they are defined.
-use Rattle.std.proofs.Common.{List, refl, ap, subst}
+use Rattle.std.proofs.Common.{List, refl, ap, subst, tt}
 use Rattle.course.specs.Called.{Calling}
 use Rattle.store_model.specs.Made.{Made}
 use Rattle.worker.specs.Making.{new_worker}
 use Rattle.worker.specs.Plan.{Plan}
 use Rattle.worker.specs.State.{Standing, rules_of}
-use Rattle.reading_laws.specs.Wholly.{Worked, no_turn, a_turn, WorkersReadWhatCame}
+use Rattle.worker.specs.declared.types.Line.{Line}
+use Rattle.reading_laws.specs.Limits.{AreWanted}
+use Rattle.reading_laws.specs.Wholly.{Worked, no_turn, a_turn, Obeyed, none_heard, one_heard, WorkersReadWhatCame, WorkersLeaveLittleUnread}
 use Rattle.reading_laws.specs.Turns.{OneTurn, Turns}
+use Rattle.reading_laws.proofs.Limits.{unread_stays_short}
 use Rattle.reading_laws.proofs.Since.{lines_read}
 
 worked_turns : {H S : Type 0} (calling : Calling H) (performs : S → List Made → S → Type 0) (from to : Standing H) (turns : List (OneTurn H)) → Worked calling performs from turns to
@@ -19,3 +22,23 @@ pub workers_read : (H S : Type 0) (performs : S → List Made → S → Type 0) 
 workers_read H S performs calling exported registering config who seed host turns to n l worked whole there =
     let from : Standing H = new_worker exported registering config who seed host in
     lines_read H calling (rules_of from.setting) config seed host turns to.state n l (worked_turns calling performs from to turns worked) whole there
+
+-- such turns are turns
+obeyed_worked : {H S : Type 0} (calling : Calling H) (performs : S → List Made → S → Type 0) (from to : Standing H) (turns : List (OneTurn H)) → Obeyed calling performs from turns to
+    → Worked calling performs from turns to
+obeyed_worked calling performs from to turns (none_heard f) = no_turn from
+obeyed_worked calling performs from to turns (one_heard stop before after s t old new f mid l more w heard same later) =
+    a_turn stop s t old new from mid to more w same (obeyed_worked calling performs mid to more later)
+
+-- and each event is one that the worker asks for
+obeyed_wanted : {H S : Type 0} (calling : Calling H) (performs : S → List Made → S → Type 0) (from to : Standing H) (turns : List (OneTurn H)) → Obeyed calling performs from turns to
+    → AreWanted (rules_of from.setting) from.state turns
+obeyed_wanted calling performs from to turns (none_heard f) = tt
+obeyed_wanted calling performs from to turns (one_heard stop before after s t old new f mid l more w heard same later) =
+    (from.waiting, heard.obeys tt, heard.follows.sized, subst (λ (plan : Plan). AreWanted plan mid.state more) (ap rules_of same) (obeyed_wanted calling performs mid to more later))
+
+pub little_unread : (H S : Type 0) (performs : S → List Made → S → Type 0) → WorkersLeaveLittleUnread H S performs
+little_unread H S performs calling exported registering config who seed host turns to l obeyed whole there =
+    let from : Standing H = new_worker exported registering config who seed host in
+    unread_stays_short H calling (rules_of from.setting) config seed host turns to.state l
+    (worked_turns calling performs from to turns (obeyed_worked calling performs from to turns obeyed)) whole (obeyed_wanted calling performs from to turns obeyed) there

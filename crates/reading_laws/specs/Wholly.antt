@@ -1,17 +1,19 @@
 -- WHOLE TURNS OF A WORKER as its code takes them, over shared stores of any kind.
-use Rattle.std.specs.Prelude.{◌≡◌, ℕ, Bool, List, [], ◌∷◌, Option, Some}
+use Rattle.std.specs.Prelude.{◌≡◌, ℕ, Bool, true, List, [], ◌∷◌, Contains, Option, Some}
 use Rattle.course.specs.Called.{Calling}
 use Rattle.course.specs.declared.host.Callback.{Callback}
 use Rattle.gate_config.specs.declared.config.Config.{Config}
+use Rattle.gate_io.specs.Events.{Last}
 use Rattle.gate_io.specs.declared.passed.Passed.{Passed}
 use Rattle.store_model.specs.Made.{Made}
 use Rattle.worker.specs.Making.{new_worker}
 use Rattle.worker.specs.State.{Standing}
-use Rattle.worker.specs.Steps.{line_in}
+use Rattle.worker.specs.Steps.{line_in, exchange_reading}
 use Rattle.worker.specs.Turn.{outcome}
-use Rattle.worker.specs.Turned.{Whole}
+use Rattle.worker.specs.Turned.{wanted, Heard, Whole}
 use Rattle.worker.specs.declared.types.Line.{Line}
 use Rattle.reading_laws.specs.Laws.{HasRead}
+use Rattle.reading_laws.specs.Limits.{IsShort}
 use Rattle.reading_laws.specs.Turns.{OneTurn, AreWhole}
 
 module _ {H S : Type 0} (calling : Calling H) (performs : S → List Made → S → Type 0) where
@@ -32,3 +34,19 @@ WorkersReadWhatCame H S performs =
     (turns : List (OneTurn H)) (to : Standing H) (n : ℕ) (l : Line)
     → Worked calling performs (new_worker exported registering config who seed host) turns to → AreWhole turns
     → line_in n to.state.room.lines ≡ Some l → HasRead n turns l.requests
+
+module _ {H S : Type 0} (calling : Calling H) (performs : S → List Made → S → Type 0) where
+  -- the same turns, of each of which the event came from a world that keeps to what it is asked for, as `Worker::turn` says
+  pub data Obeyed : Standing H → List (OneTurn H) → Standing H → Type 0 where
+    none_heard : (from : Standing H) → Obeyed from [] from
+    one_heard : (stop : Bool) (before after : Last) (s t : S) (old new : Option (List Passed)) (from mid to : Standing H) (turns : List (OneTurn H))
+        → (w : Whole calling performs stop s old from mid t new) → Heard true (wanted from) before after w.event
+        → mid.setting ≡ from.setting → Obeyed mid turns to → Obeyed from (turn_of calling performs stop s t old new from mid w ∷ turns) to
+
+-- BY SUCH TURNS of a worker that `Worker::new` made, whatever its machines do, no more than 81,919 bytes are unread of any side of any line
+abbrev pub WorkersLeaveLittleUnread : (H S : Type 0) → (performs : S → List Made → S → Type 0) → Type 0
+WorkersLeaveLittleUnread H S performs =
+    (calling : Calling H) (exported : H → ℕ → Callback → Bool) (registering : H → ℕ → Bool) (config : Config) (who : ℕ) (seed : List ℕ) (host : H)
+    (turns : List (OneTurn H)) (to : Standing H) (l : Line)
+    → Obeyed calling performs (new_worker exported registering config who seed host) turns to → AreWhole turns
+    → Contains to.state.room.lines l → IsShort (Some l.requests) × IsShort (exchange_reading l.exchange)

@@ -1,5 +1,5 @@
 // What is read of lines over turns. The functions have nothing to do: their contracts are the laws.
-ghost use Rattle.reading_laws.specs.Wholly.{WorkersReadWhatCame};
+ghost use Rattle.reading_laws.specs.Wholly.{WorkersReadWhatCame, WorkersLeaveLittleUnread};
 ghost use Rattle.reading_laws.specs.Cuts.{CutsDoNotMatter};
 ghost use Rattle.reading_laws.specs.Examples.{ReadingExamples};
 ghost use Rattle.reading_laws.specs.Laws.{LinesReadWhatCame, NumbersReadOnce};
@@ -56,6 +56,12 @@ pub fn lines_keep_limits<H>()
 /// each turn.
 pub fn unread_stays_short<H>()
     ensures { UnreadStaysShort H }
+{}
+
+/// So it is of a worker that was made of a configuration by the whole turns that its code takes, where its world keeps to what it is asked for, as each
+/// world over sockets does: `Worker::turn` says of which event each turn was, and that it was heard so (`heard`).
+pub fn workers_leave_little_unread<H, S: Shared>()
+    ensures { WorkersLeaveLittleUnread H S S.performs }
 {}
 
 /// Two requests that come at once, or cut at any place of the second: their texts, joined, are read of the line, and two workers hand on the same. Of two

@@ -1,12 +1,12 @@
 -- Turns, by how they end.
-use Rattle.std.proofs.Common.{◌≡◌, ℕ, Bool, true, false, List, [], ◌∷◌, ◌++◌, refl, ap, sym, subst, Option, Ok, Err}
+use Rattle.std.proofs.Common.{◌≡◌, ◌∙◌, ℕ, Bool, true, false, List, [], ◌∷◌, ◌++◌, refl, ap, sym, subst, Option, Ok, Err}
 use Rattle.std.specs.Prelude.{IsTrue}
 use Rattle.contexts.specs.declared.parts.Contexts.{Contexts}
 use Rattle.course.specs.Called.{Called}
 use Rattle.course.specs.Course.{Course, ends, Goes}
 use Rattle.course.specs.Runs.{goes_still, goes_part, goes_as, goes_from}
 use Rattle.course.specs.declared.host.Callback.{Callback}
-use Rattle.gate_io.specs.Events.{is_stop}
+use Rattle.gate_io.specs.Events.{is_stop, Last, given, Follows, Obeys}
 use Rattle.gate_io.specs.Passing.{asking}
 use Rattle.gate_io.specs.Told.{Gains}
 use Rattle.gate_io.specs.declared.event.Event.{Event}
@@ -27,8 +27,9 @@ use Rattle.worker.specs.Filled.{filled}
 use Rattle.worker.specs.Settling.{settling}
 use Rattle.worker.specs.State.{Standing, rules_of}
 use Rattle.worker.specs.Steps.{Both, both}
+use Rattle.worker.specs.declared.worker.Turn.{Turn}
 use Rattle.worker.specs.Turn.{Outcome, outcome, emptied, comes_to, facing, most_steps, turn, turn_by}
-use Rattle.worker.specs.Turned.{TookWhole, one_turn, wanted, Whole, Unanswered, PartlySent}
+use Rattle.worker.specs.Turned.{TookWhole, one_turn, wanted, Heard, NoEvent, Whole, Unanswered, PartlySent, TurnedOn}
 
 -- of a world that takes each piece whole, no `send` took less
 pub took_whole : {E : Type 0} (takes_whole : Bool) (old mid new : Option (List Passed)) (before after : List Sent) (wants : Wants) (event : Event) → IsTrue takes_whole
@@ -39,13 +40,31 @@ took_whole takes_whole old mid new before after wants event whole given offered 
   never = offered.taken_whole whole;
 }
 
+-- no event was given
+pub no_event : {H S : Type 0} (s : S) (old new : Option (List Passed)) (at : Standing H) (steps : List Passed) → Gains old steps new → NoEvent s old at steps at s new
+no_event s old new at steps gained = record { worker = refl; shared = refl; told = gained }
+
+-- an event that the world promised so
+pub heard_so : (keeps : Bool) (wants asked : Wants) (before mid after : Last) (event : Event) → wants ≡ asked → Follows before event → (IsTrue keeps → Obeys wants event.what)
+    → mid ≡ given event → after ≡ mid → Heard keeps asked before after event
+heard_so keeps wants asked before mid after event same follows obeys last kept = record {
+  follows = follows;
+  obeys = λ k. subst (λ (w : Wants). Obeys w event.what) same (obeys k);
+  last = kept ∙ last;
+}
+
 -- what was sent is taken out of the room
 same_room : (sent : List Sent) (room : Room) → room.hub.sent ≡ [] → emptied (filled sent room) ≡ room
 same_room sent room is = λ i. record room { hub = record room.hub { sent = sym is i } }
 
 module _ {H S : Type 0} (calling : H → ℕ → Callback → ℕ → ℕ → ℕ → ℕ → Contexts → Program (Called H)) (performs : S → List Made → S → Type 0) where
+  -- the same from the standing as a contract has it
+  pub turned_from : (keeps : Bool) (before after : Last) (s : S) (old : Option (List Passed)) (from seen : Standing H) (end : Turn) (to : Standing H) (t : S) (new : Option (List Passed)) → from ≡ seen
+      → TurnedOn calling performs keeps before after s old from end to t new → TurnedOn calling performs keeps before after s old seen end to t new
+  turned_from keeps before after s old from seen end to t new same turned = subst (λ (at : Standing H). TurnedOn calling performs keeps before after s old at end to t new) same turned
+
   -- the turn that is no Stop went to its end
-  went_to : (s t : S) (from : Standing H) (event : Event) (host : H) (room : Room) (sent : List Sent) → is_stop event.what ≡ false → room.hub.sent ≡ []
+  pub went_to : (s t : S) (from : Standing H) (event : Event) (host : H) (room : Room) (sent : List Sent) → is_stop event.what ≡ false → room.hub.sent ≡ []
       → Goes performs s (settling calling (rules_of from.setting) most_steps from.state.host (facing (rules_of from.setting) event from.state.room)) (ends (both host (filled sent room))) t
       → Goes performs s (turn calling (rules_of from.setting) from.state event) (ends (outcome (both host room) (joined sent))) t
   went_to s t from event host room sent other empty goes =
@@ -53,14 +72,14 @@ module _ {H S : Type 0} (calling : H → ℕ → Callback → ℕ → ℕ → �
       (goes_as (goes_part (λ b. ends (comes_to b)) goes) (λ i. ends (outcome (both host (same_room sent room empty i)) (joined sent))))
 
   -- it was cut short
-  cut_off : (s t : S) (from : Standing H) (event : Event) (left : Course (Both H)) → is_stop event.what ≡ false
+  pub cut_off : (s t : S) (from : Standing H) (event : Event) (left : Course (Both H)) → is_stop event.what ≡ false
       → Goes performs s (settling calling (rules_of from.setting) most_steps from.state.host (facing (rules_of from.setting) event from.state.room)) left t
       → (q : Course (Outcome H)) × Goes performs s (turn calling (rules_of from.setting) from.state event) q t
   cut_off s t from event left other goes =
       (_, goes_from (ap (λ (b : Bool). turn_by calling (rules_of from.setting) b from.state event) other) (goes_part (λ b. ends (comes_to b)) goes))
 
   -- the turn of Stop
-  pub stopped : (nothing : (s : S) → performs s [] s) (s : S) (old new : Option (List Passed)) (from to : Standing H) (wants : Wants) (event : Event)
+  unfoldable pub stopped : (nothing : (s : S) → performs s [] s) (s : S) (old new : Option (List Passed)) (from to : Standing H) (wants : Wants) (event : Event)
       → wants ≡ wanted from → event.what ≡ Stop → to ≡ record from { took = true } → Gains old (asking wants (Ok event)) new → Whole calling performs true s old from to s new
   stopped nothing s old new from to wants event wants_are is to_is given =
       subst (λ (x : Standing H). Whole calling performs true s old from x s new) (sym to_is)
@@ -77,7 +96,7 @@ module _ {H S : Type 0} (calling : H → ℕ → Callback → ℕ → ℕ → �
       })
 
   -- another turn, in which all was offered
-  pub went : {E : Type 0} (s t : S) (takes_whole : Bool) (old mid new : Option (List Passed)) (from to : Standing H) (wants : Wants) (event : Event) (kept sent : List Sent)
+  unfoldable pub went : {E : Type 0} (s t : S) (takes_whole : Bool) (old mid new : Option (List Passed)) (from to : Standing H) (wants : Wants) (event : Event) (kept sent : List Sent)
       → wants ≡ wanted from → (event.what ≡ Stop → ⊥) → to.took ≡ true → to.state.room.hub.sent ≡ [] → kept ≡ cleared event.what from.waiting
       → Goes performs s (settling calling (rules_of from.setting) most_steps from.state.host (facing (rules_of from.setting) event from.state.room)) (ends (both to.state.host (filled sent to.state.room))) t
       → Gains old (asking wants (Ok event)) mid → Offered {E = E} takes_whole mid [] (kept ++ joined sent) (Ok tt) new to.waiting
@@ -97,7 +116,7 @@ module _ {H S : Type 0} (calling : H → ℕ → Callback → ℕ → ℕ → �
       }
 
   -- memory ran out before anything was handed over
-  pub unanswered : (s t : S) (old new : Option (List Passed)) (from to : Standing H) (wants : Wants) (event : Event)
+  unfoldable pub unanswered : (s t : S) (old new : Option (List Passed)) (from to : Standing H) (wants : Wants) (event : Event)
       → wants ≡ wanted from → (event.what ≡ Stop → ⊥) → to.took ≡ true
       → (left : Course (Both H)) × Goes performs s (settling calling (rules_of from.setting) most_steps from.state.host (facing (rules_of from.setting) event from.state.room)) left t
       → Gains old (asking wants (Ok event)) new → Unanswered calling performs s old from to t new
@@ -113,7 +132,7 @@ module _ {H S : Type 0} (calling : H → ℕ → Callback → ℕ → ℕ → �
       }
 
   -- memory ran out as it was handed over
-  pub partly_sent : {E : Type 0} (e : E) (s t : S) (takes_whole : Bool) (old mid new : Option (List Passed)) (from to : Standing H) (host : H) (room : Room) (waiting : List Sent) (wants : Wants)
+  unfoldable pub partly_sent : {E : Type 0} (e : E) (s t : S) (takes_whole : Bool) (old mid new : Option (List Passed)) (from to : Standing H) (host : H) (room : Room) (waiting : List Sent) (wants : Wants)
       (event : Event) (kept sent : List Sent)
       → wants ≡ wanted from → (event.what ≡ Stop → ⊥) → to.took ≡ true → room.hub.sent ≡ [] → kept ≡ cleared event.what from.waiting
       → Goes performs s (settling calling (rules_of from.setting) most_steps from.state.host (facing (rules_of from.setting) event from.state.room)) (ends (both host (filled sent room))) t

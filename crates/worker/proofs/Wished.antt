@@ -1,5 +1,6 @@
 -- What is known of the lines stays so.
 use Rattle.std.proofs.Common.{◌≡◌, ◌==◌, get_or, ◌≤◌, ◌<◌, ℕ, zero, suc, ◌+◌, List, [], ◌∷◌, length, map, Bool, true, false, cond, refl, sym, ap, ◌∙◌, subst, arith, Option, Some, None, ◌⊎◌, inl, inr, nat_lt}
+use Rattle.std.proofs.lemmas.Bool.Decides.{eqb_tells}
 use Rattle.std.specs.List.{position_or_len}
 use Rattle.std.specs.Prelude.{not, slice_get, slice_set, position, filter, option_map}
 use Rattle.std.proofs.lemmas.Option.{slice_get-map, slice_get_past, slice_get_read}
@@ -19,6 +20,14 @@ use Rattle.worker.specs.declared.types.Wish.{Wish}
 use Rattle.worker.specs.declared.wishes.Wishes.{Wishes}
 use Rattle.worker.proofs.Firsts.{low_or_high}
 use Rattle.worker.proofs.Stirs.{stirs_set, stirs_all, stirs_calm}
+
+-- numbers that a test finds equal are one
+pub same_by : (a b : ℕ) → (a == b) ≡ true → a ≡ b
+same_by a b is = by_test (eqb_tells a b)
+  where
+    by_test : (((a == b) ≡ true) × (a ≡ b)) ⊎ (((a == b) ≡ false) × (a ≡ b → ⊥)) → a ≡ b
+    by_test (inl e) = e.1
+    by_test (inr e) = absurd (cc)
 
 -- a member that is not set is as it was
 get_other : {X : Type 0} (xs : List X) (at k : ℕ) (x : X) → (k ≡ at) ⊎ (slice_get (slice_set xs at x) k ≡ slice_get xs k)

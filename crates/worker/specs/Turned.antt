@@ -1,10 +1,11 @@
 -- What one turn of a worker is, by how it ended.
-use Rattle.std.specs.Prelude.{◌≡◌, ◌⊎◌, ℕ, Bool, true, false, List, [], ◌∷◌, Option}
+use Rattle.std.specs.Prelude.{◌≡◌, ◌⊎◌, ℕ, Bool, true, false, IsTrue, List, [], ◌∷◌, Option}
+use Rattle.std.proofs.Common.{inl, inr}
 use Rattle.contexts.specs.declared.parts.Contexts.{Contexts}
 use Rattle.course.specs.Called.{Called}
 use Rattle.course.specs.Course.{Course, ends, Goes}
 use Rattle.course.specs.declared.host.Callback.{Callback}
-use Rattle.gate_io.specs.Events.{is_stop}
+use Rattle.gate_io.specs.Events.{is_stop, Last, given, Follows, Obeys}
 use Rattle.gate_io.specs.Passing.{asked}
 use Rattle.gate_io.specs.Told.{Gains}
 use Rattle.gate_io.specs.declared.event.Event.{Event}
@@ -34,6 +35,13 @@ pub record TookWhole (old new : Option (List Passed)) : Type 0 where
   pub steps : List Passed
   pub told : Gains old steps new
   pub never : NeverShort steps
+
+-- THE EVENT of a turn: it may come behind the world's last one, it is of what was asked for where the world keeps to that, and since then it is
+-- the world's last, with its moment.
+pub record Heard (keeps : Bool) (wants : Wants) (before after : Last) (event : Event) : Type 0 where
+  pub follows : Follows before event
+  pub obeys : IsTrue keeps → Obeys wants event.what
+  pub last : after ≡ given event
 
 -- No event was given. The worker and the shared stores are as before.
 pub record NoEvent {H S : Type 0} (s : S) (old : Option (List Passed)) (from : Standing H) (steps : List Passed) (to : Standing H) (t : S) (new : Option (List Passed)) : Type 0 where
@@ -84,3 +92,16 @@ module _ {H S : Type 0} (calling : H → ℕ → Callback → ℕ → ℕ → �
   Turned s old from Stopped to t new = Whole true s old from to t new
   Turned s old from WorldFault to t new = NoEvent s old from (Asked (wanted from) ∷ []) to t new
   Turned s old from OutOfMemory to t new = NoEvent s old from [] to t new ⊎ (Unanswered s old from to t new ⊎ PartlySent s old from to t new)
+
+  -- the event of a turn was heard so; where none was given, the world's last is as it was
+  abbrev pub HeardIn : Bool → (before after : Last) (s : S) (old : Option (List Passed)) (from : Standing H) (end : Turn) (to : Standing H) (t : S) (new : Option (List Passed)) → Turned s old from end to t new → Type 0
+  HeardIn keeps before after s old from Went to t new whole = Heard keeps (wanted from) before after whole.event
+  HeardIn keeps before after s old from Stopped to t new whole = Heard keeps (wanted from) before after whole.event
+  HeardIn keeps before after s old from WorldFault to t new none = after ≡ before
+  HeardIn keeps before after s old from OutOfMemory to t new (inl none) = after ≡ before
+  HeardIn keeps before after s old from OutOfMemory to t new (inr (inl cut)) = Heard keeps (wanted from) before after cut.event
+  HeardIn keeps before after s old from OutOfMemory to t new (inr (inr partly)) = Heard keeps (wanted from) before after partly.event
+
+  -- A TURN AND ITS EVENT
+  abbrev pub TurnedOn : Bool → (before after : Last) (s : S) (old : Option (List Passed)) (from : Standing H) (end : Turn) (to : Standing H) (t : S) (new : Option (List Passed)) → Type 0
+  TurnedOn keeps before after s old from end to t new = (turned : Turned s old from end to t new) × HeardIn keeps before after s old from end to t new turned

@@ -11,7 +11,7 @@ ghost use Rattle.worker.specs.Settling.{settling};
 ghost use Rattle.worker.specs.State.{rules_of};
 ghost use Rattle.worker.specs.Steps.{both};
 ghost use Rattle.worker.specs.Turn.{facing, most_steps};
-ghost use Rattle.worker.specs.Turned.{Turned, TookWhole};
+ghost use Rattle.worker.specs.Turned.{Turned, TurnedOn, TookWhole};
 
 use crate::agenda::agenda_of;
 use crate::making_worker::parts_of;
@@ -134,6 +134,7 @@ impl<H: Host + Drop> Worker<H> {
         ensures fault { result ≡ Turn.WorldFault → Rose (W.faults world.old) (W.faults world.new) }
         ensures whole { IsTrue (W.nature world.old).takes_whole → result ≡ Turn.Went → TookWhole (W.trace world.old) (W.trace world.new) }
         ensures turned { Turned H.calling S.performs shared.old (W.trace world.old) self.old result self.new shared.new (W.trace world.new) }
+        ensures heard { TurnedOn H.calling S.performs (W.nature world.old).obeys (W.last world.old) (W.last world.new) shared.old (W.trace world.old) self.old result self.new shared.new (W.trace world.new) }
     {
         let Ok(()) = wants_of(&self.rules, &self.room, &self.outbox, &mut self.wants) else {
             return Turn::OutOfMemory;
@@ -193,6 +194,7 @@ fn deliver<W: World>(
     world: &mut W,
     sent: Vec<Sent>,
 ) -> Result<(), OutOfMemory>
+    ensures last { W.last world.new ≡ W.last world.old }
     ensures nature { W.nature world.new ≡ W.nature world.old }
     ensures faults { W.faults world.old ≤ W.faults world.new }
     ensures offered { Offered (W.nature world.old).takes_whole (W.trace world.old) [] (outbox.old ++ joined sent.items) result (W.trace world.new) outbox.new }
