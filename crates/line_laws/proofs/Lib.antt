@@ -32,6 +32,7 @@ pub mod Turning
 pub mod Wholly
 pub mod Refusing
 pub mod Worked
+pub mod Hosts
 pub mod Machines
 pub mod Readable
 pub mod Product
