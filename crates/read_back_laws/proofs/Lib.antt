@@ -6,3 +6,9 @@ pub mod Readings
 pub mod Worked
 pub mod Running
 pub mod Lists
+pub mod Shaping
+pub mod Places
+pub mod Heading
+pub mod Calling
+pub mod Staying
+pub mod Mapped

@@ -22,18 +22,18 @@ use Rattle.read_back_laws.specs.Lists.{Changes, adds, replaces, removes, sets, F
 use Rattle.read_back_laws.specs.Sent.{IsRequestList}
 use Rattle.read_back_laws.proofs.Worked.{asked_list}
 
-no_fault : (a b c : Bool) → first_fault a b c ≡ None → (a ≡ true) × (b ≡ true) × (c ≡ true)
+pub no_fault : (a b c : Bool) → first_fault a b c ≡ None → (a ≡ true) × (b ≡ true) × (c ≡ true)
 no_fault true true true is = (refl, refl, refl)
 no_fault true true false is = absurd (cc)
 no_fault true false c is = absurd (cc)
 no_fault false b c is = absurd (cc)
 
 -- what was refused became nothing
-unrefused : (o : Option Fault) (l m : Headers) → unless o l ≡ Ok m → (o ≡ None) × (l ≡ m)
+pub unrefused : (o : Option Fault) (l m : Headers) → unless o l ≡ Ok m → (o ≡ None) × (l ≡ m)
 unrefused None l m is = (refl, cc)
 unrefused (Some f) l m is = absurd (cc)
 
-few_is : (pairs : List Pair) → is_few pairs ≡ true → plain_count pairs ≤ 100
+pub few_is : (pairs : List Pair) → is_few pairs ≡ true → plain_count pairs ≤ 100
 few_is pairs is = leb-true (plain_count pairs) 100 is
 
 add_keeps : (l : Headers) (name value : List ℕ) → IsHeaders l → length value ≤ byte_limit → add_fault l name value ≡ None → IsHeaders (added l name value)

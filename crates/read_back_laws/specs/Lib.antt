@@ -4,3 +4,4 @@ pub mod Laws
 pub mod Examples
 pub mod Runs
 pub mod Lists
+pub mod Maps

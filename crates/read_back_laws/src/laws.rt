@@ -2,6 +2,7 @@
 ghost use Rattle.read_back_laws.specs.Examples.{FilterExample, RefusedReadings};
 ghost use Rattle.read_back_laws.specs.Laws.{RequestsAreReadAsOne, RequestsOfTheProductAreReadAsOne, RequestsOfWorkersAreReadAsOne};
 ghost use Rattle.read_back_laws.specs.Lists.{FiltersKeepLists, HeadsHaveLists, ListExample};
+ghost use Rattle.read_back_laws.specs.Maps.{HeadsHaveFieldLists, MachinesKeepLists, MapExamples, MapsOfTheProductStayLists, MapsOfWorkersStayLists, MapsStayLists};
 ghost use Rattle.read_back_laws.specs.OneRequest.{NeverTwo, ReadAsOne};
 ghost use Rattle.read_back_laws.specs.Runs.{FilterRun};
 
@@ -59,4 +60,35 @@ pub fn filters_keep_lists()
     ensures kept { FiltersKeepLists }
     ensures first { HeadsHaveLists }
     ensures worked { ListExample }
+{}
+
+/// What a filter makes of the map of a request is a list of fields still, whatever its module calls: the four pseudo-headers, each once, in order and with a right
+/// value, and behind them at most 100 fields with valid names and values, none of which holds an end of line. And the fields of each head that was judged are
+/// such a list, in whatever form its target was received.
+pub fn machines_keep_lists()
+    ensures callbacks { MachinesKeepLists }
+    ensures first { HeadsHaveFieldLists }
+{}
+
+/// Over the turns of a new worker whose machines write logs and keep such lists: each map of a request among its contexts is one, and each connection that went up
+/// on a line begins with the whole head of a request, of the fields of one; or of no fields at all, which is what would be written of an exchange that the
+/// contexts have no more.
+pub fn maps_stay_lists<H>()
+    ensures { MapsStayLists H }
+{}
+
+/// So it is of a worker that was made of a configuration, as `Worker::new` makes it, by the whole turns that its code takes, over shared stores.
+pub fn maps_of_workers_stay_lists<H, S: Shared>()
+    ensures { MapsOfWorkersStayLists H S S.performs }
+{}
+
+/// And of one with the machines of its VMs, whatever their modules do.
+pub fn maps_of_the_product_stay_lists<S: Shared>()
+    ensures { MapsOfTheProductStayLists S S.performs }
+{}
+
+/// The filter of `worked_turns` keeps lists, so what went up in them begins with a head of one; a connection with nothing behind it, or its close, has none, and
+/// fields with an end of line in a value are no such list.
+pub fn worked_maps()
+    ensures { MapExamples }
 {}

@@ -1,0 +1,141 @@
+-- The maps of requests, whatever filters call, and the heads that are written of them.
+use Rattle.std.specs.Prelude.{◌≡◌, ◌⊎◌, ℕ, Bool, List, [], ◌∷◌, ◌++◌, map, codes, Option, None, Some}
+use Rattle.contexts.specs.declared.parts.Contexts.{Contexts}
+use Rattle.contexts.specs.declared.parts.ExchangeView.{ExchangeView}
+use Rattle.contexts.specs.Reached.{view_at}
+use Rattle.course.specs.Called.{Called, Calling}
+use Rattle.course.specs.declared.host.Callback.{Callback}
+use Rattle.exchange.specs.Heads.{sent_head, up_tail}
+use Rattle.exchange_laws.specs.Traffic.{Traffic, opens, byte, closes, ups}
+use Rattle.gate_config.specs.declared.config.Config.{Config}
+use Rattle.gate_io.specs.declared.event.Sent.{Sent}
+use Rattle.header_maps.specs.Headers.{Headers}
+use Rattle.header_maps.specs.Kept.{BeginsWith}
+use Rattle.header_maps.specs.Kinds.{pseudo_names}
+use Rattle.header_maps.specs.Operations.{no_headers}
+use Rattle.header_maps.specs.declared.kind.ListKind.TheVariants as kinds
+use Rattle.http1_model.specs.Framing.{Framing, head_wire}
+use Rattle.http1_model.specs.Head.{Head}
+use Rattle.httparse.specs.Ascii.{crlf_bytes}
+use Rattle.line_laws.specs.Logs.{WriteLogs}
+use Rattle.line_laws.specs.Requests.{IsJudged}
+use Rattle.line_laws.specs.Turns.{Done, Turns, Worked, new_room, sent_in}
+use Rattle.read_back_laws.specs.Examples.{made_fields}
+use Rattle.read_back_laws.specs.Runs.{rewriting, FilterRun}
+use Rattle.store_model.specs.Made.{Made}
+use Rattle.store_model.specs.Program.{Program, done, ask, measure}
+use Rattle.store_model.specs.declared.call.Reply.{Reply}
+use Rattle.store_model.specs.declared.metric.MetricReply.{MetricReply}
+use Rattle.vm_host.specs.Slots as slots
+use Rattle.vm_host.specs.declared.slots.Vms.{Vms}
+use Rattle.worker.specs.Making.{new_worker}
+use Rattle.worker.specs.Plan.{Plan}
+use Rattle.worker.specs.State.{Standing}
+use Rattle.worker.specs.Steps.{Both, both}
+
+-- ---- maps
+
+-- THE FIELDS OF A REQUEST: its four pseudo-headers stand first, each once, in order and with a right value; then stand at most 100 fields with valid names in
+-- lower case and valid values. (So `IsRequestList` has it, which says besides that no name and no value has more bytes than 16,777,216.)
+pub record IsFieldList (fields : Headers) : Type 0 where
+  pub kind : fields.kind ≡ kinds.Request
+  pub shape : BeginsWith fields.kind (pseudo_names fields.kind) fields.pairs
+
+abbrev pub HasList : Option Headers → Type 0
+HasList None = ⊥
+HasList (Some fields) = IsFieldList fields
+
+abbrev pub ViewHasList : Option ExchangeView → Type 0
+ViewHasList None = Unit {0}
+ViewHasList (Some v) = HasList v.maps.request
+
+-- each exchange among the contexts has such a map of its request
+abbrev pub AreLists : Contexts → Type 0
+AreLists h = (place : ℕ) → ViewHasList (view_at h.exchanges place)
+
+-- MACHINES KEEP LISTS: where the maps of requests were such, a callback leaves them so, whatever the stores reply
+abbrev pub LeavesLists : {H : Type 0} → Program (Called H) → Type 0
+LeavesLists (done c) = AreLists c.contexts
+LeavesLists (ask vm call k) = (r : Reply) → LeavesLists (k r)
+LeavesLists (measure vm call k) = (r : MetricReply) → LeavesLists (k r)
+
+abbrev pub KeepLists : {H : Type 0} → Calling H → Type 0
+KeepLists calling = (host : _) (vm : ℕ) (name : Callback) (context first second now : ℕ) (h : Contexts) → AreLists h → LeavesLists (calling host vm name context first second now h)
+
+-- and those of the product do, whatever their modules call: so no call brings in a name or a value with an end of line
+abbrev pub MachinesKeepLists : Type 0
+MachinesKeepLists = KeepLists slots.calling
+
+-- the map that an exchange begins with is one, in whatever form its target was received
+abbrev pub HeadsHaveFieldLists : Type 0
+HeadsHaveFieldLists = (h : Head) → IsJudged h → IsFieldList h.fields
+
+-- ---- heads that went up
+
+-- the fields of a map of a request; or none at all, which is what is written where the contexts have no exchange at the place (that they have one while it is
+-- open is not said)
+abbrev pub ListOrNone : Headers → Type 0
+ListOrNone fields = IsFieldList fields ⊎ (fields ≡ no_headers)
+
+-- the bytes begin with a head of a request of such fields, as the gateway writes it, whole
+pub record BeginsWithHead (t : List Traffic) : Type 0 where
+  pub fields : Headers
+  pub listed : ListOrNone fields
+  pub framing : Framing
+  pub minor : ℕ
+  pub rest : List Traffic
+  pub is : t ≡ map byte (head_wire framing (sent_head fields (up_tail minor))) ++ rest
+
+-- EACH CONNECTION BEGINS WITH A HEAD of such fields
+abbrev pub AreHeaded : List Traffic → Type 0
+AreHeaded [] = Unit {0}
+AreHeaded (opens ∷ t) = BeginsWithHead t × AreHeaded t
+AreHeaded (byte b ∷ t) = AreHeaded t
+AreHeaded (closes ∷ t) = AreHeaded t
+
+-- ---- over turns
+
+-- the maps, and what went up on a line
+pub record KeptLists (n : ℕ) (contexts : Contexts) (sent : List Sent) : Type 0 where
+  pub maps : AreLists contexts
+  pub heads : AreHeaded (ups n sent)
+
+-- WHATEVER TURNS a new worker has had, of machines that write logs and keep lists: each map of a request among its contexts is such a list, and each connection
+-- that went up begins with a head of such fields. (Whose exchange it is, and that its framing and its tail are that exchange's, `IsMadeOf` of `line_laws` says of
+-- some fields; that these are those fields is not said.)
+abbrev pub MapsStayLists : (H : Type 0) → Type 0
+MapsStayLists H =
+    (calling : Calling H) (plan : Plan) (contexts : Contexts) (host : H) (turns : List (Done H)) (to : Both H) (n : ℕ) → WriteLogs calling → KeepLists calling → AreLists contexts
+    → Turns calling plan (both host (new_room contexts)) turns to → KeptLists n to.room.hub.contexts (sent_in turns)
+
+-- the same of a worker that was made of a configuration, by the whole turns that its code takes, over shared stores of any kind
+abbrev pub MapsOfWorkersStayLists : (H S : Type 0) → (performs : S → List Made → S → Type 0) → Type 0
+MapsOfWorkersStayLists H S performs =
+    (calling : Calling H) (exported : H → ℕ → Callback → Bool) (registering : H → ℕ → Bool) (config : Config) (who : ℕ) (seed : List ℕ) (host : H)
+    (sent : List Sent) (to : Standing H) (n : ℕ) → WriteLogs calling → KeepLists calling → Worked calling performs (new_worker exported registering config who seed host) sent to
+    → KeptLists n to.state.room.hub.contexts sent
+
+-- and with the machines of its VMs, whatever these are
+abbrev pub MapsOfTheProductStayLists : (S : Type 0) → (performs : S → List Made → S → Type 0) → Type 0
+MapsOfTheProductStayLists S performs =
+    (config : Config) (who : ℕ) (seed : List ℕ) (host : Vms) (sent : List Sent) (to : Standing Vms) (n : ℕ)
+    → Worked slots.calling performs (new_worker slots.exported_in slots.registering_in config who seed host) sent to
+    → KeptLists n to.state.room.hub.contexts sent
+
+-- ---- worked
+
+-- a value with an end of line, and another field behind it
+abbrev pub smuggled_fields : Headers
+smuggled_fields = record made_fields {
+  pairs = (codes ":method", codes "POST") ∷ (codes ":scheme", codes "http") ∷ (codes ":authority", codes "a") ∷ (codes ":path", codes "/") ∷ (codes "x-b", codes "2" ++ crlf_bytes ++ codes "content-length: 9") ∷ [];
+}
+
+-- THE FILTER OF THE WORKED TURNS keeps lists, and so what went up in them begins with a head of one. No connection is opened without a head behind it; fields with
+-- an end of line in a value are none.
+pub record MapExamples : Type 0 where
+  pub keeps : KeepLists rewriting
+  pub run : FilterRun
+  pub kept : KeptLists 1 run.to.room.hub.contexts (sent_in run.turns)
+  pub bare : AreHeaded (opens ∷ []) → ⊥
+  pub closed : AreHeaded (opens ∷ closes ∷ []) → ⊥
+  pub smuggled : IsFieldList smuggled_fields → ⊥
