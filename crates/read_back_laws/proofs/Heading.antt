@@ -32,6 +32,7 @@ use Rattle.http1_model.specs.LocalReply.{local_reply_of}
 use Rattle.line_laws.proofs.Kept.{by_bool}
 use Rattle.line_laws.proofs.Looks.{none_up, equal_by}
 use Rattle.read_back_laws.specs.Maps.{AreLists, ListOrNone, AreHeaded}
+use Rattle.read_back_laws.proofs.Measures.{IsFramed}
 use Rattle.read_back_laws.proofs.Places.{map_listed, view_lists, continued_lists, through_lists, paused_lists, cleared_lists}
 
 -- ---- traffic
@@ -39,7 +40,7 @@ use Rattle.read_back_laws.proofs.Places.{map_listed, view_lists, continued_lists
 pub headed_join : (a b : List Traffic) → AreHeaded a → AreHeaded b → AreHeaded (a ++ b)
 headed_join [] b e f = f
 headed_join (opening ∷ a) b e f = (
-  record { fields = e.0.fields; listed = e.0.listed; framing = e.0.framing; minor = e.0.minor; rest = e.0.rest ++ b; is = ap (λ (t : List Traffic). t ++ b) e.0.is ∙ append_assoc (map byte (head_wire e.0.framing (sent_head e.0.fields (up_tail e.0.minor)))) e.0.rest b },
+  record { fields = e.0.fields; listed = e.0.listed; framing = e.0.framing; framed = e.0.framed; told = e.0.told; minor = e.0.minor; rest = e.0.rest ++ b; is = ap (λ (t : List Traffic). t ++ b) e.0.is ∙ append_assoc (map byte (head_wire e.0.framing (sent_head e.0.fields (up_tail e.0.minor)))) e.0.rest b },
   headed_join a b e.1 f,
 )
 headed_join (byte c ∷ a) b e f = headed_join a b e f
@@ -69,10 +70,10 @@ pub down_headed : (n m : ℕ) (bytes : List ℕ) → AreHeaded (ups n (sending m
 down_headed n m [] = tt
 down_headed n m (b ∷ bytes) = tt
 
-head_headed : (n m : ℕ) (framing : Framing) (minor : ℕ) (fields : Headers) → ListOrNone fields → AreHeaded (ups n (to.Connect m ∷ sending m Up (head_wire framing (sent_head fields (up_tail minor)))))
-head_headed n m framing minor fields listed =
+head_headed : (n m : ℕ) (framing : Framing) (minor : ℕ) (fields : Headers) → IsFramed framing → ListOrNone fields → AreHeaded (ups n (to.Connect m ∷ sending m Up (head_wire framing (sent_head fields (up_tail minor)))))
+head_headed n m framing minor fields framed listed =
     by_line (λ (k : ℕ). AreHeaded (ups n (to.Connect k ∷ sending k Up wire))) n m
-    (subst AreHeaded (sym whole) (record { fields = fields; listed = listed; framing = framing; minor = minor; rest = []; is = sym (append-nil (map byte wire)) }, bytes_headed wire))
+    (subst AreHeaded (sym whole) (record { fields = fields; listed = listed; framing = framing; framed = framed.for_request; told = framed.limit; minor = minor; rest = []; is = sym (append-nil (map byte wire)) }, bytes_headed wire))
     (λ other. subst AreHeaded (sym (none_up n m (to.Connect m ∷ sending m Up wire) other (refl, own wire))) tt)
   where
     wire : List ℕ
@@ -98,26 +99,42 @@ sends_fine n more hub headed fine = record { maps = fine.maps; heads = subst Are
 pub held_fine : (n : ℕ) (h : Contexts) (hub : Hub) → AreLists h → Fine n hub → Fine n (with_held h hub)
 held_fine n h hub are fine = record { maps = are; heads = fine.heads }
 
+-- its request goes up framed as one
+abbrev pub Lim : Exchange → Type 0
+Lim x = IsFramed (goes_up x)
+
+abbrev pub Both : ℕ → Exchange × Hub → Type 0
+Both n p = Fine n p.1 × Lim p.0
+
+pub chain_lim : (response : Bool) (stages : List Stage) (x : Exchange) → Lim x → Lim (with_chain response stages x)
+chain_lim false stages x lim = lim
+chain_lim true stages x lim = lim
+
 module _ (n m : ℕ) where
+  abbrev F : Exchange × Hub → Type 0
+  F p = Both n p
+
   -- ---- what leaves the chains
 
-  up_fine : (item : Item) (x : Exchange) (hub : Hub) → Fine n hub → Fine n (up m item x hub).1
-  up_fine (Head end) x hub fine =
-      sends_fine n (to.Connect m ∷ sending m Up (head_wire (goes_up x) (sent_head (request_map x.place hub.contexts) (up_tail x.asked.minor)))) hub
-      (head_headed n m (goes_up x) x.asked.minor (request_map x.place hub.contexts) (map_listed x.place hub.contexts fine.maps)) fine
-  up_fine (Piece bytes end) x hub fine = sends_fine n _ hub (up_headed n m _) fine
-  up_fine Trailers x hub fine = sends_fine n _ hub (up_headed n m _) fine
+  up_fine : (item : Item) (x : Exchange) (hub : Hub) → F (x, hub) → F (up m item x hub)
+  up_fine (Head end) x hub fine = (
+    sends_fine n (to.Connect m ∷ sending m Up (head_wire (goes_up x) (sent_head (request_map x.place hub.contexts) (up_tail x.asked.minor)))) hub
+        (head_headed n m (goes_up x) x.asked.minor (request_map x.place hub.contexts) fine.1 (map_listed x.place hub.contexts fine.0.maps)) fine.0,
+    fine.1,
+  )
+  up_fine (Piece bytes end) x hub fine = (sends_fine n _ hub (up_headed n m _) fine.0, fine.1)
+  up_fine Trailers x hub fine = (sends_fine n _ hub (up_headed n m _) fine.0, fine.1)
 
-  down_fine : (item : Item) (x : Exchange) (hub : Hub) → Fine n hub → Fine n (down m item x hub).1
-  down_fine (Head end) x hub fine = sends_fine n _ hub (down_headed n m _) fine
-  down_fine (Piece bytes end) x hub fine = sends_fine n _ hub (down_headed n m _) fine
-  down_fine Trailers x hub fine = sends_fine n _ hub (down_headed n m _) fine
+  down_fine : (item : Item) (x : Exchange) (hub : Hub) → F (x, hub) → F (down m item x hub)
+  down_fine (Head end) x hub fine = (sends_fine n _ hub (down_headed n m _) fine.0, fine.1)
+  down_fine (Piece bytes end) x hub fine = (sends_fine n _ hub (down_headed n m _) fine.0, fine.1)
+  down_fine Trailers x hub fine = (sends_fine n _ hub (down_headed n m _) fine.0, fine.1)
 
-  leaves_fine : (response : Bool) (item : Item) (p : Exchange × Hub) → Fine n p.1 → Fine n (leaves response m item p).1
-  leaves_fine false item p fine = by_bool (λ (q : Exchange × Hub). Fine n q.1) p.0.has_ended p (up m item p.0 p.1) (λ e. fine) (λ e. up_fine item p.0 p.1 fine)
-  leaves_fine true item p fine = by_bool (λ (q : Exchange × Hub). Fine n q.1) p.0.has_ended p (down m item p.0 p.1) (λ e. fine) (λ e. down_fine item p.0 p.1 fine)
+  leaves_fine : (response : Bool) (item : Item) (p : Exchange × Hub) → F p → F (leaves response m item p)
+  leaves_fine false item p fine = by_bool (λ (q : Exchange × Hub). F q) p.0.has_ended p (up m item p.0 p.1) (λ e. fine) (λ e. up_fine item p.0 p.1 fine)
+  leaves_fine true item p fine = by_bool (λ (q : Exchange × Hub). F q) p.0.has_ended p (down m item p.0 p.1) (λ e. fine) (λ e. down_fine item p.0 p.1 fine)
 
-  left_fine : (response : Bool) (items : List Item) (p : Exchange × Hub) → Fine n p.1 → Fine n (left response m items p).1
+  left_fine : (response : Bool) (items : List Item) (p : Exchange × Hub) → F p → F (left response m items p)
   left_fine response [] p fine = fine
   left_fine response (item ∷ items) p fine = left_fine response items (leaves response m item p) (leaves_fine response item p fine)
 
@@ -126,109 +143,110 @@ module _ (n m : ℕ) where
   none_fine : (x : Exchange) (hub : Hub) → Fine n hub → Fine n (none_held x hub)
   none_fine x hub fine = held_fine n _ hub (cleared_lists _ x.response (cleared_lists hub.contexts x.request fine.maps)) fine
 
-  directly_fine : (status : ℕ) (fields : List Pair) (body : List ℕ) (x : Exchange) (hub : Hub) → Fine n hub → Fine n (directly m status fields body x hub).1
+  directly_fine : (status : ℕ) (fields : List Pair) (body : List ℕ) (x : Exchange) (hub : Hub) → F (x, hub) → F (directly m status fields body x hub)
   directly_fine status fields body x hub fine =
-      by_bool (λ (q : Exchange × Hub). Fine n q.1) (x.is_head_out || not (is_final status)) (cut_off x hub) _ (λ e. none_fine x hub fine) (λ e. sends_fine n _ (none_held x hub) (down_headed n m (local_reply_of status fields body x.asked.is_head (not (stays_open x)) hub.moment)) (none_fine x hub fine))
+      by_bool (λ (q : Exchange × Hub). F q) (x.is_head_out || not (is_final status)) (cut_off x hub) _ (λ e. (none_fine x hub fine.0, fine.1))
+      (λ e. (sends_fine n _ (none_held x hub) (down_headed n m (local_reply_of status fields body x.asked.is_head (not (stays_open x)) hub.moment)) (none_fine x hub fine.0), fine.1))
 
-  passed_down_fine : (p : Passed) (x : Exchange) (hub : Hub) → Fine n hub → Fine n (passed_down m p x hub).1
+  passed_down_fine : (p : Passed) (x : Exchange) (hub : Hub) → F (x, hub) → F (passed_down m p x hub)
   passed_down_fine passed.Over x hub fine = directly_fine 500 [] [] x hub fine
   passed_down_fine (passed.Left items) x hub fine = left_fine true items (x, hub) fine
 
-  puts_down_fine : (item : Item) (p : Exchange × Hub) → Fine n p.1 → Fine n (puts_down m item p).1
+  puts_down_fine : (item : Item) (p : Exchange × Hub) → F p → F (puts_down m item p)
   puts_down_fine item p fine =
       let t : Passed × List Stage = put p.1.contexts item p.0.response in
-      by_bool (λ (q : Exchange × Hub). Fine n q.1) p.0.has_ended p (put_went_down m p.0 p.1 t) (λ e. fine) (λ e. passed_down_fine t.0 (with_chain true t.1 p.0) p.1 fine)
+      by_bool (λ (q : Exchange × Hub). F q) p.0.has_ended p (put_went_down m p.0 p.1 t) (λ e. fine) (λ e. passed_down_fine t.0 (with_chain true t.1 p.0) p.1 fine)
 
-  through_fine : (status : ℕ) (fields : List Pair) (body : List ℕ) (x : Exchange) (hub : Hub) → Fine n hub → Fine n (through m status fields body x hub).1
+  through_fine : (status : ℕ) (fields : List Pair) (body : List ℕ) (x : Exchange) (hub : Hub) → F (x, hub) → F (through m status fields body x hub)
   through_fine status fields body x hub fine =
       let y : Exchange = answered_by status body x in
       let k : Hub = with_answer status fields x hub in
-      let first : Fine n k = held_fine n _ hub (cleared_lists _ x.request (view_lists _ x.place hub.contexts (λ v has. has) fine.maps)) fine in
-      by_bool (λ (q : Exchange × Hub). Fine n q.1) (is_bare y.told.length) (puts_down m (Head true) (y, k)) (puts_down m (Piece body true) (puts_down m (Head false) (y, k))) (λ e. puts_down_fine (Head true) (y, k) first)
+      let first : F (y, k) = (held_fine n _ hub (cleared_lists _ x.request (view_lists _ x.place hub.contexts (λ v has. has) fine.0.maps)) fine.0, fine.1) in
+      by_bool (λ (q : Exchange × Hub). F q) (is_bare y.told.length) (puts_down m (Head true) (y, k)) (puts_down m (Piece body true) (puts_down m (Head false) (y, k))) (λ e. puts_down_fine (Head true) (y, k) first)
       (λ e. puts_down_fine (Piece body true) (puts_down m (Head false) (y, k)) (puts_down_fine (Head false) (y, k) first))
 
-  answer_fine : (shut : Bool) (status : ℕ) (fields : List Pair) (body : List ℕ) (x : Exchange) (hub : Hub) → Fine n hub → Fine n (answer m shut status fields body x hub).1
+  answer_fine : (shut : Bool) (status : ℕ) (fields : List Pair) (body : List ℕ) (x : Exchange) (hub : Hub) → F (x, hub) → F (answer m shut status fields body x hub)
   answer_fine shut status fields body x hub fine =
-      by_bool (λ (q : Exchange × Hub). Fine n q.1) (x.has_ended || x.is_answered) (x, hub) (answers_open m status fields body (shutting shut x) hub) (λ e. fine)
-      (λ e. by_bool (λ (q : Exchange × Hub). Fine n q.1) (is_direct status (shutting shut x)) (directly m status fields body (shutting shut x) hub) (through m status fields body (shutting shut x) hub)
+      by_bool (λ (q : Exchange × Hub). F q) (x.has_ended || x.is_answered) (x, hub) (answers_open m status fields body (shutting shut x) hub) (λ e. fine)
+      (λ e. by_bool (λ (q : Exchange × Hub). F q) (is_direct status (shutting shut x)) (directly m status fields body (shutting shut x) hub) (through m status fields body (shutting shut x) hub)
       (λ d. directly_fine status fields body (shutting shut x) hub fine) (λ d. through_fine status fields body (shutting shut x) hub fine))
 
   -- ---- what the stages do
 
-  pub passed_on_fine : (response : Bool) (p : Passed) (x : Exchange) (hub : Hub) → Fine n hub → Fine n (passed_on response m p x hub).1
+  pub passed_on_fine : (response : Bool) (p : Passed) (x : Exchange) (hub : Hub) → F (x, hub) → F (passed_on response m p x hub)
   passed_on_fine false passed.Over x hub fine = answer_fine true 413 [] [] x hub fine
   passed_on_fine false (passed.Left items) x hub fine = left_fine false items (x, hub) fine
   passed_on_fine true p x hub fine = passed_down_fine p x hub fine
 
-  went_fine : (response : Bool) (x : Exchange) (hub : Hub) (r : Passed × List Stage × Contexts) → AreLists r.2 → Fine n hub → Fine n (went response m x hub r).1
-  went_fine response x hub r are fine = passed_on_fine response r.0 (with_chain response r.1 x) (with_held r.2 hub) (held_fine n r.2 hub are fine)
+  went_fine : (response : Bool) (x : Exchange) (hub : Hub) (r : Passed × List Stage × Contexts) → AreLists r.2 → F (x, hub) → F (went response m x hub r)
+  went_fine response x hub r are fine = passed_on_fine response r.0 (with_chain response r.1 x) (with_held r.2 hub) (held_fine n r.2 hub are fine.0, chain_lim response r.1 x fine.1)
 
-  goes_on_fine : (response : Bool) (k : ℕ) (x : Exchange) (hub : Hub) → Fine n hub → Fine n (goes_on response m k x hub).1
+  goes_on_fine : (response : Bool) (k : ℕ) (x : Exchange) (hub : Hub) → F (x, hub) → F (goes_on response m k x hub)
   goes_on_fine response k x hub fine =
-      by_bool (λ (q : Exchange × Hub). Fine n q.1) x.has_ended (x, hub) (went response m x hub (continued hub.contexts k (chain_of response x))) (λ e. fine)
-      (λ e. went_fine response x hub (continued hub.contexts k (chain_of response x)) (continued_lists hub.contexts k (chain_of response x) fine.maps) fine)
+      by_bool (λ (q : Exchange × Hub). F q) x.has_ended (x, hub) (went response m x hub (continued hub.contexts k (chain_of response x))) (λ e. fine)
+      (λ e. went_fine response x hub (continued hub.contexts k (chain_of response x)) (continued_lists hub.contexts k (chain_of response x) fine.0.maps) fine)
 
-  gives_way_fine : (response : Bool) (k : ℕ) (x : Exchange) (hub : Hub) → Fine n hub → Fine n (gives_way response m k x hub).1
+  gives_way_fine : (response : Bool) (k : ℕ) (x : Exchange) (hub : Hub) → F (x, hub) → F (gives_way response m k x hub)
   gives_way_fine response k x hub fine =
-      by_bool (λ (q : Exchange × Hub). Fine n q.1) x.has_ended (x, hub) (went response m x hub (let_through hub.contexts k (chain_of response x))) (λ e. fine)
-      (λ e. went_fine response x hub (let_through hub.contexts k (chain_of response x)) (through_lists hub.contexts k (chain_of response x) fine.maps) fine)
+      by_bool (λ (q : Exchange × Hub). F q) x.has_ended (x, hub) (went response m x hub (let_through hub.contexts k (chain_of response x))) (λ e. fine)
+      (λ e. went_fine response x hub (let_through hub.contexts k (chain_of response x)) (through_lists hub.contexts k (chain_of response x) fine.0.maps) fine)
 
-  puts_fine : (response : Bool) (item : Item) (p : Exchange × Hub) → Fine n p.1 → Fine n (puts response m item p).1
+  puts_fine : (response : Bool) (item : Item) (p : Exchange × Hub) → F p → F (puts response m item p)
   puts_fine response item p fine =
       let r : Passed × List Stage = put p.1.contexts item (chain_of response p.0) in
-      by_bool (λ (q : Exchange × Hub). Fine n q.1) (takes_nothing response p.0) p (put_went response m p.0 p.1 r) (λ e. fine) (λ e. passed_on_fine response r.0 (with_chain response r.1 p.0) p.1 fine)
+      by_bool (λ (q : Exchange × Hub). F q) (takes_nothing response p.0) p (put_went response m p.0 p.1 r) (λ e. fine) (λ e. passed_on_fine response r.0 (with_chain response r.1 p.0) p.1 (fine.0, chain_lim response r.1 p.0 fine.1))
 
-  puts_all_fine : (response : Bool) (items : List Item) (p : Exchange × Hub) → Fine n p.1 → Fine n (puts_all response m items p).1
+  puts_all_fine : (response : Bool) (items : List Item) (p : Exchange × Hub) → F p → F (puts_all response m items p)
   puts_all_fine response [] p fine = fine
   puts_all_fine response (item ∷ items) p fine = puts_all_fine response items (puts response m item p) (puts_fine response item p fine)
 
-  pub put_in_fine : (response : Bool) (items : List Item) (x : Exchange) (hub : Hub) → Fine n hub → Fine n (put_in response items m x hub).1
-  put_in_fine response items x hub fine = by_bool (λ (q : Exchange × Hub). Fine n q.1) x.is_answered (x, hub) (puts_all response m items (x, hub)) (λ e. fine) (λ e. puts_all_fine response items (x, hub) fine)
+  pub put_in_fine : (response : Bool) (items : List Item) (x : Exchange) (hub : Hub) → F (x, hub) → F (put_in response items m x hub)
+  put_in_fine response items x hub fine = by_bool (λ (q : Exchange × Hub). F q) x.is_answered (x, hub) (puts_all response m items (x, hub)) (λ e. fine) (λ e. puts_all_fine response items (x, hub) fine)
 
-  resumes_at_fine : (response : Bool) (at : Option ℕ) (x : Exchange) (hub : Hub) → Fine n hub → Fine n (resumes_at response m at x hub).1
+  resumes_at_fine : (response : Bool) (at : Option ℕ) (x : Exchange) (hub : Hub) → F (x, hub) → F (resumes_at response m at x hub)
   resumes_at_fine response None x hub fine = fine
   resumes_at_fine response (Some k) x hub fine = goes_on_fine response k x hub fine
 
-  acts_fine : (response : Bool) (k value : ℕ) (x : Exchange) (hub : Hub) → Fine n hub → Fine n (passing.acts response k value m x hub).1
+  acts_fine : (response : Bool) (k value : ℕ) (x : Exchange) (hub : Hub) → F (x, hub) → F (passing.acts response k value m x hub)
   acts_fine response k value x hub fine =
       let h : Hub = pauses response k x hub in
-      let held : Fine n h = held_fine n _ hub (paused_lists hub.contexts k (chain_of response x) fine.maps) fine in
-      by_bool (λ (q : Exchange × Hub). Fine n q.1) (value == 0) (goes_on response m k x h) (x, h) (λ e. goes_on_fine response k x h held) (λ e. held)
+      let held : F (x, h) = (held_fine n _ hub (paused_lists hub.contexts k (chain_of response x) fine.0.maps) fine.0, fine.1) in
+      by_bool (λ (q : Exchange × Hub). F q) (value == 0) (goes_on response m k x h) (x, h) (λ e. goes_on_fine response k x h held) (λ e. held)
 
   -- ---- deaths, and fixed answers
 
-  opens_at_fine : (response : Bool) (vm k : ℕ) (o : Option Stage) (x : Exchange) (hub : Hub) → Fine n hub → Fine n (opens_at response vm m k o x hub).1
+  opens_at_fine : (response : Bool) (vm k : ℕ) (o : Option Stage) (x : Exchange) (hub : Hub) → F (x, hub) → F (opens_at response vm m k o x hub)
   opens_at_fine response vm k None x hub fine = fine
-  opens_at_fine response vm k (Some s) x hub fine = by_bool (λ (q : Exchange × Hub). Fine n q.1) (s.vm == vm) (gives_way response m k x hub) (x, hub) (λ e. gives_way_fine response k x hub fine) (λ e. fine)
+  opens_at_fine response vm k (Some s) x hub fine = by_bool (λ (q : Exchange × Hub). F q) (s.vm == vm) (gives_way response m k x hub) (x, hub) (λ e. gives_way_fine response k x hub fine) (λ e. fine)
 
-  opens_fine : (response : Bool) (vm k : ℕ) (p : Exchange × Hub) → Fine n p.1 → Fine n (opens response vm m k p).1
+  opens_fine : (response : Bool) (vm k : ℕ) (p : Exchange × Hub) → F p → F (opens response vm m k p)
   opens_fine response vm zero p fine = fine
   opens_fine response vm (suc k) p fine =
       opens_fine response vm k (opens_at response vm m k (slice_get (chain_of response p.0) k) p.0 p.1) (opens_at_fine response vm k (slice_get (chain_of response p.0) k) p.0 p.1 fine)
 
-  dies_fine : (vm : ℕ) (x : Exchange) (hub : Hub) → Fine n hub → Fine n (passing.dies vm m x hub).1
+  dies_fine : (vm : ℕ) (x : Exchange) (hub : Hub) → F (x, hub) → F (passing.dies vm m x hub)
   dies_fine vm x hub fine =
       let p : Exchange × Hub = opens false vm m (length x.request) (x, hub) in
-      by_bool (λ (q : Exchange × Hub). Fine n q.1) x.has_ended (x, hub) (if fails_closed vm x then directly m 503 [] [] x hub else opens_all vm m x hub) (λ e. fine)
-      (λ e. by_bool (λ (q : Exchange × Hub). Fine n q.1) (fails_closed vm x) (directly m 503 [] [] x hub) (opens_all vm m x hub) (λ d. directly_fine 503 [] [] x hub fine)
+      by_bool (λ (q : Exchange × Hub). F q) x.has_ended (x, hub) (if fails_closed vm x then directly m 503 [] [] x hub else opens_all vm m x hub) (λ e. fine)
+      (λ e. by_bool (λ (q : Exchange × Hub). F q) (fails_closed vm x) (directly m 503 [] [] x hub) (opens_all vm m x hub) (λ d. directly_fine 503 [] [] x hub fine)
       (λ d. opens_fine true vm (length p.0.response) p (opens_fine false vm (length x.request) (x, hub) fine)))
 
-  refused_fine : (status : ℕ) (x : Exchange) (hub : Hub) → Fine n hub → Fine n (passing.refused status m x hub).1
+  refused_fine : (status : ℕ) (x : Exchange) (hub : Hub) → F (x, hub) → F (passing.refused status m x hub)
   refused_fine status x hub fine =
-      by_bool (λ (q : Exchange × Hub). Fine n q.1) (x.has_ended || x.is_answered) (x, hub)
+      by_bool (λ (q : Exchange × Hub). F q) (x.has_ended || x.is_answered) (x, hub)
       (if passes_filters status then answer m (shuts status) status [] [] x hub else directly m status [] [] (shutting (shuts status) x) hub) (λ e. fine)
-      (λ e. by_bool (λ (q : Exchange × Hub). Fine n q.1) (passes_filters status) (answer m (shuts status) status [] [] x hub) (directly m status [] [] (shutting (shuts status) x) hub)
+      (λ e. by_bool (λ (q : Exchange × Hub). F q) (passes_filters status) (answer m (shuts status) status [] [] x hub) (directly m status [] [] (shutting (shuts status) x) hub)
       (λ d. answer_fine (shuts status) status [] [] x hub fine) (λ d. directly_fine status [] [] (shutting (shuts status) x) hub fine))
 
   -- ALL THAT AN EXCHANGE DOES
-  pub deed_fine : (deed : Deed) (x : Exchange) (hub : Hub) → IsOwn deed → Fine n hub → Fine n (done_by m deed x hub).1
+  pub deed_fine : (deed : Deed) (x : Exchange) (hub : Hub) → IsOwn deed → F (x, hub) → F (done_by m deed x hub)
   deed_fine (comes items) x hub is fine = put_in_fine false items x hub fine
   deed_fine (responds items) x hub is fine = put_in_fine true items x hub fine
   deed_fine (acts response k value) x hub is fine = acts_fine response k value x hub fine
   deed_fine (resumes vm context response) x hub is fine = resumes_at_fine response (stage_of vm context (chain_of response x)) x hub fine
-  deed_fine closes x hub is fine = by_bool (λ (q : Exchange × Hub). Fine n q.1) x.has_ended (x, hub) (cut_off x hub) (λ e. fine) (λ e. none_fine x hub fine)
+  deed_fine closes x hub is fine = by_bool (λ (q : Exchange × Hub). F q) x.has_ended (x, hub) (cut_off x hub) (λ e. fine) (λ e. (none_fine x hub fine.0, fine.1))
   deed_fine (answers shut status fields body) x hub is fine = answer_fine shut status fields body x hub fine
   deed_fine (dies vm) x hub is fine = dies_fine vm x hub fine
   deed_fine (refuses status) x hub is fine = refused_fine status x hub fine
-  deed_fine expires x hub is fine = by_bool (λ (q : Exchange × Hub). Fine n q.1) (is_due hub.moment x) (answer m false 504 [] [] x hub) (x, hub) (λ e. answer_fine false 504 [] [] x hub fine) (λ e. fine)
+  deed_fine expires x hub is fine = by_bool (λ (q : Exchange × Hub). F q) (is_due hub.moment x) (answer m false 504 [] [] x hub) (x, hub) (λ e. answer_fine false 504 [] [] x hub fine) (λ e. fine)
   deed_fine (turns y after) x hub is fine = absurd is

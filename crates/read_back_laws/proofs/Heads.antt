@@ -81,12 +81,13 @@ own method path is t gives = by_form gives.scheme gives.authority gives.reads.1 
     by_form (Some s) None f e = absurd f
     by_form (Some s) (Some a) f e = absurd (never_absolute path s a gives.kept is f)
 
--- ---- a head that is found is the one that was written, with a target and with room
+-- ---- a head that is found is the one that was written, with a target and with room, and ends where that does
 
-record IsFine (framing : Framing) (h : Head) : Type 0 where
-  target : GivesTarget (method_of h) (path_of h) (own_target (path_of h))
-  few : length (request_fields framing h) ≤ line_limit
-  short : length (print_request (tree_of framing h)) ≤ head_limit
+pub record IsFine (framing : Framing) (h : Head) (used : ℕ) : Type 0 where
+  pub ends : used ≡ length (print_request (tree_of framing h))
+  pub target : GivesTarget (method_of h) (path_of h) (own_target (path_of h))
+  pub few : length (request_fields framing h) ≤ line_limit
+  pub short : length (print_request (tree_of framing h)) ≤ head_limit
 
 module _ (framing : Framing) (h : Head) (list : RequestList h) (is : IsRequestHead (tree_of framing h)) (body : List ℕ) where
   tree : RequestHead
@@ -107,7 +108,7 @@ module _ (framing : Framing) (h : Head) (list : RequestList h) (is : IsRequestHe
       let after = map print_field p.fields ++ print_end p.last ∷ whole_lines body in
       ap empty_len lines ∙ cond-false (is_empty_line (first_line p)) (length (first_line p) + empty_len after) 0 first
 
-  fine_of : (hd : Head) (n : ℕ) → SpellsStep (print_request (tree_of framing h) ++ body) (found hd n) → IsFine framing h
+  pub fine_of : (hd : Head) (n : ℕ) → SpellsStep (print_request (tree_of framing h) ++ body) (found hd n) → IsFine framing h n
   unfolding text tree
   fine_of hd n spells = by_cut (after_empty_lines all) (ap (λ k. drop k all) none) (head_cut (after_empty_lines all)) refl spells
     where
@@ -126,8 +127,8 @@ module _ (framing : Framing) (h : Head) (list : RequestList h) (is : IsRequestHe
           by_early None x = by_parts x.parts x.gives x.is
           by_early (Some k) x = absurd (cc)
 
-      by_head : (rest : List ℕ) (len : ℕ) → rest ≡ all → head_cut rest ≡ whole len → (head : RequestHead) → ReadsRequest (take len rest) head [] → model.IsJudged head.method head.target head.minor (pairs_of head) (Ok hd) → IsFine framing h
-      by_head rest len same at head reads judged =
+      by_head : (rest : List ℕ) (len : ℕ) → n ≡ skipped all + len → rest ≡ all → head_cut rest ≡ whole len → (head : RequestHead) → ReadsRequest (take len rest) head [] → model.IsJudged head.method head.target head.minor (pairs_of head) (Ok hd) → IsFine framing h n
+      by_head rest len spent same at head reads judged =
           let fits = head_cut_fits rest len at in
           let whole_is : rest ≡ print_request head ++ drop len rest
           = sym (take-append-drop len rest) ∙ ap (λ (t : List ℕ). t ++ drop len rest) (reads.1 ∙ append-nil (print_request head)) in
@@ -139,21 +140,22 @@ module _ (framing : Framing) (h : Head) (list : RequestList h) (is : IsRequestHe
           = subst (λ (k : RequestHead). length (print_request k) ≤ 65536) one
           (omega (arith, ap length reads.1, length-append (print_request head) [], length-take-le len rest fits.0, fits.1)) in
           record {
+            ends = subst (λ (k : RequestHead). n ≡ length (print_request k)) one (omega (arith, spent, none, ap length reads.1, length-append (print_request head) [], length-take-le len rest fits.0));
             target = by_judged (subst (λ (k : RequestHead). model.IsJudged k.method k.target k.minor (pairs_of k) (Ok hd)) one judged);
             few = omega (arith, few, length-map (request_fields framing h) field_at);
             short = short;
           }
 
-      by_answer : (rest : List ℕ) (len : ℕ) → rest ≡ all → head_cut rest ≡ whole len → IsAnswer (take len rest) (Ok hd) → IsFine framing h
-      by_answer rest len same at (inl a) = by_head rest len same at a.head a.reads a.judged
-      by_answer rest len same at (inr a) = let e : ◌≡◌ {A = Result Head ℕ} (Ok hd) (Err 400) = a.is in absurd (cc)
+      by_answer : (rest : List ℕ) (len : ℕ) → n ≡ skipped all + len → rest ≡ all → head_cut rest ≡ whole len → IsAnswer (take len rest) (Ok hd) → IsFine framing h n
+      by_answer rest len spent same at (inl a) = by_head rest len spent same at a.head a.reads a.judged
+      by_answer rest len spent same at (inr a) = let e : ◌≡◌ {A = Result Head ℕ} (Ok hd) (Err 400) = a.is in absurd (cc)
 
-      by_result : (rest : List ℕ) (len m : ℕ) (answer : Result Head ℕ) → rest ≡ all → head_cut rest ≡ whole len → IsAnswer (take len rest) answer → found hd n ≡ step_of m answer → IsFine framing h
-      by_result rest len m (Ok k) same at answers e = let one : k ≡ hd = cc in by_answer rest len same at (subst (λ (j : Head). IsAnswer (take len rest) (Ok j)) one answers)
-      by_result rest len m (Err number) same at answers e = absurd (cc)
+      by_result : (rest : List ℕ) (len m : ℕ) (answer : Result Head ℕ) → m ≡ skipped all + len → rest ≡ all → head_cut rest ≡ whole len → IsAnswer (take len rest) answer → found hd n ≡ step_of m answer → IsFine framing h n
+      by_result rest len m (Ok k) spent same at answers e = let one : k ≡ hd = cc in let used : n ≡ m = cc in by_answer rest len (used ∙ spent) same at (subst (λ (j : Head). IsAnswer (take len rest) (Ok j)) one answers)
+      by_result rest len m (Err number) spent same at answers e = absurd (cc)
 
-      by_cut : (rest : List ℕ) → rest ≡ all → (cut : Cut) → head_cut rest ≡ cut → IsStepAt IsAnswer 431 (skipped all) rest cut (found hd n) → IsFine framing h
-      by_cut rest same (whole len) at x = by_result rest len (skipped all + len) x.0 same at x.1 x.2
+      by_cut : (rest : List ℕ) → rest ≡ all → (cut : Cut) → head_cut rest ≡ cut → IsStepAt IsAnswer 431 (skipped all) rest cut (found hd n) → IsFine framing h n
+      by_cut rest same (whole len) at x = by_result rest len (skipped all + len) x.0 refl same at x.1 x.2
       by_cut rest same too_large at x = absurd (cc)
       by_cut rest same unfinished at x = absurd (cc)
 
@@ -183,7 +185,7 @@ never_two q sent more front w suits = record {
     readable : (hd : Head) (n : ℕ) → SpellsStep sent (found hd n) → IsReadableRequest q.framing q.head
     readable hd n spells =
         let longer : SpellsStep (sent ++ more) (found hd n) = step_stays None sent more (found hd n) spells (λ e. cc) in
-        let fine : IsFine q.framing q.head
+        let fine : IsFine q.framing q.head n
         = fine_of q.framing q.head list (tree_is q.framing q.head list w.tail w.told) body hd n (subst (λ (t : List ℕ). SpellsStep t (found hd n)) same longer) in
         readable_of q.framing q.head w fine.target fine.few (subst (λ (t : List ℕ). length t ≤ head_limit) (sym (printed q.framing q.head w.kind)) fine.short)
 

@@ -12,3 +12,4 @@ pub mod Heading
 pub mod Calling
 pub mod Staying
 pub mod Mapped
+pub mod First

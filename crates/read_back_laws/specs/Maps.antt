@@ -1,5 +1,5 @@
 -- The maps of requests, whatever filters call, and the heads that are written of them.
-use Rattle.std.specs.Prelude.{◌≡◌, ◌⊎◌, ℕ, Bool, List, [], ◌∷◌, ◌++◌, map, codes, Option, None, Some}
+use Rattle.std.specs.Prelude.{◌≡◌, ◌⊎◌, ℕ, Bool, List, [], ◌∷◌, ◌++◌, map, length, true, codes, Option, None, Some}
 use Rattle.contexts.specs.declared.parts.Contexts.{Contexts}
 use Rattle.contexts.specs.declared.parts.ExchangeView.{ExchangeView}
 use Rattle.contexts.specs.Reached.{view_at}
@@ -9,19 +9,22 @@ use Rattle.exchange.specs.Heads.{sent_head, up_tail}
 use Rattle.exchange_laws.specs.Traffic.{Traffic, opens, byte, closes, ups}
 use Rattle.gate_config.specs.declared.config.Config.{Config}
 use Rattle.gate_io.specs.declared.event.Sent.{Sent}
+use Rattle.h1_write.specs.Heads.{IsInLimit}
+use Rattle.h1_write.specs.Requests.{is_for_request}
 use Rattle.header_maps.specs.Headers.{Headers}
 use Rattle.header_maps.specs.Kept.{BeginsWith}
 use Rattle.header_maps.specs.Kinds.{pseudo_names}
 use Rattle.header_maps.specs.Operations.{no_headers}
 use Rattle.header_maps.specs.declared.kind.ListKind.TheVariants as kinds
 use Rattle.http1_model.specs.Framing.{Framing, head_wire}
-use Rattle.http1_model.specs.Head.{Head}
+use Rattle.http1_model.specs.Head.{Head, SpellsStep, found}
 use Rattle.httparse.specs.Ascii.{crlf_bytes}
 use Rattle.line_laws.specs.Logs.{WriteLogs}
 use Rattle.line_laws.specs.Requests.{IsJudged}
 use Rattle.line_laws.specs.Turns.{Done, Turns, Worked, new_room, sent_in}
 use Rattle.read_back_laws.specs.Examples.{made_fields}
 use Rattle.read_back_laws.specs.Runs.{rewriting, FilterRun}
+use Rattle.read_back_laws.specs.Sent.{bytes_in}
 use Rattle.store_model.specs.Made.{Made}
 use Rattle.store_model.specs.Program.{Program, done, ask, measure}
 use Rattle.store_model.specs.declared.call.Reply.{Reply}
@@ -77,11 +80,13 @@ HeadsHaveFieldLists = (h : Head) → IsJudged h → IsFieldList h.fields
 abbrev pub ListOrNone : Headers → Type 0
 ListOrNone fields = IsFieldList fields ⊎ (fields ≡ no_headers)
 
--- the bytes begin with a head of a request of such fields, as the gateway writes it, whole
+-- the bytes begin with a head of a request of such fields, as the gateway writes it, whole: framed as a request is, with `via` and `connection: close`
 pub record BeginsWithHead (t : List Traffic) : Type 0 where
   pub fields : Headers
   pub listed : ListOrNone fields
   pub framing : Framing
+  pub framed : is_for_request framing ≡ true
+  pub told : IsInLimit framing
   pub minor : ℕ
   pub rest : List Traffic
   pub is : t ≡ map byte (head_wire framing (sent_head fields (up_tail minor))) ++ rest
@@ -92,6 +97,13 @@ AreHeaded [] = Unit {0}
 AreHeaded (opens ∷ t) = BeginsWithHead t × AreHeaded t
 AreHeaded (byte b ∷ t) = AreHeaded t
 AreHeaded (closes ∷ t) = AreHeaded t
+
+-- WHERE SUCH A HEAD ENDS a reader ends it: whatever follows, where a reader of requests finds a head at the begin of these bytes, that head ends where the one
+-- that was written does. (It may find none, as where the path is no target, or the head is too long.)
+abbrev pub HeadsEndWhereWritten : Type 0
+HeadsEndWhereWritten =
+    (t : List Traffic) (b : BeginsWithHead t) (h : Head) (used : ℕ) → IsFieldList b.fields → SpellsStep (bytes_in t) (found h used)
+    → used ≡ length (head_wire b.framing (sent_head b.fields (up_tail b.minor)))
 
 -- ---- over turns
 

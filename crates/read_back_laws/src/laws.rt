@@ -2,7 +2,7 @@
 ghost use Rattle.read_back_laws.specs.Examples.{FilterExample, RefusedReadings};
 ghost use Rattle.read_back_laws.specs.Laws.{RequestsAreReadAsOne, RequestsOfTheProductAreReadAsOne, RequestsOfWorkersAreReadAsOne};
 ghost use Rattle.read_back_laws.specs.Lists.{FiltersKeepLists, HeadsHaveLists, ListExample};
-ghost use Rattle.read_back_laws.specs.Maps.{HeadsHaveFieldLists, MachinesKeepLists, MapExamples, MapsOfTheProductStayLists, MapsOfWorkersStayLists, MapsStayLists};
+ghost use Rattle.read_back_laws.specs.Maps.{HeadsEndWhereWritten, HeadsHaveFieldLists, MachinesKeepLists, MapExamples, MapsOfTheProductStayLists, MapsOfWorkersStayLists, MapsStayLists};
 ghost use Rattle.read_back_laws.specs.OneRequest.{NeverTwo, ReadAsOne};
 ghost use Rattle.read_back_laws.specs.Runs.{FilterRun};
 
@@ -71,8 +71,8 @@ pub fn machines_keep_lists()
 {}
 
 /// Over the turns of a new worker whose machines write logs and keep such lists: each map of a request among its contexts is one, and each connection that went up
-/// on a line begins with the whole head of a request, of the fields of one; or of no fields at all, which is what would be written of an exchange that the
-/// contexts have no more.
+/// on a line begins with the whole head of a request, of the fields of one, framed as a request is; or of no fields at all, which is what would be written of an
+/// exchange that the contexts have no more.
 pub fn maps_stay_lists<H>()
     ensures { MapsStayLists H }
 {}
@@ -91,4 +91,10 @@ pub fn maps_of_the_product_stay_lists<S: Shared>()
 /// fields with an end of line in a value are no such list.
 pub fn worked_maps()
     ensures { MapExamples }
+{}
+
+/// A head of such fields with which a connection begins ends where it was written: whatever follows, where a reader of requests finds a head there, that has as many
+/// bytes as the one that was written. So no field that a filter puts into a map makes such a reader end the head before, or behind.
+pub fn heads_end_where_written()
+    ensures { HeadsEndWhereWritten }
 {}

@@ -5,7 +5,7 @@
 mod laws;
 
 pub use laws::{
-    filters_keep_lists, fronts_are_read_as_one, machines_keep_lists,
+    filters_keep_lists, fronts_are_read_as_one, heads_end_where_written, machines_keep_lists,
     maps_of_the_product_stay_lists, maps_of_workers_stay_lists, maps_stay_lists,
     requests_are_read_as_one, requests_of_the_product_are_read_as_one,
     requests_of_workers_are_read_as_one, worked_maps, worked_readings, worked_turns,
