@@ -2,7 +2,7 @@
 use Rattle.std.proofs.Common.{◌≡◌, ℕ, true, List, [], ◌∷◌, ◌++◌, map, length, codes, refl, ap, ◌∙◌, sym, subst}
 use Rattle.std.specs.Prelude.{option_map, unwrap_or}
 use Rattle.std.specs.List.{find}
-use Rattle.exchange.specs.Heads.{sent_head, up_tail}
+use Rattle.exchange.specs.Heads.{request_of, sent_head, up_framing, up_tail}
 use Rattle.exchange_laws.specs.Traffic.{Traffic, byte}
 use Rattle.h1_write.specs.Requests.{method_of, path_of, authority_of}
 use Rattle.h1_write.proofs.RequestText.{RequestList}
@@ -13,7 +13,7 @@ use Rattle.header_maps.specs.Kinds.{pseudo_names}
 use Rattle.header_maps.specs.Pairs.{Pair, is_named}
 use Rattle.header_maps.specs.declared.kind.ListKind.{ListKind}
 use Rattle.header_maps.specs.declared.kind.ListKind.TheVariants as kinds
-use Rattle.http1_model.specs.Framing.{head_wire}
+use Rattle.http1_model.specs.Framing.{Framing, head_wire}
 use Rattle.http1_model.specs.Head.{Head, SpellsStep, found}
 use Rattle.http_header.specs.Token.{lowercase}
 use Rattle.httparse.specs.Grammar.{IsRequestHead, print_request}
@@ -21,7 +21,7 @@ use Rattle.httparse.proofs.OnLiterals.{httparse_on_literals}
 use Rattle.read_back_laws.specs.Maps.{HeadsEndWhereWritten}
 use Rattle.read_back_laws.specs.Sent.{bytes_in}
 use Rattle.read_back_laws.proofs.Heads.{IsFine, fine_of}
-use Rattle.read_back_laws.proofs.Measures.{tail_is}
+use Rattle.read_back_laws.proofs.Measures.{tail_is, up_framed}
 
 abbrev value_in : List ℕ → List Pair → List ℕ
 value_in name pairs = unwrap_or (option_map (λ (f : Pair). f.1) (find (is_named (lowercase name)) pairs)) []
@@ -55,11 +55,12 @@ bytes_join (b ∷ w) t = ap (λ (l : List ℕ). b ∷ l) (bytes_join w t)
 
 pub heads_end_where_written : HeadsEndWhereWritten
 heads_end_where_written t b h used is spells =
-    let g : Head = sent_head b.fields (up_tail b.minor) in
-    let text : head_wire b.framing g ≡ print_request (tree_of b.framing g) = printed b.framing g is.kind in
+    let f : Framing = up_framing b.filtered (request_of b.head) in
+    let g : Head = sent_head b.fields (up_tail b.head.minor) in
+    let text : head_wire f g ≡ print_request (tree_of f g) = printed f g is.kind in
     let begins : BeginsWith kinds.Request (pseudo_names kinds.Request) b.fields.pairs = subst (λ (k : ListKind). BeginsWith k (pseudo_names k) b.fields.pairs) is.kind is.shape in
     let list : RequestList g = listed g b.fields.pairs refl begins in
-    let tree : IsRequestHead (tree_of b.framing g) = tree_is b.framing g list (tail_is b.minor).tail b.told in
-    let same : bytes_in t ≡ print_request (tree_of b.framing g) ++ bytes_in b.rest = ap bytes_in b.is ∙ (bytes_join (head_wire b.framing g) b.rest ∙ ap (λ (l : List ℕ). l ++ bytes_in b.rest) text) in
-    let fine : IsFine b.framing g used = fine_of b.framing g list tree (bytes_in b.rest) h used (subst (λ (l : List ℕ). SpellsStep l (found h used)) same spells) in
+    let tree : IsRequestHead (tree_of f g) = tree_is f g list (tail_is b.head.minor).tail (up_framed b.filtered b.head b.judged).limit in
+    let same : bytes_in t ≡ print_request (tree_of f g) ++ bytes_in b.rest = ap bytes_in b.is ∙ (bytes_join (head_wire f g) b.rest ∙ ap (λ (l : List ℕ). l ++ bytes_in b.rest) text) in
+    let fine : IsFine f g used = fine_of f g list tree (bytes_in b.rest) h used (subst (λ (l : List ℕ). SpellsStep l (found h used)) same spells) in
     fine.ends ∙ ap length (sym text)

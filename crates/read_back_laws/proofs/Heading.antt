@@ -6,7 +6,7 @@ use Rattle.contexts.specs.declared.parts.Contexts.{Contexts}
 use Rattle.exchange.specs.declared.types.Exchange.{Exchange}
 use Rattle.exchange.specs.declared.types.Hub.{Hub}
 use Rattle.exchange.specs.Answering.{none_held, stays_open, cut_off, directly, with_held, passed_down, put_went_down, puts_down, answered_by, with_answer, through, is_direct, shutting, answers_open, answer}
-use Rattle.exchange.specs.Heads.{is_bare, is_final, passes_filters, shuts, sent_head, up_tail}
+use Rattle.exchange.specs.Heads.{is_bare, is_final, passes_filters, shuts, sent_head, up_tail, request_of, up_framing}
 use Rattle.exchange.specs.Leaving.{sending, sends, goes_up, up, down, leaves, left, is_due}
 use Rattle.exchange.specs.Maps.{request_map}
 use Rattle.exchange.specs.Passing as passing
@@ -28,11 +28,12 @@ use Rattle.gate_io.specs.declared.event.Side.TheVariants.{Down, Up}
 use Rattle.header_maps.specs.Headers.{Headers}
 use Rattle.http1_model.specs.Fields.{Pair}
 use Rattle.http1_model.specs.Framing.{Framing, head_wire}
+use Rattle.http1_model.specs.Head as model
 use Rattle.http1_model.specs.LocalReply.{local_reply_of}
+use Rattle.line_laws.specs.Requests.{IsJudged}
 use Rattle.line_laws.proofs.Kept.{by_bool}
 use Rattle.line_laws.proofs.Looks.{none_up, equal_by}
-use Rattle.read_back_laws.specs.Maps.{AreLists, ListOrNone, AreHeaded}
-use Rattle.read_back_laws.proofs.Measures.{IsFramed}
+use Rattle.read_back_laws.specs.Maps.{AreLists, ListOrNone, AreHeaded, written_head}
 use Rattle.read_back_laws.proofs.Places.{map_listed, view_lists, continued_lists, through_lists, paused_lists, cleared_lists}
 
 -- ---- traffic
@@ -40,7 +41,7 @@ use Rattle.read_back_laws.proofs.Places.{map_listed, view_lists, continued_lists
 pub headed_join : (a b : List Traffic) → AreHeaded a → AreHeaded b → AreHeaded (a ++ b)
 headed_join [] b e f = f
 headed_join (opening ∷ a) b e f = (
-  record { fields = e.0.fields; listed = e.0.listed; framing = e.0.framing; framed = e.0.framed; told = e.0.told; minor = e.0.minor; rest = e.0.rest ++ b; is = ap (λ (t : List Traffic). t ++ b) e.0.is ∙ append_assoc (map byte (head_wire e.0.framing (sent_head e.0.fields (up_tail e.0.minor)))) e.0.rest b },
+  record { fields = e.0.fields; listed = e.0.listed; head = e.0.head; judged = e.0.judged; filtered = e.0.filtered; rest = e.0.rest ++ b; is = ap (λ (t : List Traffic). t ++ b) e.0.is ∙ append_assoc (map byte (written_head e.0.fields e.0.head e.0.filtered)) e.0.rest b },
   headed_join a b e.1 f,
 )
 headed_join (byte c ∷ a) b e f = headed_join a b e f
@@ -70,14 +71,25 @@ pub down_headed : (n m : ℕ) (bytes : List ℕ) → AreHeaded (ups n (sending m
 down_headed n m [] = tt
 down_headed n m (b ∷ bytes) = tt
 
-head_headed : (n m : ℕ) (framing : Framing) (minor : ℕ) (fields : Headers) → IsFramed framing → ListOrNone fields → AreHeaded (ups n (to.Connect m ∷ sending m Up (head_wire framing (sent_head fields (up_tail minor)))))
-head_headed n m framing minor fields framed listed =
+-- a request goes up framed as that of a head that was judged, with its version
+pub record UpOf (framing : Framing) (filtered : Bool) (minor : ℕ) : Type 0 where
+  pub head : model.Head
+  pub judged : IsJudged head
+  pub framed : framing ≡ up_framing filtered (request_of head)
+  pub version : minor ≡ head.minor
+
+head_headed : (n m : ℕ) (framing : Framing) (filtered : Bool) (minor : ℕ) (fields : Headers) → UpOf framing filtered minor → ListOrNone fields
+    → AreHeaded (ups n (to.Connect m ∷ sending m Up (head_wire framing (sent_head fields (up_tail minor)))))
+head_headed n m framing filtered minor fields of listed =
     by_line (λ (k : ℕ). AreHeaded (ups n (to.Connect k ∷ sending k Up wire))) n m
-    (subst AreHeaded (sym whole) (record { fields = fields; listed = listed; framing = framing; framed = framed.for_request; told = framed.limit; minor = minor; rest = []; is = sym (append-nil (map byte wire)) }, bytes_headed wire))
+    (subst AreHeaded (sym whole) (record { fields = fields; listed = listed; head = of.head; judged = of.judged; filtered = filtered; rest = []; is = ap (map byte) same ∙ sym (append-nil (map byte (written_head fields of.head filtered))) }, bytes_headed wire))
     (λ other. subst AreHeaded (sym (none_up n m (to.Connect m ∷ sending m Up wire) other (refl, own wire))) tt)
   where
     wire : List ℕ
     wire = head_wire framing (sent_head fields (up_tail minor))
+
+    same : head_wire framing (sent_head fields (up_tail minor)) ≡ written_head fields of.head filtered
+    same = (λ j. head_wire (of.framed j) (sent_head fields (up_tail (of.version j))))
 
     own : (w : List ℕ) → AreOn m (sending m Up w)
     own [] = tt
@@ -99,9 +111,9 @@ sends_fine n more hub headed fine = record { maps = fine.maps; heads = subst Are
 pub held_fine : (n : ℕ) (h : Contexts) (hub : Hub) → AreLists h → Fine n hub → Fine n (with_held h hub)
 held_fine n h hub are fine = record { maps = are; heads = fine.heads }
 
--- its request goes up framed as one
+-- its request goes up so
 abbrev pub Lim : Exchange → Type 0
-Lim x = IsFramed (goes_up x)
+Lim x = UpOf (goes_up x) x.filters_requests x.asked.minor
 
 abbrev pub Both : ℕ → Exchange × Hub → Type 0
 Both n p = Fine n p.1 × Lim p.0
@@ -119,7 +131,7 @@ module _ (n m : ℕ) where
   up_fine : (item : Item) (x : Exchange) (hub : Hub) → F (x, hub) → F (up m item x hub)
   up_fine (Head end) x hub fine = (
     sends_fine n (to.Connect m ∷ sending m Up (head_wire (goes_up x) (sent_head (request_map x.place hub.contexts) (up_tail x.asked.minor)))) hub
-        (head_headed n m (goes_up x) x.asked.minor (request_map x.place hub.contexts) fine.1 (map_listed x.place hub.contexts fine.0.maps)) fine.0,
+        (head_headed n m (goes_up x) x.filters_requests x.asked.minor (request_map x.place hub.contexts) fine.1 (map_listed x.place hub.contexts fine.0.maps)) fine.0,
     fine.1,
   )
   up_fine (Piece bytes end) x hub fine = (sends_fine n _ hub (up_headed n m _) fine.0, fine.1)

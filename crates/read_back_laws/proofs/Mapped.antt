@@ -3,7 +3,7 @@ use Rattle.std.proofs.Common.{◌≡◌, ℕ, ◌≤◌, zero, suc, true, false,
 use Rattle.std.specs.Prelude.{codes}
 use Rattle.contexts.specs.declared.parts.Stage as parts
 use Rattle.course.specs.declared.host.Callback.TheVariants as callbacks
-use Rattle.exchange.specs.Heads.{sent_head, up_tail}
+use Rattle.exchange.specs.Heads.{request_of, sent_head, up_framing, up_tail}
 use Rattle.exchange_laws.specs.Traffic.{Traffic, byte, closes}
 use Rattle.httparse.specs.Ascii.{crlf_bytes}
 use Rattle.httparse.proofs.OnLiterals.{httparse_on_literals}
@@ -12,7 +12,7 @@ use Rattle.http1_model.specs.Framing.{Framing, framing_line, start_lines, head_w
 use Rattle.http1_model.specs.Head.{Head}
 use Rattle.http1_model.specs.Wire.{field_lines, sent_fields}
 use Rattle.read_back_laws.specs.Examples.{filter_plan, made_fields}
-use Rattle.read_back_laws.specs.Maps.{IsFieldList, AreLists, KeepLists, BeginsWithHead, smuggled_fields, MapExamples}
+use Rattle.read_back_laws.specs.Maps.{IsFieldList, AreLists, KeepLists, BeginsWithHead, smuggled_fields, MapExamples, written_head}
 use Rattle.read_back_laws.specs.Runs.{rewriting, filter_contexts}
 use Rattle.read_back_laws.proofs.Places.{stage_lists, view_lists}
 use Rattle.read_back_laws.proofs.Running.{filter_run}
@@ -47,10 +47,10 @@ begins_close [] rest some is = omega (arith, some)
 begins_close (b ∷ bytes) rest some is = absurd (cc)
 
 none_bare : BeginsWithHead [] → ⊥
-none_bare e = begins_with (head_wire e.framing (sent_head e.fields (up_tail e.minor))) e.rest (some_wire e.framing (sent_head e.fields (up_tail e.minor))) e.is
+none_bare e = begins_with (written_head e.fields e.head e.filtered) e.rest (some_wire (up_framing e.filtered (request_of e.head)) (sent_head e.fields (up_tail e.head.minor))) e.is
 
 none_closed : BeginsWithHead (closes ∷ []) → ⊥
-none_closed e = begins_close (head_wire e.framing (sent_head e.fields (up_tail e.minor))) e.rest (some_wire e.framing (sent_head e.fields (up_tail e.minor))) e.is
+none_closed e = begins_close (written_head e.fields e.head e.filtered) e.rest (some_wire (up_framing e.filtered (request_of e.head)) (sent_head e.fields (up_tail e.head.minor))) e.is
 
 none_smuggled : IsFieldList smuggled_fields → ⊥
 unfolding httparse_on_literals is_token_byte

@@ -95,7 +95,6 @@ use Rattle.line_laws.proofs.Wholly.{Run, worked_run}
 use Rattle.read_back_laws.specs.Maps.{AreLists, LeavesLists, KeepLists, AreHeaded, KeptLists, MapsStayLists, MapsOfWorkersStayLists, MapsOfTheProductStayLists}
 use Rattle.read_back_laws.proofs.Calling.{machines_keep_lists}
 use Rattle.read_back_laws.proofs.Heading.{Lim, Both, chain_lim, Fine, headed_join, down_headed, sends_fine, held_fine, passed_on_fine, put_in_fine, deed_fine}
-use Rattle.read_back_laws.proofs.Measures.{up_framed}
 use Rattle.read_back_laws.proofs.Places.{put_lists, view_lists, opened_lists, ended_lists, deleted_lists, asked_lists, cleared_lists}
 use Rattle.read_back_laws.proofs.Shaping.{heads_have_field_lists}
 
@@ -462,7 +461,7 @@ module _ (n : ℕ) where
       let x : Exchange = exchange_for plan (free_place room.hub.contexts) room.hub.moment room.dead h (route_in plan.routes (path_of h.fields)) in
       takes_fine r (head_item h) (begun plan r.line h room) (
         held_fine n _ room.hub (opened_lists r.line h.fields room.hub.contexts (heads_have_field_lists h j) fine.0.maps) fine.0,
-        line_lim (with_exchange x) r.line room.lines (λ l here. up_framed x.filters_requests h j) fine.1,
+        line_lim (with_exchange x) r.line room.lines (λ l here. record { head = h; judged = j; framed = refl; version = refl }) fine.1,
       ))
   hands_fine plan r (interim_part h) room judged fine = (sends_fine n _ room.hub (down_headed n r.line (interim_of (exchange_on r.line room) h)) fine.0, fine.1)
   hands_fine plan r (piece bytes last) room judged fine = takes_fine r (items.Piece bytes last) room fine

@@ -1,22 +1,20 @@
 -- The maps of requests, whatever filters call, and the heads that are written of them.
-use Rattle.std.specs.Prelude.{◌≡◌, ◌⊎◌, ℕ, Bool, List, [], ◌∷◌, ◌++◌, map, length, true, codes, Option, None, Some}
+use Rattle.std.specs.Prelude.{◌≡◌, ◌⊎◌, ℕ, Bool, List, [], ◌∷◌, ◌++◌, map, length, codes, Option, None, Some}
 use Rattle.contexts.specs.declared.parts.Contexts.{Contexts}
 use Rattle.contexts.specs.declared.parts.ExchangeView.{ExchangeView}
 use Rattle.contexts.specs.Reached.{view_at}
 use Rattle.course.specs.Called.{Called, Calling}
 use Rattle.course.specs.declared.host.Callback.{Callback}
-use Rattle.exchange.specs.Heads.{sent_head, up_tail}
+use Rattle.exchange.specs.Heads.{request_of, sent_head, up_framing, up_tail}
 use Rattle.exchange_laws.specs.Traffic.{Traffic, opens, byte, closes, ups}
 use Rattle.gate_config.specs.declared.config.Config.{Config}
 use Rattle.gate_io.specs.declared.event.Sent.{Sent}
-use Rattle.h1_write.specs.Heads.{IsInLimit}
-use Rattle.h1_write.specs.Requests.{is_for_request}
 use Rattle.header_maps.specs.Headers.{Headers}
 use Rattle.header_maps.specs.Kept.{BeginsWith}
 use Rattle.header_maps.specs.Kinds.{pseudo_names}
 use Rattle.header_maps.specs.Operations.{no_headers}
 use Rattle.header_maps.specs.declared.kind.ListKind.TheVariants as kinds
-use Rattle.http1_model.specs.Framing.{Framing, head_wire}
+use Rattle.http1_model.specs.Framing.{head_wire}
 use Rattle.http1_model.specs.Head.{Head, SpellsStep, found}
 use Rattle.httparse.specs.Ascii.{crlf_bytes}
 use Rattle.line_laws.specs.Logs.{WriteLogs}
@@ -80,16 +78,20 @@ HeadsHaveFieldLists = (h : Head) → IsJudged h → IsFieldList h.fields
 abbrev pub ListOrNone : Headers → Type 0
 ListOrNone fields = IsFieldList fields ⊎ (fields ≡ no_headers)
 
--- the bytes begin with a head of a request of such fields, as the gateway writes it, whole: framed as a request is, with `via` and `connection: close`
+-- the head of a request with these fields, as it goes up for a request whose head was this one
+abbrev pub written_head : Headers → Head → (filtered : Bool) → List ℕ
+written_head fields h filtered = head_wire (up_framing filtered (request_of h)) (sent_head fields (up_tail h.minor))
+
+-- the bytes begin with a head of a request of such fields, whole, as the gateway writes it for a request whose head was judged: framed as that, or in chunks where
+-- bodies are filtered, with `via` of the version received and `connection: close`
 pub record BeginsWithHead (t : List Traffic) : Type 0 where
   pub fields : Headers
   pub listed : ListOrNone fields
-  pub framing : Framing
-  pub framed : is_for_request framing ≡ true
-  pub told : IsInLimit framing
-  pub minor : ℕ
+  pub head : Head
+  pub judged : IsJudged head
+  pub filtered : Bool
   pub rest : List Traffic
-  pub is : t ≡ map byte (head_wire framing (sent_head fields (up_tail minor))) ++ rest
+  pub is : t ≡ map byte (written_head fields head filtered) ++ rest
 
 -- EACH CONNECTION BEGINS WITH A HEAD of such fields
 abbrev pub AreHeaded : List Traffic → Type 0
@@ -103,7 +105,7 @@ AreHeaded (closes ∷ t) = AreHeaded t
 abbrev pub HeadsEndWhereWritten : Type 0
 HeadsEndWhereWritten =
     (t : List Traffic) (b : BeginsWithHead t) (h : Head) (used : ℕ) → IsFieldList b.fields → SpellsStep (bytes_in t) (found h used)
-    → used ≡ length (head_wire b.framing (sent_head b.fields (up_tail b.minor)))
+    → used ≡ length (written_head b.fields b.head b.filtered)
 
 -- ---- over turns
 
@@ -113,8 +115,8 @@ pub record KeptLists (n : ℕ) (contexts : Contexts) (sent : List Sent) : Type 0
   pub heads : AreHeaded (ups n sent)
 
 -- WHATEVER TURNS a new worker has had, of machines that write logs and keep lists: each map of a request among its contexts is such a list, and each connection
--- that went up begins with a head of such fields. (Whose exchange it is, and that its framing and its tail are that exchange's, `IsMadeOf` of `line_laws` says of
--- some fields; that these are those fields is not said.)
+-- that went up begins with a head of such fields, framed and with the tail of a request whose head was judged. (That this is the head of the exchange that sent
+-- it, and these are the fields of `IsMadeOf` of `line_laws`, is not said.)
 abbrev pub MapsStayLists : (H : Type 0) → Type 0
 MapsStayLists H =
     (calling : Calling H) (plan : Plan) (contexts : Contexts) (host : H) (turns : List (Done H)) (to : Both H) (n : ℕ) → WriteLogs calling → KeepLists calling → AreLists contexts
