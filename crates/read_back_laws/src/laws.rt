@@ -94,7 +94,7 @@ pub fn worked_maps()
 {}
 
 /// A head of such fields with which a connection begins ends where it was written: whatever follows, where a reader of requests finds a head there, that has as many
-/// bytes as the one that was written. So no field that a filter puts into a map makes such a reader end the head before, or behind.
+/// bytes as the one that was written. (What follows it is not said.)
 pub fn heads_end_where_written()
     ensures { HeadsEndWhereWritten }
 {}
