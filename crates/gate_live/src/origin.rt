@@ -12,6 +12,10 @@ use std::io;
 use std::sync::atomic::{AtomicU64, Ordering};
 use std::sync::{Arc, Wait};
 
+/// So many lines may come in front of what is told of open ones. Once they came, one more may for each event of an open line, and as many again once
+/// none is told of any.
+const ARRIVALS: u32 = 32;
+
 /// A line that was accepted.
 #[derive(Drop)]
 pub struct Guest {
@@ -39,6 +43,8 @@ pub struct Mailbox {
     taker: Taker<Guest>,
     /// A line may be there to take.
     ready: bool,
+    /// So many may be taken before an open line is heard.
+    left: u32,
     /// Not 0 once no line is offered any more.
     ended: Arc<AtomicU64>,
     /// All lines were taken that are ever offered.
@@ -51,6 +57,8 @@ pub struct Mailbox {
 pub struct Acceptor {
     listener: TcpListener,
     ready: bool,
+    /// So many may be accepted before an open line is heard.
+    left: u32,
     /// How many lines were accepted.
     accepted: u32,
     /// How many are to be accepted.
@@ -88,6 +96,7 @@ pub fn join_queue(
             queue: theirs,
             taker,
             ready: true,
+            left: ARRIVALS,
             ended,
             empty: false,
         },
@@ -106,11 +115,14 @@ impl Neighbor {
 }
 
 impl Mailbox {
-    /// A line that was handed over.
-    fn take<R: Wait>(&mut self, rt: &R) -> Option<Guest> {
-        if !self.ready {
+    /// A line that was handed over. None comes once as many came as may before an open line is heard.
+    fn take<R: Wait>(&mut self, rt: &R) -> Option<Guest>
+        ensures few { IfSome result (λ guest. self.new.left < self.old.left) }
+    {
+        if !self.ready || self.left == 0 {
             return None;
         }
+        self.left -= 1;
         // Read first: where it is set, nothing comes behind what the queue holds.
         let ended = self.ended.load(Ordering::SeqCst) != 0;
         let guest = self.queue.take(rt, &mut self.taker);
@@ -146,6 +158,7 @@ impl Acceptor {
         Acceptor {
             listener,
             ready: true,
+            left: ARRIVALS,
             accepted: 0,
             most,
             others,
@@ -168,19 +181,22 @@ impl Acceptor {
         }
     }
 
-    /// The next line of this worker. Those of others that came before it are handed over. Lines are numbered as they come.
+    /// The next line of this worker. Those of others that came before it are handed over. Lines are numbered as they come. None comes once as many
+    /// were accepted as may be before an open line is heard.
     fn accept<R: Wait>(&mut self, rt: &R) -> Option<Guest>
         ensures grows { self.old.accepted ≤ self.new.accepted }
         ensures most { self.new.most ≡ self.old.most }
         ensures within { self.old.accepted ≤ self.old.most → self.new.accepted ≤ self.new.most }
+        ensures few { self.new.accepted + self.new.left ≤ self.old.accepted + self.old.left }
         ensures number { IfSome result (λ guest. (self.old.accepted < guest.number) × (guest.number ≡ self.new.accepted)) }
         ensures home { IfSome result (λ guest. home_of guest.number (vec_len self.new.others) ≡ 0) }
         ensures offered { AreHome self.old.accepted self.old.others.items → AreHome self.new.accepted self.new.others.items }
     {
         for _ in 0..u32::MAX {
-            if !self.ready || self.is_done() {
+            if !self.ready || self.left == 0 || self.is_done() {
                 return None;
             }
+            self.left -= 1;
             match self.listener.accept() {
                 Ok((stream, _)) => {
                     if let Some(guest) = self.place(rt, stream) {
@@ -199,6 +215,7 @@ impl Acceptor {
         requires { self.old.accepted < self.old.most }
         ensures next { self.new.accepted ≡ self.old.accepted + 1 }
         ensures most { self.new.most ≡ self.old.most }
+        ensures left { self.new.left ≡ self.old.left }
         ensures number { IfSome result (λ guest. guest.number ≡ self.new.accepted) }
         ensures home { IfSome result (λ guest. home_of guest.number (vec_len self.new.others) ≡ 0) }
         ensures offered { AreHome self.old.accepted self.old.others.items → AreHome self.new.accepted self.new.others.items }
@@ -217,6 +234,7 @@ impl Acceptor {
         ensures own { IfSome result (λ own. own ≡ guest) }
         ensures home { IfSome result (λ own. home_of guest.number (vec_len self.new.others) ≡ 0) }
         ensures stays { (self.new.accepted ≡ self.old.accepted) × (self.new.most ≡ self.old.most) }
+        ensures left { self.new.left ≡ self.old.left }
         ensures offered { (last : ℕ) → guest.number ≡ last + 1 → AreHome last self.old.others.items → AreHome (last + 1) self.new.others.items }
     {
         let place = home_of(guest.number, self.others.len());
@@ -244,6 +262,33 @@ impl Origin {
         match self {
             Origin::Listener(acceptor) => acceptor.ready = true,
             Origin::Mailbox(mailbox) => mailbox.ready = true,
+        }
+    }
+
+    /// So many lines may come before an open line is heard.
+    fn left(&mut self) -> &mut u32 {
+        match self {
+            Origin::Listener(acceptor) => &mut acceptor.left,
+            Origin::Mailbox(mailbox) => &mut mailbox.left,
+        }
+    }
+
+    /// An open line was heard: one line more may come.
+    pub fn allow_one(&mut self) {
+        let left = self.left();
+        *left = ARRIVALS.min(left.saturating_add(1));
+    }
+
+    /// Nothing is told of an open line: as many lines may come again.
+    pub fn allow_all(&mut self) {
+        *self.left() = ARRIVALS;
+    }
+
+    /// Whether lines may be there of which the system tells nothing more: not all were taken that were told of.
+    pub fn is_waiting(&self) -> bool {
+        match self {
+            Origin::Listener(acceptor) => acceptor.ready && !acceptor.is_done(),
+            Origin::Mailbox(mailbox) => mailbox.ready,
         }
     }
 

@@ -225,10 +225,15 @@ impl<P: Duplex> Sockets<P> {
         Ok(())
     }
 
-    /// Asks the system what is ready.
+    /// Asks the system what is ready. It is not waited for where lines may be there of which it tells nothing more.
     fn look<R: Clock>(&mut self, rt: &R, timeout: Option<Duration>) -> Result<(), WorldEnd> {
         self.turns = TURNS;
         self.drop_lingering(rt)?;
+        let timeout = if self.origin.is_waiting() {
+            Some(Duration::ZERO)
+        } else {
+            timeout
+        };
         if self.poll.poll(&mut self.events, timeout).is_err() {
             return Err(WorldEnd::Failed);
         }
@@ -249,7 +254,7 @@ impl<P: Duplex> Sockets<P> {
         self.lingering.retain_mut(|closed| closed.goes_on(room));
     }
 
-    /// What is heard next, from one line after the other.
+    /// What is heard next: of a line that comes, where one may come in front of what is heard of open ones, or of one of these after the other.
     #[tactic(auto, using(crate::proofs::Due::line_of_event, crate::proofs::Kept::kept_same, crate::proofs::Kept::more_kept, crate::proofs::Kept::next_heard))]
     fn heard<R: Wait>(
         &mut self,
@@ -268,9 +273,11 @@ impl<P: Duplex> Sockets<P> {
         let count = self.lines.len();
         for _ in 0..count {
             if let Some(what) = self.heard_next(alloc, wants)? {
+                self.origin.allow_one();
                 return Ok(Some(what));
             }
         }
+        self.origin.allow_all();
         Ok(None)
     }
 

@@ -1,4 +1,4 @@
-use Rattle.std.proofs.Common.{◌≡◌, ◌≤◌}
+use Rattle.std.proofs.Common.{◌≡◌, ◌≤◌, ◌+◌}
 use Rattle.gate_live.specs.Homes.{AreHome}
 use Rattle.gate_live.proofs.origin.Acceptor.accept.Given as goal
 
@@ -9,5 +9,6 @@ invariant-loop g l =
       grows : l.fn.self.accepted ≤ l.self.accepted;
       most : l.self.most ≡ l.fn.self.most;
       within : l.fn.self.accepted ≤ l.fn.self.most → l.self.accepted ≤ l.self.most;
+      few : l.self.accepted + l.self.left ≤ l.fn.self.accepted + l.fn.self.left;
       offered : AreHome l.fn.self.accepted l.fn.self.others.items → AreHome l.self.accepted l.self.others.items;
     }
