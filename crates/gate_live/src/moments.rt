@@ -36,7 +36,9 @@ impl Moments {
     {
         let since = nanos(rt.since_1970())?;
         let passed = nanos(rt.monotonic())?;
-        let slow = self.last.saturating_add(passed.saturating_sub(self.passed) / 2);
+        let slow = self
+            .last
+            .saturating_add(passed.saturating_sub(self.passed) / 2);
         self.last = since.max(slow);
         self.passed = passed;
         Ok(self.last)
