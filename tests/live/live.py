@@ -5,6 +5,7 @@ Each group tells how many lines it opens, and the gateway is to stop by itself a
 """
 
 import os
+import select
 import shutil
 import signal
 import socket
@@ -600,6 +601,52 @@ def crowd(gateway, upstream):
     first.close()
 
 
+FLOOD = 200  # lines that come at once
+ARRIVALS = 32  # so many are accepted before open lines are heard
+
+
+def order_of_answers(gateway, lines):
+    """The descriptors of lines in the order in which each was answered or closed by the gateway, which is stopped and goes on then."""
+    # A level-triggered epoll that is asked once tells of them in the order in which they became ready.
+    with select.epoll() as ready:
+        for s in lines:
+            ready.register(s, select.EPOLLIN)
+        gateway.process.send_signal(signal.SIGCONT)
+        for s in lines:
+            look = select.poll()
+            look.register(s, select.POLLIN)
+            expect(len(look.poll(PATIENCE * 1000)), 1)
+        return [fd for fd, _ in ready.poll(0, len(lines))]
+
+
+def flooded(gateway, upstream):
+    """Of lines that come at once with a request on an open line few are accepted, and closed, before the request is answered."""
+    with gateway.connect() as first:
+        reader = Reader(first)
+        get(first, reader, "/first", b"/first")
+        others = [gateway.connect() for _ in range(127)]
+        for n, s in enumerate(others):
+            get(s, Reader(s), "/other/%d" % n, b"/other/%d" % n)
+        # Once it goes on all has come: the lines, and the request, which is answered without the server.
+        gateway.process.send_signal(signal.SIGSTOP)
+        os.waitid(os.P_PID, gateway.process.pid, os.WSTOPPED)
+        lines = [gateway.connect() for _ in range(FLOOD)]
+        first.sendall(b"OPTIONS * HTTP/1.1\r\nHost:\r\n\r\n")
+        order = order_of_answers(gateway, [first] + lines)
+        expect(len(order), FLOOD + 1)
+        before = order.index(first.fileno())
+        if before > 2 * ARRIVALS:
+            raise AssertionError("%d of %d lines were closed before the answer" % (before, FLOOD))
+        _, fields = reader.head()
+        reader.body(fields)
+        for s in lines:
+            expect(s.recv(1), b"")
+            s.close()
+        get(first, reader, "/again", b"/again")
+        for s in others:
+            s.close()
+
+
 def remembers_nothing(gateway, upstream):
     """Its memory grows no more with further lines and bodies, once there were as many."""
     body = b"x" * 50000
@@ -832,6 +879,7 @@ GROUPS = [
         ],
     ),
     ("a crowd", 1, "", b"", [(crowd, 200)]),
+    ("a flood", 1, "", b"", [(flooded, 128 + FLOOD)]),
     ("three workers", 3, "", b"", [(many, 30)]),
     ("no server", 1, "", b"", [(refusing, 1)]),
     (
