@@ -1,5 +1,5 @@
 -- Whole turns of a worker are turns, as they are defined.
-use Rattle.std.proofs.Common.{List, refl, ap, subst, tt}
+use Rattle.std.proofs.Common.{List, refl, ap, subst}
 use Rattle.course.specs.Called.{Calling}
 use Rattle.store_model.specs.Made.{Made}
 use Rattle.worker.specs.Making.{new_worker}
@@ -35,7 +35,7 @@ obeyed_wanted : {H S : Type 0} (calling : Calling H) (performs : S → List Made
     → AreWanted (rules_of from.setting) from.state turns
 obeyed_wanted calling performs from to turns (none_heard f) = tt
 obeyed_wanted calling performs from to turns (one_heard stop before after s t old new f mid l more w heard same later) =
-    (from.waiting, heard.obeys tt, heard.follows.sized, subst (λ (plan : Plan). AreWanted plan mid.state more) (ap rules_of same) (obeyed_wanted calling performs mid to more later))
+    (from.waiting, heard.obeys refl, heard.follows.sized, subst (λ (plan : Plan). AreWanted plan mid.state more) (ap rules_of same) (obeyed_wanted calling performs mid to more later))
 
 pub little_unread : (H S : Type 0) (performs : S → List Made → S → Type 0) → WorkersLeaveLittleUnread H S performs
 little_unread H S performs calling exported registering config who seed host turns to l obeyed whole there =
