@@ -8,7 +8,7 @@ use std::alloc::Global;
 use std::marker::Model;
 
 /// Where a name and its value stand in a buffer.
-#[derive(Clone, Copy)]
+#[derive(Clone, Copy, Debug)]
 pub struct Place {
     name: usize,
     name_end: usize,
@@ -18,7 +18,7 @@ pub struct Place {
 
 /// Pairs in order. All their bytes stand in one buffer, so that a list takes two pieces of memory, and not two for each pair. The bytes of a
 /// value that another one was put in place of stay there until the list is copied. Clauses see the list of the pairs.
-#[derive(Drop)]
+#[derive(Debug, Drop)]
 pub struct Texts {
     bytes: Vec<u8>,
     places: Vec<Place>,

@@ -9,7 +9,7 @@ use gate_io::{Side, What};
 use std::alloc::Global;
 
 /// One line of a script.
-#[derive(Drop)]
+#[derive(Debug, Drop)]
 pub enum Command {
     /// `on K`: what stands behind it happens at this worker.
     On { worker: WorkerNo },

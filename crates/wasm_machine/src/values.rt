@@ -7,7 +7,7 @@ use std::marker::Model;
 use wasm_syntax::Value;
 
 /// At most 16 values, in place. Clauses see the list.
-#[derive(Drop)]
+#[derive(Debug, Drop)]
 pub struct Values {
     items: [Value; 16],
     count: usize,

@@ -5,7 +5,7 @@ ghost use Rattle.std.specs.Bool.{OnTrue, OnFalse};
 ghost use Rattle.wasm_syntax.specs.Numbers.{unsigned_at, signed_at, signed_last, u32_at, s32_at, s64_at, placed, IsWithin, IsOfSize, IsUnsigned, IsSigned, EndsEarly, PassesMost, SetsUnusedBits, SetsBeyond, SetsBeyondSign};
 
 /// Why no number stands at a place.
-#[derive(Clone, Copy, PartialEq, Eq)]
+#[derive(Clone, Copy, Debug, PartialEq, Eq)]
 pub enum LebEnd {
     /// The input ends before the number's last byte.
     Truncated,

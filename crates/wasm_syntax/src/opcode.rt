@@ -5,7 +5,7 @@ ghost use Rattle.std.specs.Prelude.{◌≡◌, ◌≤◌, length, slice_index_or
 ghost use Rattle.wasm_syntax.specs.Opcodes.{said_by};
 
 /// An opcode of one byte. Its number is that byte.
-#[derive(Clone, Copy, PartialEq, Eq)]
+#[derive(Clone, Copy, Debug, PartialEq, Eq)]
 pub enum Opcode {
     Unreachable = 0x00,
     Nop = 0x01,
@@ -121,7 +121,7 @@ pub enum Opcode {
 }
 
 /// What a byte says where an opcode stands.
-#[derive(Clone, Copy, PartialEq, Eq)]
+#[derive(Clone, Copy, Debug, PartialEq, Eq)]
 pub enum OpcodeByte {
     /// An opcode of the profile.
     Known(Opcode),
@@ -420,7 +420,7 @@ pub fn opcode_at(byte: u8) -> OpcodeByte
 }
 
 /// An instruction behind the byte 0xFC. Its number is the one that stands there (Core 2.0 section 5.4.6).
-#[derive(Clone, Copy, PartialEq, Eq)]
+#[derive(Clone, Copy, Debug, PartialEq, Eq)]
 pub enum Prefixed {
     MemoryCopy = 10,
     MemoryFill = 11,
@@ -438,7 +438,7 @@ impl Prefixed {
 }
 
 /// What a number says behind the byte 0xFC.
-#[derive(Clone, Copy, PartialEq, Eq)]
+#[derive(Clone, Copy, Debug, PartialEq, Eq)]
 pub enum PrefixedNumber {
     /// An instruction of the profile.
     Known(Prefixed),

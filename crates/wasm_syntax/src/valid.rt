@@ -6,7 +6,7 @@ use crate::module::Module;
 use std::marker::Model;
 
 /// A part of a module, in the order in which validation looks at them.
-#[derive(Clone, Copy, PartialEq, Eq)]
+#[derive(Clone, Copy, Debug, PartialEq, Eq)]
 pub enum Part {
     /// An entry of the types.
     Signature,
@@ -24,7 +24,7 @@ pub enum Part {
 }
 
 /// A module that is valid. Clauses see the module.
-#[derive(Drop)]
+#[derive(Debug, Drop)]
 pub struct ValidModule {
     module: Module,
 }
