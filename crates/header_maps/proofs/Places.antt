@@ -1,8 +1,8 @@
 -- What stands in a buffer stays there when more is put behind it.
-use Rattle.std.proofs.Common.{◌≡◌, ℕ, ◌-◌, ◌<◌, ◌≤◌, List, [], ◌∷◌, ◌++◌, length, map, take, drop, set, get_or, zero, suc, refl, sym, ◌∙◌, ap, subst, arith}
+use Rattle.std.proofs.Common.{◌≡◌, ℕ, ◌+◌, ◌-◌, ◌<◌, ◌≤◌, List, [], ◌∷◌, ◌++◌, length, map, take, drop, set, get_or, zero, suc, refl, sym, ◌∙◌, ap, subst, arith}
 use Rattle.std.specs.Prelude.{slice_range, All}
 use Rattle.std.specs.List.{remove}
-use Rattle.std.proofs.lemmas.List.{take-append-drop, take-append-le, drop-append-le, length-append, length-drop, map-append, take-map, drop-map}
+use Rattle.std.proofs.lemmas.List.{take-append-drop, take-append-le, drop-append-le, length-append, length-drop, map-append, take-map, drop-map, map_more}
 use Rattle.std.proofs.Math.Seq.{drop-append_seam, take-length}
 use Rattle.std.proofs.lemmas.List.Elements.{All-append}
 use Rattle.header_maps.specs.Pairs.{Pair}
@@ -58,6 +58,16 @@ module _ (old new : List ℕ) (front : take (length old) new ≡ old) where
       map-append (pair_in new) places (p ∷ [])
       ∙ ap (λ (xs : List Pair). xs ++ pair_in new p ∷ []) (pairs_kept places h)
       ∙ ap (λ (x : Pair). pairs_in old places ++ x ∷ []) is
+
+  -- the next of some pairs is copied behind those before it
+  pub pairs_next :
+      (moved : List Place) (at : Place) (bytes : List ℕ) (places : List Place) (i : ℕ) (d : Place) → i < length places → All (IsWithin (length old)) moved
+      → pair_in new at ≡ pair_in bytes (get_or places i d) → pairs_in old moved ≡ pairs_in bytes (take i places)
+      → pairs_in new (moved ++ at ∷ []) ≡ pairs_in bytes (take (i + 1) places)
+  pairs_next moved at bytes places i d l h is before =
+      pairs_more moved at (pair_in bytes (get_or places i d)) h is
+      ∙ ap (λ (xs : List Pair). xs ++ pair_in bytes (get_or places i d) ∷ []) before
+      ∙ sym (map_more (pair_in bytes) places i d l)
 
   pub within_more :
       (places : List Place) (p : Place) → All (IsWithin (length old)) places → IsWithin (length new) p

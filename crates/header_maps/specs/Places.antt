@@ -1,5 +1,5 @@
 -- Pairs whose bytes stand in one buffer.
-use Rattle.std.specs.Prelude.{ℕ, zero, suc, ◌≤◌, List, [], ◌∷◌, map, slice_range}
+use Rattle.std.specs.Prelude.{ℕ, zero, suc, ◌≤◌, ◌+◌, ◌-◌, List, [], ◌∷◌, map, slice_range}
 use Rattle.header_maps.specs.Pairs.{Pair}
 use Rattle.header_maps.specs.declared.texts.Place.{Place}
 
@@ -13,6 +13,10 @@ pairs_in bytes places = map (pair_in bytes) places
 -- they stand in the first n bytes
 abbrev pub IsWithin : ℕ → Place → Type 0
 IsWithin n place = ((place.name ≤ place.name_end) × (place.name_end ≤ n)) × ((place.value ≤ place.value_end) × (place.value_end ≤ n))
+
+-- how many bytes a name and its value have
+abbrev pub size_at : Place → ℕ
+size_at place = (place.name_end - place.name) + (place.value_end - place.value)
 
 -- with the value of the pair at a place replaced
 abbrev pub put_at : List Pair → ℕ → List ℕ → List Pair

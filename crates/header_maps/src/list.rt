@@ -257,10 +257,11 @@ impl HeaderList {
             return self.add(alloc, name, value);
         };
         put_value(&mut self.items, at, name, value)?;
+        self.items.tighten();
         Ok(())
     }
 
-    /// Takes all fields of a name out. That there is none is no fault; a pseudo-header is not removed. It takes no memory.
+    /// Takes all fields of a name out. That there is none is no fault; a pseudo-header is not removed. It never wants for memory.
     pub fn remove(&mut self, name: &[u8]) -> Result<(), HeaderEnd>
         ensures cause { fault_of result ≡ remove_fault name.now }
         ensures ok { OnOk result (self.new ≡ removed self.old name.now) }
@@ -271,6 +272,7 @@ impl HeaderList {
             return Err(HeaderEnd::BadName);
         }
         drop_from(&mut self.items, 0, name);
+        self.items.tighten();
         Ok(())
     }
 

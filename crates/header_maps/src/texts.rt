@@ -1,11 +1,15 @@
 // Pairs of a name and a value, whose bytes stand in one buffer.
-ghost use Rattle.std.specs.Prelude.{◌≡◌, ◌<◌, ◌≤◌, ◌∷◌, ◌++◌, [], length, take, drop, slice_index_or, ◌↔◌, IsTrue, IfOk, OnOk, OnErr};
+ghost use Rattle.std.specs.Prelude.{◌≡◌, ◌<◌, ◌≤◌, ◌+◌, ◌-◌, ◌*◌, ◌^◌, ◌∷◌, ◌++◌, [], All, length, take, drop, min, slice_index_or, ◌↔◌, IsTrue, IfOk, OnOk, OnErr};
+ghost use Rattle.std.specs.List.{sum_by};
 ghost use Rattle.http_header.specs.Token.{lowercase};
-ghost use Rattle.header_maps.specs.Places.{pair_in, put_at, IsWithin};
+ghost use Rattle.header_maps.specs.Places.{pair_in, pairs_in, put_at, size_at, IsWithin};
 
 use gate_base::OutOfMemory;
 use std::alloc::Global;
 use std::marker::Model;
+
+/// How many bytes of a buffer may be of no pair, beside as many as its pairs have.
+const SPARE_BYTES: usize = 4096;
 
 /// Where a name and its value stand in a buffer.
 #[derive(Clone, Copy, Debug)]
@@ -17,7 +21,8 @@ pub struct Place {
 }
 
 /// Pairs in order. All their bytes stand in one buffer, so that a list takes two pieces of memory, and not two for each pair. The bytes of a
-/// value that another one was put in place of stay there until the list is copied. Clauses see the list of the pairs.
+/// pair that was taken out, and of a value that another one was put in place of, stay there until `tighten` or `copy`. Clauses see the list
+/// of the pairs.
 #[derive(Debug, Drop)]
 pub struct Texts {
     bytes: Vec<u8>,
@@ -53,6 +58,7 @@ fn put_value(bytes: &mut Vec<u8>, name: usize, value: &[u8]) -> Result<Place, Ou
     ensures front { take (length bytes.old.items) bytes.new.items ≡ bytes.old.items }
     ensures within { IfOk result (λ place. IsWithin (length bytes.new.items) place) }
     ensures pair { IfOk result (λ place. pair_in bytes.new.items place ≡ (drop name bytes.old.items, value.now)) }
+    ensures size { IfOk result (λ place. length bytes.new.items ≡ name + size_at place) }
 {
     let name_end = bytes.len();
     bytes.extend_from_slice(value)?;
@@ -69,6 +75,7 @@ fn put_pair(bytes: &mut Vec<u8>, name: &[u8], value: &[u8]) -> Result<Place, Out
     ensures front { take (length bytes.old.items) bytes.new.items ≡ bytes.old.items }
     ensures within { IfOk result (λ place. IsWithin (length bytes.new.items) place) }
     ensures pair { IfOk result (λ place. pair_in bytes.new.items place ≡ (name.now, value.now)) }
+    ensures size { IfOk result (λ place. length bytes.new.items ≡ length bytes.old.items + size_at place) }
 {
     let start = bytes.len();
     bytes.extend_from_slice(name)?;
@@ -84,6 +91,66 @@ fn put_lowered_pair(bytes: &mut Vec<u8>, name: &[u8], value: &[u8]) -> Result<Pl
     let start = bytes.len();
     put_lowered(bytes, name)?;
     put_value(bytes, start, value)
+}
+
+/// How many bytes the pairs at these places have, as far as a `usize` can count.
+fn text_size(places: &[Place]) -> usize
+    ensures { result ≡ min (sum_by size_at places.now) (2 ^ 64 - 1) }
+{
+    let mut size: usize = 0;
+    for place in places {
+        size = size
+            .saturating_add(place.name_end.saturating_sub(place.name))
+            .saturating_add(place.value_end.saturating_sub(place.value));
+    }
+    size
+}
+
+/// Whether more bytes of a buffer are of no pair than may be.
+fn is_loose(bytes: &[u8], places: &[Place]) -> bool
+    ensures { IsTrue result ↔ (2 * sum_by size_at places.now + 4096 < length bytes.now) }
+{
+    let size = text_size(places);
+    bytes.len().saturating_sub(size) > size.saturating_add(SPARE_BYTES)
+}
+
+/// Pairs copied into a buffer that has no other bytes, and their places in it.
+fn packed(
+    alloc: Global,
+    bytes: &[u8],
+    places: &[Place],
+) -> Result<(Vec<u8>, Vec<Place>), OutOfMemory>
+    requires { All (IsWithin (length bytes.now)) places.now }
+    ensures within { IfOk result (λ own. All (IsWithin (length own.0.items)) own.1.items) }
+    ensures pairs { IfOk result (λ own. pairs_in own.0.items own.1.items ≡ pairs_in bytes.now places.now) }
+    ensures size { IfOk result (λ own. length own.0.items ≡ sum_by size_at own.1.items) }
+{
+    let mut own = Vec::with_capacity(alloc, text_size(places))?;
+    let mut moved = Vec::with_capacity(alloc, places.len())?;
+    for place in places {
+        let name = &bytes[place.name..place.name_end];
+        let value = &bytes[place.value..place.value_end];
+        let at = put_pair(&mut own, name, value)?;
+        moved.push(at)?;
+    }
+    Ok((own, moved))
+}
+
+/// Copies the pairs into a buffer that has no other bytes, where more bytes of theirs are of no pair than may be: then a buffer has at most
+/// twice the bytes of its pairs, and 4,096 more. Each byte of no pair was put in once and goes with the next copy, which has fewer bytes
+/// than go. So all the copies in a list's life have fewer bytes together than were ever put into it, whatever else it holds.
+fn tighten(bytes: &mut Vec<u8>, places: &mut Vec<Place>) -> Result<(), OutOfMemory>
+    requires { All (IsWithin (length bytes.old.items)) places.old.items }
+    ensures within { All (IsWithin (length bytes.new.items)) places.new.items }
+    ensures pairs { pairs_in bytes.new.items places.new.items ≡ pairs_in bytes.old.items places.old.items }
+    ensures size { OnOk result (length bytes.new.items ≤ 2 * sum_by size_at places.new.items + 4096) }
+{
+    if is_loose(bytes.as_slice(), places.as_slice()) {
+        let (own, moved) = packed(*bytes.allocator(), bytes.as_slice(), places.as_slice())?;
+        *bytes = own;
+        *places = moved;
+    }
+    Ok(())
 }
 
 impl Texts {
@@ -157,7 +224,7 @@ impl Texts {
         Ok(())
     }
 
-    /// Takes a pair out.
+    /// Takes a pair out. Its bytes stay in the buffer.
     pub fn remove(&mut self, at: usize)
         requires { at < length self.old }
         ensures { self.new ≡ remove self.old at }
@@ -165,7 +232,7 @@ impl Texts {
         self.places.remove(at);
     }
 
-    /// Puts a value in place of that of a pair.
+    /// Puts a value in place of that of a pair, whose bytes stay in the buffer.
     pub fn set_value(&mut self, at: usize, value: &[u8]) -> Result<(), OutOfMemory>
         requires { at < length self.old }
         ensures ok { OnOk result (self.new ≡ put_at self.old at value.now) }
@@ -183,33 +250,26 @@ impl Texts {
         Ok(())
     }
 
-    /// Whether the buffer has bytes of these pairs alone.
-    fn is_packed(&self) -> bool {
-        let mut size: usize = 0;
-        for place in self.places.as_slice() {
-            size = size
-                .wrapping_add(place.name_end.wrapping_sub(place.name))
-                .wrapping_add(place.value_end.wrapping_sub(place.value));
-        }
-        size == self.bytes.len()
+    /// Copies the pairs into a buffer of their own where the bytes of no pair are more than those of the pairs and 4,096 together. Whoever
+    /// takes pairs out or replaces values calls it behind that. Where memory runs out, the buffer stays.
+    pub fn tighten(&mut self)
+        ensures { self.new ≡ self.old }
+    {
+        let _ = tighten(&mut self.bytes, &mut self.places);
     }
 
     /// A copy, whose buffer has bytes of these pairs alone.
     pub fn copy(&self, alloc: Global) -> Result<Self, OutOfMemory>
         ensures { IfOk result (λ texts. texts ≡ self.now) }
     {
-        if self.is_packed() {
+        if text_size(self.places.as_slice()) == self.bytes.len() {
             let bytes = Vec::from_slice(alloc, self.bytes.as_slice())?;
             return Ok(Texts {
                 bytes,
                 places: Vec::from_slice(alloc, self.places.as_slice())?,
             });
         }
-        let mut copy = Texts::new(alloc);
-        for at in 0..self.len() {
-            let (name, value) = self.pair(at);
-            copy.push(name, value)?;
-        }
-        Ok(copy)
+        let (bytes, places) = packed(alloc, self.bytes.as_slice(), self.places.as_slice())?;
+        Ok(Texts { bytes, places })
     }
 }

@@ -41,7 +41,7 @@ returns-in_err-put_value-clause-cause c =
 pub invariant_of-self-2 : goal.invariant_of-self-2
 invariant_of-self-2 c =
     let named = some_named (is_named (lowercase c.args.name.now)) c.self.inside.items c.in-Some.at (sym c.in-Some.ensures) in
-    rw c.in_ok-put_value.ensures.ok
+    rw (c.tighten.ensures, c.in_ok-put_value.ensures.ok)
     (headers_put c.self.inside.kind c.self.inside.items c.args.name.now c.args.value.now c.self.invariant
     (sym c.if-not-has_name.ensures) (sym c.if-not-has_value.ensures) c.requires named)
 
