@@ -5,10 +5,12 @@ use gate_io::MemFiles;
 use rows::{from_hex, from_text, number, word};
 use std::alloc::Global;
 
-/// The number of the one call that is to fail; 0 is none.
+/// The numbers of the calls that are to fail, with `+` between them; 0 is none.
 pub fn calls(alloc: Global, word: &str) -> Result<CallNos, OutOfMemory> {
     let mut all = CallNos::new(alloc);
-    all.push(number(word))?;
+    for one in word.split('+') {
+        all.push(number(one))?;
+    }
     Ok(all)
 }
 

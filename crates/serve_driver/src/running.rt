@@ -33,7 +33,7 @@ fn words_of(alloc: Global, text: &str) -> Result<Vec<String>, OutOfMemory> {
     Ok(words)
 }
 
-/// The output whose write of one number fails, 0 for none.
+/// The output whose writes of these numbers fail, 0 for none.
 fn output(alloc: Global, write: &str) -> Result<MemSink, OutOfMemory> {
     let fails = calls(alloc, write)?;
     Ok(MemSink::new(Octets::new(alloc), fails))
@@ -103,8 +103,8 @@ impl Stage {
     }
 }
 
-/// `serve GATE START WRITE WORD,WORD..`: runs the command of these words over what is laid out, where the site's start of one number and the
-/// output's write of one number fail, 0 for none, and the gate holds a turn for the word `turn` and a call for `call`, and tells no calls for
+/// `serve GATE START WRITE WORD,WORD..`: runs the command of these words over what is laid out, where the site's starts and the output's writes
+/// of these numbers fail, 0 for none, and the gate holds a turn for the word `turn` and a call for `call`, and tells no calls for
 /// `load`. How it ended, what it wrote to standard error and to standard output, with what the site was started, what each world took that came
 /// back, and what passed the gate.
 pub fn served<R: Threads + Wait + Sync>(

@@ -89,7 +89,7 @@ impl Worlds {
     }
 
     /// `world MOST FAIL REFUSED SCRIPT`: lays out a world of the events of a script, which takes so many bytes of a piece at most, all for `-`,
-    /// of whose calls one fails, and of whose calls of `send` one is refused memory; 0 for none.
+    /// of whose calls these fail, and of whose calls of `send` these are refused memory: 0 for none, and `1+3` for the first and the third.
     pub fn lay(&mut self, alloc: Global, words: &str) -> Result<(), OutOfMemory> {
         let world = world(alloc, words)?;
         self.list.push(world)?;
