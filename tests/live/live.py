@@ -4,6 +4,7 @@ python3 live.py PROGRAM WORD.. runs every case, with a gateway for each group of
 Each group tells how many lines it opens, and the gateway is to stop by itself after so many.
 """
 
+import calendar
 import os
 import select
 import shutil
@@ -27,10 +28,10 @@ METER = os.path.join(HERE, "..", "..", "examples", "filters", "meter.wasm")
 TELLER = os.path.join(HERE, "teller.wasm")
 
 
-def closed_port():
-    """A port at which nobody listens."""
+def closed_port(address="127.0.0.1"):
+    """A port of an address at which nobody listens."""
     with socket.socket() as s:
-        s.bind(("127.0.0.1", 0))
+        s.bind((address, 0))
         return s.getsockname()[1]
 
 
@@ -105,13 +106,14 @@ def answer(body, status="200 OK"):
 
 
 class Upstream:
-    """A server. What it does is in the path of the request. It keeps what it read, by path."""
+    """A server at an address. What it does is in the path of the request. It keeps what it read, by path."""
 
-    def __init__(self):
+    def __init__(self, address="127.0.0.1"):
         self.seen = {}
+        self.address = address
         self.listener = socket.socket()
         self.listener.setsockopt(socket.SOL_SOCKET, socket.SO_REUSEADDR, 1)
-        self.listener.bind(("127.0.0.1", 0))
+        self.listener.bind((address, 0))
         self.listener.listen(128)
         self.port = self.listener.getsockname()[1]
         threading.Thread(target=self.accept, daemon=True).start()
@@ -198,18 +200,19 @@ class Upstream:
 
 
 class Gateway:
-    """The program, serving."""
+    """The program, serving at an address."""
 
-    def __init__(self, program, folder, upstream_port, lines, workers=1, more=""):
+    def __init__(self, program, folder, address, server, lines, workers=1, more=""):
         self.lines = lines
         self.opened = 0
         self.guard = threading.Lock()
-        self.port = closed_port()
+        self.address = address
+        self.port = closed_port(address)
         config = os.path.join(folder, "config-%d.toml" % self.port)
         with open(config, "w") as f:
             f.write(
-                '[gateway]\nlisten = "127.0.0.1:%d"\nupstream = "127.0.0.1:%d"\nworkers = %d\n%s\n[[route]]\npath = "/{*rest}"\n'
-                % (self.port, upstream_port, workers, more)
+                '[gateway]\nlisten = "%s:%d"\nupstream = "%s:%d"\nworkers = %d\n%s\n[[route]]\npath = "/{*rest}"\n'
+                % (address, self.port, *server, workers, more)
             )
         words = program + ["serve", config, "--stop-after", str(lines)]
         self.process = subprocess.Popen(words, stdout=subprocess.PIPE, stderr=subprocess.PIPE, cwd=folder)
@@ -219,7 +222,7 @@ class Gateway:
             self.opened += 1
         for _ in range(500):
             try:
-                s = socket.create_connection(("127.0.0.1", self.port), PATIENCE)
+                s = socket.create_connection((self.address, self.port), PATIENCE)
                 s.settimeout(PATIENCE)
                 return s
             except ConnectionRefusedError:
@@ -270,20 +273,27 @@ def status_of(first):
 
 
 def get(s, reader, path, wanted):
+    """Gets a body, and answers with the fields of its response."""
     s.sendall(request(path))
     first, fields = reader.head()
     expect(status_of(first), "200")
     expect(reader.body(fields), wanted)
+    return fields
 
 
 # ---- the cases; each is given the gateway and the server, and closes its lines
 
 
 def plain(gateway, upstream):
-    """A request goes up with `via`, its response comes down, and the line stays."""
+    """A request goes up with `via`, its response comes down with the time of day, and the line stays."""
     with gateway.connect() as s:
         reader = Reader(s)
-        get(s, reader, "/plain", b"/plain")
+        begun = time.time()
+        date = get(s, reader, "/plain", b"/plain")["date"]
+        moment = calendar.timegm(time.strptime(date, "%a, %d %b %Y %H:%M:%S GMT"))
+        # Of its second all is possible, and two seconds are for clocks that are not read at once.
+        if not begun - 3 <= moment <= time.time() + 2:
+            raise AssertionError("it is %s where the clock tells %f" % (date, begun))
         first, fields = upstream.seen["/plain"]
         expect(first, "GET /plain HTTP/1.1")
         expect(fields.get("via"), "1.1 wasmgate")
@@ -540,6 +550,17 @@ def at_once(count, one):
         raise AssertionError("%d of %d: %r" % (len(failures), count, failures[0]))
 
 
+def other_addresses(gateway, upstream):
+    """Lines come at the address that is told and at no other, and go to the server at the address that is told."""
+    with gateway.connect() as s:
+        get(s, Reader(s), "/elsewhere", b"/elsewhere")
+    try:
+        socket.create_connection(("127.0.0.4", gateway.port), PATIENCE).close()
+        raise AssertionError("it listens at another address too")
+    except ConnectionRefusedError:
+        pass
+
+
 def many(gateway, upstream):
     """Lines of several workers, at once."""
 
@@ -718,20 +739,32 @@ def short_lines(gateway, upstream):
     at_once(20, some)
 
 
-# The random bytes that a filter had in each group.
+# The random bytes that filters had in all groups.
 RANDOM = []
 
 
-def random_bytes(gateway, upstream):
-    """A filter's random bytes are others in each process."""
+def draw(gateway):
+    """Draws random bytes twice on a line of its own, each time others than ever before."""
     with gateway.connect() as s:
         reader = Reader(s)
-        s.sendall(request("/told/r"))
-        first, fields = reader.head()
-        expect(status_of(first), "200")
-        RANDOM.append(reader.body(fields))
-        expect(len(RANDOM[-1]), 32)
-        expect(len(set(RANDOM)), len(RANDOM))
+        for _ in range(2):
+            s.sendall(request("/told/r"))
+            first, fields = reader.head()
+            expect(status_of(first), "200")
+            RANDOM.append(reader.body(fields))
+            expect(len(RANDOM[-1]), 32)
+            expect(len(set(RANDOM)), len(RANDOM))
+
+
+def random_bytes(gateway, upstream):
+    """A filter's random bytes are others each time and in each process."""
+    draw(gateway)
+
+
+def random_by_workers(gateway, upstream):
+    """They are others in each of eight workers, which a line each goes to."""
+    for _ in range(8):
+        draw(gateway)
 
 
 def logged(gateway, upstream):
@@ -882,6 +915,7 @@ GROUPS = [
     ("a flood", 1, "", b"", [(flooded, 128 + FLOOD)]),
     ("three workers", 3, "", b"", [(many, 30)]),
     ("no server", 1, "", b"", [(refusing, 1)]),
+    ("other addresses", 1, "", b"", [(other_addresses, 1)]),
     (
         "stores",
         2,
@@ -901,6 +935,8 @@ GROUPS = [
     ("short lines", 3, "", b"", [(short_lines, 600)]),
     ("a filter that tells", 1, WITH_A_TELLER % "", TOLD, [(random_bytes, 1), (logged, 1)], lambda err: err == LOGGED),
     ("its random bytes", 1, WITH_A_TELLER % "", TOLD, [(random_bytes, 1)]),
+    # So many workers that seeds of a single byte would hardly all differ.
+    *[("its random bytes by workers, %d" % n, 8, WITH_A_TELLER % "", TOLD, [(random_by_workers, 8)]) for n in range(6)],
     ("ticks", 1, WITH_A_TELLER % 'configuration = "tick"\n', TOLD, [(quiet, 1)], has_ticked),
     ("late ticks", 1, WITH_A_TELLER % 'configuration = "slow"\n', TOLD, [(late_ticks, 3)], lambda err: err == b""),
     ("lines that are not read", 1, "", b"", [(unread, 363)]),
@@ -911,8 +947,11 @@ def run_group(program, folder, upstream, group):
     name, workers, more, wanted, cases = group[:5]
     told = group[5] if len(group) > 5 else None
     lines = sum(opens for _, opens in cases)
+    address = "127.0.0.1"
+    if name == "other addresses":
+        address, upstream = "127.0.0.3", Upstream("127.0.0.2")
     port = closed_port() if name == "no server" else upstream.port
-    gateway = Gateway(program, folder, port, lines, workers, more)
+    gateway = Gateway(program, folder, address, (upstream.address, port), lines, workers, more)
     passed, failed = 0, 0
     try:
         for case, _ in cases:
