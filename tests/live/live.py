@@ -6,6 +6,7 @@ Each group tells how many lines it opens, and the gateway is to stop by itself a
 
 import calendar
 import os
+import queue
 import select
 import shutil
 import signal
@@ -24,6 +25,8 @@ HEAD_END = b"\r\n\r\n"
 # A filter that counts requests in a metric.
 HERE = os.path.dirname(os.path.abspath(__file__))
 METER = os.path.join(HERE, "..", "..", "examples", "filters", "meter.wasm")
+# A filter with a callback for bodies of responses, which holds one to its end and writes its letters as capitals.
+SHOUT = os.path.join(HERE, "..", "..", "examples", "filters", "shout.wasm")
 # A filter that gives random bytes, writes lines of the log, ticks and dies, as the last byte of a path asks: teller.c.
 TELLER = os.path.join(HERE, "teller.wasm")
 
@@ -110,6 +113,9 @@ class Upstream:
 
     def __init__(self, address="127.0.0.1"):
         self.seen = {}
+        # How often a case has let it go on, and what it tells the case.
+        self.may = threading.Semaphore(0)
+        self.told = queue.Queue()
         self.address = address
         self.listener = socket.socket()
         self.listener.setsockopt(socket.SOL_SOCKET, socket.SO_REUSEADDR, 1)
@@ -165,6 +171,13 @@ class Upstream:
             s.sendall(answer(b"early"))
             reader.body(fields)
             return
+        if path == "/early-unread":
+            # Reads nothing of a body but what came with its head. It answers once it may, and once it may again it reads to the end.
+            self.may.acquire(timeout=PATIENCE)
+            s.sendall(answer(b"early"))
+            self.may.acquire(timeout=PATIENCE)
+            self.told.put(len(reader.rest()))
+            return
         if path == "/early":
             # Answers before the request is whole, stays open, and sends more.
             s.sendall(answer(b"early"))
@@ -180,8 +193,14 @@ class Upstream:
             for byte in answer(b"slow answer"):
                 s.sendall(bytes([byte]))
                 time.sleep(0.002)
-        elif path == "/to-end":
+        elif path.endswith("/to-end"):
             s.sendall(b"HTTP/1.0 200 OK\r\n\r\n" + b"until the end" * 1000)
+            return
+        elif path.endswith("/to-reset"):
+            # The same, but what ends it is a reset.
+            s.sendall(b"HTTP/1.0 200 OK\r\n\r\n" + b"until the end" * 1000)
+            time.sleep(0.2)
+            reset(s)
             return
         elif path == "/late":
             time.sleep(0.5)
@@ -240,6 +259,14 @@ class Gateway:
 
     def descriptors(self):
         return len(os.listdir("/proc/%d/fd" % self.process.pid))
+
+    def frees(self, base, seconds=5.0):
+        """Within so many seconds it has no more descriptors than this."""
+        until = time.monotonic() + seconds
+        while self.descriptors() > base:
+            if time.monotonic() > until:
+                raise AssertionError("%d descriptors, and %d before" % (self.descriptors(), base))
+            time.sleep(0.05)
 
     def ends(self, wanted=b"", told=None):
         """It stops by itself once all lines have closed, with status 0 and this output, and of what it wrote to standard error this is true."""
@@ -371,6 +398,55 @@ def early_answer(gateway, upstream):
         expect(reader.rest(), b"")
 
 
+def queued(port, peer):
+    """How many bytes the connection from a port to a peer's has that were sent and not taken, and how many that came and were not read."""
+    with open("/proc/net/tcp") as f:
+        for row in f.read().splitlines()[1:]:
+            _, here, there, _, queues = row.split()[:5]
+            if (int(here.split(":")[1], 16), int(there.split(":")[1], 16)) == (port, peer):
+                return tuple(int(n, 16) for n in queues.split(":"))
+    raise AssertionError("no connection from %d to %d" % (port, peer))
+
+
+def unread_of(gateway, s):
+    """How many bytes that were sent on a line the gateway has not read: the same at three looks."""
+    port = s.getsockname()[1]
+    looks = []
+    for _ in range(100):
+        looks.append(queued(port, gateway.port)[0] + queued(gateway.port, port)[1])
+        if looks[-3:] == looks[-1:] * 3:
+            return looks[-1]
+        time.sleep(0.1)
+    raise AssertionError("it goes on: %r" % looks[-5:])
+
+
+def sent_on(gateway, upstream):
+    """What waits for a server at the close of its connection is sent on: one that answers an upload early and reads late gets all that was read of it."""
+    with gateway.connect() as s:
+        s.sendall(b"POST /early-unread HTTP/1.1\r\nHost: a\r\nContent-Length: 1000000000\r\n\r\n")
+        # The server reads nothing, so that in the end no more is read of the client: then 65,536 bytes wait in the gateway.
+        sent = 0
+        s.settimeout(0.5)
+        try:
+            for _ in range(2000):
+                sent += s.send(b"u" * 65536)
+        except socket.timeout:
+            s.settimeout(PATIENCE)
+        unread = unread_of(gateway, s)
+        expect(unread > 0, True)
+        upstream.may.release()
+        reader = Reader(s)
+        first, fields = reader.head()
+        expect((status_of(first), fields.get("connection")), ("200", "close"))
+        expect(reader.body(fields), b"early")
+        expect(reader.rest(), b"")
+        # The connection to the server was closed too.
+        upstream.may.release()
+        came = upstream.told.get(timeout=PATIENCE)
+        if not sent - unread <= came <= sent:
+            raise AssertionError("%d bytes came of %d that were read" % (came, sent - unread))
+
+
 def client_closes(gateway, upstream):
     """Clients that close in mid-response, with all read that has come and with some of it unread, end their own lines alone."""
     for n in range(10):
@@ -426,6 +502,26 @@ def to_the_end(gateway, upstream):
         expect(reader.body(fields, to_end=True) == b"until the end" * 1000, True)
 
 
+def to_a_reset(gateway, upstream):
+    """Behind a filter with a callback for bodies a response that goes on until the server's end is whole at that, and not at a reset."""
+    with gateway.connect() as s:
+        reader = Reader(s)
+        s.sendall(request("/shouted/to-end"))
+        first, fields = reader.head()
+        expect(fields.get("transfer-encoding"), "chunked")
+        expect(reader.body(fields) == b"UNTIL THE END" * 1000, True)
+    with gateway.connect() as s:
+        reader = Reader(s)
+        s.sendall(request("/shouted/to-reset"))
+        first, fields = reader.head()
+        expect((status_of(first), fields.get("transfer-encoding")), ("200", "chunked"))
+        try:
+            reader.body(fields)
+            raise AssertionError("a whole body came")
+        except (EOFError, ConnectionResetError):
+            pass
+
+
 def malformed(gateway, upstream):
     """A bad request is answered and its line closed, though more than fits still comes."""
     with gateway.connect() as s:
@@ -435,6 +531,24 @@ def malformed(gateway, upstream):
             pass
         first, fields = Reader(s).head()
         expect(status_of(first), "400")
+
+
+# Connections that stay open until all is over.
+KEPT = []
+
+
+def refused_stays(gateway, upstream):
+    """Clients that are answered 400 and stay are let go within a second or two, and though they stay the gateway stops."""
+    with gateway.connect() as s:
+        get(s, Reader(s), "/base", b"/base")
+        base = gateway.descriptors()
+        for _ in range(10):
+            t = gateway.connect()
+            KEPT.append(t)
+            t.sendall(b"GET /\x00 HTTP/1.1\r\n\r\n")
+            first, fields = Reader(t).head()
+            expect(status_of(first), "400")
+        gateway.frees(base, 3.0)
 
 
 def stray(gateway, upstream):
@@ -513,11 +627,7 @@ def descriptors(gateway, upstream):
             get(line, Reader(line), "/many/%d" % n, b"/many/%d" % n)
         for line in lines:
             line.close()
-        for _ in range(100):
-            if gateway.descriptors() <= base:
-                break
-            time.sleep(0.05)
-        expect(gateway.descriptors() <= base, True)
+        gateway.frees(base)
 
 
 def refusing(gateway, upstream):
@@ -614,11 +724,7 @@ def crowd(gateway, upstream):
     expect(is_answered(first, "/crowd/again"), True)
     for s in lines:
         s.close()
-    for _ in range(100):
-        if gateway.descriptors() <= base:
-            break
-        time.sleep(0.05)
-    expect(gateway.descriptors() <= base, True)
+    gateway.frees(base)
     first.close()
 
 
@@ -838,11 +944,7 @@ def unread(gateway, upstream):
         expect(is_answered(s, "/no/room"), False)
     for s in lines:
         reset(s)
-    for _ in range(100):
-        if gateway.descriptors() <= base:
-            break
-        time.sleep(0.05)
-    expect(gateway.descriptors() <= base, True)
+    gateway.frees(base)
     with gateway.connect() as s:
         get(s, Reader(s), "/room", b"/room")
 
@@ -875,6 +977,12 @@ WITH_A_METER = (
     '[[route]]\npath = "/metered/{*rest}"\nfilters = ["meter"]\n'
 )
 
+WITH_SHOUT = (
+    '[[vm]]\nname = "shout"\nmodule = "shout.wasm"\n'
+    '[[plugin]]\nname = "shout"\nvm = "shout"\n'
+    '[[route]]\npath = "/shouted/{*rest}"\nfilters = ["shout"]\n'
+)
+
 WITH_A_TELLER = (
     '[[vm]]\nname = "teller"\nmodule = "teller.wasm"\n'
     '[[plugin]]\nname = "teller"\nvm = "teller"\n%s'
@@ -897,6 +1005,7 @@ GROUPS = [
             (resets, 3),
             (reset_behind, 1),
             (early_answer, 1),
+            (sent_on, 1),
             (half_closed, 1),
             (byte_by_byte, 1),
             (to_the_end, 1),
@@ -916,6 +1025,8 @@ GROUPS = [
     ("three workers", 3, "", b"", [(many, 30)]),
     ("no server", 1, "", b"", [(refusing, 1)]),
     ("other addresses", 1, "", b"", [(other_addresses, 1)]),
+    ("clients that stay", 1, "", b"", [(refused_stays, 11)], lambda err: err == b""),
+    ("a filter of bodies", 1, WITH_SHOUT, b"store shout calls 0 keys 0 items 0\n", [(to_a_reset, 2)], lambda err: err == b""),
     (
         "stores",
         2,
@@ -981,8 +1092,8 @@ def main():
     with tempfile.TemporaryDirectory() as folder:
         with open(os.path.join(folder, "marked.wasm"), "wb") as f:
             f.write(MARKED)
-        shutil.copy(METER, folder)
-        shutil.copy(TELLER, folder)
+        for module in (METER, SHOUT, TELLER):
+            shutil.copy(module, folder)
         for group in GROUPS:
             p, f = run_group(program, folder, upstream, group)
             passed += p
