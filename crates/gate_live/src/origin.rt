@@ -57,6 +57,8 @@ pub struct Mailbox {
 pub struct Acceptor {
     listener: TcpListener,
     ready: bool,
+    /// A line that waits was refused by the system, as where no descriptor is left, and it tells nothing more of it.
+    refused: bool,
     /// So many may be accepted before an open line is heard.
     left: u32,
     /// How many lines were accepted.
@@ -158,6 +160,7 @@ impl Acceptor {
         Acceptor {
             listener,
             ready: true,
+            refused: false,
             left: ARRIVALS,
             accepted: 0,
             most,
@@ -204,7 +207,10 @@ impl Acceptor {
                     }
                 }
                 Err(e) if e.kind() == io::ErrorKind::ConnectionAborted => {}
-                Err(_) => self.ready = false,
+                Err(e) => {
+                    self.ready = false;
+                    self.refused = e.kind() != io::ErrorKind::WouldBlock;
+                }
             }
         }
         None
@@ -292,10 +298,19 @@ impl Origin {
         }
     }
 
-    /// A descriptor came free.
+    /// Whether a line waits that the system refused, of which it tells nothing more.
+    pub fn is_refused(&self) -> bool {
+        match self {
+            Origin::Listener(acceptor) => acceptor.refused && !acceptor.is_done(),
+            Origin::Mailbox(_) => false,
+        }
+    }
+
+    /// What the system refused may be asked for again.
     pub fn note_free(&mut self) {
         if let Origin::Listener(acceptor) = self {
             acceptor.ready = true;
+            acceptor.refused = false;
         }
     }
 

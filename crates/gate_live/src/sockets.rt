@@ -36,6 +36,9 @@ const TURNS: u32 = 64;
 /// read. A further one is closed at once, or else a client that opens lines and reads nothing would take descriptors and memory without end.
 const MOST_LINES: usize = 256;
 
+/// Nanoseconds until a line that the system refused is asked for again.
+const AGAIN: u64 = 100_000_000;
+
 /// The sockets of one worker.
 #[derive(Drop)]
 pub struct Sockets<P> {
@@ -225,17 +228,29 @@ impl<P: Duplex> Sockets<P> {
         Ok(())
     }
 
-    /// Asks the system what is ready. It is not waited for where lines may be there of which it tells nothing more.
+    /// How long the system is waited for, at most. It is not where lines may be there of which it tells nothing more, and not for long where it
+    /// refused one: nothing is told when another connection, of whatever worker, gives its descriptor back.
+    fn timeout(&self, wanted: Option<Duration>) -> Option<Duration> {
+        if self.origin.is_waiting() {
+            return Some(Duration::ZERO);
+        }
+        if self.origin.is_refused() {
+            let again = Duration::from_nanos(AGAIN);
+            return Some(wanted.unwrap_or(again).min(again));
+        }
+        wanted
+    }
+
+    /// Asks the system what is ready. A line that it refused is asked for again behind that.
     fn look<R: Clock>(&mut self, rt: &R, timeout: Option<Duration>) -> Result<(), WorldEnd> {
         self.turns = TURNS;
         self.drop_lingering(rt)?;
-        let timeout = if self.origin.is_waiting() {
-            Some(Duration::ZERO)
-        } else {
-            timeout
-        };
+        let timeout = self.timeout(timeout);
         if self.poll.poll(&mut self.events, timeout).is_err() {
             return Err(WorldEnd::Failed);
+        }
+        if self.origin.is_refused() {
+            self.origin.note_free();
         }
         for event in &self.events {
             if event.token() == ORIGIN {
