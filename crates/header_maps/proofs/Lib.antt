@@ -3,6 +3,7 @@ pub mod Examples
 pub mod Found
 pub mod GivenBack
 pub mod Kept
+pub mod Lengths
 pub mod Looking
 pub mod Places
 pub mod Replacing

@@ -7,6 +7,7 @@ mod judged;
 mod kind;
 mod laws;
 mod list;
+mod measured;
 mod pairs;
 mod texts;
 
@@ -18,4 +19,5 @@ pub use laws::{
     set_keeps_given, status_read_back, worked_examples,
 };
 pub use list::HeaderList;
+pub use measured::value_len;
 pub use texts::Texts;
