@@ -1,66 +1,18 @@
 // Heads and trailers on their way out, written from the maps.
 ghost use Rattle.std.specs.Prelude.{◌≡◌, ◌++◌, ◌∷◌, [], codes, bytes_eq, IfOk, OnOk};
 ghost use Rattle.http_header.specs.Token.{lowercase};
-ghost use Rattle.http1_model.specs.ChunkWire.{body_end};
-ghost use Rattle.http1_model.specs.Framing.{no_body, framing_line, response_line, start_lines, head_wire, trailer_wire};
+ghost use Rattle.http1_model.specs.Framing.{no_body, head_wire, trailer_wire};
 ghost use Rattle.http1_model.specs.LocalReply.{date_line, close_line};
-ghost use Rattle.http1_model.specs.Wire.{version_text, field_line, field_lines, sent_fields, via_of, close_field, request_line};
+ghost use Rattle.http1_model.specs.Wire.{version_text, field_lines, sent_fields};
 ghost use Rattle.h1_write.specs.Seen.{seen_framing};
 ghost use Rattle.exchange.specs.Heads.{sent_head, up_tail, down_tail, date_fields, close_fields, connection_fields, with_connection};
 
 use gate_base::{Octets, OutOfMemory};
-use h1_head::{pseudo_of, push_field, push_fields};
-use h1_write::Framing;
-use header_maps::{HeaderList, ListKind, Texts};
-use itoa::Buffer;
+use h1_head::{push_field, push_fields};
+use h1_write::{Framing, push_framing, push_start, push_trailers};
+use header_maps::{HeaderList, Texts};
 use local_reply::{has_date, moment_text};
 use std::alloc::Global;
-
-/// Puts the request line and `host` at the end (RFC 9112 section 3).
-fn push_request_start(out: &mut Octets, fields: &HeaderList) -> Result<(), OutOfMemory>
-    ensures { OnOk result (out.new ≡ out.old ++ start_lines (sent_head fields.now []) ListKind.Request) }
-{
-    out.extend_from_slice(pseudo_of(fields, b":method"))?;
-    out.extend_from_slice(b" ")?;
-    out.extend_from_slice(pseudo_of(fields, b":path"))?;
-    out.extend_from_slice(b" HTTP/1.1\r\n")?;
-    push_field(out, b"host", pseudo_of(fields, b":authority"))
-}
-
-/// Puts the status line at the end; its reason is empty (RFC 9112 section 4).
-fn push_response_start(out: &mut Octets, fields: &HeaderList) -> Result<(), OutOfMemory>
-    ensures { OnOk result (out.new ≡ out.old ++ response_line fields.now) }
-{
-    out.extend_from_slice(b"HTTP/1.1 ")?;
-    out.extend_from_slice(pseudo_of(fields, b":status"))?;
-    out.extend_from_slice(b" ")?;
-    out.extend_from_slice(b"\r\n")
-}
-
-/// Puts what stands in front of the fields at the end.
-fn push_start(out: &mut Octets, fields: &HeaderList) -> Result<(), OutOfMemory>
-    ensures { OnOk result (out.new ≡ out.old ++ start_lines (sent_head fields.now []) fields.now.kind) }
-{
-    match fields.kind() {
-        ListKind::Request => push_request_start(out, fields),
-        ListKind::Response | ListKind::Interim => push_response_start(out, fields),
-        ListKind::Plain => Ok(()),
-    }
-}
-
-/// Puts the field that tells the framing at the end, where one does (RFC 9112 section 6).
-fn push_framing(out: &mut Octets, framing: Framing) -> Result<(), OutOfMemory>
-    ensures { OnOk result (out.new ≡ out.old ++ framing_line (seen_framing framing)) }
-{
-    match framing {
-        Framing::Nothing | Framing::UntilClose => Ok(()),
-        Framing::Length(length) => {
-            let mut digits = Buffer::new();
-            push_field(out, b"content-length", digits.format(length).as_bytes())
-        }
-        Framing::Chunked => push_field(out, b"transfer-encoding", b"chunked"),
-    }
-}
 
 /// The version that was received, and the gateway's name.
 fn via_value(minor: u8) -> &'static [u8]
@@ -179,15 +131,6 @@ fn with_connection(
         texts.push(name, value)?;
     }
     Ok(texts)
-}
-
-/// Puts the end of a chunked body with these trailers at the end.
-fn push_trailers(alloc: Global, out: &mut Octets, fields: &Texts) -> Result<(), OutOfMemory>
-    ensures { OnOk result (out.new ≡ out.old ++ body_end (sent_fields fields.now)) }
-{
-    out.extend_from_slice(b"0\r\n")?;
-    push_fields(alloc, out, fields)?;
-    out.extend_from_slice(b"\r\n")
 }
 
 /// The bytes of trailers of a message that is framed so, behind a head with these Connection fields.

@@ -1,8 +1,10 @@
 -- The heads and steps of the model that the code's values say.
-use Rattle.std.specs.Prelude.{◌≡◌, ◌≤◌, ⊤, ℕ, Bool, true, false, List, Option, None, Some, Result, Ok, Err}
+use Rattle.std.specs.Prelude.{◌≡◌, ◌≤◌, ⊤, ℕ, Bool, true, false, List, [], Option, None, Some, Result, Ok, Err}
 use Rattle.http1_model.specs.Head as model
+use Rattle.http1_model.specs.Length as lengths
 use Rattle.std.specs.Option.{option_map}
 use Rattle.header_maps.specs.Headers.{Headers}
+use Rattle.header_maps.specs.declared.kind.ListKind.TheVariants.{Plain}
 use Rattle.header_maps.specs.declared.end.HeaderEnd.{HeaderEnd}
 use Rattle.header_maps.specs.declared.end.HeaderEnd.TheVariants as ends
 use Rattle.http1_model.specs.Fields.{Pair, is_dropped, is_dropped_from_response, passing_among}
@@ -25,6 +27,19 @@ seen_head h = record {
   told = h.told;
   close = h.close;
   connection = h.connection;
+}
+
+-- a head with these fields, of which nothing else is written
+abbrev pub bare_head : Headers → model.Head
+bare_head fields = record {
+  fields = fields;
+  tail = record { kind = Plain; pairs = [] };
+  form = None;
+  minor = 1;
+  length = lengths.nothing;
+  told = None;
+  close = false;
+  connection = [];
 }
 
 -- a head that is taken in, or the number of a refusal

@@ -1,4 +1,4 @@
-//! Heads of HTTP/1.1 messages: from a line's bytes to a head, and from a request's head to the bytes that go up.
+//! Heads of HTTP/1.1 messages: from a line's bytes to a head, and the lines of a head on its way out.
 #![tactic(auto)]
 
 mod fields;
@@ -20,7 +20,4 @@ pub use item::Item;
 pub use lines::{head_cut, skip_empty_lines};
 pub use listed::without_listed;
 pub use read::read_head;
-pub use write::{
-    is_left_out, pseudo_of, push_field, push_fields, push_request_line, request_bytes,
-    write_request,
-};
+pub use write::{is_left_out, pseudo_of, push_field, push_fields, push_request_line};

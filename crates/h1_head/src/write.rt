@@ -1,16 +1,15 @@
-// From a head to the bytes that go up.
+// The lines of a head on its way out.
 ghost use Rattle.std.specs.List.{list_any};
 ghost use Rattle.std.specs.Prelude.{◌≡◌, ◌++◌, ◌||◌, [], codes, bytes_eq, length, take, IfOk, OnOk, OnErr};
 ghost use Rattle.header_maps.specs.Pairs.{is_pseudo};
 ghost use Rattle.http1_model.specs.Fields.{is_hop_name, is_listed, is_named, values_of};
-ghost use Rattle.http1_model.specs.Wire.{field_line, field_lines, is_left_out, sent_fields, pseudo_of, request_line, via_of, wire_of};
+ghost use Rattle.http1_model.specs.Wire.{field_line, field_lines, is_left_out, sent_fields, pseudo_of, request_line};
 ghost use Rattle.http_header.specs.Token.{lowercase};
 ghost use Rattle.h1_head.specs.Marked.{IsMarkedIn};
-ghost use Rattle.h1_head.specs.Seen.{seen_head};
+ghost use Rattle.h1_head.specs.Seen.{bare_head};
 ghost use Rattle.h1_text.specs.Names.{AreMarked};
 
 use crate::fields::is_hop_name;
-use crate::head::Head;
 use gate_base::{Octets, OutOfMemory};
 use h1_text::{ListedNames, NameTree, is_same_word, lists};
 use header_maps::{HeaderList, Texts};
@@ -169,48 +168,12 @@ pub fn push_fields(alloc: Global, out: &mut Octets, fields: &Texts) -> Result<()
 }
 
 /// Puts the request line at the end (RFC 9112 section 3). Where memory is out, a front of the line may stand there.
-pub fn push_request_line(out: &mut Octets, head: &Head) -> Result<(), OutOfMemory>
-    ensures ok { OnOk result (out.new ≡ out.old ++ request_line (seen_head head.now)) }
+pub fn push_request_line(out: &mut Octets, fields: &HeaderList) -> Result<(), OutOfMemory>
+    ensures ok { OnOk result (out.new ≡ out.old ++ request_line (bare_head fields.now)) }
     ensures err { OnErr result (take (length out.old) out.new ≡ out.old) }
 {
-    out.extend_from_slice(pseudo_of(&head.fields, b":method"))?;
+    out.extend_from_slice(pseudo_of(fields, b":method"))?;
     out.extend_from_slice(b" ")?;
-    out.extend_from_slice(pseudo_of(&head.fields, b":path"))?;
+    out.extend_from_slice(pseudo_of(fields, b":path"))?;
     out.extend_from_slice(b" HTTP/1.1\r\n")
-}
-
-/// Puts the `via` line at the end.
-fn push_via(out: &mut Octets, minor: u8) -> Result<(), OutOfMemory>
-    ensures ok { OnOk result (out.new ≡ out.old ++ field_line (via_of minor)) }
-{
-    let value = if minor == 0 {
-        b"1.0 wasmgate"
-    } else {
-        b"1.1 wasmgate"
-    };
-    push_field(out, b"via", value)
-}
-
-/// The bytes of a request head as it is sent up: its request line, `host`, the fields that go out in order, `via`,
-/// `connection: close` and the empty line.
-pub fn request_bytes(alloc: Global, head: &Head) -> Result<Octets, OutOfMemory>
-    ensures { IfOk result (λ bytes. bytes ≡ wire_of (seen_head head.now)) }
-{
-    let mut out = Octets::new(alloc);
-    push_request_line(&mut out, head)?;
-    push_field(&mut out, b"host", pseudo_of(&head.fields, b":authority"))?;
-    push_fields(alloc, &mut out, head.fields.texts())?;
-    push_via(&mut out, head.minor)?;
-    push_field(&mut out, b"connection", b"close")?;
-    out.extend_from_slice(b"\r\n")?;
-    Ok(out)
-}
-
-/// Puts the bytes of a request head at the end, all or none.
-pub fn write_request(alloc: Global, out: &mut Octets, head: &Head) -> Result<(), OutOfMemory>
-    ensures ok { OnOk result (out.new ≡ out.old ++ wire_of (seen_head head.now)) }
-    ensures err { OnErr result (out.new ≡ out.old) }
-{
-    let bytes = request_bytes(alloc, head)?;
-    out.extend_from_slice(bytes.as_slice())
 }

@@ -286,7 +286,8 @@ impl ListedNames {
 
     /// Marks those names that are members of one value more (RFC 9110 section 5.6.1).
     pub fn note(&mut self, value: &[u8])
-        ensures { (values : List (List ℕ)) → AreMarked values self.old → AreMarked (values ++ value.now ∷ []) self.new }
+        ensures tree { self.new.tree ≡ self.old.tree }
+        ensures marks { (values : List (List ℕ)) → AreMarked values self.old → AreMarked (values ++ value.now ∷ []) self.new }
     {
         let mut rest = Some(value);
         while let Some(list) = rest {

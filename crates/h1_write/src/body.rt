@@ -6,7 +6,7 @@ ghost use Rattle.http1_model.specs.Wire.{sent_fields};
 
 use gate_base::{Octets, OutOfMemory};
 use h1_head::push_fields;
-use header_maps::HeaderList;
+use header_maps::{HeaderList, Texts};
 use std::alloc::Global;
 
 /// How many bytes stand round the bytes of a piece, at most: 16 digits and two line ends, and the last chunk.
@@ -56,14 +56,21 @@ pub fn chunk_bytes(alloc: Global, bytes: &[u8], end: bool) -> Result<Octets, Out
     Ok(out)
 }
 
-/// The bytes of the trailers of a chunked body: the last chunk, the fields that go out, and the empty line (RFC 9112
-/// section 7.1.2).
+/// Puts the end of a chunked body with trailers at the end: the last chunk, those of these fields that go out, and the empty line
+/// (RFC 9112 section 7.1.2). Where memory is out, a front of it may stand there.
+pub fn push_trailers(alloc: Global, out: &mut Octets, fields: &Texts) -> Result<(), OutOfMemory>
+    ensures { OnOk result (out.new ≡ out.old ++ body_end (sent_fields fields.now)) }
+{
+    out.extend_from_slice(b"0\r\n")?;
+    push_fields(alloc, out, fields)?;
+    out.extend_from_slice(b"\r\n")
+}
+
+/// The bytes of the trailers of a chunked body.
 pub fn trailer_bytes(alloc: Global, fields: &HeaderList) -> Result<Octets, OutOfMemory>
     ensures { IfOk result (λ wire. wire ≡ body_end (sent_fields fields.now.pairs)) }
 {
     let mut out = Octets::new(alloc);
-    out.extend_from_slice(b"0\r\n")?;
-    push_fields(alloc, &mut out, fields.texts())?;
-    out.extend_from_slice(b"\r\n")?;
+    push_trailers(alloc, &mut out, fields.texts())?;
     Ok(out)
 }

@@ -12,9 +12,8 @@ use Rattle.http1_model.specs.Listed.{request_list, response_list}
 use Rattle.http1_model.specs.Target.{TargetForm, origin, absolute, asterisk, Target, is_visible, IsTargetOf}
 
 -- a head as a gateway takes it in: `fields` are its pseudo-headers and the fields that pass, with names in lower case; `tail`
--- are those that stand behind the framing field on the way out, of which there are none as yet; `form` is the form of a
--- request's target, kept only because the program answers no other than the origin form as yet; `told` is the number of
--- Content-Length; `close` says that Connection lists `close`; `connection` are the values of its Connection fields as they were
+-- are those that stand behind the framing field on the way out, of which a head that was read has none; `form` is the form of a
+-- request's target, which laws of what is read speak of and nothing else; `told` is the number of Content-Length; `close` says that Connection lists `close`; `connection` are the values of its Connection fields as they were
 -- received, in order, which name fields that do not pass, be it in the head or among the trailers
 pub record Head : Type 0 where
   pub fields : Headers

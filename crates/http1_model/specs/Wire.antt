@@ -49,10 +49,8 @@ via_of minor = (codes "via", version_text minor ++ codes " wasmgate")
 abbrev pub close_field : Pair
 close_field = (codes "connection", codes "close")
 
--- the head of a request as it is sent up: the request line, `host`, the fields that go out in order, `via`,
--- `connection: close` and the empty line. It has no framing field: this is the wire of a request that was received without a
--- length field, so `told` is None and there is no body, and no other is sent up as yet (nor is one that told 0). The field that
--- frames a body, or tells that there is none, will stand in front of `via`. The head's `tail`, which is empty, is not read.
+-- the head of a request without a body that told no length, as it is sent up: the request line, `host`, the fields that go out in
+-- order, `via`, `connection: close` and the empty line. The head's `tail`, which is empty, is not read.
 abbrev pub wire_of : Head → List ℕ
 wire_of head =
     request_line head ++ field_line (codes "host", pseudo_of head.fields (codes ":authority"))

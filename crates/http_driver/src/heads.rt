@@ -5,10 +5,11 @@ ghost use Rattle.std.specs.Prelude.{◌≡◌, true, IfOk};
 ghost use Rattle.header_maps.specs.Kept.{is_kept_field};
 
 use gate_base::{Members, Octets, OutOfMemory};
-use h1_head::{Head, HeadStep, Kind, Length, read_head, request_bytes, without_listed};
+use h1_head::{Head, HeadStep, Item, Kind, Length, read_head, without_listed};
+use h1_write::{Framing, write_item};
 use header_maps::{HeaderEnd, HeaderList};
 use rows::{from_text, word};
-use std::alloc::Global;
+use std::alloc::{AllocError, Global};
 
 /// The kind that a word names.
 pub fn kind_of(word: &str) -> Kind {
@@ -148,13 +149,43 @@ pub fn used(alloc: Global, words: &str) -> Result<Octets, OutOfMemory> {
     told(alloc, kind_of(kind), text.as_slice(), true)
 }
 
+/// The fields that stand behind all others of a head that goes up: `via`, and `connection: close`.
+fn tail_of(alloc: Global, minor: u8) -> Result<HeaderList, HeaderEnd> {
+    let via: &[u8] = if minor == 0 {
+        b"1.0 wasmgate"
+    } else {
+        b"1.1 wasmgate"
+    };
+    let mut tail = HeaderList::new(alloc);
+    tail.add(alloc, b"via", via)?;
+    tail.add(alloc, b"connection", b"close")?;
+    Ok(tail)
+}
+
+/// Writes the head of a request without a body at the end, as it goes up.
+pub fn write_up(alloc: Global, out: &mut Octets, mut head: Head) -> Result<(), OutOfMemory> {
+    head.tail = match tail_of(alloc, head.minor) {
+        Ok(tail) => tail,
+        Err(_) => return Err(AllocError),
+    };
+    write_item(
+        alloc,
+        out,
+        &Item::Head { head, end: true },
+        Framing::Nothing,
+    )
+}
+
 /// `up TEXT`: the bytes that go up for a request's head.
 pub fn sent(alloc: Global, words: &str) -> Result<Octets, OutOfMemory> {
     let text = from_text(alloc, words)?;
-    let step = read_head(alloc, text.as_slice(), Kind::Request)?;
-    match &step {
-        HeadStep::Head { head, .. } => request_bytes(alloc, head),
-        _ => other(alloc, &step),
+    match read_head(alloc, text.as_slice(), Kind::Request)? {
+        HeadStep::Head { head, .. } => {
+            let mut out = Octets::new(alloc);
+            write_up(alloc, &mut out, head)?;
+            Ok(out)
+        }
+        step => other(alloc, &step),
     }
 }
 

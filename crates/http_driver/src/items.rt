@@ -1,7 +1,8 @@
 //! Items that are written, and how messages are framed.
 
+use crate::heads::write_up;
 use gate_base::{Members, Octets, OutOfMemory};
-use h1_head::{Head, HeadStep, Item, Kind, Length, read_head, write_request};
+use h1_head::{Head, HeadStep, Item, Kind, Length, read_head};
 use h1_write::{Framing, framing_of, write_item};
 use header_maps::{HeaderList, ListKind};
 use rows::{from_text, number, word};
@@ -78,11 +79,10 @@ fn item_of(
 }
 
 /// Writes a request's head behind what was written.
-fn write_up(alloc: Global, out: &mut Octets, words: &str) -> Result<(), OutOfMemory> {
+fn write_request(alloc: Global, out: &mut Octets, words: &str) -> Result<(), OutOfMemory> {
     let text = from_text(alloc, words)?;
-    let step = read_head(alloc, text.as_slice(), Kind::Request)?;
-    match &step {
-        HeadStep::Head { head, .. } => write_request(alloc, out, head),
+    match read_head(alloc, text.as_slice(), Kind::Request)? {
+        HeadStep::Head { head, .. } => write_up(alloc, out, head),
         _ => Ok(()),
     }
 }
@@ -112,7 +112,7 @@ pub fn write_out(
     match operation {
         "clear" => written.out.clear(),
         "tail" => written.tail = list.copy(alloc)?,
-        "write-request" => write_up(alloc, &mut written.out, words)?,
+        "write-request" => write_request(alloc, &mut written.out, words)?,
         _ => write_behind(alloc, written, list, operation, words)?,
     }
     written.out.copy(alloc)

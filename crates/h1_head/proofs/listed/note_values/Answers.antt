@@ -15,4 +15,4 @@ loop-value-preserved c =
     c.as_slice.ensures ∙ c.value-item.is ∙ ap (λ (vs : List (List ℕ)). slice_index_or vs i item) all in
     let here : take i connection ++ value ∷ [] ≡ take (i + 1) connection =
     ap (λ (v : List ℕ). take i connection ++ v ∷ []) value_is ∙ sym (take_more connection i item lt) in
-    λ none. subst (λ (vs : List (List ℕ)). AreMarked vs c.note.new.self) here (c.note.ensures (take i connection) (c.loop-value.invariant none))
+    λ none. subst (λ (vs : List (List ℕ)). AreMarked vs c.note.new.self) here (c.note.ensures.marks (take i connection) (c.loop-value.invariant none))

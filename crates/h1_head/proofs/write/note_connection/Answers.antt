@@ -19,7 +19,7 @@ loop-at-preserved c =
     λ none. elim c.if-is_same_word.branch [
       | then-is_same_word w ↦
           rw w.listed-is (subst (λ (vs : List (List ℕ)). AreMarked vs w.note.new.self) (values_named (codes "connection") fs f w.if-is_same_word.ensures ∙ here)
-          (w.note.ensures (values_of (codes "connection") fs) (c.loop-at.invariant none)))
+          (w.note.ensures.marks (values_of (codes "connection") fs) (c.loop-at.invariant none)))
       | else-is_same_word w ↦
           rw w.listed-is (subst (λ (vs : List (List ℕ)). AreMarked vs c.loop-at.listed) (values_other (codes "connection") fs f w.if-is_same_word.ensures ∙ here)
           (c.loop-at.invariant none))
