@@ -1,6 +1,7 @@
 -- What an answer of the reader says.
 use Rattle.std.specs.Prelude.{◌≡◌, ◌≤◌, ⊤, ℕ, Bool, true, false, List}
-use Rattle.http1_model.specs.Chunks.{Place, Sought, data_at, section_at, waiting, malformed, Run}
+use Rattle.http1_model.specs.Chunks.{Place, section, Sought, data_at, section_at, waiting, malformed, Run}
+use Rattle.http1_model.specs.Lines.{unfinished}
 use Rattle.http1_model.specs.Trailers as model
 use Rattle.h1_chunks.specs.declared.reader.ChunkStep as step
 use Rattle.h1_chunks.specs.declared.reader.ChunkStep.TheVariants as steps
@@ -13,6 +14,10 @@ is_data (data_at at left) = true
 is_data (section_at at) = false
 is_data waiting = false
 is_data malformed = false
+
+-- a trailer section is due at the front of the text, of which neither the end nor too much has come
+abbrev pub IsWithinSection : Place → List ℕ → Type 0
+IsWithinSection place text = (place ≡ section) × (model.section_cut text ≡ unfinished)
 
 -- bytes of data with what they use up, as a run
 abbrev pub seen_run : run.Run → Run

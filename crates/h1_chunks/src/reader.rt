@@ -1,8 +1,8 @@
 // The reader of a chunked body.
-ghost use Rattle.std.specs.Prelude.{◌≡◌, ◌≤◌, ◌<◌, length, IfOk, OnErr};
+ghost use Rattle.std.specs.Prelude.{◌≡◌, ◌≤◌, ◌<◌, ◌↔◌, length, IfOk, OnErr, IsTrue};
 ghost use Rattle.http1_model.specs.Chunks.{start, sought, section_at, section_taken, place_taken, run_of};
 ghost use Rattle.http1_model.specs.Trailers.{piece_limit};
-ghost use Rattle.h1_chunks.specs.Answers.{is_data, seen_run, Answers, UsesWithin};
+ghost use Rattle.h1_chunks.specs.Answers.{is_data, seen_run, Answers, IsWithinSection, UsesWithin};
 ghost use Rattle.h1_chunks.specs.Seen.{seen_place};
 
 use crate::lines::section_cut;
@@ -113,6 +113,17 @@ impl ChunkReader {
         ensures { result ≡ is_data (sought self.now text.now) }
     {
         matches!(self.place.sought(text), Sought::Data { .. })
+    }
+
+    /// Whether a trailer section is due at the front of a text, right where the reader stands, and neither its end nor too much of it has come.
+    /// It takes no memory.
+    pub fn is_within_section(&self, text: &[u8]) -> bool
+        ensures { IsTrue result ↔ IsWithinSection self.now text.now }
+    {
+        match self.place {
+            Place::Section => matches!(section_cut(text), Cut::Unfinished),
+            Place::SizeLine | Place::Inside(_) | Place::Over => false,
+        }
     }
 
     /// Reads over what stands in front of a trailer section, the last chunk's line with it, where that section is what a text has next: how

@@ -4,7 +4,7 @@ use Rattle.std.proofs.lemmas.List.{drop-drop}
 use Rattle.http1_model.specs.Fields.{Pair}
 use Rattle.http1_model.specs.Lines.{Cut, whole, too_large, unfinished}
 use Rattle.http1_model.specs.Chunks.{Place, inside, Sought, data_at, section_at, waiting, malformed, sought, Run, run_of}
-use Rattle.http1_model.specs.Trailers.{ChunkStep, carried, ended, not_yet, refused, end_of, section_cut, IsEnd, IsBehind, SpellsChunks}
+use Rattle.http1_model.specs.Trailers.{carried, ended, not_yet, refused, end_of, section_cut, IsEnd, IsBehind, SpellsChunks}
 use Rattle.http1_model.specs.Messages.{octet, end, body, coded, due_next, Step, item, section_step, end_step, trailers_left, IsCodedStep, StepsTo}
 use Rattle.http1_model.specs.Unread.{piece, part, IsNoOctet, IsNext}
 use Rattle.http1_model.proofs.ChunkLaws.{run_step, run_zero, run_behind}

@@ -1,13 +1,16 @@
--- A piece without LF finishes no head.
-use Rattle.std.proofs.Common.{◌≡◌, ℕ, ◌+◌, ◌<◌, ◌≤◌, Bool, true, false, List, [], ◌∷◌, ◌++◌, length, take, drop, Option, None, Some, refl, sym, ap, ◌∙◌, subst, arith, length-append, inl}
+-- A piece without LF finishes no head and no trailer section.
+use Rattle.std.proofs.Common.{◌≡◌, ℕ, ◌+◌, ◌<◌, Bool, true, false, List, [], ◌∷◌, ◌++◌, length, take, drop, Option, None, Some, refl, sym, ap, ◌∙◌, subst, arith, length-append, inl}
 use Rattle.std.specs.Prelude.{not, is_some, MatchOption, if◌then◌else◌, ◌||◌, ◌==◌, nat_le, nat_lt, bytes_eq, codes}
 use Rattle.std.proofs.lemmas.List.{take_all}
 use Rattle.std.proofs.lemmas.Bool.{lt-leb}
 use Rattle.http1_model.specs.Lines.{with_first, whole_lines, empty_len, skipped, after_empty_lines, section_of, Cut, too_large, unfinished, cut_open, cut_lines, cut_of, window_cut, head_cut, head_limit, line_limit}
 use Rattle.http1_model.specs.Head.{not_yet, IsStepAt, IsAnswer, IsResponseAnswer}
-use Rattle.http1_model.specs.Messages.{Due, head, rest, SpellsHead, stop, stop_at, step_from}
-use Rattle.http1_model.specs.Unread.{Reading, none, IsNext, Halts, due_at, waiting, unread_at}
-use Rattle.h1_stream.specs.Quiet.{IsQuiet}
+use Rattle.http1_model.specs.Chunks.{Place, section}
+use Rattle.http1_model.specs.Messages.{counted, coded, unbounded, Due, head, body, done, rest, SpellsHead, stop, stop_at}
+use Rattle.http1_model.specs.Trailers as trailing
+use Rattle.http1_model.specs.Trailers.{window_section, section_cut, IsEnd}
+use Rattle.http1_model.specs.Unread.{Reading, none, IsNext, Halts, due_at, unread_at}
+use Rattle.h1_stream.specs.Quiet.{IsOpen, IsQuiet}
 
 lines_behind : (t p : List ℕ) → whole_lines p ≡ [] → whole_lines (t ++ p) ≡ whole_lines t
 lines_behind [] p h = h
@@ -22,28 +25,53 @@ pick false false false e h = refl
 open_more : (n m lines : ℕ) → m < 65536 → cut_open n lines ≡ unfinished → cut_open m lines ≡ unfinished
 open_more n m lines lt h = pick (nat_le head_limit n) (nat_lt line_limit lines) (nat_le head_limit m) (lt-leb 65536 m lt) h
 
+lines_more : (n m first lines : ℕ) (o : Option (ℕ × ℕ)) → m < 65536 → cut_lines n first lines o ≡ unfinished → cut_lines m first lines o ≡ unfinished
+lines_more n m first lines None lt h = open_more n m lines lt h
+lines_more n m first lines (Some s) lt h = h
+
 cut_more : (n m : ℕ) (ls : List (List ℕ)) → m < 65536 → cut_of n ls ≡ unfinished → cut_of m ls ≡ unfinished
 cut_more n m [] lt h = open_more n m 0 lt h
-cut_more n m (first ∷ after) lt h = by (section_of after) h
-  where
-    by : (o : Option (ℕ × ℕ)) → cut_lines n (length first) (length after) o ≡ unfinished → cut_lines m (length first) (length after) o ≡ unfinished
-    by None h = open_more n m (length after) lt h
-    by (Some s) h = h
+cut_more n m (first ∷ after) lt h = lines_more n m (length first) (length after) (section_of after) lt h
 
 small_cut : (x : List ℕ) → length x < 65536 → head_cut x ≡ cut_of (length x) (whole_lines x)
 small_cut x lt = ap window_cut (take_all 65536 x (omega (arith, lt)))
 
-pub stays : (ended : Bool) (due : Due) (t p : List ℕ) → whole_lines p ≡ [] → length t + length p < 65536 → IsQuiet true ended due t → IsQuiet true ended due (t ++ p)
-stays ended due t p none_there lt (e, d, s, h) =
-    let all : length (t ++ p) ≡ length t + length p = length-append t p in
-    let lt' : length (t ++ p) < 65536 = omega (arith, all, lt) in
+-- where a section ends whose lines these are, in a text of so many bytes
+abbrev section_by : ℕ → List (List ℕ) → Cut
+section_by n ls = cut_lines n 0 (length ls) (section_of ls)
+
+small_section : (x : List ℕ) → length x < 65536 → section_cut x ≡ section_by (length x) (whole_lines x)
+small_section x lt = ap window_section (take_all 65536 x (omega (arith, lt)))
+
+short_front : (t p : List ℕ) → length t + length p < 65536 → length (t ++ p) < 65536
+short_front t p lt = let all : length (t ++ p) ≡ length t + length p = length-append t p in omega (arith, all, lt)
+
+head_stays : (t p : List ℕ) → whole_lines p ≡ [] → length t + length p < 65536 → IsOpen head t → IsOpen head (t ++ p)
+head_stays t p none_there lt (s, h) =
+    let lt' = short_front t p lt in
     let same : whole_lines (t ++ p) ≡ whole_lines t = lines_behind t p none_there in (
-      e,
-      d,
       ap empty_len same ∙ s,
       small_cut (t ++ p) lt' ∙ ap (cut_of (length (t ++ p))) same
           ∙ cut_more (length t) (length (t ++ p)) (whole_lines t) lt' (sym (small_cut t (omega (arith, lt))) ∙ h),
     )
+
+section_stays : (t p : List ℕ) → whole_lines p ≡ [] → length t + length p < 65536 → section_cut t ≡ unfinished → section_cut (t ++ p) ≡ unfinished
+section_stays t p none_there lt h =
+    let lt' = short_front t p lt in
+    let same : whole_lines (t ++ p) ≡ whole_lines t = lines_behind t p none_there in
+    small_section (t ++ p) lt' ∙ ap (section_by (length (t ++ p))) same
+    ∙ lines_more (length t) (length (t ++ p)) 0 (length (whole_lines t)) (section_of (whole_lines t)) lt'
+    (sym (small_section t (omega (arith, lt))) ∙ h)
+
+open_stays : (due : Due) (t p : List ℕ) → whole_lines p ≡ [] → length t + length p < 65536 → IsOpen due t → IsOpen due (t ++ p)
+open_stays head t p none_there lt h = head_stays t p none_there lt h
+open_stays (body (counted n)) t p none_there lt h = h
+open_stays (body (coded connection place)) t p none_there lt (is, h) = (is, section_stays t p none_there lt h)
+open_stays (body unbounded) t p none_there lt h = h
+open_stays done t p none_there lt h = h
+
+pub stays : (ended : Bool) (due : Due) (t p : List ℕ) → whole_lines p ≡ [] → length t + length p < 65536 → IsQuiet true ended due t → IsQuiet true ended due (t ++ p)
+stays ended due t p none_there lt (e, h) = (e, open_stays due t p none_there lt h)
 
 spelled : (asked : Option (List ℕ)) (t : List ℕ) → skipped t ≡ 0 → head_cut t ≡ unfinished → SpellsHead asked t not_yet
 spelled None t s h =
@@ -57,16 +85,49 @@ still : (asked : Option (List ℕ)) (t : List ℕ) → rest ≡ stop_at false as
 still None t = refl
 still (Some a) t = refl
 
+-- where a head is due
+head_none : (asked : Option (List ℕ)) (t : List ℕ) → IsOpen head t → IsNext false asked head t (none rest)
+head_none asked t (s, h) = inl (record { step = stop rest; there = (not_yet, spelled asked t s h, ap stop (still asked t)); is = refl })
+
+-- and where a trailer section is
+section_none : (asked : Option (List ℕ)) (connection : List (List ℕ)) (t : List ℕ) → section_cut t ≡ unfinished
+    → IsNext false asked (body (coded connection section)) t (none rest)
+section_none asked connection t h =
+    let ends : IsEnd 0 t (section_cut t) trailing.not_yet = subst (λ (c : Cut). IsEnd 0 t c trailing.not_yet) (sym h) refl in
+    inl (record { step = stop rest; there = (trailing.not_yet, ends, refl); is = refl })
+
+open_none : (asked : Option (List ℕ)) (due : Due) (t : List ℕ) → IsOpen due t → IsNext false asked due t (none rest)
+open_none asked head t h = head_none asked t h
+open_none asked (body (counted n)) t h = absurd h
+open_none asked (body (coded connection place)) t (is, h) =
+    subst (λ (p : Place). IsNext false asked (body (coded connection p)) t (none rest)) (sym is) (section_none asked connection t h)
+open_none asked (body unbounded) t h = absurd h
+open_none asked done t h = absurd h
+
+-- and nothing is dropped
+due_kept : (due : Due) (t : List ℕ) → IsOpen due t → due ≡ due_at due t
+due_kept head t h = refl
+due_kept (body (counted n)) t h = refl
+due_kept (body (coded connection place)) t (is, h) =
+    subst (λ (p : Place). body (coded connection p) ≡ due_at (body (coded connection p)) t) (sym is) refl
+due_kept (body unbounded) t h = refl
+due_kept done t h = refl
+
+unread_kept : (due : Due) (t : List ℕ) → IsOpen due t → t ≡ unread_at due t
+unread_kept head t (s, h) = sym (ap (λ (n : ℕ). drop n t) s)
+unread_kept (body (counted n)) t h = refl
+unread_kept (body (coded connection place)) t (is, h) =
+    subst (λ (p : Place). t ≡ unread_at (body (coded connection p)) t) (sym is) refl
+unread_kept (body unbounded) t h = refl
+unread_kept done t h = refl
+
 -- nothing as yet, and nothing is dropped
 pub halts : (r : Reading) → IsQuiet true r.ended r.due r.unread → Halts r rest r
-halts r (e, d, s, h) = record {
-  next = subst (λ (b : Bool). IsNext b r.asked r.due r.unread (none rest)) (sym e)
-      (subst (λ (due : Due). IsNext false r.asked due r.unread (none rest)) (sym d)
-      (inl (record { step = stop rest; there = (not_yet, spelled r.asked r.unread s h, ap stop (still r.asked r.unread)); is = refl })));
+halts r (e, h) = record {
+  next = subst (λ (b : Bool). IsNext b r.asked r.due r.unread (none rest)) (sym e) (open_none r.asked r.due r.unread h);
   is =
-      let due_is : r.due ≡ due_at r.due r.unread = d ∙ sym (ap (λ (due : Due). due_at due r.unread) d) in
-      let unread_is : r.unread ≡ unread_at r.due r.unread =
-      sym (ap (λ (due : Due). unread_at due r.unread) d ∙ ap (λ (n : ℕ). drop n r.unread) s) in
+      let due_is : r.due ≡ due_at r.due r.unread = due_kept r.due r.unread h in
+      let unread_is : r.unread ≡ unread_at r.due r.unread = unread_kept r.due r.unread h in
       (λ j. record r { due = due_is j; unread = unread_is j });
 }
 

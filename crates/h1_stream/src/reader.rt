@@ -1,12 +1,12 @@
 // The reader of one side of a line.
-ghost use Rattle.std.specs.Prelude.{◌≡◌, ◌++◌, Bool, false, length, IfOk, OnOk, OnErr};
+ghost use Rattle.std.specs.Prelude.{◌≡◌, ◌↔◌, ◌++◌, Bool, false, length, IfOk, OnOk, OnErr, IsTrue};
 ghost use Rattle.http1_model.specs.Unread.{IsNext, new_reading, fed, finished, waiting};
-ghost use Rattle.h1_stream.specs.Quiet.{IsQuiet};
-ghost use Rattle.http1_model.specs.Messages.{Due as Dues};
+ghost use Rattle.h1_stream.specs.Quiet.{IsOpen, IsQuiet};
+ghost use Rattle.http1_model.specs.Messages.{head, Due as Dues};
 ghost use Rattle.h1_stream.specs.Seen.{seen_due};
 
 use crate::body::body_next;
-use crate::next::{Due, Next, Stop, head_next};
+use crate::next::{Body, Due, Next, Stop, head_next};
 use crate::unread::Unread;
 use gate_base::OutOfMemory;
 use h1_head::{Item, Kind, head_cut, skip_empty_lines};
@@ -27,38 +27,40 @@ pub enum Step {
     Refused { number: u16 },
 }
 
-/// How many bytes of a head may come.
-const HEAD_LIMIT: usize = 65_536;
+/// How many bytes of a head, or of a trailer section, may come.
+const OPEN_LIMIT: usize = 65_536;
 
-/// Whether an unfinished head is still all there is when a piece comes.
+/// Whether an unfinished head or trailer section is still all there is when a piece comes.
 fn stays_quiet(quiet: bool, text: &[u8], piece: &[u8]) -> bool
     ensures { (ended : Bool) (due : Dues) → IsQuiet quiet ended due text.now → IsQuiet result ended due (text.now ++ piece.now) }
 {
     if !quiet {
         return false;
     }
-    if text.len() >= HEAD_LIMIT || piece.len() >= HEAD_LIMIT - text.len() {
+    if text.len() >= OPEN_LIMIT || piece.len() >= OPEN_LIMIT - text.len() {
         return false;
     }
     line_len(piece).is_none()
 }
 
-/// Whether a head is due that is not finished, with no empty lines before it.
+/// Whether a text is an unfinished head, with no empty lines before it.
+fn is_open_head(text: &[u8]) -> bool
+    ensures { IsTrue result ↔ IsOpen head text.now }
+{
+    skip_empty_lines(text) == 0 && matches!(head_cut(text), Cut::Unfinished)
+}
+
+/// Whether a head or a trailer section is due that is not finished, and with it the text.
 fn is_unfinished(ended: bool, due: &Due, text: &[u8]) -> bool
     ensures { IsQuiet result ended (seen_due due.now) text.now }
 {
     if ended {
         return false;
     }
-    let Due::Head = due else {
-        return false;
-    };
-    if skip_empty_lines(text) != 0 {
-        return false;
-    }
-    match head_cut(text) {
-        Cut::Unfinished => true,
-        Cut::Whole { .. } | Cut::TooLarge => false,
+    match due {
+        Due::Head => is_open_head(text),
+        Due::Body(Body::Coded { reader, .. }) => reader.is_within_section(text),
+        Due::Body(Body::Counted(_) | Body::Unbounded) | Due::Done => false,
     }
 }
 
@@ -206,7 +208,7 @@ impl MessageReader {
         }
     }
 
-    /// Notes whether an unfinished head is all there is.
+    /// Notes whether an unfinished head or trailer section is all there is.
     fn hush(&mut self)
         ensures { self.new ≡ self.old }
     {
