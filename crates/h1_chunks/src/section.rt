@@ -14,8 +14,8 @@ ghost use Rattle.h1_chunks.specs.Spans.{AreTaken, pairs_if};
 ghost use Rattle.h1_text.specs.Names.{AreMarked};
 
 use gate_base::OutOfMemory;
-use h1_text::{ListedNames, is_same_word, listed_among, lists};
-use header_maps::{HeaderEnd, HeaderList};
+use h1_text::{ListedNames, listed_among, lists};
+use header_maps::{HeaderEnd, HeaderList, is_same_word};
 use httparse::Status;
 use httparse::spans::{EMPTY_HEADER_SPAN, HeaderSpan, parse_headers};
 use std::alloc::{AllocError, Global};

@@ -9,8 +9,8 @@ ghost use Rattle.h1_head.specs.Spans.{AreLines, IsRead};
 
 use crate::lengths::Lengths;
 use gate_base::{Members, Octets, OutOfMemory};
-use h1_text::{ListedNames, has_many_members, is_same_word, listed_among, lists};
-use header_maps::{HeaderEnd, HeaderList};
+use h1_text::{ListedNames, has_many_members, listed_among, lists};
+use header_maps::{HeaderEnd, HeaderList, is_same_word};
 use httparse::spans::HeaderSpan;
 use std::alloc::Global;
 

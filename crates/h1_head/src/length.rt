@@ -10,7 +10,8 @@ ghost use Rattle.h1_head.specs.Measures.{agreed, AreTold, seen_measure, seen_mea
 
 use crate::fields::{Fields, Lines, Noted};
 use crate::head::Length;
-use h1_text::{first_member, is_same_word, trim};
+use h1_text::{first_member, trim};
+use header_maps::is_same_word;
 
 /// The largest length that a message may tell, 2^63 - 1.
 const LENGTH_LIMIT: u64 = 0x7fff_ffff_ffff_ffff;

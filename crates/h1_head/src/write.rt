@@ -11,8 +11,8 @@ ghost use Rattle.h1_text.specs.Names.{AreMarked};
 
 use crate::fields::is_hop_name;
 use gate_base::{Octets, OutOfMemory};
-use h1_text::{ListedNames, NameTree, is_same_word, lists};
-use header_maps::{HeaderList, Texts};
+use h1_text::{ListedNames, NameTree, lists};
+use header_maps::{HeaderList, Texts, is_same_word};
 use std::alloc::Global;
 
 /// Puts a field line at the end (RFC 9112 section 5). Where memory is out, a front of the line may stand there.

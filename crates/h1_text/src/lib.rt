@@ -10,7 +10,7 @@ mod names;
 
 pub use lines::{BYTE_LIMIT, Cut, closed_cut, is_empty_line, line_len, line_len_at, open_cut};
 pub use listed::listed_among;
-pub use members::{first_member, has_many_members, is_same_word, lists, trim};
+pub use members::{first_member, has_many_members, lists, trim};
 pub use names::{ListedNames, NameTree};
 
 /// Names that are looked for, and their marks, worked on names that are written out.

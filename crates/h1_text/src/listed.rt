@@ -5,9 +5,9 @@ ghost use Rattle.httparse.specs.Spans.{IsHeaderWithin, header_bytes};
 ghost use Rattle.h1_text.specs.Names.{AreMarked};
 ghost use Rattle.h1_text.specs.Spans.{fields_at};
 
-use crate::members::is_same_word;
 use crate::names::{ListedNames, NameTree};
 use gate_base::OutOfMemory;
+use header_maps::is_same_word;
 use httparse::spans::HeaderSpan;
 use std::alloc::Global;
 

@@ -1,9 +1,11 @@
 // Values, and the members of a list in a value.
-ghost use Rattle.std.specs.Prelude.{◌≡◌, ◌<◌, ◌≤◌, ◌∷◌, ℕ, true, false, length, nat_lt, slice_index, bytes_eq, IfSome, option_copied};
+ghost use Rattle.std.specs.Prelude.{◌≡◌, ◌<◌, ◌≤◌, ◌∷◌, ℕ, true, false, length, nat_lt, slice_index, IfSome, option_copied};
 ghost use Rattle.http1_model.specs.Fields.{lists, members};
 ghost use Rattle.http_header.specs.Token.{lowercase};
 ghost use Rattle.httparse.specs.Grammar.{is_ows, trim_ows};
 ghost use Rattle.h1_text.specs.Members.{is_comma, rest_members};
+
+use header_maps::is_same_word;
 
 /// Whether a byte is a space or a tab.
 fn is_blank(byte: u8) -> bool
@@ -54,14 +56,6 @@ pub fn first_member(list: &[u8]) -> (&[u8], Option<&[u8]>)
     } else {
         (trim(list), None)
     }
-}
-
-/// Whether two texts are equal but for the case of letters. Their lengths are compared where it is called, since most names differ in them.
-#[inline(always)]
-pub fn is_same_word(a: &[u8], b: &[u8]) -> bool
-    ensures { result ≡ bytes_eq (lowercase a.now) (lowercase b.now) }
-{
-    a.len() == b.len() && a.eq_ignore_ascii_case(b)
 }
 
 /// Whether a member of a value is this name, in any case of letters (RFC 9110 section 5.6.1).

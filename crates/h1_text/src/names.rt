@@ -5,8 +5,9 @@ ghost use Rattle.http_header.specs.Token.{lowercase};
 ghost use Rattle.http1_model.specs.Fields.{lists};
 ghost use Rattle.h1_text.specs.Names.{byte_at, next_in, number_of, is_name, found, is_number, AreMarked};
 
-use crate::members::{first_member, is_same_word};
+use crate::members::first_member;
 use gate_base::{Members, Octets, OutOfMemory};
+use header_maps::is_same_word;
 use std::alloc::Global;
 
 /// How many names a tree takes.

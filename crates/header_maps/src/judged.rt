@@ -21,7 +21,8 @@ fn ends_alike(a: &[u8], b: &[u8]) -> bool
     }
 }
 
-/// Whether two texts are equal but for the case of letters.
+/// Whether two texts are equal but for the case of letters. Their lengths are compared where it is called, since most names differ in them.
+#[inline(always)]
 pub fn is_same_word(a: &[u8], b: &[u8]) -> bool
     ensures { result ≡ bytes_eq (lowercase a.now) (lowercase b.now) }
 {
