@@ -26,12 +26,16 @@ numbered at v g = wrote at (bytes_of 4 v) g
 abbrev pub numbering : ℕ → ℕ → GuestAt → Gave
 numbering at v g = if has_place at 4 g then gave (numbered at v g) else refused g
 
+-- so many bytes at a place are inside, and the two places where the guest is told of them
+abbrev pub has_room : (ptr len : ℕ) → Place → GuestAt → Bool
+has_room ptr len p g = has_place ptr len g && (has_place p.pointer 4 g && has_place p.size 4 g)
+
 -- the bytes at a place, and then the place and the size at two others
+abbrev pub placed : ℕ → List ℕ → Place → GuestAt → GuestAt
+placed ptr bytes p g = numbered p.size (length bytes) (numbered p.pointer ptr (wrote ptr bytes g))
+
 abbrev pub placing : ℕ → List ℕ → Place → GuestAt → Gave
-placing ptr bytes p g =
-    if has_place ptr (length bytes) g && (has_place p.pointer 4 g && has_place p.size 4 g)
-    then gave (numbered p.size (length bytes) (numbered p.pointer ptr (wrote ptr bytes g)))
-    else refused g
+placing ptr bytes p g = if has_room ptr (length bytes) p g then gave (placed ptr bytes p g) else refused g
 
 abbrev pub placing_at : ℕ → List ℕ → Place → GuestAt → Gave
 placing_at zero bytes p g = refused g
@@ -60,7 +64,16 @@ gave_as (Err FuelSpent) g = gave_spent g.fuel
 abbrev pub Gives : Gave → Result (Unit {0}) GiveEnd → GuestAt → Type 0
 Gives x r g = x ≡ gave_as r g
 
-abbrev pub RestsAfterGiving : Result (Unit {0}) GiveEnd → Type 0 → Type 0
+-- a place was found for them, where they are given then; or the end is that of giving them
+abbrev pub placed_as : Result ℕ GiveEnd → List ℕ → Place → GuestAt → Gave
+placed_as (Ok ptr) bytes p g = gave (placed ptr bytes p g)
+placed_as (Err end) bytes p g = gave_as (Err end) g
+
+-- A PLACE FOR SO MANY BYTES, whatever they are: from the guest before, what was found, and the guest then
+abbrev pub FindsPlace : ℕ → Place → GuestAt → Result ℕ GiveEnd → GuestAt → Type 0
+FindsPlace len p g r h = (bytes : List ℕ) → length bytes ≡ len → giving bytes p g ≡ placed_as r bytes p h
+
+abbrev pub RestsAfterGiving : {A : Type 0} → Result A GiveEnd → Type 0 → Type 0
 RestsAfterGiving (Ok x) rests = rests
 RestsAfterGiving (Err InvalidAccess) rests = rests
 RestsAfterGiving (Err NoAllocator) rests = rests

@@ -3,4 +3,4 @@
 
 mod give;
 
-pub use give::{GiveEnd, Place, give_bytes, give_number, is_within, take_bytes};
+pub use give::{GiveEnd, Place, give_bytes, give_number, is_within, place_for, put_at, take_bytes};
