@@ -3,6 +3,7 @@
 
 mod asking;
 mod ends;
+mod giving;
 mod laws;
 mod local;
 mod opening;
@@ -11,6 +12,7 @@ mod writing;
 
 pub use asking::{AskingCall, asking_call};
 pub use ends::{Gives, HostEnd, Outcome, answer, given};
+pub use giving::{GivingCall, giving_call};
 pub use laws::{host_calls_are_isolated, ranges_come_first, worked_rows};
 pub use local::{LocalCall, local_call};
 pub use opening::Inputs;
