@@ -1,3 +1,3 @@
+pub mod InPlace
 pub mod Refused
 pub mod Sized
-pub mod Unless

@@ -61,13 +61,13 @@ abbrev pub unless : Option Fault → Headers → Result Headers ℕ
 unless None l = Ok l
 unless (Some f) l = Err (fault_status f)
 
--- what becomes of a list that an operation changed or refused; want of memory is no answer
-abbrev pub Becomes : {A : Type 0} → Result A HeaderEnd → Headers → Result Headers ℕ → Type 0
-Becomes (Ok x) l r = r ≡ Ok l
-Becomes (Err BadName) l r = r ≡ Err 2
-Becomes (Err BadValue) l r = r ≡ Err 2
-Becomes (Err TooMany) l r = r ≡ Err 10
-Becomes (Err OutOfMemory) l r = ⊥
+-- what is told of a change that was made or refused; want of memory is no answer
+abbrev pub IsTold : {A : Type 0} → Result A HeaderEnd → Outcome → Type 0
+IsTold (Ok x) o = o ≡ only 0
+IsTold (Err BadName) o = o ≡ only 2
+IsTold (Err BadValue) o = o ≡ only 2
+IsTold (Err TooMany) o = o ≡ only 10
+IsTold (Err OutOfMemory) o = ⊥
 
 abbrev pub on_map : Result Headers ℕ → (Headers → Result Headers ℕ) → Result Headers ℕ
 on_map (Err status) f = Err status
@@ -77,6 +77,12 @@ abbrev pub with_map : ℕ → Headers → Maps → Maps
 with_map n l m =
     cond (n == 0) (record m { request = Some l }) (cond (n == 1) (record m { request_trailers = Some l })
     (cond (n == 2) (record m { response = Some l }) (record m { response_trailers = Some l })))
+
+-- the maps while the one of a number is changed
+abbrev pub without_map : ℕ → Maps → Maps
+without_map n m =
+    cond (n == 0) (record m { request = None }) (cond (n == 1) (record m { request_trailers = None })
+    (cond (n == 2) (record m { response = None }) (cond (n == 3) (record m { response_trailers = None }) m)))
 
 abbrev pub mapped : ℕ → Option ExchangeView → Result Headers ℕ → Made
 mapped n v (Err status) = answers status

@@ -1,12 +1,12 @@
 // The calls that change maps.
-ghost use Rattle.std.specs.Prelude.{◌≡◌, ◌≤◌, ◌<◌, length, IfOk, OnErr};
+ghost use Rattle.std.specs.Prelude.{◌≡◌, ◌≤◌, ◌<◌, length, IfOk, OnErr, IsErr};
 ghost use Rattle.abi_types.specs.GuestAt.{Keeps, StillWaits};
 ghost use Rattle.contexts.specs.Reached.{seen, put};
 ghost use Rattle.abi_model.specs.Calls.{does, told, Ends, RestsAfterCall, AreShort};
 ghost use Rattle.abi_model.specs.Table.{Are, row_of};
 ghost use Rattle.abi_model.specs.declared.table.HostCall.TheVariants as call;
 ghost use Rattle.header_maps.specs.Kept.{byte_limit};
-ghost use Rattle.abi_maps.specs.Maps.{map_for as map_for_of, Becomes, on_map, mapped, added_to, replaced_in, removed_from, set_from, changing_map, own_add_header_map_value, own_replace_header_map_value, own_remove_header_map_value, own_set_header_map_pairs};
+ghost use Rattle.abi_maps.specs.Maps.{map_at, map_for as map_for_of, with_map, without_map, IsTold, on_map, mapped, added_to, replaced_in, removed_from, set_from, changing_map, own_add_header_map_value, own_replace_header_map_value, own_remove_header_map_value, own_set_header_map_pairs};
 
 use crate::given::set;
 use crate::maps::map_for;
@@ -14,67 +14,49 @@ use abi_model::{
     HostCall, HostEnd, Inputs, LocalCall, Outcome, Param, answer, call_row, local_call,
 };
 use abi_types::Guest;
-use contexts::Contexts;
+use contexts::{Contexts, Maps};
 use gate_base::{OutOfMemory, VmNo};
 use header_maps::{HeaderEnd, HeaderList};
 use std::alloc::{AllocError, Global};
 
-/// What a map becomes: the list that was changed, or the status of the refusal.
-pub(crate) fn changed(
-    list: HeaderList,
-    end: Result<(), HeaderEnd>,
-) -> Result<Result<HeaderList, u32>, OutOfMemory>
-    ensures { IfOk result (λ r. Becomes end list r) }
+/// The status of a change that was made or refused. Want of memory is none.
+fn ended(end: Result<(), HeaderEnd>) -> Result<Outcome, OutOfMemory>
+    ensures told { IfOk result (IsTold end) }
+    ensures short { IfOk result (λ o. AreShort o.gives) }
+    ensures err { OnErr result (IsErr end) }
 {
     match end {
-        Ok(()) => Ok(Ok(list)),
-        Err(HeaderEnd::BadName | HeaderEnd::BadValue) => Ok(Err(2)),
-        Err(HeaderEnd::TooMany) => Ok(Err(10)),
+        Ok(()) => Ok(answer(0)),
+        Err(HeaderEnd::BadName | HeaderEnd::BadValue) => Ok(answer(2)),
+        Err(HeaderEnd::TooMany) => Ok(answer(10)),
         Err(HeaderEnd::OutOfMemory) => Err(AllocError),
     }
 }
 
-/// A copy of a list, with a field put last.
-fn added(
-    alloc: Global,
-    list: &HeaderList,
-    name: &[u8],
-    value: &[u8],
-) -> Result<Result<HeaderList, u32>, OutOfMemory>
-    requires { length value.now ≤ byte_limit }
-    ensures { IfOk result (λ r. r ≡ added_to name.now value.now list.now) }
+/// Takes the map of a number out, where it is there, to be changed without a copy and put in again.
+fn take_map(maps: &mut Maps, number: u64) -> Option<HeaderList>
+    ensures list { result ≡ map_at number maps.old }
+    ensures maps { maps.new ≡ without_map number maps.old }
 {
-    let mut list = list.copy(alloc)?;
-    let end = list.add(alloc, name, value);
-    changed(list, end)
+    match number {
+        0 => maps.request.take(),
+        1 => maps.request_trailers.take(),
+        2 => maps.response.take(),
+        3 => maps.response_trailers.take(),
+        _ => None,
+    }
 }
 
-/// A copy of a list, with a value put in place.
-fn replaced(
-    alloc: Global,
-    list: &HeaderList,
-    name: &[u8],
-    value: &[u8],
-) -> Result<Result<HeaderList, u32>, OutOfMemory>
-    requires { length value.now ≤ byte_limit }
-    ensures { IfOk result (λ r. r ≡ replaced_in name.now value.now list.now) }
+/// Puts a list in as the map of a number.
+fn put_list(maps: &mut Maps, number: u64, list: HeaderList)
+    ensures { maps.new ≡ with_map number list maps.old }
 {
-    let mut list = list.copy(alloc)?;
-    let end = list.replace(alloc, name, value);
-    changed(list, end)
-}
-
-/// A copy of a list, without the fields of a name.
-fn removed(
-    alloc: Global,
-    list: &HeaderList,
-    name: &[u8],
-) -> Result<Result<HeaderList, u32>, OutOfMemory>
-    ensures { IfOk result (λ r. r ≡ removed_from name.now list.now) }
-{
-    let mut list = list.copy(alloc)?;
-    let end = list.remove(name);
-    changed(list, end)
+    match number {
+        0 => maps.request = Some(list),
+        1 => maps.request_trailers = Some(list),
+        2 => maps.response = Some(list),
+        _ => maps.response_trailers = Some(list),
+    }
 }
 
 /// Puts a map in place of the one of a number.
@@ -89,69 +71,96 @@ fn put_map(contexts: &mut Contexts, vm: VmNo, number: u64, list: Result<HeaderLi
         Err(status) => return answer(status),
     };
     if let Some(exchange) = contexts.exchange_mut(vm) {
-        match number {
-            0 => exchange.maps.request = Some(list),
-            1 => exchange.maps.request_trailers = Some(list),
-            2 => exchange.maps.response = Some(list),
-            _ => exchange.maps.response_trailers = Some(list),
-        }
+        put_list(&mut exchange.maps, number, list);
     }
     answer(0)
 }
 
-/// What a map becomes.
+/// Puts a field last in a map.
 fn add_in(
     alloc: Global,
-    contexts: &Contexts,
+    contexts: &mut Contexts,
     vm: VmNo,
     number: u64,
     name: &[u8],
     value: &[u8],
-) -> Result<Result<HeaderList, u32>, OutOfMemory>
-    requires vm { vm < length contexts.now.vms }
+) -> Result<Outcome, OutOfMemory>
+    requires vm { vm < length contexts.old.vms }
     requires value { length value.now ≤ byte_limit }
-    ensures { IfOk result (λ r. r ≡ on_map (map_for_of number (seen contexts.now vm)) (added_to name.now value.now)) }
+    ensures made { IfOk result (λ o. o ≡ told (changing_map number (added_to name.now value.now) (seen contexts.old vm))) }
+    ensures short { IfOk result (λ o. AreShort o.gives) }
+    ensures changes { IfOk result (λ _. contexts.new ≡ put (changing_map number (added_to name.now value.now) (seen contexts.old vm)).changes vm contexts.old) }
+    ensures err { OnErr result (contexts.new ≡ contexts.old) }
 {
-    match map_for(contexts, vm, number) {
-        Err(status) => Ok(Err(status)),
-        Ok(list) => added(alloc, list, name, value),
+    if number > 7 {
+        return Ok(answer(2));
     }
+    let Some(exchange) = contexts.exchange_mut(vm) else {
+        return Ok(answer(1));
+    };
+    let Some(mut list) = take_map(&mut exchange.maps, number) else {
+        return Ok(answer(1));
+    };
+    let end = list.add(alloc, name, value);
+    put_list(&mut exchange.maps, number, list);
+    ended(end)
 }
 
-/// What a map becomes.
+/// Puts a value in place in a map.
 fn replace_in(
     alloc: Global,
-    contexts: &Contexts,
+    contexts: &mut Contexts,
     vm: VmNo,
     number: u64,
     name: &[u8],
     value: &[u8],
-) -> Result<Result<HeaderList, u32>, OutOfMemory>
-    requires vm { vm < length contexts.now.vms }
+) -> Result<Outcome, OutOfMemory>
+    requires vm { vm < length contexts.old.vms }
     requires value { length value.now ≤ byte_limit }
-    ensures { IfOk result (λ r. r ≡ on_map (map_for_of number (seen contexts.now vm)) (replaced_in name.now value.now)) }
+    ensures made { IfOk result (λ o. o ≡ told (changing_map number (replaced_in name.now value.now) (seen contexts.old vm))) }
+    ensures short { IfOk result (λ o. AreShort o.gives) }
+    ensures changes { IfOk result (λ _. contexts.new ≡ put (changing_map number (replaced_in name.now value.now) (seen contexts.old vm)).changes vm contexts.old) }
+    ensures err { OnErr result (contexts.new ≡ contexts.old) }
 {
-    match map_for(contexts, vm, number) {
-        Err(status) => Ok(Err(status)),
-        Ok(list) => replaced(alloc, list, name, value),
+    if number > 7 {
+        return Ok(answer(2));
     }
+    let Some(exchange) = contexts.exchange_mut(vm) else {
+        return Ok(answer(1));
+    };
+    let Some(mut list) = take_map(&mut exchange.maps, number) else {
+        return Ok(answer(1));
+    };
+    let end = list.replace(alloc, name, value);
+    put_list(&mut exchange.maps, number, list);
+    ended(end)
 }
 
-/// What a map becomes.
+/// Takes the fields of a name out of a map.
 fn remove_in(
-    alloc: Global,
-    contexts: &Contexts,
+    contexts: &mut Contexts,
     vm: VmNo,
     number: u64,
     name: &[u8],
-) -> Result<Result<HeaderList, u32>, OutOfMemory>
-    requires vm { vm < length contexts.now.vms }
-    ensures { IfOk result (λ r. r ≡ on_map (map_for_of number (seen contexts.now vm)) (removed_from name.now)) }
+) -> Result<Outcome, OutOfMemory>
+    requires { vm < length contexts.old.vms }
+    ensures made { IfOk result (λ o. o ≡ told (changing_map number (removed_from name.now) (seen contexts.old vm))) }
+    ensures short { IfOk result (λ o. AreShort o.gives) }
+    ensures changes { IfOk result (λ _. contexts.new ≡ put (changing_map number (removed_from name.now) (seen contexts.old vm)).changes vm contexts.old) }
+    ensures err { OnErr result (contexts.new ≡ contexts.old) }
 {
-    match map_for(contexts, vm, number) {
-        Err(status) => Ok(Err(status)),
-        Ok(list) => removed(alloc, list, name),
+    if number > 7 {
+        return Ok(answer(2));
     }
+    let Some(exchange) = contexts.exchange_mut(vm) else {
+        return Ok(answer(1));
+    };
+    let Some(mut list) = take_map(&mut exchange.maps, number) else {
+        return Ok(answer(1));
+    };
+    let end = list.remove(name);
+    put_list(&mut exchange.maps, number, list);
+    ended(end)
 }
 
 /// What a map becomes.
@@ -238,8 +247,7 @@ impl LocalCall for AddHeaderMapValue {
     ) -> Result<Outcome, OutOfMemory> {
         let name = inputs.first.as_slice();
         let value = inputs.second.as_slice();
-        let list = add_in(alloc, contexts, vm, args[0], name, value)?;
-        Ok(put_map(contexts, vm, args[0], list))
+        add_in(alloc, contexts, vm, args[0], name, value)
     }
 }
 
@@ -283,8 +291,7 @@ impl LocalCall for ReplaceHeaderMapValue {
     ) -> Result<Outcome, OutOfMemory> {
         let name = inputs.first.as_slice();
         let value = inputs.second.as_slice();
-        let list = replace_in(alloc, contexts, vm, args[0], name, value)?;
-        Ok(put_map(contexts, vm, args[0], list))
+        replace_in(alloc, contexts, vm, args[0], name, value)
     }
 }
 
@@ -326,8 +333,7 @@ impl LocalCall for RemoveHeaderMapValue {
         args: &[u64],
         inputs: &Inputs,
     ) -> Result<Outcome, OutOfMemory> {
-        let list = remove_in(alloc, contexts, vm, args[0], inputs.first.as_slice())?;
-        Ok(put_map(contexts, vm, args[0], list))
+        remove_in(contexts, vm, args[0], inputs.first.as_slice())
     }
 }
 
