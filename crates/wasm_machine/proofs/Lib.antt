@@ -27,6 +27,7 @@ pub mod Crossed
 pub mod Reversed
 pub mod Taken
 pub mod Marked
+pub mod Stretches
 pub mod Operands
 pub mod Sees
 pub mod Listing

@@ -11,6 +11,8 @@ pub mod RunsFollow
 pub mod Targets
 pub mod Edges
 pub mod Held
+pub mod Homes
+pub mod Kinds
 pub mod Marked
 pub mod Acted
 pub mod Outside

@@ -5,6 +5,7 @@ mod access;
 mod bulk;
 mod control;
 mod jumps;
+mod kinds;
 pub mod laws;
 mod locals;
 mod machine;

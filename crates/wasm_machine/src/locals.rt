@@ -1,12 +1,15 @@
 //! The locals of all frames.
 
-ghost use Rattle.std.specs.Prelude.{◌≡◌, ◌<◌, ◌≤◌, ◌+◌, ◌-◌, [], ◌∷◌, ◌++◌, length, take, drop, reverse, slice_get, slice_set, replicate, false, Some, IfOk};
+ghost use Rattle.std.specs.Prelude.{◌≡◌, ◌<◌, ◌≤◌, ◌+◌, ◌-◌, [], ◌∷◌, ◌++◌, length, take, drop, reverse, slice_get, slice_set, replicate, false, Some, IfOk, IfSome, IsTrue, IsFalse};
+ghost use Rattle.std.specs.Arc.{arc_value};
 ghost use Rattle.wasm_syntax.specs.declared.types.Value.TheVariants as value;
 ghost use Rattle.std.specs.Vec.{vec_len, vec_capacity};
 ghost use Rattle.wasm_syntax.specs.Numeric.{zero_of};
 ghost use Rattle.wasm_syntax.specs.Reduction.{zeros};
 ghost use Rattle.wasm_machine.specs.Held.{held};
+ghost use Rattle.wasm_machine.specs.Homes.{locals_of};
 
+use crate::kinds::{Home, Kinds, listed};
 use crate::stack::Stack;
 use gate_base::OutOfMemory;
 use std::alloc::Global;
@@ -18,8 +21,8 @@ use wasm_syntax::{LocalList, Value, ValueType};
 /// a zero is not written where its frame begins, but the local is marked as not given yet.
 #[derive(Debug, Drop)]
 pub(crate) struct Locals {
-    /// The type of each that was not given yet.
-    types: Vec<ValueType>,
+    /// Their types, which tell the zeros.
+    kinds: Kinds,
     /// Whether each was given.
     given: Vec<bool>,
     /// The value of each that was given. Values of frames that are gone may be between them and behind them.
@@ -35,9 +38,9 @@ impl Model for Locals {
 
     ghost Value = { Held Values };
 
-    ghost view = { λ a. held (marked a.types.items a.given.items a.values.items) a.room };
+    ghost view = { λ a. held (marked a.kinds a.given.items a.values.items) a.room };
 
-    ghost invariant = { λ a. IsMarked a.types.items a.given.items a.values.items a.room (vec_capacity a.types) (vec_capacity a.given) (vec_capacity a.values) };
+    ghost invariant = { λ a. IsMarked a.kinds a.given.items a.values.items a.room (vec_capacity a.given) (vec_capacity a.values) };
 }
 
 impl Locals {
@@ -46,7 +49,7 @@ impl Locals {
         ensures { IfOk result (λ s. s ≡ held [] room) }
     {
         Ok(Locals {
-            types: Vec::with_capacity(alloc, room)?,
+            kinds: Kinds::new(alloc)?,
             given: Vec::with_capacity(alloc, room)?,
             values: Vec::with_capacity(alloc, room)?,
             room,
@@ -57,7 +60,7 @@ impl Locals {
     pub(crate) fn len(&self) -> usize
         ensures { result ≡ length self.now.members }
     {
-        self.types.len()
+        self.kinds.len()
     }
 
     /// The one at an index of all.
@@ -68,7 +71,7 @@ impl Locals {
         if self.given[k] {
             self.values[k]
         } else {
-            zero(self.types[k])
+            zero(self.kinds.get(k))
         }
     }
 
@@ -78,7 +81,7 @@ impl Locals {
         ensures { result ≡ slice_get (drop base self.now.members) x }
     {
         let x = x as usize;
-        if x < self.types.len() - base {
+        if x < self.kinds.len() - base {
             Some(self.at(base + x))
         } else {
             None
@@ -100,7 +103,7 @@ impl Locals {
     pub(crate) fn truncate(&mut self, count: usize)
         ensures { self.new ≡ held (take count self.old.members) self.old.room }
     {
-        self.types.truncate(count);
+        self.kinds.truncate(count);
         self.given.truncate(count);
     }
 
@@ -109,8 +112,8 @@ impl Locals {
         requires { length self.old.members < self.old.room }
         ensures { self.new ≡ held (self.old.members ++ v ∷ []) self.old.room }
     {
-        put(&mut self.values, self.types.len(), v);
-        self.types.push_reserved(ValueType::I32);
+        put(&mut self.values, self.kinds.len(), v);
+        self.kinds.push();
         self.given.push_reserved(true);
     }
 
@@ -139,18 +142,46 @@ impl Locals {
         }
     }
 
-    /// A zero for each of these types.
-    pub(crate) fn clear(&mut self, types: &LocalList)
+    /// A zero for each of these types, which stand in the module that they are from.
+    pub(crate) fn clear(&mut self, types: &LocalList, home: Option<Home<'_>>)
+        requires room { length self.old.members + length types.now ≤ self.old.room }
+        requires home { IfSome home (λ home. locals_of (arc_value home.module.now) home.code ≡ types.now) }
+        ensures { self.new ≡ held (self.old.members ++ zeros types.now) self.old.room }
+    {
+        if types.len() == 0 {
+            return;
+        }
+        if !self.mark_zeros(types, home) {
+            self.give_zeros(types);
+        }
+    }
+
+    /// The same by marks: no, and nothing is changed, where there is no room for the types.
+    fn mark_zeros(&mut self, types: &LocalList, home: Option<Home<'_>>) -> bool
+        requires room { length self.old.members + length types.now ≤ self.old.room }
+        requires home { IfSome home (λ home. locals_of (arc_value home.module.now) home.code ≡ types.now) }
+        ensures all { IsTrue result → self.new ≡ held (self.old.members ++ zeros types.now) self.old.room }
+        ensures none { IsFalse result → self.new ≡ self.old }
+    {
+        let count = types.len() as usize;
+        let before = self.kinds.len();
+        if self.kinds.append(types, home) {
+            reach(&mut self.values, before + count);
+            mark(&mut self.given, count);
+            true
+        } else {
+            false
+        }
+    }
+
+    /// The same, where each is given.
+    fn give_zeros(&mut self, types: &LocalList)
         requires { length self.old.members + length types.now ≤ self.old.room }
         ensures { self.new ≡ held (self.old.members ++ zeros types.now) self.old.room }
     {
-        let count = types.len() as usize;
-        if count == 0 {
-            return;
+        for x in 0..types.len() {
+            self.push(zero(listed(types, x as usize)));
         }
-        reach(&mut self.values, self.types.len() + count);
-        types.put_at(&mut self.types);
-        mark(&mut self.given, count);
     }
 }
 
