@@ -11,3 +11,4 @@ pub mod Sites
 pub mod Spent
 pub mod Told
 pub mod Waiting
+pub mod Worlds

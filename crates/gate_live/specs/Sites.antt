@@ -6,21 +6,21 @@ use Rattle.gate_live.specs.Origins.{Accepts}
 use Rattle.gate_live.specs.declared.live_world.LiveWorld.{LiveWorld}
 
 -- A world in which nothing has happened, with this address of the upstream server.
-pub record IsUntouched {R : Type 0} (upstream : SocketAddr) (w : LiveWorld R) : Type 0 where
+pub record IsUntouched {R P : Type 0} (upstream : SocketAddr) (w : LiveWorld R P) : Type 0 where
   pub now : w.now ≡ 0
   pub goes_on : w.stopped ≡ false
   pub faults : w.faults ≡ 0
   pub connects : w.sockets.upstream ≡ upstream
   pub lines : w.sockets.lines.items ≡ []
 
-abbrev pub AreUntouched : {R : Type 0} → SocketAddr → List (LiveWorld R) → Type 0
+abbrev pub AreUntouched : {R P : Type 0} → SocketAddr → List (LiveWorld R P) → Type 0
 AreUntouched upstream ws = All (λ w. IsUntouched upstream w) ws
 
 -- the same, where the server's address is one that the text spells
-abbrev pub AreNew : {R : Type 0} → List ℕ → List (LiveWorld R) → Type 0
+abbrev pub AreNew : {R P : Type 0} → List ℕ → List (LiveWorld R P) → Type 0
 AreNew text ws = (upstream : SocketAddr) × IsSocketText text upstream × AreUntouched upstream ws
 
 -- the first of the worlds accepts lines, so many at most
-abbrev pub FirstAccepts : {R : Type 0} → ℕ → List (LiveWorld R) → Type 0
+abbrev pub FirstAccepts : {R P : Type 0} → ℕ → List (LiveWorld R P) → Type 0
 FirstAccepts most [] = ⊥
 FirstAccepts most (w ∷ ws) = Accepts most w.sockets.origin

@@ -6,6 +6,7 @@ ghost use Rattle.gate_live.specs.Sites.{AreNew, AreUntouched, FirstAccepts, IsUn
 
 use crate::LiveWorld;
 use crate::origin::{Acceptor, Neighbor, Origin, join_queue};
+use crate::peer::Peer;
 use crate::sockets::{ORIGIN, Sockets};
 use gate_io::{Settings, Site, SiteEnd};
 use mio::net::TcpListener;
@@ -22,7 +23,7 @@ use std::time::Clock;
 #[derive(Drop)]
 pub struct LiveSite<R> {
     rt: R,
-    returned: Vec<LiveWorld<R>>,
+    returned: Vec<LiveWorld<R, Peer>>,
     out: usize,
     faults: u64,
 }
@@ -73,7 +74,7 @@ fn world_of<R: RandomSource + Clone + Drop>(
     poll: Poll,
     origin: Origin,
     upstream: SocketAddr,
-) -> Result<LiveWorld<R>, SiteEnd>
+) -> Result<LiveWorld<R, Peer>, SiteEnd>
     ensures untouched { IfOk result (λ w. IsUntouched upstream w) }
     ensures origin { IfOk result (λ w. w.sockets.origin ≡ origin) }
 {
@@ -106,7 +107,7 @@ fn other_world<R: Net + RandomSource + Clone + Drop>(
     rt: &R,
     upstream: SocketAddr,
     ended: &Arc<AtomicU64>,
-) -> Result<(Neighbor, LiveWorld<R>), SiteEnd>
+) -> Result<(Neighbor, LiveWorld<R, Peer>), SiteEnd>
     ensures { IfOk result (λ w. IsUntouched upstream w.1) }
 {
     let (poll, waker) = waking_poll(rt)?;
@@ -123,7 +124,7 @@ fn other_worlds<R: Net + RandomSource + Clone + Drop>(
     upstream: SocketAddr,
     ended: &Arc<AtomicU64>,
     others: &mut Vec<Neighbor>,
-) -> Result<Vec<LiveWorld<R>>, SiteEnd>
+) -> Result<Vec<LiveWorld<R, Peer>>, SiteEnd>
     ensures untouched { IfOk result (λ worlds. AreUntouched upstream worlds.items) }
     ensures count { IfOk result (λ worlds. length worlds.items ≡ count) }
 {
@@ -144,7 +145,7 @@ fn first_world<R: Net + RandomSource + Clone + Drop>(
     upstream: SocketAddr,
     others: Vec<Neighbor>,
     ended: Arc<AtomicU64>,
-) -> Result<LiveWorld<R>, SiteEnd>
+) -> Result<LiveWorld<R, Peer>, SiteEnd>
     ensures untouched { IfOk result (λ w. IsUntouched upstream w) }
     ensures accepts { IfOk result (λ w. Accepts (unwrap_or settings.now.stop_after 4294967295) w.sockets.origin) }
 {
@@ -160,7 +161,7 @@ fn worlds_of<R: Net + RandomSource + Clone + Drop>(
     alloc: Global,
     rt: &R,
     settings: &Settings,
-) -> Result<Vec<LiveWorld<R>>, SiteEnd>
+) -> Result<Vec<LiveWorld<R, Peer>>, SiteEnd>
     ensures untouched { IfOk result (λ worlds. AreNew settings.now.upstream worlds.items) }
     ensures count { IfOk result (λ worlds. length worlds.items ≡ settings.now.workers) }
     ensures accepts { IfOk result (λ worlds. FirstAccepts (unwrap_or settings.now.stop_after 4294967295) worlds.items) }
@@ -179,7 +180,7 @@ fn worlds_of<R: Net + RandomSource + Clone + Drop>(
 }
 
 impl<R: Net + Clock + Wait + RandomSource + Eprint + Clone + Send + Drop> Site for LiveSite<R> {
-    type W = LiveWorld<R>;
+    type W = LiveWorld<R, Peer>;
 
     ghost use Rattle.std.specs.Prelude.{◌≡◌, ◌≤◌, None, length, unwrap_or, All, IfOk, OnErr};
     ghost use Rattle.gate_io.specs.Sites.{IsFresh};
@@ -196,7 +197,11 @@ impl<R: Net + Clock + Wait + RandomSource + Eprint + Clone + Send + Drop> Site f
 
     ghost faults = { λ s. s.faults };
 
-    fn start(&mut self, alloc: Global, settings: &Settings) -> Result<Vec<LiveWorld<R>>, SiteEnd>
+    fn start(
+        &mut self,
+        alloc: Global,
+        settings: &Settings,
+    ) -> Result<Vec<LiveWorld<R, Peer>>, SiteEnd>
         ensures count { IfOk result (λ worlds. length worlds.items ≡ settings.now.workers) }
         ensures untouched { IfOk result (λ worlds. AreNew settings.now.upstream worlds.items) }
         ensures accepts { IfOk result (λ worlds. FirstAccepts (unwrap_or settings.now.stop_after 4294967295) worlds.items) }
@@ -216,7 +221,7 @@ impl<R: Net + Clock + Wait + RandomSource + Eprint + Clone + Send + Drop> Site f
         answer
     }
 
-    fn give_back(&mut self, worlds: Vec<LiveWorld<R>>)
+    fn give_back(&mut self, worlds: Vec<LiveWorld<R, Peer>>)
         ensures returned { self.new.returned.items ≡ worlds.items }
         ensures out { self.new.out ≡ 0 }
         ensures faults { self.new.faults ≡ self.old.faults }

@@ -3,9 +3,9 @@ ghost use Rattle.std.specs.Prelude.{◌≡◌, ◌≤◌, ◌⊎◌, IfOk, IfSom
 ghost use Rattle.gate_io.specs.Events.{Follows, Obeys, is_stop};
 ghost use Rattle.gate_live.specs.Spent.{IsBefore, IsEarly, IsOfLine, is_clock};
 
+use crate::duplex::Duplex;
 use crate::log_line::log_line;
 use crate::moments::Moments;
-use crate::peer::Peer;
 use crate::sockets::Sockets;
 use gate_base::{Level, LineNo, OutOfMemory};
 use gate_io::{Event, Side, Wants, What, World, WorldEnd};
@@ -15,12 +15,13 @@ use std::str;
 use std::sync::Wait;
 use std::time::Clock;
 
-/// The outside of one worker over sockets, which writes the log to standard error. It tells nothing of content.
+/// The outside of one worker over sockets, which writes the log to standard error. As a world it tells nothing of content: what its calls add to the
+/// clauses of the trait is of its lines, over any connections.
 #[derive(Drop)]
-pub struct LiveWorld<R> {
+pub struct LiveWorld<R, P> {
     rt: R,
     seed: [u8; 32],
-    sockets: Sockets<Peer>,
+    sockets: Sockets<P>,
     now: u64,
     /// The last event was Clock.
     told: bool,
@@ -28,12 +29,12 @@ pub struct LiveWorld<R> {
     faults: u64,
 }
 
-impl<R> LiveWorld<R> {
+impl<R, P> LiveWorld<R, P> {
     ghost use Rattle.std.specs.Prelude.{◌≡◌, []};
     ghost use Rattle.gate_live.specs.Sites.{IsUntouched};
 
     /// A world in which nothing has happened, over these sockets.
-    pub(crate) fn new(rt: R, seed: [u8; 32], sockets: Sockets<Peer>) -> Self
+    pub(crate) fn new(rt: R, seed: [u8; 32], sockets: Sockets<P>) -> Self
         ensures untouched { sockets.lines.items ≡ [] → IsUntouched sockets.upstream result }
         ensures sockets { result.sockets ≡ sockets }
         ensures seed { result.seed ≡ seed }
@@ -50,15 +51,18 @@ impl<R> LiveWorld<R> {
     }
 }
 
-impl<R: Net + Clock + Wait + Eprint> World for LiveWorld<R> {
-    ghost use Rattle.std.specs.Prelude.{None, true, false};
+impl<R: Net + Clock + Wait + Eprint, P: Duplex> World for LiveWorld<R, P> {
+    ghost use Rattle.std.specs.Prelude.{None, length};
+    ghost use Rattle.gate_io.specs.Events.{after_next};
+    ghost use Rattle.gate_io.specs.Told.{Rose};
     ghost use Rattle.gate_live.specs.Allowed.{no_promise};
+    ghost use Rattle.gate_live.specs.Worlds.{last_in, nature_of, Gives, Sends, Closes};
 
     ghost trace = { λ _. None };
 
-    ghost last = { λ w. record { now = w.now; stopped = w.stopped } };
+    ghost last = { last_in };
 
-    ghost nature = { λ w. record { seed = w.seed; script = λ _. None; obeys = true; takes_whole = false; fails_no_call = false } };
+    ghost nature = { nature_of };
 
     ghost faults = { λ w. w.faults };
 
@@ -68,7 +72,16 @@ impl<R: Net + Clock + Wait + Eprint> World for LiveWorld<R> {
 
     ghost keeps_to_script = { λ w. tt };
 
-    fn next(&mut self, alloc: Global, wants: &Wants) -> Result<Event, WorldEnd> {
+    // The first clause of each method tells of the lines. The others repeat those of the trait.
+    fn next(&mut self, alloc: Global, wants: &Wants) -> Result<Event, WorldEnd>
+        ensures heard { IfOk result (λ event. Gives P.gave P.took event.what self.new) }
+        ensures event { IfOk result (Follows (last_in self.old)) }
+        ensures last { last_in self.new ≡ after_next (last_in self.old) result }
+        ensures obeys { IfOk result (λ event. Obeys wants.now event.what) }
+        ensures nature { nature_of self.new ≡ nature_of self.old }
+        ensures faults { self.old.faults ≤ self.new.faults }
+        ensures failed { result ≡ Err WorldEnd.Failed → Rose self.old.faults self.new.faults }
+    {
         let answer = self.following(alloc, wants);
         if let Err(WorldEnd::Failed) = answer {
             self.faults = self.faults.saturating_add(1);
@@ -83,7 +96,13 @@ impl<R: Net + Clock + Wait + Eprint> World for LiveWorld<R> {
         line: LineNo,
         side: Side,
         bytes: &[u8],
-    ) -> Result<usize, OutOfMemory> {
+    ) -> Result<usize, OutOfMemory>
+        ensures sent { IfOk result (λ n. Sends P.gave P.took self.old line side bytes.now n self.new) }
+        ensures bound { IfOk result (λ n. n ≤ length bytes.now) }
+        ensures last { last_in self.new ≡ last_in self.old }
+        ensures nature { nature_of self.new ≡ nature_of self.old }
+        ensures faults { self.new.faults ≡ self.old.faults }
+    {
         self.sockets.send(alloc, line, side, bytes)
     }
 
@@ -92,12 +111,22 @@ impl<R: Net + Clock + Wait + Eprint> World for LiveWorld<R> {
         Ok(())
     }
 
-    fn close(&mut self, alloc: Global, line: LineNo, side: Side) -> Result<(), OutOfMemory> {
+    fn close(&mut self, alloc: Global, line: LineNo, side: Side) -> Result<(), OutOfMemory>
+        ensures closed { Closes self.old line side self.new }
+        ensures last { last_in self.new ≡ last_in self.old }
+        ensures nature { nature_of self.new ≡ nature_of self.old }
+        ensures faults { self.new.faults ≡ self.old.faults }
+    {
         self.sockets.close(alloc, &self.rt, line, side);
         Ok(())
     }
 
-    fn log(&mut self, alloc: Global, level: Level, text: &[u8]) -> Result<(), OutOfMemory> {
+    fn log(&mut self, alloc: Global, level: Level, text: &[u8]) -> Result<(), OutOfMemory>
+        ensures sockets { self.new.sockets ≡ self.old.sockets }
+        ensures last { last_in self.new ≡ last_in self.old }
+        ensures nature { nature_of self.new ≡ nature_of self.old }
+        ensures faults { self.new.faults ≡ self.old.faults }
+    {
         let line = log_line(alloc, level, text)?;
         // A line that can't be written is lost.
         if let Ok(line) = str::from_utf8(&line) {
@@ -111,9 +140,10 @@ impl<R: Net + Clock + Wait + Eprint> World for LiveWorld<R> {
     }
 }
 
-impl<R: Net + Clock + Wait> LiveWorld<R> {
+impl<R: Net + Clock + Wait, P: Duplex> LiveWorld<R, P> {
     ghost use Rattle.std.specs.Prelude.{false};
     ghost use Rattle.gate_live.specs.Spent.{IsDue, IsEarly};
+    ghost use Rattle.gate_live.specs.Worlds.{Gives};
 
     /// The next event, at the clock's moment, or that of the last one where the clock went back. What has fallen due comes by a Clock of its own, in
     /// front of what happens to lines or behind one event more: that event has a moment before it, whatever the clock says. A turn does what is due in
@@ -127,6 +157,7 @@ impl<R: Net + Clock + Wait> LiveWorld<R> {
         ensures faults { self.new.faults ≡ self.old.faults }
         ensures due { self.old.stopped ≡ false → IfOk result (λ event. IsDue event.what wants.now.due event.now self.new.sockets) }
         ensures early { self.old.stopped ≡ false → IfOk result (λ event. IsEarly event.what wants.now.due event.now) }
+        ensures heard { IfOk result (λ event. Gives P.gave P.took event.what self.new) }
     {
         if self.stopped {
             return Ok(Event {

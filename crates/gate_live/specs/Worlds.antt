@@ -1,0 +1,31 @@
+-- What a world over sockets gives, and what goes to its lines.
+use Rattle.std.specs.Prelude.{ℕ, true, false, List, Option, None}
+use Rattle.gate_io.specs.declared.event.Side.{Side}
+use Rattle.gate_io.specs.declared.event.What.{What}
+use Rattle.gate_io.specs.Events.{Last}
+use Rattle.gate_io.specs.Nature.{Nature}
+use Rattle.gate_live.specs.Keeping.{WasHeard}
+use Rattle.gate_live.specs.Lines.{SentIn, ClosedIn}
+use Rattle.gate_live.specs.Told.{LiesIn}
+use Rattle.gate_live.specs.declared.live_world.LiveWorld.{LiveWorld}
+
+-- the last event that was given
+abbrev pub last_in : {R P : Type 0} → LiveWorld R P → Last
+last_in w = record { now = w.now; stopped = w.stopped }
+
+-- it has no script, and gives bytes only from where they are wanted
+abbrev pub nature_of : {R P : Type 0} → LiveWorld R P → Nature
+nature_of w = record { seed = w.seed; script = λ _. None; obeys = true; takes_whole = false; fails_no_call = false }
+
+-- An event that a world gave was heard of its lines, and its bytes are the first that lie in the room that was read into.
+pub record Gives {R P : Type 0} (gave took : P → Option (List ℕ)) (what : What) (new : LiveWorld R P) : Type 0 where
+  pub heard : WasHeard gave took what new.sockets.lines.items
+  pub read : LiesIn new.sockets.room.bytes.items what
+
+-- the first n bytes of a piece go to a side of the line of this number, and nothing else of the lines of a world changes
+abbrev pub Sends : {R P : Type 0} → (P → Option (List ℕ)) → (P → Option (List ℕ)) → LiveWorld R P → ℕ → Side → List ℕ → ℕ → LiveWorld R P → Type 0
+Sends gave took old line side bytes n new = SentIn gave took old.sockets.lines.items line side bytes n new.sockets.lines.items
+
+-- a connection of the line of this number is closed, and nothing else of the lines of a world changes
+abbrev pub Closes : {R P : Type 0} → LiveWorld R P → ℕ → Side → LiveWorld R P → Type 0
+Closes old line side new = ClosedIn old.sockets.lines.items line side new.sockets.lines.items
