@@ -1,11 +1,15 @@
 -- What the connections of a line gave and took in two calls, one after the other.
-use Rattle.std.proofs.Common.{ℕ, List, [], ◌++◌, Option, None, Some, refl, sym, ap, subst, ◌∙◌}
+use Rattle.std.proofs.Common.{◌≡◌, inl, inr, ℕ, Bool, List, [], ◌++◌, Option, None, Some, refl, sym, ap, subst, ◌∙◌}
 use Rattle.std.proofs.Common.{append_assoc}
 use Rattle.std.proofs.lemmas.List.{append-nil}
+use Rattle.std.specs.Prelude.{IsSomeAnd, IfSome}
 use Rattle.gate_io.specs.declared.event.Side.TheVariants.{Down, Up}
+use Rattle.gate_io.specs.declared.event.Side.{Side}
 use Rattle.gate_io.specs.declared.event.What.{What}
+use Rattle.gate_io.specs.declared.event.What.TheVariants.{Refused}
 use Rattle.gate_io.specs.Told.{gains_nothing, gains_more}
-use Rattle.gate_live.specs.Passing.{told_from, GainsAt, GainsUp, GoesOnUp, HeardOn}
+use Rattle.gate_live.specs.Passing.{told_from, GainsAt, GainsUp, GoesOnUp, TellsLast, StaysUnless, RefusedUnless, HeardOn}
+use Rattle.gate_live.specs.Told.{IsHeardFrom, IsLast}
 use Rattle.gate_live.specs.Waiting.{GoesOn}
 use Rattle.gate_live.specs.declared.line.Line.{Line}
 use Rattle.gate_live.specs.declared.upstream.Upstream.{Upstream}
@@ -51,9 +55,38 @@ on_more took (Some p) None c first second = subst (λ x. GoesOnUp took (Some p) 
 on_more took (Some p) (Some q) None first second = tt
 on_more took (Some p) (Some q) (Some r) first second = goes_on_more (took p.peer) p.waiting [] (took q.peer) q.waiting (took r.peer) r.waiting first second
 
+stays_same : {A : Type 0} (why : Type 0) (a : Option A) → StaysUnless why a a
+stays_same why None = tt
+stays_same why (Some p) = tt
+
+stays_more : {A : Type 0} (why : Type 0) (a b c : Option A) → StaysUnless ⊥ a b → StaysUnless why b c → StaysUnless why a c
+stays_more why None b c first second = tt
+stays_more why (Some p) None c first second = absurd first
+stays_more why (Some p) (Some q) None first second = second
+stays_more why (Some p) (Some q) (Some r) first second = tt
+
+refused_more : (n m : ℕ) (a b : Bool) (told : Option What) (c : Bool) → m ≡ n → RefusedUnless n a None b → RefusedUnless m b told c → RefusedUnless n a told c
+refused_more n m a b told c same (inl first) (inl second) = inl (second ∙ first)
+refused_more n m a b told c same (inl first) (inr second) = inr (second.0, second.1 ∙ ap (λ k. Some (Refused k)) same)
+refused_more n m a b told c same (inr first) second = cc (first.1)
+
+-- an event of a connection behind which it is let go
+pub tells_last : (line : ℕ) (side : Side) (told : Option What) → IsSomeAnd told IsLast → IfSome told (IsHeardFrom line side) → TellsLast line side told
+tells_last line side None last from = absurd last
+tells_last line side (Some what) last from = (last, from)
+
 -- nothing is heard of a line that is as before
 pub heard_same : {P : Type 0} (gave took : P → Option (List ℕ)) (line : Line P) → HeardOn gave took line None line
-heard_same gave took line = record { number = refl; down = at_same gave line.down; up = up_same gave line.up; kept = at_same took line.down; goes_on = on_same took line.up }
+heard_same gave took line = record {
+  number = refl;
+  down = at_same gave line.down;
+  up = up_same gave line.up;
+  kept = at_same took line.down;
+  goes_on = on_same took line.up;
+  down_stays = stays_same _ line.down;
+  up_stays = stays_same _ line.up;
+  refused = inl refl;
+}
 
 -- nothing is heard, and then this
 pub heard_more : {P : Type 0} (gave took : P → Option (List ℕ)) (a b : Line P) (told : Option What) (c : Line P) → HeardOn gave took a None b → HeardOn gave took b told c → HeardOn gave took a told c
@@ -63,4 +96,7 @@ heard_more gave took a b told c first second = record {
   up = up_more gave a.up b.up c.up (told_from Up told) first.up second.up;
   kept = at_more took a.down b.down c.down [] first.kept second.kept;
   goes_on = on_more took a.up b.up c.up first.goes_on second.goes_on;
+  down_stays = subst (λ n. StaysUnless (TellsLast n Down told) a.down c.down) first.number (stays_more (TellsLast b.number Down told) a.down b.down c.down first.down_stays second.down_stays);
+  up_stays = subst (λ n. StaysUnless (TellsLast n Up told) a.up c.up) first.number (stays_more (TellsLast b.number Up told) a.up b.up c.up first.up_stays second.up_stays);
+  refused = refused_more a.number b.number a.refused b.refused told c.refused first.number first.refused second.refused;
 }

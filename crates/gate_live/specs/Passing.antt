@@ -1,10 +1,11 @@
 -- What the connections of a line give and take in a call.
-use Rattle.std.specs.Prelude.{◌≡◌, ℕ, List, [], length, take, Option, None, Some}
+use Rattle.std.specs.Prelude.{◌≡◌, ◌⊎◌, ℕ, Bool, false, List, [], length, take, Option, None, Some, IsSomeAnd}
 use Rattle.gate_io.specs.declared.event.Side.{Side}
 use Rattle.gate_io.specs.declared.event.Side.TheVariants.{Down, Up}
 use Rattle.gate_io.specs.declared.event.What.{What}
 use Rattle.gate_io.specs.declared.event.What.TheVariants.{Opened, Bytes, End, Gone, Joined, Refused, Room, Clock, Stop}
 use Rattle.gate_io.specs.Told.{Gains}
+use Rattle.gate_live.specs.Told.{IsHeardFrom, IsLast}
 use Rattle.gate_live.specs.Waiting.{GoesOn}
 use Rattle.gate_live.specs.declared.line.Line.{Line}
 use Rattle.gate_live.specs.declared.upstream.Upstream.{Upstream}
@@ -51,14 +52,31 @@ GoesOnUp took None new = new ≡ None
 GoesOnUp took (Some p) None = Unit {0}
 GoesOnUp took (Some p) (Some q) = GoesOn (took p.peer) p.waiting [] (took q.peer) q.waiting
 
+-- it is told that this connection of this line is gone, or was refused
+abbrev pub TellsLast : ℕ → Side → Option What → Type 0
+TellsLast line side told = IsSomeAnd told (λ what. IsLast what × IsHeardFrom line side what)
+
+-- a connection stays, or is let go for this reason
+abbrev pub StaysUnless : {A : Type 0} → Type 0 → Option A → Option A → Type 0
+StaysUnless why None new = Unit {0}
+StaysUnless why (Some p) None = why
+StaysUnless why (Some p) (Some q) = Unit {0}
+
+-- that a server was refused stands, or is told and then stands no more
+abbrev pub RefusedUnless : ℕ → Bool → Option What → Bool → Type 0
+RefusedUnless line old told new = (new ≡ old) ⊎ ((new ≡ false) × (told ≡ Some (Refused line)))
+
 -- A line is heard: the bytes of the event are those that the connection of their side gave, no other bytes were given, and to the connections went
--- nothing but a front of what waits for the server.
+-- nothing but a front of what waits for the server. A connection is let go only with an event of it that says that it is gone or was refused.
 pub record HeardOn {P : Type 0} (gave took : P → Option (List ℕ)) (old : Line P) (told : Option What) (new : Line P) : Type 0 where
   pub number : new.number ≡ old.number
   pub down : GainsAt gave old.down (told_from Down told) new.down
   pub up : GainsUp gave old.up (told_from Up told) new.up
   pub kept : GainsAt took old.down [] new.down
   pub goes_on : GoesOnUp took old.up new.up
+  pub down_stays : StaysUnless (TellsLast old.number Down told) old.down new.down
+  pub up_stays : StaysUnless (TellsLast old.number Up told) old.up new.up
+  pub refused : RefusedUnless old.number old.refused told new.refused
 
 -- A client takes the first n bytes of a piece. One that is not there takes all of them, and nothing comes of it.
 abbrev pub TakesDown : {P : Type 0} → (P → Option (List ℕ)) → (P → Option (List ℕ)) → Option P → List ℕ → ℕ → Option P → Type 0

@@ -42,6 +42,18 @@ IsHeardFrom line side (Opened l) = ⊥
 IsHeardFrom line side Clock = ⊥
 IsHeardFrom line side Stop = ⊥
 
+-- an event behind which its connection is let go
+abbrev pub IsLast : What → Type 0
+IsLast (Gone line side) = Unit {0}
+IsLast (Refused line) = Unit {0}
+IsLast (Opened line) = ⊥
+IsLast (Bytes line side bytes) = ⊥
+IsLast (End line side) = ⊥
+IsLast (Joined line) = ⊥
+IsLast (Room line side) = ⊥
+IsLast Clock = ⊥
+IsLast Stop = ⊥
+
 -- its bytes are the first that lie in the room
 abbrev pub LiesIn : List ℕ → What → Type 0
 LiesIn room (Bytes line side bytes) = bytes ≡ take (length bytes) room

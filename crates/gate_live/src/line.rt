@@ -1,9 +1,9 @@
 // A line, with its connections.
-ghost use Rattle.std.specs.Prelude.{◌≡◌, ◌≤◌, ◌↔◌, [], Bool, length, IsTrue, IfOk, IfSome, Contains};
+ghost use Rattle.std.specs.Prelude.{◌≡◌, ◌≤◌, ◌↔◌, [], Bool, length, IsTrue, IfOk, IfSome, IsSomeAnd, Contains};
 ghost use Rattle.gate_io.specs.Events.{wanted};
 ghost use Rattle.gate_io.specs.Told.{Gains};
 ghost use Rattle.gate_live.specs.Allowed.{IsAllowed, HoldsBack};
-ghost use Rattle.gate_live.specs.Told.{IsOf, IsReadOf, IsHeardFrom, LiesIn, bytes_told};
+ghost use Rattle.gate_live.specs.Told.{IsOf, IsReadOf, IsHeardFrom, IsLast, LiesIn, bytes_told};
 ghost use Rattle.gate_io.specs.declared.event.Side.TheVariants as sides;
 ghost use Rattle.gate_live.specs.Waiting.{GoesOn, is_full};
 
@@ -142,7 +142,8 @@ fn heard_behind<P: Duplex>(
 
 /// Whether a connection is to be let go behind this event.
 fn ends(told: &Option<What>) -> bool
-    ensures { IsTrue result → bytes_told told.now ≡ [] }
+    ensures none { IsTrue result → bytes_told told.now ≡ [] }
+    ensures last { IsTrue result → IsSomeAnd told.now IsLast }
 {
     matches!(told, Some(What::Gone { .. } | What::Refused { .. }))
 }
@@ -179,6 +180,7 @@ impl<P: Duplex> Line<P> {
     }
 
     /// What is heard from the client, where it is there. One that is gone is let go.
+    #[tactic(auto, using(crate::proofs::Hearing::tells_last))]
     fn heard_down(
         &mut self,
         alloc: Global,
@@ -205,6 +207,7 @@ impl<P: Duplex> Line<P> {
     }
 
     /// What is heard from the upstream server, where it is there. One that is gone is let go.
+    #[tactic(auto, using(crate::proofs::Hearing::tells_last))]
     fn heard_up(
         &mut self,
         alloc: Global,
