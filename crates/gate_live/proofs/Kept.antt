@@ -38,6 +38,10 @@ set_each gave took (x ∷ xs) zero line next stands heard (suc i) now is = furth
 set_each gave took (x ∷ xs) (suc at) line next stands heard zero now is = stood gave took (x ∷ xs) 0 now is
 set_each gave took (x ∷ xs) (suc at) line next stands heard (suc i) now is = further gave took x xs now (set_each gave took xs at line next stands heard i now is)
 
+-- nothing was heard of the line that stands at a place
+set_kept : {P : Type 0} (gave took : P → Option (List ℕ)) (lines : List (Line P)) (at : ℕ) (line next : Line P) → slice_get lines at ≡ Some line → HeardOn gave took line None next → AreKept gave took lines (set lines at next)
+set_kept gave took lines at line next stands heard = record { each = set_each gave took lines at line next stands heard }
+
 remove_each : {P : Type 0} (gave took : P → Option (List ℕ)) (lines : List (Line P)) (at : ℕ) (i : ℕ) (now : Line P) → slice_get (remove lines at) i ≡ Some now → Stood gave took lines now
 remove_each gave took [] zero i now is = cc
 remove_each gave took [] (suc at) i now is = cc
@@ -50,12 +54,14 @@ forgets_kept {P} gave took a b at c kept (inl same) = subst (λ (ls : List (Line
 forgets_kept {P} gave took a b at c kept (inr gone) =
     subst (λ (ls : List (Line P)). AreKept gave took a ls) (sym gone.lines) (kept_more gave took a b (remove b at) kept (record { each = remove_each gave took b at }))
 
+-- nothing was heard of the line at a place
+pub heard_in_kept : {P : Type 0} (gave took : P → Option (List ℕ)) (old : List (Line P)) (at : ℕ) (new : List (Line P)) → HeardIn gave took old at None new → AreKept gave took old new
+heard_in_kept gave took old at new h = forgets_kept gave took old (set old at h.behind) at new (set_kept gave took old at h.line h.behind h.stands h.heard) h.lines
+
 -- nothing was heard of the next line
 pub next_kept : {P : Type 0} (gave took : P → Option (List ℕ)) (old : List (Line P)) (next : ℕ) (new : List (Line P)) → HeardNext gave took old next None new → AreKept gave took old new
 next_kept {P} gave took old next new (inl h) = subst (λ (ls : List (Line P)). AreKept gave took old ls) (sym h.1) (kept_same gave took old)
-next_kept gave took old next new (inr h) =
-    forgets_kept gave took old (set old (next_place next (length old)) h.behind) (next_place next (length old)) new
-    (record { each = set_each gave took old (next_place next (length old)) h.line h.behind h.stands h.heard }) h.lines
+next_kept gave took old next new (inr h) = heard_in_kept gave took old (next_place next (length old)) new h
 
 -- nothing was heard of some lines, and then of the next
 pub more_kept : {P : Type 0} (gave took : P → Option (List ℕ)) (a b : List (Line P)) (next : ℕ) (c : List (Line P)) → AreKept gave took a b → HeardNext gave took b next None c → AreKept gave took a c

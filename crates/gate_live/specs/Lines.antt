@@ -1,5 +1,5 @@
 -- What is heard of the lines of a worker, and what goes to them.
-use Rattle.std.specs.Prelude.{◌≡◌, ◌==◌, ◌⊎◌, ◌&&◌, ℕ, Bool, false, not, nat_lt, if◌then◌else◌, IsTrue, List, set, length, Option, None, Some, is_none, slice_get}
+use Rattle.std.specs.Prelude.{◌≡◌, ◌==◌, ◌⊎◌, ◌&&◌, ℕ, Bool, false, not, nat_lt, if◌then◌else◌, IsTrue, List, [], set, length, Option, None, Some, IfSome, is_none, slice_get}
 use Rattle.std.specs.List.{position, remove, HoldsAt}
 use Rattle.gate_io.specs.declared.event.Side.{Side}
 use Rattle.gate_io.specs.declared.event.Side.TheVariants.{Down, Up}
@@ -85,3 +85,19 @@ ClosedAt old at Up new = ClosedUp old at new
 abbrev pub ClosedIn : {P : Type 0} → List (Line P) → ℕ → Side → List (Line P) → Type 0
 ClosedIn {P} old number side new =
     ((position (λ (line : Line P). line.number == number) old ≡ None) × (new ≡ old)) ⊎ ((at : ℕ) × (position (λ (line : Line P). line.number == number) old ≡ Some at) × ClosedAt old at side new)
+
+-- The line at a place gets a connection to the server for which nothing waits, or none, and that is to be told. The other lines are as before.
+pub record ConnectedAt {P : Type 0} (old : List (Line P)) (at : ℕ) (new : List (Line P)) : Type 0 where
+  pub line : Line P
+  pub stands : slice_get old at ≡ Some line
+  pub behind : Line P
+  pub number : behind.number ≡ line.number
+  pub down : behind.down ≡ line.down
+  pub fresh : IfSome behind.up (λ up. up.waiting ≡ [])
+  pub refused : behind.refused ≡ is_none behind.up
+  pub lines : new ≡ set old at behind
+
+-- a line of this number is connected anew, and where there is none, all are as before
+abbrev pub ConnectedIn : {P : Type 0} → List (Line P) → ℕ → List (Line P) → Type 0
+ConnectedIn {P} old number new =
+    ((position (λ (line : Line P). line.number == number) old ≡ None) × (new ≡ old)) ⊎ ((at : ℕ) × HoldsAt (λ (line : Line P). line.number ≡ number) old at × ConnectedAt old at new)

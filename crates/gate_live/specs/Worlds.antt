@@ -5,7 +5,7 @@ use Rattle.gate_io.specs.declared.event.What.{What}
 use Rattle.gate_io.specs.Events.{Last}
 use Rattle.gate_io.specs.Nature.{Nature}
 use Rattle.gate_live.specs.Keeping.{WasHeard}
-use Rattle.gate_live.specs.Lines.{SentIn, ClosedIn}
+use Rattle.gate_live.specs.Lines.{SentIn, ConnectedIn, ClosedIn}
 use Rattle.gate_live.specs.Told.{LiesIn}
 use Rattle.gate_live.specs.declared.live_world.LiveWorld.{LiveWorld}
 
@@ -25,6 +25,10 @@ pub record Gives {R P : Type 0} (gave took : P → Option (List ℕ)) (what : Wh
 -- the first n bytes of a piece go to a side of the line of this number, and nothing else of the lines of a world changes
 abbrev pub Sends : {R P : Type 0} → (P → Option (List ℕ)) → (P → Option (List ℕ)) → LiveWorld R P → ℕ → Side → List ℕ → ℕ → LiveWorld R P → Type 0
 Sends gave took old line side bytes n new = SentIn gave took old.sockets.lines.items line side bytes n new.sockets.lines.items
+
+-- the line of this number is connected anew, and nothing else of the lines of a world changes
+abbrev pub Connects : {R P : Type 0} → LiveWorld R P → ℕ → LiveWorld R P → Type 0
+Connects old line new = ConnectedIn old.sockets.lines.items line new.sockets.lines.items
 
 -- a connection of the line of this number is closed, and nothing else of the lines of a world changes
 abbrev pub Closes : {R P : Type 0} → LiveWorld R P → ℕ → Side → LiveWorld R P → Type 0

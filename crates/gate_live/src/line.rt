@@ -12,6 +12,7 @@ use crate::room::Room;
 use crate::upstream::Upstream;
 use gate_base::{LineNo, Octets, OutOfMemory};
 use gate_io::{Side, Wants, What};
+use mio::event::Event as Readiness;
 use std::alloc::Global;
 
 /// A line: the client's connection, and that to the upstream server.
@@ -149,7 +150,7 @@ fn ends(told: &Option<What>) -> bool
 }
 
 impl<P: Duplex> Line<P> {
-    ghost use Rattle.std.specs.Prelude.{◌⊎◌, OnErr};
+    ghost use Rattle.std.specs.Prelude.{◌⊎◌, None, is_none, OnErr};
     ghost use Rattle.gate_live.specs.Lines.{is_over};
     ghost use Rattle.gate_live.specs.Passing.{HeardOn, SentOn};
 
@@ -230,6 +231,50 @@ impl<P: Duplex> Line<P> {
             self.up = None;
         }
         Ok(told)
+    }
+
+    /// Goes on with this connection to the server. Where there is none, it is to be told that it was refused.
+    pub fn join(&mut self, alloc: Global, peer: Option<P>)
+        ensures number { self.new.number ≡ self.old.number }
+        ensures down { self.new.down ≡ self.old.down }
+        ensures fresh { IfSome self.new.up (λ up. up.waiting ≡ []) }
+        ensures refused { self.new.refused ≡ is_none self.new.up }
+    {
+        self.refused = peer.is_none();
+        self.up = match peer {
+            Some(peer) => Some(Upstream::new(alloc, peer)),
+            None => None,
+        };
+    }
+
+    /// Keeps what the system told of the connection of this side.
+    pub fn note(&mut self, side: Side, event: &Readiness)
+        ensures { HeardOn P.gave P.took self.old None self.new }
+    {
+        match side {
+            Side::Down => self.note_down(event),
+            Side::Up => self.note_up(event),
+        }
+    }
+
+    /// Keeps what the system told of the connection to the client.
+    #[tactic(auto, using(crate::proofs::Hearing::heard_same))]
+    fn note_down(&mut self, event: &Readiness)
+        ensures { HeardOn P.gave P.took self.old None self.new }
+    {
+        if let Some(peer) = &mut self.down {
+            peer.note(event);
+        }
+    }
+
+    /// Keeps what the system told of the connection to the server.
+    #[tactic(auto, using(crate::proofs::Hearing::heard_same))]
+    fn note_up(&mut self, event: &Readiness)
+        ensures { HeardOn P.gave P.took self.old None self.new }
+    {
+        if let Some(up) = &mut self.up {
+            up.note(event);
+        }
     }
 
     /// Whether so much waits for the server that no more of the request is to be read.

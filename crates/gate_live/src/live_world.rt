@@ -56,7 +56,7 @@ impl<R: Net + Clock + Wait + Eprint, P: Duplex> World for LiveWorld<R, P> {
     ghost use Rattle.gate_io.specs.Events.{after_next};
     ghost use Rattle.gate_io.specs.Told.{Rose};
     ghost use Rattle.gate_live.specs.Allowed.{no_promise};
-    ghost use Rattle.gate_live.specs.Worlds.{last_in, nature_of, Gives, Sends, Closes};
+    ghost use Rattle.gate_live.specs.Worlds.{last_in, nature_of, Gives, Sends, Connects, Closes};
 
     ghost trace = { λ _. None };
 
@@ -106,7 +106,12 @@ impl<R: Net + Clock + Wait + Eprint, P: Duplex> World for LiveWorld<R, P> {
         self.sockets.send(alloc, line, side, bytes)
     }
 
-    fn connect(&mut self, alloc: Global, line: LineNo) -> Result<(), OutOfMemory> {
+    fn connect(&mut self, alloc: Global, line: LineNo) -> Result<(), OutOfMemory>
+        ensures connected { Connects self.old line self.new }
+        ensures last { last_in self.new ≡ last_in self.old }
+        ensures nature { nature_of self.new ≡ nature_of self.old }
+        ensures faults { self.new.faults ≡ self.old.faults }
+    {
         self.sockets.connect(alloc, &self.rt, line);
         Ok(())
     }

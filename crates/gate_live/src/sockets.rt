@@ -2,7 +2,8 @@
 ghost use Rattle.std.specs.Prelude.{◌≡◌, ◌==◌, ◌<◌, ◌≤◌, None, length, vec_len, HoldsAt, remove, IfOk, IfSome, IfNone};
 ghost use Rattle.std.specs.List.{position};
 ghost use Rattle.gate_live.specs.Allowed.{IsAllowed};
-ghost use Rattle.gate_live.specs.Lines.{most_lines, IsHeardAt, HeardIn, HeardNext, Forgets, SentTo, SentIn, ClosedIn, ClosedUp, next_place};
+ghost use Rattle.gate_live.specs.Keeping.{AreKept};
+ghost use Rattle.gate_live.specs.Lines.{most_lines, IsHeardAt, HeardIn, HeardNext, Forgets, SentTo, SentIn, ConnectedAt, ConnectedIn, ClosedIn, ClosedUp, next_place};
 ghost use Rattle.gate_live.specs.Told.{LiesIn};
 
 use crate::duplex::Duplex;
@@ -121,6 +122,14 @@ fn send_at<P: Duplex>(
     }
 }
 
+/// Keeps what the system told of a side of the line at a place.
+fn note_at<P: Duplex>(lines: &mut Vec<Line<P>>, at: usize, side: Side, event: &Readiness)
+    requires { at < vec_len lines.old }
+    ensures { HeardIn P.gave P.took lines.old.items at None lines.new.items }
+{
+    lines[at].note(side, event);
+}
+
 impl<P: Duplex> Sockets<P> {
     ghost use Rattle.std.specs.Prelude.{[], IsTrue, IsSomeAnd};
     ghost use Rattle.gate_live.specs.Keeping.{Arrives, Begins, Heard, WasHeard};
@@ -220,7 +229,9 @@ impl<P: Duplex> Sockets<P> {
     }
 
     /// Lets those go that lingered for long enough.
-    fn drop_lingering<R: Clock>(&mut self, rt: &R) -> Result<(), WorldEnd> {
+    fn drop_lingering<R: Clock>(&mut self, rt: &R) -> Result<(), WorldEnd>
+        ensures lines { self.new.lines ≡ self.old.lines }
+    {
         if !self.lingering.is_empty() {
             let now = self.moments.now(rt)?;
             self.lingering.retain(|client| now < client.until);
@@ -242,7 +253,10 @@ impl<P: Duplex> Sockets<P> {
     }
 
     /// Asks the system what is ready. A line that it refused is asked for again behind that.
-    fn look<R: Clock>(&mut self, rt: &R, timeout: Option<Duration>) -> Result<(), WorldEnd> {
+    #[tactic(auto, using(crate::proofs::Kept::kept_same, crate::proofs::Kept::kept_more))]
+    fn look<R: Clock>(&mut self, rt: &R, timeout: Option<Duration>) -> Result<(), WorldEnd>
+        ensures kept { AreKept P.gave P.took self.old.lines.items self.new.lines.items }
+    {
         self.turns = TURNS;
         self.drop_lingering(rt)?;
         let timeout = self.timeout(timeout);
@@ -252,19 +266,20 @@ impl<P: Duplex> Sockets<P> {
         if self.origin.is_refused() {
             self.origin.note_free();
         }
-        for event in &self.events {
-            if event.token() == ORIGIN {
-                self.origin.note();
-            } else {
-                note(&mut self.lines, &mut self.lingering, event);
-            }
-        }
+        note_all(
+            &self.events,
+            &mut self.origin,
+            &mut self.lines,
+            &mut self.lingering,
+        );
         self.drain();
         Ok(())
     }
 
     /// Goes on with what lingers, and lets that go which is over.
-    fn drain(&mut self) {
+    fn drain(&mut self)
+        ensures lines { self.new.lines ≡ self.old.lines }
+    {
         let room = &mut self.room;
         self.lingering.retain_mut(|closed| closed.goes_on(room));
     }
@@ -374,13 +389,23 @@ impl<P: Duplex> Sockets<P> {
     }
 
     /// Begins the upstream connection of a line.
-    pub fn connect<R: Net>(&mut self, alloc: Global, rt: &R, number: LineNo) {
-        if let Some(at) = find(&self.lines, number) {
-            let peer = connected(rt, self.poll.registry(), self.upstream, number);
-            let line = &mut self.lines[at];
-            line.refused = peer.is_none();
-            line.up = peer.map(|peer| Upstream::new(alloc, peer));
-        }
+    pub fn connect<R: Net>(&mut self, alloc: Global, rt: &R, number: LineNo)
+        ensures { ConnectedIn self.old.lines.items number self.new.lines.items }
+    {
+        let Some(at) = find(&self.lines, number) else {
+            return;
+        };
+        let peer = connected(rt, self.poll.registry(), self.upstream, number);
+        self.join_at(alloc, at, peer);
+    }
+
+    /// Goes on with this connection to the server of the line at a place, or with none.
+    fn join_at(&mut self, alloc: Global, at: usize, peer: Option<P>)
+        requires { at < vec_len self.old.lines }
+        ensures { ConnectedAt self.old.lines.items at self.new.lines.items }
+    {
+        let line = &mut self.lines[at];
+        line.join(alloc, peer);
     }
 
     /// Offers bytes to a peer. Those for a peer that is not there are dropped, and a server takes them whole.
@@ -510,49 +535,56 @@ impl<P: Duplex> Sockets<P> {
     }
 }
 
-/// Keeps what the system told of a connection. The line of its token is looked for by halves first, as in `find`.
-fn note<P: Duplex>(lines: &mut [Line<P>], lingering: &mut [Lingering<P>], event: &Readiness) {
-    let token = event.token();
-    let side = side_of(token);
+/// The place of the line of a token, which is looked for by halves first, as in `find`.
+fn place_of_token<P>(lines: &[Line<P>], token: Token, side: Side) -> Option<usize>
+    ensures within { IfSome result (λ i. i < length lines.now) }
+{
     let number = token.0 / 2;
     let at = lines.partition_point(|line| (line.number.get() as usize) < number);
     if at < lines.len() && token_of(lines[at].number, side) == token {
-        note_side(&mut lines[at], side, event);
-        return;
+        Some(at)
+    } else {
+        lines
+            .iter()
+            .position(|line| token_of(line.number, side) == token)
     }
-    for line in lines.iter_mut() {
-        if token_of(line.number, side) == token {
-            note_side(line, side, event);
-            return;
+}
+
+/// Keeps what the system told.
+#[tactic(auto, using(crate::proofs::Kept::kept_same, crate::proofs::Kept::kept_more))]
+fn note_all<P: Duplex>(
+    events: &Events,
+    origin: &mut Origin,
+    lines: &mut Vec<Line<P>>,
+    lingering: &mut [Lingering<P>],
+)
+    ensures { AreKept P.gave P.took lines.old.items lines.new.items }
+{
+    for event in events {
+        if event.token() == ORIGIN {
+            origin.note();
+        } else {
+            note(lines, lingering, event);
         }
+    }
+}
+
+/// Keeps what the system told of a connection.
+#[tactic(auto, using(crate::proofs::Kept::kept_same, crate::proofs::Kept::heard_in_kept))]
+fn note<P: Duplex>(lines: &mut Vec<Line<P>>, lingering: &mut [Lingering<P>], event: &Readiness)
+    ensures { AreKept P.gave P.took lines.old.items lines.new.items }
+{
+    let token = event.token();
+    let side = side_of(token);
+    if let Some(at) = place_of_token(lines, token, side) {
+        note_at(lines, at, side, event);
+        return;
     }
     for closed in lingering.iter_mut() {
         if closed.token == token {
             closed.peer.note(event);
             return;
         }
-    }
-}
-
-/// Keeps what the system told of the connection of this side.
-fn note_side<P: Duplex>(line: &mut Line<P>, side: Side, event: &Readiness) {
-    match side {
-        Side::Down => note_down(line, event),
-        Side::Up => note_up(line, event),
-    }
-}
-
-/// Keeps what the system told of the connection to a client.
-fn note_down<P: Duplex>(line: &mut Line<P>, event: &Readiness) {
-    if let Some(peer) = &mut line.down {
-        peer.note(event);
-    }
-}
-
-/// Keeps what the system told of the connection to a server.
-fn note_up<P: Duplex>(line: &mut Line<P>, event: &Readiness) {
-    if let Some(up) = &mut line.up {
-        up.note(event);
     }
 }
 
