@@ -1,9 +1,9 @@
 -- What is heard of the lines of a worker in turn.
-use Rattle.std.specs.Prelude.{◌≡◌, ◌==◌, ℕ, Bool, true, false, List, [], ◌∷◌, ◌++◌, Option, None, Some, slice_get}
+use Rattle.std.specs.Prelude.{◌≡◌, ◌==◌, ◌⊎◌, ℕ, Bool, true, false, List, [], ◌∷◌, ◌++◌, Option, None, Some, IsTrue, slice_get}
 use Rattle.std.specs.List.{position}
 use Rattle.gate_io.specs.declared.event.What.{What}
 use Rattle.gate_io.specs.declared.event.What.TheVariants.{Opened, Bytes, End, Gone, Joined, Refused, Room, Clock, Stop}
-use Rattle.gate_live.specs.Lines.{IsHeardAt, HeardIn}
+use Rattle.gate_live.specs.Lines.{IsHeardAt, HeardIn, is_over}
 use Rattle.gate_live.specs.Passing.{HeardOn}
 use Rattle.gate_live.specs.declared.line.Line.{Line}
 
@@ -14,9 +14,20 @@ pub record Stood {P : Type 0} (gave took : P → Option (List ℕ)) (old : List 
   pub stands : slice_get old at ≡ Some line
   pub heard : HeardOn gave took line None now
 
--- Each line stood before, and nothing was heard of it.
+-- a line stands among these, or it is over and may be gone
+abbrev pub StandsOrIsOver : {P : Type 0} → Line P → List (Line P) → Type 0
+StandsOrIsOver line lines = ((at : ℕ) × (slice_get lines at ≡ Some line)) ⊎ IsTrue (is_over line)
+
+-- Nothing was heard of a line, which stands then, or is over and may be gone.
+pub record Remains {P : Type 0} (gave took : P → Option (List ℕ)) (line : Line P) (new : List (Line P)) : Type 0 where
+  pub behind : Line P
+  pub heard : HeardOn gave took line None behind
+  pub stands : StandsOrIsOver behind new
+
+-- Each line stood before, nothing was heard of it, and each that stood stands, but for those that are over.
 pub record AreKept {P : Type 0} (gave took : P → Option (List ℕ)) (old new : List (Line P)) : Type 0 where
   pub each : (i : ℕ) (now : Line P) → slice_get new i ≡ Some now → Stood gave took old now
+  pub all : (i : ℕ) (line : Line P) → slice_get old i ≡ Some line → Remains gave took line new
 
 -- A line of a number that no other has comes behind the others.
 pub record Comes {P : Type 0} (old : List (Line P)) (number : ℕ) (new : List (Line P)) : Type 0 where
@@ -56,14 +67,20 @@ Heard gave took old (Some (Room line side)) new = Tells gave took old (Room line
 Heard gave took old (Some Clock) new = ⊥
 Heard gave took old (Some Stop) new = ⊥
 
--- An event of a line was heard of the lines as they stood at some moment of the call. Clock and Stop are of none.
-abbrev pub WasHeard : {P : Type 0} → (P → Option (List ℕ)) → (P → Option (List ℕ)) → What → List (Line P) → Type 0
-WasHeard gave took Clock new = Unit {0}
-WasHeard gave took Stop new = Unit {0}
-WasHeard {P} gave took (Opened line) new = (before : List (Line P)) × Heard gave took before (Some (Opened line)) new
-WasHeard {P} gave took (Bytes line side bytes) new = (before : List (Line P)) × Heard gave took before (Some (Bytes line side bytes)) new
-WasHeard {P} gave took (End line side) new = (before : List (Line P)) × Heard gave took before (Some (End line side)) new
-WasHeard {P} gave took (Gone line side) new = (before : List (Line P)) × Heard gave took before (Some (Gone line side)) new
-WasHeard {P} gave took (Joined line) new = (before : List (Line P)) × Heard gave took before (Some (Joined line)) new
-WasHeard {P} gave took (Refused line) new = (before : List (Line P)) × Heard gave took before (Some (Refused line)) new
-WasHeard {P} gave took (Room line side) new = (before : List (Line P)) × Heard gave took before (Some (Room line side)) new
+-- A line of this number comes behind lines of which nothing was heard.
+pub record ComesBehind {P : Type 0} (gave took : P → Option (List ℕ)) (old : List (Line P)) (number : ℕ) (new : List (Line P)) : Type 0 where
+  pub between : List (Line P)
+  pub kept : AreKept gave took old between
+  pub comes : Comes between number new
+
+-- an event of a line was heard of these lines, of the others nothing, and nothing of any of them at Clock and Stop
+abbrev pub WasHeard : {P : Type 0} → (P → Option (List ℕ)) → (P → Option (List ℕ)) → List (Line P) → What → List (Line P) → Type 0
+WasHeard gave took old Clock new = AreKept gave took old new
+WasHeard gave took old Stop new = AreKept gave took old new
+WasHeard gave took old (Opened line) new = ComesBehind gave took old line new
+WasHeard gave took old (Bytes line side bytes) new = Tells gave took old (Bytes line side bytes) new
+WasHeard gave took old (End line side) new = Tells gave took old (End line side) new
+WasHeard gave took old (Gone line side) new = Tells gave took old (Gone line side) new
+WasHeard gave took old (Joined line) new = Tells gave took old (Joined line) new
+WasHeard gave took old (Refused line) new = Tells gave took old (Refused line) new
+WasHeard gave took old (Room line side) new = Tells gave took old (Room line side) new

@@ -17,9 +17,9 @@ last_in w = record { now = w.now; stopped = w.stopped }
 abbrev pub nature_of : {R P : Type 0} → LiveWorld R P → Nature
 nature_of w = record { seed = w.seed; script = λ _. None; obeys = true; takes_whole = false; fails_no_call = false }
 
--- An event that a world gave was heard of its lines, and its bytes are the first that lie in the room that was read into.
-pub record Gives {R P : Type 0} (gave took : P → Option (List ℕ)) (what : What) (new : LiveWorld R P) : Type 0 where
-  pub heard : WasHeard gave took what new.sockets.lines.items
+-- An event that a world gave was heard of the lines that it had, and its bytes are the first that lie in the room that was read into.
+pub record Gives {R P : Type 0} (gave took : P → Option (List ℕ)) (old : LiveWorld R P) (what : What) (new : LiveWorld R P) : Type 0 where
+  pub heard : WasHeard gave took old.sockets.lines.items what new.sockets.lines.items
   pub read : LiesIn new.sockets.room.bytes.items what
 
 -- the first n bytes of a piece go to a side of the line of this number, and nothing else of the lines of a world changes

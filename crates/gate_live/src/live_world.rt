@@ -74,7 +74,7 @@ impl<R: Net + Clock + Wait + Eprint, P: Duplex> World for LiveWorld<R, P> {
 
     // The first clause of each method tells of the lines. The others repeat those of the trait.
     fn next(&mut self, alloc: Global, wants: &Wants) -> Result<Event, WorldEnd>
-        ensures heard { IfOk result (λ event. Gives P.gave P.took event.what self.new) }
+        ensures heard { IfOk result (λ event. Gives P.gave P.took self.old event.what self.new) }
         ensures event { IfOk result (Follows (last_in self.old)) }
         ensures last { last_in self.new ≡ after_next (last_in self.old) result }
         ensures obeys { IfOk result (λ event. Obeys wants.now event.what) }
@@ -153,6 +153,7 @@ impl<R: Net + Clock + Wait, P: Duplex> LiveWorld<R, P> {
     /// The next event, at the clock's moment, or that of the last one where the clock went back. What has fallen due comes by a Clock of its own, in
     /// front of what happens to lines or behind one event more: that event has a moment before it, whatever the clock says. A turn does what is due in
     /// front of its event, and may open another connection for the event's line then; so it would take what the former server said for the new one's.
+    #[tactic(auto, using(crate::proofs::Kept::kept_same))]
     fn following(&mut self, alloc: Global, wants: &Wants) -> Result<Event, WorldEnd>
         ensures event { IfOk result (Follows (record { now = self.old.now; stopped = self.old.stopped })) }
         ensures last { IfOk result (λ event. (self.new.now ≡ event.now) × (self.new.stopped ≡ is_stop event.what)) }
@@ -162,7 +163,7 @@ impl<R: Net + Clock + Wait, P: Duplex> LiveWorld<R, P> {
         ensures faults { self.new.faults ≡ self.old.faults }
         ensures due { self.old.stopped ≡ false → IfOk result (λ event. IsDue event.what wants.now.due event.now self.new.sockets) }
         ensures early { self.old.stopped ≡ false → IfOk result (λ event. IsEarly event.what wants.now.due event.now) }
-        ensures heard { IfOk result (λ event. Gives P.gave P.took event.what self.new) }
+        ensures heard { IfOk result (λ event. Gives P.gave P.took self.old event.what self.new) }
     {
         if self.stopped {
             return Ok(Event {

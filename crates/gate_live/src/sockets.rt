@@ -163,7 +163,7 @@ impl<P: Duplex> Sockets<P> {
     }
 
     /// Waits until something happens that the worker wants or has to know.
-    #[tactic(auto, using(crate::proofs::Due::due_of_line, crate::proofs::Kept::was_heard))]
+    #[tactic(auto, using(crate::proofs::Due::due_of_line, crate::proofs::Kept::kept_same, crate::proofs::Kept::kept_more, crate::proofs::Kept::was_heard))]
     pub fn wait<R: Clock + Wait>(
         &mut self,
         alloc: Global,
@@ -173,7 +173,7 @@ impl<P: Duplex> Sockets<P> {
         ensures allowed { IfOk result (IsAllowed wants.now) }
         ensures read { IfOk result (LiesIn self.new.room.bytes.items) }
         ensures due { IfOk result (λ what. IsDue what wants.now.due self.new.seen self.new) }
-        ensures heard { IfOk result (λ what. WasHeard P.gave P.took what self.new.lines.items) }
+        ensures heard { IfOk result (λ what. WasHeard P.gave P.took self.old.lines.items what self.new.lines.items) }
     {
         if self.turns == 0 {
             self.look(rt, Some(Duration::ZERO))?;
@@ -204,8 +204,10 @@ impl<P: Duplex> Sockets<P> {
     }
 
     /// Waits for the system, at most until this moment. True where it has come.
+    #[tactic(auto, using(crate::proofs::Kept::kept_same))]
     fn look_until<R: Clock>(&mut self, rt: &R, due: Option<u64>) -> Result<bool, WorldEnd>
-        ensures { IfOk result (λ came. IsTrue came → IsSomeAnd due (λ moment. moment ≤ self.new.seen)) }
+        ensures due { IfOk result (λ came. IsTrue came → IsSomeAnd due (λ moment. moment ≤ self.new.seen)) }
+        ensures kept { AreKept P.gave P.took self.old.lines.items self.new.lines.items }
     {
         let until = self.lingering.first().map(|client| client.until);
         let first = match (due, until) {
