@@ -1,5 +1,5 @@
 -- What is heard of the lines of a worker, and what goes to them.
-use Rattle.std.specs.Prelude.{◌≡◌, ◌==◌, ◌⊎◌, ◌&&◌, ℕ, Bool, false, not, nat_lt, if◌then◌else◌, IsTrue, List, [], set, length, Option, None, Some, IfSome, is_none, slice_get}
+use Rattle.std.specs.Prelude.{◌≡◌, ◌==◌, ◌⊎◌, ◌&&◌, ℕ, ◌+◌, Bool, false, not, nat_lt, if◌then◌else◌, IsTrue, List, [], set, length, Option, None, Some, IfSome, is_none, slice_get}
 use Rattle.std.specs.List.{position, remove, HoldsAt}
 use Rattle.gate_io.specs.declared.event.Side.{Side}
 use Rattle.gate_io.specs.declared.event.Side.TheVariants.{Down, Up}
@@ -24,6 +24,10 @@ pub record IsHeardAt {P : Type 0} (lines : List (Line P)) (at : ℕ) (what : Wha
 -- the place that is heard next: that which comes, or the first one behind the last
 abbrev pub next_place : ℕ → ℕ → ℕ
 next_place next count = if nat_lt next count then next else 0
+
+-- and the place that comes behind it, where there are lines
+abbrev pub place_after : ℕ → ℕ → ℕ
+place_after next count = if nat_lt 0 count then next_place next count + 1 else 0
 
 -- no connection of the line is left, and nothing is to be told of one
 abbrev pub is_over : {P : Type 0} → Line P → Bool

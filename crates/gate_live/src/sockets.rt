@@ -3,7 +3,7 @@ ghost use Rattle.std.specs.Prelude.{◌≡◌, ◌==◌, ◌<◌, ◌≤◌, Non
 ghost use Rattle.std.specs.List.{position};
 ghost use Rattle.gate_live.specs.Allowed.{IsAllowed};
 ghost use Rattle.gate_live.specs.Keeping.{AreKept};
-ghost use Rattle.gate_live.specs.Lines.{most_lines, IsHeardAt, HeardIn, HeardNext, Forgets, SentTo, SentIn, ConnectedAt, ConnectedIn, ClosedIn, ClosedUp, next_place};
+ghost use Rattle.gate_live.specs.Lines.{most_lines, IsHeardAt, HeardIn, HeardNext, Forgets, SentTo, SentIn, ConnectedAt, ConnectedIn, ClosedIn, ClosedUp, next_place, place_after};
 ghost use Rattle.gate_live.specs.Told.{LiesIn};
 
 use crate::duplex::Duplex;
@@ -319,6 +319,7 @@ impl<P: Duplex> Sockets<P> {
         ensures of { IfOk result (λ told. IfSome told (IsHeardAt self.old.lines.items (next_place self.old.next (vec_len self.old.lines)))) }
         ensures read { IfOk result (λ told. IfSome told (LiesIn self.new.room.bytes.items)) }
         ensures heard { IfOk result (λ told. HeardNext P.gave P.took self.old.lines.items self.old.next told self.new.lines.items) }
+        ensures turn { self.new.next ≡ place_after self.old.next (vec_len self.old.lines) }
     {
         if self.next >= self.lines.len() {
             self.next = 0;
@@ -343,6 +344,7 @@ impl<P: Duplex> Sockets<P> {
         ensures of { IfOk result (λ told. IfSome told (IsHeardAt self.old.lines.items at)) }
         ensures read { IfOk result (λ told. IfSome told (LiesIn self.new.room.bytes.items)) }
         ensures heard { IfOk result (λ told. HeardIn P.gave P.took self.old.lines.items at told self.new.lines.items) }
+        ensures next { self.new.next ≡ self.old.next }
     {
         let told = self.lines[at].heard(alloc, wants, &mut self.room)?;
         self.forget(at);
@@ -431,6 +433,7 @@ impl<P: Duplex> Sockets<P> {
     /// Lets a line go of which no connection is left: one whose client is gone is not closed by the worker.
     fn forget(&mut self, at: usize)
         ensures room { self.new.room ≡ self.old.room }
+        ensures next { self.new.next ≡ self.old.next }
         ensures lines { Forgets self.old.lines.items at self.new.lines.items }
     {
         if at < self.lines.len() && self.lines[at].is_over() {
