@@ -1,5 +1,5 @@
 -- Where a worker's lines come from.
-use Rattle.std.specs.Prelude.{◌≡◌, ℕ, Bool, nat_le}
+use Rattle.std.specs.Prelude.{◌≡◌, ℕ, Bool, nat_le, IsTrue}
 use Rattle.gate_live.specs.declared.origin.Origin.{Origin}
 use Rattle.gate_live.specs.declared.origin.Origin.TheVariants.{Listener, Mailbox}
 
@@ -12,3 +12,8 @@ is_done (Mailbox mailbox) = mailbox.empty
 abbrev pub Accepts : ℕ → Origin → Type 0
 Accepts most (Listener acceptor) = (acceptor.most ≡ most) × (acceptor.accepted ≡ 0)
 Accepts most (Mailbox mailbox) = ⊥
+
+-- a worker that accepts accepts none any more
+abbrev pub HasEnded : Origin → Type 0
+HasEnded (Listener acceptor) = IsTrue (is_done (Listener acceptor))
+HasEnded (Mailbox mailbox) = Unit {0}

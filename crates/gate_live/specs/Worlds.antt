@@ -6,6 +6,7 @@ use Rattle.gate_io.specs.Events.{Last}
 use Rattle.gate_io.specs.Nature.{Nature}
 use Rattle.gate_live.specs.Keeping.{WasHeard}
 use Rattle.gate_live.specs.Lines.{SentIn, ConnectedIn, ClosedIn}
+use Rattle.gate_live.specs.Origins.{HasEnded}
 use Rattle.gate_live.specs.Told.{LiesIn}
 use Rattle.gate_live.specs.declared.live_world.LiveWorld.{LiveWorld}
 
@@ -33,3 +34,7 @@ Connects old line new = ConnectedIn old.sockets.lines.items line new.sockets.lin
 -- a connection of the line of this number is closed, and nothing else of the lines of a world changes
 abbrev pub Closes : {R P : Type 0} → LiveWorld R P → ℕ → Side → LiveWorld R P → Type 0
 Closes old line side new = ClosedIn old.sockets.lines.items line side new.sockets.lines.items
+
+-- a world whose worker accepts accepts no line any more
+abbrev pub AcceptsNone : {R P : Type 0} → LiveWorld R P → Type 0
+AcceptsNone w = HasEnded w.sockets.origin

@@ -56,7 +56,7 @@ impl<R: Net + Clock + Wait + Eprint, P: Duplex> World for LiveWorld<R, P> {
     ghost use Rattle.gate_io.specs.Events.{after_next};
     ghost use Rattle.gate_io.specs.Told.{Rose};
     ghost use Rattle.gate_live.specs.Allowed.{no_promise};
-    ghost use Rattle.gate_live.specs.Worlds.{last_in, nature_of, Gives, Sends, Connects, Closes};
+    ghost use Rattle.gate_live.specs.Worlds.{last_in, nature_of, AcceptsNone, Gives, Sends, Connects, Closes};
 
     ghost trace = { λ _. None };
 
@@ -72,7 +72,7 @@ impl<R: Net + Clock + Wait + Eprint, P: Duplex> World for LiveWorld<R, P> {
 
     ghost keeps_to_script = { λ w. tt };
 
-    // The first clause of each method tells of the lines. The others repeat those of the trait.
+    // The first clause of each method tells of the lines, and `ended` of what a failure leaves. The others repeat those of the trait.
     fn next(&mut self, alloc: Global, wants: &Wants) -> Result<Event, WorldEnd>
         ensures heard { IfOk result (λ event. Gives P.gave P.took self.old event.what self.new) }
         ensures event { IfOk result (Follows (last_in self.old)) }
@@ -81,6 +81,7 @@ impl<R: Net + Clock + Wait + Eprint, P: Duplex> World for LiveWorld<R, P> {
         ensures nature { nature_of self.new ≡ nature_of self.old }
         ensures faults { self.old.faults ≤ self.new.faults }
         ensures failed { result ≡ Err WorldEnd.Failed → Rose self.old.faults self.new.faults }
+        ensures ended { result ≡ Err WorldEnd.Failed → AcceptsNone self.new }
     {
         let answer = self.following(alloc, wants);
         if let Err(WorldEnd::Failed) = answer {

@@ -253,7 +253,7 @@ impl Acceptor {
 }
 
 impl Origin {
-    ghost use Rattle.gate_live.specs.Origins.{is_done};
+    ghost use Rattle.gate_live.specs.Origins.{HasEnded, is_done};
 
     /// The next line.
     pub fn next<R: Wait>(&mut self, rt: &R) -> Option<Guest> {
@@ -315,7 +315,9 @@ impl Origin {
     }
 
     /// No line is accepted any more, and the other workers are told so.
-    pub fn end(&mut self) {
+    pub fn end(&mut self)
+        ensures { HasEnded self.new }
+    {
         if let Origin::Listener(acceptor) = self {
             acceptor.most = 0;
             acceptor.end();

@@ -133,6 +133,7 @@ fn note_at<P: Duplex>(lines: &mut Vec<Line<P>>, at: usize, side: Side, event: &R
 impl<P: Duplex> Sockets<P> {
     ghost use Rattle.std.specs.Prelude.{[], IsTrue, IsSomeAnd};
     ghost use Rattle.gate_live.specs.Keeping.{Arrives, Begins, Heard, WasHeard};
+    ghost use Rattle.gate_live.specs.Origins.{HasEnded};
     ghost use Rattle.gate_live.specs.Spent.{IsDue, IsOfLine, IsSpent};
 
     /// The sockets over a poll, with lines from an origin that it watches, which send to this upstream server.
@@ -535,7 +536,10 @@ impl<P: Duplex> Sockets<P> {
     }
 
     /// No line comes any more, and the other workers are told so.
-    pub fn end(&mut self) {
+    pub fn end(&mut self)
+        ensures ended { HasEnded self.new.origin }
+        ensures lines { self.new.lines ≡ self.old.lines }
+    {
         self.origin.end();
     }
 }
