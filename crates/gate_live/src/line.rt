@@ -1,10 +1,12 @@
 // A line, with its connections.
-ghost use Rattle.std.specs.Prelude.{◌≡◌, ◌≤◌, ◌↔◌, [], Bool, length, IsTrue, IfOk, IfSome, IsSomeAnd, Contains};
+ghost use Rattle.std.specs.Prelude.{◌≡◌, ◌≤◌, ◌↔◌, [], Bool, None, Some, length, IsTrue, IfOk, IfSome, IsSomeAnd, Contains};
 ghost use Rattle.gate_io.specs.Events.{wanted};
 ghost use Rattle.gate_io.specs.Told.{Gains};
 ghost use Rattle.gate_live.specs.Allowed.{IsAllowed, HoldsBack};
 ghost use Rattle.gate_live.specs.Told.{IsOf, IsReadOf, IsHeardFrom, IsLast, LiesIn, bytes_told};
 ghost use Rattle.gate_io.specs.declared.event.Side.TheVariants as sides;
+ghost use Rattle.gate_io.specs.declared.event.What.TheVariants as whats;
+ghost use Rattle.gate_live.specs.Heard.{IsHeard, bytes_heard};
 ghost use Rattle.gate_live.specs.Waiting.{GoesOn, is_full};
 
 use crate::duplex::{Duplex, Heard};
@@ -51,7 +53,30 @@ fn told<P: Duplex>(
     ensures gave { IfOk result (λ told. Gains (P.gave peer.old) (bytes_told told) (P.gave peer.new)) }
     ensures kept { P.took peer.new ≡ P.took peer.old }
 {
-    match peer.read(room) {
+    let heard = peer.read(room);
+    event_of(alloc, wants, line, side, heard, room)
+}
+
+/// The event that tells of what was read into the room.
+fn event_of(
+    alloc: Global,
+    wants: &Wants,
+    line: LineNo,
+    side: Side,
+    heard: Heard,
+    room: &Room,
+) -> Result<Option<What>, OutOfMemory>
+    requires wanted { Contains (wanted wants.now side) line }
+    requires sized { IsHeard heard }
+    ensures allowed { IfOk result (λ told. IfSome told (IsAllowed wants.now)) }
+    ensures of { IfOk result (λ told. IfSome told (IsReadOf line side)) }
+    ensures read { IfOk result (λ told. IfSome told (LiesIn room.now.bytes.items)) }
+    ensures bytes { IfOk result (λ told. bytes_told told ≡ bytes_heard room.now.bytes.items heard) }
+    ensures end { heard ≡ Heard.End → IfOk result (λ told. told ≡ Some (whats.End line side)) }
+    ensures lost { heard ≡ Heard.Lost → IfOk result (λ told. told ≡ Some (whats.Gone line side)) }
+    ensures nothing { heard ≡ Heard.Nothing → IfOk result (λ told. told ≡ None) }
+{
+    match heard {
         Heard::Bytes(n) => {
             let bytes = Octets::from_slice(alloc, &room.bytes[..n])?;
             Ok(Some(What::Bytes { line, side, bytes }))
@@ -150,7 +175,7 @@ fn ends(told: &Option<What>) -> bool
 }
 
 impl<P: Duplex> Line<P> {
-    ghost use Rattle.std.specs.Prelude.{◌⊎◌, None, is_none, OnErr};
+    ghost use Rattle.std.specs.Prelude.{◌⊎◌, is_none, OnErr};
     ghost use Rattle.gate_live.specs.Lines.{is_over};
     ghost use Rattle.gate_live.specs.Passing.{HeardOn, SentOn};
 
