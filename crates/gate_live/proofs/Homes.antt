@@ -1,7 +1,8 @@
 -- Lines that go to the workers of their places.
-use Rattle.std.proofs.Common.{◌≡◌, inl, inr, ℕ, zero, suc, ◌+◌, ◌<◌, List, [], ◌∷◌, ◌++◌, set, get_or, length, length-set, sym, subst, arith}
+use Rattle.std.proofs.Common.{◌≡◌, ◌⊎◌, inl, inr, ℕ, zero, suc, ◌+◌, ◌<◌, ◌≤◌, List, [], ◌∷◌, ◌++◌, set, get_or, length, length-set, sym, subst, arith}
+use Rattle.std.proofs.lemmas.Bool.{cases_lt}
 use Rattle.gate_live.specs.Numbers.{MayGain, home_of}
-use Rattle.gate_live.specs.Homes.{AreHome, AreHomeFrom, AreOf}
+use Rattle.gate_live.specs.Homes.{AreHome, AreHomeFrom, AreOf, AreUnused}
 use Rattle.gate_live.specs.declared.origin.Neighbor.{Neighbor}
 
 -- up to the next number too
@@ -37,3 +38,24 @@ home_own last others h = from_more last (length others) 1 others h
 pub home_offered : (last k : ℕ) (others : List Neighbor) (n m : Neighbor) → k < length others → get_or others k n ≡ n → home_of (last + 1) (length others) ≡ k + 1 → MayGain n.giver.lines (last + 1) m.giver.lines → AreHome last others → AreHome (last + 1) (set others k m)
 home_offered last k others n m inside at home gains h =
     subst (λ all. AreHomeFrom (last + 1) all 1 (set others k m)) (sym (length-set others k m)) (from_offered last (length others) 1 k others n m inside at (let e = home in omega arith) gains h)
+
+unused_from : (others place : ℕ) (ns : List Neighbor) → AreUnused ns → AreHomeFrom 0 others place ns
+unused_from others place [] h = tt
+unused_from others place (n ∷ ns) h = (subst (AreOf 0 others place) (sym h.0) tt, unused_from others (place + 1) ns h.1)
+
+-- where none was offered a line, none was offered another's
+pub unused_home : (others : List Neighbor) → AreUnused others → AreHome 0 others
+unused_home others h = unused_from (length others) 1 others h
+
+-- one more of them
+pub unused_more : (ns : List Neighbor) (n : Neighbor) → AreUnused ns → n.giver.lines ≡ [] → AreUnused (ns ++ n ∷ [])
+unused_more [] n h none = (none, tt)
+unused_more (m ∷ ns) n h none = (h.0, unused_more ns n h.1 none)
+
+last_home_by : (old last others now : ℕ) → others ≡ now → ((k : ℕ) → old < k → k ≤ last → home_of k others ≡ 0 → ⊥) → (k : ℕ) → old < k → k ≤ last + 1 → home_of k now ≡ 0 → (last < k) ⊎ (k ≤ last) → k ≡ last + 1
+last_home_by old last others now same none k above below home (inl next) = omega arith
+last_home_by old last others now same none k above below home (inr before) = absurd (none k above before (subst (λ n. home_of k n ≡ 0) (sym same) home))
+
+-- of the numbers up to the next one, those of the first worker's place are this one alone
+pub last_home : (old last others now : ℕ) → others ≡ now → ((k : ℕ) → old < k → k ≤ last → home_of k others ≡ 0 → ⊥) → (k : ℕ) → old < k → k ≤ last + 1 → home_of k now ≡ 0 → k ≡ last + 1
+last_home old last others now same none k above below home = last_home_by old last others now same none k above below home (cases_lt last k)

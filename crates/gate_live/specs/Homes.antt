@@ -16,3 +16,8 @@ AreHomeFrom last others place (n ∷ ns) = AreOf last others place n.giver.lines
 -- each of the other workers was offered lines of its place alone, up to this number
 abbrev pub AreHome : ℕ → List Neighbor → Type 0
 AreHome last others = AreHomeFrom last (length others) 1 others
+
+-- none of the other workers was offered a line
+abbrev pub AreUnused : List Neighbor → Type 0
+AreUnused [] = Unit {0}
+AreUnused (n ∷ ns) = (n.giver.lines ≡ []) × AreUnused ns

@@ -1,6 +1,7 @@
 // The outside over sockets.
-ghost use Rattle.std.specs.Prelude.{◌≡◌, ◌≤◌, length, unwrap_or, IfOk};
+ghost use Rattle.std.specs.Prelude.{◌≡◌, ◌≤◌, [], length, unwrap_or, IfOk};
 ghost use Rattle.std.specs.Net.Grammar.{IsSocketText};
+ghost use Rattle.gate_live.specs.Homes.{AreHome, AreUnused};
 ghost use Rattle.gate_live.specs.Origins.{Accepts};
 ghost use Rattle.gate_live.specs.Sites.{AreNew, AreUntouched, FirstAccepts, IsUntouched};
 
@@ -108,7 +109,8 @@ fn other_world<R: Net + RandomSource + Clone + Drop>(
     upstream: SocketAddr,
     ended: &Arc<AtomicU64>,
 ) -> Result<(Neighbor, LiveWorld<R, Peer>), SiteEnd>
-    ensures { IfOk result (λ w. IsUntouched upstream w.1) }
+    ensures untouched { IfOk result (λ w. IsUntouched upstream w.1) }
+    ensures offered { IfOk result (λ w. w.0.giver.lines ≡ []) }
 {
     let (poll, waker) = waking_poll(rt)?;
     let (neighbor, mailbox) = join_queue(alloc, waker, Arc::try_clone(ended)?)?;
@@ -127,6 +129,7 @@ fn other_worlds<R: Net + RandomSource + Clone + Drop>(
 ) -> Result<Vec<LiveWorld<R, Peer>>, SiteEnd>
     ensures untouched { IfOk result (λ worlds. AreUntouched upstream worlds.items) }
     ensures count { IfOk result (λ worlds. length worlds.items ≡ count) }
+    ensures offered { AreUnused others.old.items → IfOk result (λ _. AreUnused others.new.items) }
 {
     let mut worlds = Vec::new(alloc);
     for _ in 0..count {
@@ -146,6 +149,7 @@ fn first_world<R: Net + RandomSource + Clone + Drop>(
     others: Vec<Neighbor>,
     ended: Arc<AtomicU64>,
 ) -> Result<LiveWorld<R, Peer>, SiteEnd>
+    requires { AreHome 0 others.items }
     ensures untouched { IfOk result (λ w. IsUntouched upstream w) }
     ensures accepts { IfOk result (λ w. Accepts (unwrap_or settings.now.stop_after 4294967295) w.sockets.origin) }
 {
@@ -157,6 +161,7 @@ fn first_world<R: Net + RandomSource + Clone + Drop>(
 }
 
 /// Listens, and makes a world for each worker.
+#[tactic(auto, using(crate::proofs::Homes::unused_home))]
 fn worlds_of<R: Net + RandomSource + Clone + Drop>(
     alloc: Global,
     rt: &R,

@@ -1,5 +1,5 @@
 // Where a worker's lines come from.
-ghost use Rattle.std.specs.Prelude.{◌≡◌, ℕ, ◌+◌, ◌<◌, ◌≤◌, [], nat_le, vec_len, IfOk, IfSome};
+ghost use Rattle.std.specs.Prelude.{◌≡◌, ℕ, ◌+◌, ◌<◌, ◌≤◌, [], nat_le, vec_len, IfOk, IfSome, IsSome, IsSomeAnd};
 ghost use Rattle.std.specs.Arc.{arc_value};
 ghost use Rattle.gate_live.specs.Numbers.{MayGain, home_of};
 
@@ -193,6 +193,7 @@ impl Acceptor {
         ensures few { self.new.accepted + self.new.left ≤ self.old.accepted + self.old.left }
         ensures number { IfSome result (λ guest. (self.old.accepted < guest.number) × (guest.number ≡ self.new.accepted)) }
         ensures home { IfSome result (λ guest. home_of guest.number (vec_len self.new.others) ≡ 0) }
+        ensures all { (k : ℕ) → self.old.accepted < k → k ≤ self.new.accepted → home_of k (vec_len self.new.others) ≡ 0 → IsSomeAnd result (λ guest. guest.number ≡ k) }
         ensures offered { AreHome self.old.accepted self.old.others.items → AreHome self.new.accepted self.new.others.items }
     {
         for _ in 0..u32::MAX {
@@ -224,6 +225,8 @@ impl Acceptor {
         ensures left { self.new.left ≡ self.old.left }
         ensures number { IfSome result (λ guest. guest.number ≡ self.new.accepted) }
         ensures home { IfSome result (λ guest. home_of guest.number (vec_len self.new.others) ≡ 0) }
+        ensures keeps { home_of self.new.accepted (vec_len self.new.others) ≡ 0 → IsSome result }
+        ensures others { vec_len self.new.others ≡ vec_len self.old.others }
         ensures offered { AreHome self.old.accepted self.old.others.items → AreHome self.new.accepted self.new.others.items }
     {
         self.accepted += 1;
@@ -239,6 +242,8 @@ impl Acceptor {
     fn route<R: Wait>(&mut self, rt: &R, guest: Guest) -> Option<Guest>
         ensures own { IfSome result (λ own. own ≡ guest) }
         ensures home { IfSome result (λ own. home_of guest.number (vec_len self.new.others) ≡ 0) }
+        ensures keeps { home_of guest.number (vec_len self.new.others) ≡ 0 → IsSome result }
+        ensures others { vec_len self.new.others ≡ vec_len self.old.others }
         ensures stays { (self.new.accepted ≡ self.old.accepted) × (self.new.most ≡ self.old.most) }
         ensures left { self.new.left ≡ self.old.left }
         ensures offered { (last : ℕ) → guest.number ≡ last + 1 → AreHome last self.old.others.items → AreHome (last + 1) self.new.others.items }
@@ -253,10 +258,12 @@ impl Acceptor {
 }
 
 impl Origin {
-    ghost use Rattle.gate_live.specs.Origins.{HasEnded, is_done};
+    ghost use Rattle.gate_live.specs.Origins.{Gives, HasEnded, is_done};
 
     /// The next line.
-    pub fn next<R: Wait>(&mut self, rt: &R) -> Option<Guest> {
+    pub fn next<R: Wait>(&mut self, rt: &R) -> Option<Guest>
+        ensures { Gives self.old result self.new }
+    {
         match self {
             Origin::Listener(acceptor) => acceptor.accept(rt),
             Origin::Mailbox(mailbox) => mailbox.take(rt),
