@@ -1,4 +1,7 @@
 // Connections that the worker has closed, and that are not over.
+ghost use Rattle.std.specs.Prelude.{◌≡◌, []};
+ghost use Rattle.gate_live.specs.Waiting.{GoesOn};
+
 use crate::duplex::{Duplex, Heard};
 use crate::room::Room;
 use crate::upstream::flush;
@@ -27,7 +30,11 @@ pub struct Lingering<P> {
 
 impl<P: Duplex> Lingering<P> {
     /// Writes what waits as far as there is room, and the end behind it.
-    fn flush(&mut self) {
+    #[tactic(auto, using(crate::proofs::Hearing::goes_on_none))]
+    fn flush(&mut self)
+        ensures goes_on { GoesOn (P.took self.old.peer) self.old.waiting [] (P.took self.new.peer) self.new.waiting }
+        ensures until { self.new.until ≡ self.old.until }
+    {
         if self.waiting.is_empty() {
             return;
         }
@@ -38,7 +45,10 @@ impl<P: Duplex> Lingering<P> {
     }
 
     /// Sends on what waits, and drops what the peer sent. False says that it is over.
-    pub fn goes_on(&mut self, room: &mut Room) -> bool {
+    pub fn goes_on(&mut self, room: &mut Room) -> bool
+        ensures goes_on { GoesOn (P.took self.old.peer) self.old.waiting [] (P.took self.new.peer) self.new.waiting }
+        ensures until { self.new.until ≡ self.old.until }
+    {
         self.flush();
         for _ in 0..64u32 {
             if self.peer.is_broken() {

@@ -1,5 +1,5 @@
 // The moments of events.
-ghost use Rattle.std.specs.Prelude.{◌≤◌, IfOk};
+ghost use Rattle.std.specs.Prelude.{◌≡◌, ◌≤◌, IfOk};
 
 use gate_io::WorldEnd;
 use std::io;
@@ -32,7 +32,7 @@ impl Moments {
     /// The moment, in nanoseconds since 1970. It never falls. Failed where the system tells no time.
     pub fn now<R: Clock>(&mut self, rt: &R) -> Result<u64, WorldEnd>
         ensures rises { IfOk result (λ now. self.old.last ≤ now) }
-        ensures last { IfOk result (λ now. now ≤ self.new.last) }
+        ensures last { IfOk result (λ now. now ≡ self.new.last) }
     {
         let since = nanos(rt.since_1970())?;
         let passed = nanos(rt.monotonic())?;

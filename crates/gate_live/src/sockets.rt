@@ -131,7 +131,7 @@ fn note_at<P: Duplex>(lines: &mut Vec<Line<P>>, at: usize, side: Side, event: &R
 }
 
 impl<P: Duplex> Sockets<P> {
-    ghost use Rattle.std.specs.Prelude.{[], IsTrue, IsSomeAnd};
+    ghost use Rattle.std.specs.Prelude.{[], All, IsTrue, IsSomeAnd};
     ghost use Rattle.gate_live.specs.Keeping.{Arrives, Begins, Heard, WasHeard};
     ghost use Rattle.gate_live.specs.Origins.{HasEnded};
     ghost use Rattle.gate_live.specs.Spent.{IsDue, IsOfLine, IsSpent};
@@ -234,6 +234,7 @@ impl<P: Duplex> Sockets<P> {
     /// Lets those go that lingered for long enough.
     fn drop_lingering<R: Clock>(&mut self, rt: &R) -> Result<(), WorldEnd>
         ensures lines { self.new.lines ≡ self.old.lines }
+        ensures over { IfOk result (λ _. All (λ closed. self.new.moments.last < closed.until) self.new.lingering.items) }
     {
         if !self.lingering.is_empty() {
             let now = self.moments.now(rt)?;
