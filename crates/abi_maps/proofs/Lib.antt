@@ -1,3 +1,4 @@
 pub mod InPlace
+pub mod Measured
 pub mod Refused
 pub mod Sized

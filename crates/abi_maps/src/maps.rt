@@ -1,21 +1,22 @@
 // The calls that read maps.
-ghost use Rattle.std.specs.Prelude.{◌≡◌, ◌<◌, ◌^◌, length, MatchResult, Ok, Err, IfOk, option_copied};
+ghost use Rattle.std.specs.Prelude.{◌≡◌, ◌<◌, length, MatchResult, Ok, Err, IfOk, option_copied};
 ghost use Rattle.abi_types.specs.GuestAt.{Keeps, StillWaits};
 ghost use Rattle.contexts.specs.Reached.{seen, put};
 ghost use Rattle.abi_model.specs.Calls.{does, told, Ends, RestsAfterCall, AreShort};
-ghost use Rattle.abi_model.specs.Table.{Are, row_of};
+ghost use Rattle.abi_model.specs.Reading.{bytes_given, Measures};
+ghost use Rattle.abi_model.specs.Table.{Are, arg, row_of};
 ghost use Rattle.abi_model.specs.declared.table.HostCall.TheVariants as call;
 ghost use Rattle.pair_codec.specs.Serialised.{pairs_bytes};
 ghost use Rattle.abi_maps.specs.Maps.{map_at as map_at_of, map_for as map_for_of, value_in, pairs_as, size_as, own_get_header_map_value, own_get_header_map_pairs, own_get_header_map_size};
 
 use abi_model::{
-    Gives, HostCall, HostEnd, Inputs, LocalCall, Outcome, Param, answer, call_row, given,
-    local_call,
+    Gives, GivingCall, HostCall, HostEnd, Inputs, LocalCall, Outcome, Param, answer, call_row,
+    given, giving_call, local_call,
 };
 use abi_types::Guest;
 use contexts::{Contexts, Maps};
 use gate_base::{Octets, OutOfMemory, VmNo};
-use header_maps::HeaderList;
+use header_maps::{HeaderList, value_len};
 use pair_codec::write_list;
 use std::alloc::Global;
 
@@ -49,55 +50,76 @@ pub(crate) fn map_for(contexts: &Contexts, vm: VmNo, number: u64) -> Result<&Hea
     }
 }
 
-/// The value of a field.
-fn get_value(
+/// How many bytes the value of a field has.
+#[tactic(auto, using(crate::proofs::Measured::value_measured, crate::proofs::Measured::no_value_measured))]
+fn measure_value(contexts: &Contexts, vm: VmNo, number: u64, key: &[u8]) -> Result<u32, u32>
+    requires { vm < length contexts.now.vms }
+    ensures { Measures result (value_in key.now (map_for_of number (seen contexts.now vm))) }
+{
+    match map_for(contexts, vm, number) {
+        Err(status) => Err(status),
+        Ok(list) => match value_len(list, key) {
+            Some(len) => Ok(len as u32),
+            None => Err(1),
+        },
+    }
+}
+
+/// The value of a field; no bytes where there is none.
+fn value_bytes(
     alloc: Global,
     contexts: &Contexts,
     vm: VmNo,
     number: u64,
     key: &[u8],
-) -> Result<Outcome, OutOfMemory>
-    requires vm { vm < length contexts.now.vms }
-    ensures made { IfOk result (λ o. o ≡ value_in key.now (map_for_of number (seen contexts.now vm))) }
-    ensures short { IfOk result (λ o. AreShort o.gives) }
+) -> Result<Octets, OutOfMemory>
+    requires { vm < length contexts.now.vms }
+    ensures { IfOk result (λ bytes. bytes ≡ bytes_given (value_in key.now (map_for_of number (seen contexts.now vm))).gives) }
 {
     match map_for(contexts, vm, number) {
-        Err(status) => Ok(answer(status)),
+        Err(_) => Ok(Octets::new(alloc)),
         Ok(list) => match list.get(alloc, key)? {
-            Some(bytes) => Ok(given(Gives::Bytes { bytes })),
-            None => Ok(answer(1)),
+            Some(bytes) => Ok(bytes),
+            None => Ok(Octets::new(alloc)),
         },
+    }
+}
+
+/// How many bytes the serialised form of a map has.
+#[tactic(auto, using(crate::proofs::Measured::pairs_measured))]
+fn measure_pairs(contexts: &Contexts, vm: VmNo, number: u64) -> Result<u32, u32>
+    requires { vm < length contexts.now.vms }
+    ensures { Measures result (pairs_as (map_for_of number (seen contexts.now vm))) }
+{
+    match map_for(contexts, vm, number) {
+        Err(status) => Err(status),
+        Ok(list) => Ok(list.byte_size() as u32),
     }
 }
 
 /// The serialised form of a list.
 #[tactic(auto, using(crate::proofs::Sized::headers_sized))]
 fn bytes_of(alloc: Global, list: &HeaderList) -> Result<Octets, OutOfMemory>
-    ensures bytes { IfOk result (λ o. o ≡ pairs_bytes list.now.pairs) }
-    ensures short { IfOk result (λ o. length o < 2 ^ 32) }
+    ensures { IfOk result (λ o. o ≡ pairs_bytes list.now.pairs) }
 {
     let _kind = list.kind();
-    let _size = list.byte_size();
     let _len = list.len();
     write_list(alloc, list)
 }
 
-/// The serialised form of a map.
-fn get_pairs(
+/// The serialised form of a map; no bytes where it is not there.
+fn pairs_of(
     alloc: Global,
     contexts: &Contexts,
     vm: VmNo,
     number: u64,
-) -> Result<Outcome, OutOfMemory>
-    requires vm { vm < length contexts.now.vms }
-    ensures made { IfOk result (λ o. o ≡ pairs_as (map_for_of number (seen contexts.now vm))) }
-    ensures short { IfOk result (λ o. AreShort o.gives) }
+) -> Result<Octets, OutOfMemory>
+    requires { vm < length contexts.now.vms }
+    ensures { IfOk result (λ bytes. bytes ≡ bytes_given (pairs_as (map_for_of number (seen contexts.now vm))).gives) }
 {
     match map_for(contexts, vm, number) {
-        Err(status) => Ok(answer(status)),
-        Ok(list) => Ok(given(Gives::Bytes {
-            bytes: bytes_of(alloc, list)?,
-        })),
+        Err(_) => Ok(Octets::new(alloc)),
+        Ok(list) => bytes_of(alloc, list),
     }
 }
 
@@ -118,25 +140,34 @@ fn get_size(contexts: &Contexts, vm: VmNo, number: u64) -> Outcome
 /// Gives a whole map.
 struct GetHeaderMapPairs;
 
-impl LocalCall for GetHeaderMapPairs {
+impl GivingCall for GetHeaderMapPairs {
     ghost params = { λ _. row_of call.GetHeaderMapPairs };
 
-    ghost own = { λ _. own_get_header_map_pairs };
+    ghost own = { λ _ args inputs s. pairs_as (map_for_of (arg args 0) s) };
 
     fn parameters(&self) -> &'static [Param] {
         call_row(HostCall::GetHeaderMapPairs)
     }
 
-    fn make(
+    fn measure(
         &self,
-        alloc: Global,
-        contexts: &mut Contexts,
+        contexts: &Contexts,
         vm: VmNo,
         args: &[u64],
         inputs: &Inputs,
-    ) -> Result<Outcome, OutOfMemory> {
-        let outcome = get_pairs(alloc, contexts, vm, args[0])?;
-        Ok(outcome)
+    ) -> Result<u32, u32> {
+        measure_pairs(contexts, vm, args[0])
+    }
+
+    fn make(
+        &self,
+        alloc: Global,
+        contexts: &Contexts,
+        vm: VmNo,
+        args: &[u64],
+        inputs: &Inputs,
+    ) -> Result<Octets, OutOfMemory> {
+        pairs_of(alloc, contexts, vm, args[0])
     }
 }
 
@@ -155,7 +186,7 @@ pub fn proxy_get_header_map_pairs<G: Guest>(
     ensures rests { RestsAfterCall result (StillWaits (G.rests guest.new) (G.at guest.old) (G.at guest.new)) }
     ensures keeps { Keeps (G.at guest.old) (G.at guest.new) }
 {
-    local_call(alloc, &GetHeaderMapPairs, 6, guest, contexts, vm, args)
+    giving_call(alloc, &GetHeaderMapPairs, 6, guest, contexts, vm, args)
 }
 
 /// Gives the size of a map.
@@ -203,25 +234,34 @@ pub fn proxy_get_header_map_size<G: Guest>(
 /// Gives the value of a field.
 struct GetHeaderMapValue;
 
-impl LocalCall for GetHeaderMapValue {
+impl GivingCall for GetHeaderMapValue {
     ghost params = { λ _. row_of call.GetHeaderMapValue };
 
-    ghost own = { λ _. own_get_header_map_value };
+    ghost own = { λ _ args inputs s. value_in inputs.first (map_for_of (arg args 0) s) };
 
     fn parameters(&self) -> &'static [Param] {
         call_row(HostCall::GetHeaderMapValue)
     }
 
-    fn make(
+    fn measure(
         &self,
-        alloc: Global,
-        contexts: &mut Contexts,
+        contexts: &Contexts,
         vm: VmNo,
         args: &[u64],
         inputs: &Inputs,
-    ) -> Result<Outcome, OutOfMemory> {
-        let outcome = get_value(alloc, contexts, vm, args[0], inputs.first.as_slice())?;
-        Ok(outcome)
+    ) -> Result<u32, u32> {
+        measure_value(contexts, vm, args[0], inputs.first.as_slice())
+    }
+
+    fn make(
+        &self,
+        alloc: Global,
+        contexts: &Contexts,
+        vm: VmNo,
+        args: &[u64],
+        inputs: &Inputs,
+    ) -> Result<Octets, OutOfMemory> {
+        value_bytes(alloc, contexts, vm, args[0], inputs.first.as_slice())
     }
 }
 
@@ -240,5 +280,5 @@ pub fn proxy_get_header_map_value<G: Guest>(
     ensures rests { RestsAfterCall result (StillWaits (G.rests guest.new) (G.at guest.old) (G.at guest.new)) }
     ensures keeps { Keeps (G.at guest.old) (G.at guest.new) }
 {
-    local_call(alloc, &GetHeaderMapValue, 6, guest, contexts, vm, args)
+    giving_call(alloc, &GetHeaderMapValue, 6, guest, contexts, vm, args)
 }
