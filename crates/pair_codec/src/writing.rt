@@ -87,7 +87,8 @@ fn bytes_of_list(alloc: Global, list: &HeaderList) -> Result<Octets, OutOfMemory
     requires { are_sized list.now.pairs ≡ true }
     ensures { IfOk result (λ bytes. bytes ≡ pairs_bytes list.now.pairs) }
 {
-    let mut out = Octets::from_slice(alloc, &(list.len() as u32).to_le_bytes())?;
+    let mut out = Octets::from_vec(Vec::with_capacity(alloc, list.byte_size())?);
+    out.extend_from_slice(&(list.len() as u32).to_le_bytes())?;
     put_list_sizes(&mut out, list)?;
     put_list_texts(&mut out, list)?;
     Ok(out)
