@@ -3,3 +3,4 @@ pub mod Bodies
 pub mod Coded
 pub mod Heads
 pub mod Quiet
+pub mod Totals

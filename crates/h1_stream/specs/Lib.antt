@@ -1,4 +1,5 @@
 pub mod Behind
 pub mod Seen
 pub mod Steps
+pub mod Laws
 pub mod Quiet

@@ -2,8 +2,10 @@
 #![tactic(auto)]
 
 mod body;
+mod laws;
 mod next;
 mod reader;
 mod unread;
 
+pub use laws::each_next;
 pub use reader::{MessageReader, Step};
