@@ -7,6 +7,7 @@ Each group tells how many lines it opens, and the gateway is to stop by itself a
 import calendar
 import os
 import queue
+import resource
 import select
 import shutil
 import signal
@@ -260,6 +261,13 @@ class Gateway:
     def descriptors(self):
         return len(os.listdir("/proc/%d/fd" % self.process.pid))
 
+    def allow_one(self):
+        """Lets it have one descriptor more than it has."""
+        used = {int(name) for name in os.listdir("/proc/%d/fd" % self.process.pid)}
+        free = min(set(range(len(used) + 1)) - used)
+        _, most = resource.prlimit(self.process.pid, resource.RLIMIT_NOFILE)
+        resource.prlimit(self.process.pid, resource.RLIMIT_NOFILE, (free + 1, most))
+
     def frees(self, base, seconds=5.0):
         """Within so many seconds it has no more descriptors than this."""
         until = time.monotonic() + seconds
@@ -432,8 +440,8 @@ def sent_on(gateway, upstream):
                 sent += s.send(b"u" * 65536)
         except socket.timeout:
             s.settimeout(PATIENCE)
-        unread = unread_of(gateway, s)
-        expect(unread > 0, True)
+        left = unread_of(gateway, s)
+        expect(left > 0, True)
         upstream.may.release()
         reader = Reader(s)
         first, fields = reader.head()
@@ -443,8 +451,8 @@ def sent_on(gateway, upstream):
         # The connection to the server was closed too.
         upstream.may.release()
         came = upstream.told.get(timeout=PATIENCE)
-        if not sent - unread <= came <= sent:
-            raise AssertionError("%d bytes came of %d that were read" % (came, sent - unread))
+        if not sent - left <= came <= sent:
+            raise AssertionError("%d bytes came of %d that were read" % (came, sent - left))
 
 
 def client_closes(gateway, upstream):
@@ -732,6 +740,13 @@ FLOOD = 200  # lines that come at once
 ARRIVALS = 32  # so many are accepted before open lines are heard
 
 
+def is_told(s):
+    """Something comes on a line: bytes, or that it is closed."""
+    look = select.poll()
+    look.register(s, select.POLLIN)
+    expect(len(look.poll(PATIENCE * 1000)), 1)
+
+
 def order_of_answers(gateway, lines):
     """The descriptors of lines in the order in which each was answered or closed by the gateway, which is stopped and goes on then."""
     # A level-triggered epoll that is asked once tells of them in the order in which they became ready.
@@ -740,9 +755,7 @@ def order_of_answers(gateway, lines):
             ready.register(s, select.EPOLLIN)
         gateway.process.send_signal(signal.SIGCONT)
         for s in lines:
-            look = select.poll()
-            look.register(s, select.POLLIN)
-            expect(len(look.poll(PATIENCE * 1000)), 1)
+            is_told(s)
         return [fd for fd, _ in ready.poll(0, len(lines))]
 
 
@@ -918,7 +931,7 @@ def unread(gateway, upstream):
     # A request that waits for the server, and behind it as many as may be unread that are answered without it, the last of which closes the line.
     burst = request("/late") + b"OPTIONS * HTTP/1.1\nHost:\n\n" * 2800 + b"OPTIONS * HTTP/1.1\nHost:\nConnection: close\n\n"
     lines = []
-    for _ in range(4):
+    for turn in range(4):
         for _ in range(90):
             s = socket.socket()
             s.setsockopt(socket.SOL_SOCKET, socket.SO_RCVBUF, 2048)
@@ -933,7 +946,9 @@ def unread(gateway, upstream):
             except OSError:
                 pass  # closed at once
             lines.append(s)
-        time.sleep(1.5)
+        # By what comes first on a line all was answered, and the line is closed: so few are open when the next come.
+        for s in lines[90 * turn :]:
+            is_told(s)
     for _ in range(100):
         if base + 200 < gateway.descriptors() < base + 300:
             break
@@ -947,6 +962,41 @@ def unread(gateway, upstream):
     gateway.frees(base)
     with gateway.connect() as s:
         get(s, Reader(s), "/room", b"/room")
+
+
+# What is answered 404 without the server.
+UNROUTED = b"OPTIONS * HTTP/1.1\r\nHost:\r\n\r\n"
+
+
+def is_unrouted(s):
+    """The next answer on a line is 404."""
+    first, fields = Reader(s).head()
+    expect((status_of(first), fields.get("content-length")), ("404", "0"))
+
+
+def no_descriptor(gateway, upstream):
+    """Where the descriptors ran out a line that waits comes once another that was answered 400 is gone, by its client's close or a second later."""
+    with gateway.connect() as first:
+        first.sendall(UNROUTED)
+        is_unrouted(first)
+        base = gateway.descriptors()
+        gateway.allow_one()
+        for stays in (True, False):
+            last, waits = gateway.connect(), gateway.connect()
+            last.sendall(UNROUTED)
+            is_unrouted(last)
+            waits.sendall(UNROUTED)
+            expect(select.select([waits], [], [], 0.3)[0], [])
+            last.sendall(b"GET /\x00 HTTP/1.1\r\n\r\n")
+            expect(status_of(Reader(last).head()[0]), "400")
+            if stays:
+                KEPT.append(last)
+            else:
+                last.close()
+            waits.settimeout(5)
+            is_unrouted(waits)
+            waits.close()
+            gateway.frees(base)
 
 
 def nothing(gateway, upstream):
@@ -1050,6 +1100,7 @@ GROUPS = [
     *[("its random bytes by workers, %d" % n, 8, WITH_A_TELLER % "", TOLD, [(random_by_workers, 8)]) for n in range(6)],
     ("ticks", 1, WITH_A_TELLER % 'configuration = "tick"\n', TOLD, [(quiet, 1)], has_ticked),
     ("late ticks", 1, WITH_A_TELLER % 'configuration = "slow"\n', TOLD, [(late_ticks, 3)], lambda err: err == b""),
+    ("descriptors that run out", 1, "", b"", [(no_descriptor, 5)], lambda err: err == b""),
     ("lines that are not read", 1, "", b"", [(unread, 363)]),
 ]
 
