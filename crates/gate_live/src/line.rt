@@ -25,6 +25,8 @@ pub struct Line<P> {
     pub up: Option<Upstream<P>>,
     /// The upstream connection could not be begun.
     pub refused: bool,
+    /// Whether the server is heard first at the next turn.
+    pub server_first: bool,
 }
 
 /// Whether bytes of a side of a line are wanted.
@@ -179,7 +181,8 @@ impl<P: Duplex> Line<P> {
     ghost use Rattle.gate_live.specs.Lines.{is_over};
     ghost use Rattle.gate_live.specs.Passing.{HeardOn, SentOn};
 
-    /// What is heard on the line. Nothing is read from the client while 65,536 bytes wait for the server.
+    /// What is heard on the line, of the server first where the client was heard last: one that sends without pause keeps nobody from hearing an
+    /// early answer. Nothing is read from the client while 65,536 bytes wait for the server.
     #[tactic(auto, using(crate::proofs::Hearing::heard_more, crate::proofs::Hearing::heard_same))]
     pub fn heard(
         &mut self,
@@ -199,29 +202,38 @@ impl<P: Duplex> Line<P> {
             self.refused = false;
             return Ok(Some(What::Refused { line: self.number }));
         }
-        if let Some(told) = self.heard_down(alloc, wants, room)? {
+        let is_full = self.is_full();
+        if self.server_first {
+            self.server_first = false;
+            if let Some(told) = self.heard_up(alloc, wants, room)? {
+                return Ok(Some(told));
+            }
+            return self.heard_down(alloc, wants, is_full, room);
+        }
+        if let Some(told) = self.heard_down(alloc, wants, is_full, room)? {
+            self.server_first = true;
             return Ok(Some(told));
         }
         self.heard_up(alloc, wants, room)
     }
 
-    /// What is heard from the client, where it is there. One that is gone is let go.
+    /// What is heard from the client, where it is there; nothing is read from it where so much waits for the server. One that is gone is let go.
     #[tactic(auto, using(crate::proofs::Hearing::tells_last))]
     fn heard_down(
         &mut self,
         alloc: Global,
         wants: &Wants,
+        is_full: bool,
         room: &mut Room,
     ) -> Result<Option<What>, OutOfMemory>
         ensures allowed { IfOk result (λ told. IfSome told (IsAllowed wants.now)) }
         ensures of { IfOk result (λ told. IfSome told (IsOf self.old.number)) }
         ensures side { IfOk result (λ told. IfSome told (IsHeardFrom self.old.number sides.Down)) }
         ensures read { IfOk result (λ told. IfSome told (LiesIn room.new.bytes.items)) }
-        ensures held { IfOk result (λ told. IfSome told (HoldsBack (is_full self.old.up))) }
+        ensures held { IfOk result (λ told. IfSome told (HoldsBack is_full)) }
         ensures number { self.new.number ≡ self.old.number }
         ensures heard { IfOk result (λ told. HeardOn P.gave P.took self.old told self.new) }
     {
-        let is_full = self.is_full();
         let Some(peer) = &mut self.down else {
             return Ok(None);
         };

@@ -387,6 +387,7 @@ impl<P: Duplex> Sockets<P> {
             down: Some(down),
             up: None,
             refused: false,
+            server_first: false,
         };
         if self.lines.push(line).is_err() {
             return false;
@@ -469,6 +470,7 @@ impl<P: Duplex> Sockets<P> {
             down,
             up: _,
             refused: _,
+            server_first: _,
         } = self.lines.remove(at);
         if let Some(peer) = down {
             if !peer.is_ended() && !peer.is_broken() {
