@@ -1,14 +1,14 @@
 -- Something is next at each place.
-use Rattle.std.proofs.Common.{◌≡◌, ◌⊎◌, ℕ, zero, suc, ◌+◌, ◌-◌, Bool, true, false, cond, List, [], ◌∷◌, length, take, drop, map, min, get_or, bytes_eq, codes, Option, None, Some, refl, sym, ap, ◌∙◌, subst, inl, inr, arith}
+use Rattle.std.proofs.Common.{◌≡◌, ◌⊎◌, ℕ, zero, suc, ◌+◌, ◌-◌, Bool, true, false, cond, List, [], ◌∷◌, length, take, drop, min, get_or, bytes_eq, codes, Option, None, Some, refl, sym, ap, ◌∙◌, subst, inl, inr, arith}
 use Rattle.http1_model.specs.Fields.{Pair}
 use Rattle.http1_model.specs.Head.{Head, HeadStep, found, not_yet, refused, IsStepAt, IsAnswer, IsResponseAnswer, SpellsBy}
 use Rattle.http1_model.specs.Lines.{Cut, whole, too_large, unfinished, skipped, after_empty_lines, head_cut}
 use Rattle.http1_model.specs.Chunks.{Place, inside, Sought, data_at, section_at, waiting, malformed, sought, Run, no_run, run_of}
 use Rattle.http1_model.specs.Messages as model
-use Rattle.http1_model.specs.Messages.{request, interim, response, octet, end, trailers, counted, coded, unbounded, Due, head, body, done, over, rest, refusal, due_behind, due_next, stop_short, is_interim, item_of, step_from, response_item, SpellsHead, Step, item, stop, end_step, section_step, trailers_left, IsCodedStep, StepsTo}
+use Rattle.http1_model.specs.Messages.{request, interim, response, octet, end, trailers, counted, coded, unbounded, Due, head, body, done, over, rest, due_behind, due_next, stop_short, is_interim, item_of, step_from, response_item, SpellsHead, Step, item, stop, end_step, section_step, trailers_left, IsCodedStep, StepsTo}
 use Rattle.http1_model.specs.Trailers as trailing
 use Rattle.http1_model.specs.Trailers.{section_cut, IsSectionText, EndsWith, end_of, IsEnd}
-use Rattle.http1_model.specs.Unread.{Next, Part, head_part, interim_part, piece, trailer_part, part, none, by_itself, piece_before, IsNoOctet, IsNext}
+use Rattle.http1_model.specs.Unread.{Next, head_part, interim_part, piece, trailer_part, part, none, by_itself, piece_before, IsNoOctet}
 use Rattle.http1_model.proofs.Carried.{run_carries}
 use Rattle.http1_model.proofs.Readings.{Answers}
 use Rattle.http1_model.proofs.Totals as heads
