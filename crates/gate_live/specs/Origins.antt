@@ -22,8 +22,8 @@ abbrev pub HasEnded : Origin → Type 0
 HasEnded (Listener acceptor) = IsTrue (is_done (Listener acceptor))
 HasEnded (Mailbox mailbox) = Unit {0}
 
--- Lines were accepted: the one of this worker's place, if there is one, is what comes. The others were of other workers, of whom each may have been offered
--- those of its place alone.
+-- Lines were accepted: each that is of this worker's place is what comes, so that there is one at most. The others were of other workers, of whom each was
+-- offered lines of its place alone.
 pub record Accepted (old : Acceptor) (guest : Option Guest) (new : Acceptor) : Type 0 where
   pub most : new.most ≡ old.most
   pub within : old.accepted ≤ old.most → new.accepted ≤ new.most
@@ -34,8 +34,8 @@ pub record Accepted (old : Acceptor) (guest : Option Guest) (new : Acceptor) : T
   pub offered : AreHome old.accepted old.others.items → AreHome new.accepted new.others.items
 
 -- the next line of a worker: one that was accepted, or one that was handed over, of which fewer may come then
-abbrev pub Gives : Origin → Option Guest → Origin → Type 0
-Gives (Listener old) guest (Listener new) = Accepted old guest new
-Gives (Listener old) guest (Mailbox new) = ⊥
-Gives (Mailbox old) guest (Listener new) = ⊥
-Gives (Mailbox old) guest (Mailbox new) = IfSome guest (λ guest. new.left < old.left)
+abbrev pub GivesNext : Origin → Option Guest → Origin → Type 0
+GivesNext (Listener old) guest (Listener new) = Accepted old guest new
+GivesNext (Listener old) guest (Mailbox new) = ⊥
+GivesNext (Mailbox old) guest (Listener new) = ⊥
+GivesNext (Mailbox old) guest (Mailbox new) = IfSome guest (λ guest. new.left < old.left)

@@ -258,11 +258,11 @@ impl Acceptor {
 }
 
 impl Origin {
-    ghost use Rattle.gate_live.specs.Origins.{Gives, HasEnded, is_done};
+    ghost use Rattle.gate_live.specs.Origins.{GivesNext, HasEnded, is_done};
 
     /// The next line.
     pub fn next<R: Wait>(&mut self, rt: &R) -> Option<Guest>
-        ensures { Gives self.old result self.new }
+        ensures { GivesNext self.old result self.new }
     {
         match self {
             Origin::Listener(acceptor) => acceptor.accept(rt),
