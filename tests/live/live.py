@@ -173,10 +173,11 @@ class Upstream:
             reader.body(fields)
             return
         if path == "/early-unread":
-            # Reads nothing of a body but what came with its head. It answers once it may, and once it may again it reads to the end.
+            # Reads nothing of a body but what came with its head. It answers once it may, and a moment later it reads to the end: the
+            # gateway closes the connection meanwhile, and what waits there is kept for a second.
             self.may.acquire(timeout=PATIENCE)
             s.sendall(answer(b"early"))
-            self.may.acquire(timeout=PATIENCE)
+            time.sleep(0.2)
             self.told.put(len(reader.rest()))
             return
         if path == "/early":
@@ -408,11 +409,14 @@ def early_answer(gateway, upstream):
 
 def queued(port, peer):
     """How many bytes the connection from a port to a peer's has that were sent and not taken, and how many that came and were not read."""
-    with open("/proc/net/tcp") as f:
-        for row in f.read().splitlines()[1:]:
-            _, here, there, _, queues = row.split()[:5]
-            if (int(here.split(":")[1], 16), int(there.split(":")[1], 16)) == (port, peer):
-                return tuple(int(n, 16) for n in queues.split(":"))
+    # The table is read in pieces, and may lack a row while others come and go.
+    for _ in range(10):
+        with open("/proc/net/tcp") as f:
+            for row in f.read().splitlines()[1:]:
+                _, here, there, _, queues = row.split()[:5]
+                if (int(here.split(":")[1], 16), int(there.split(":")[1], 16)) == (port, peer):
+                    return tuple(int(n, 16) for n in queues.split(":"))
+        time.sleep(0.05)
     raise AssertionError("no connection from %d to %d" % (port, peer))
 
 
@@ -433,14 +437,18 @@ def sent_on(gateway, upstream):
     with gateway.connect() as s:
         s.sendall(b"POST /early-unread HTTP/1.1\r\nHost: a\r\nContent-Length: 1000000000\r\n\r\n")
         # The server reads nothing, so that in the end no more is read of the client: then 65,536 bytes wait in the gateway.
-        sent = 0
-        s.settimeout(0.5)
-        try:
-            for _ in range(2000):
-                sent += s.send(b"u" * 65536)
-        except socket.timeout:
+        sent = left = 0
+        for _ in range(5):
+            s.settimeout(0.5)
+            try:
+                for _ in range(2000):
+                    sent += s.send(b"u" * 65536)
+            except socket.timeout:
+                pass
             s.settimeout(PATIENCE)
-        left = unread_of(gateway, s)
+            left = unread_of(gateway, s)
+            if left > 0:
+                break
         expect(left > 0, True)
         upstream.may.release()
         reader = Reader(s)
@@ -449,7 +457,6 @@ def sent_on(gateway, upstream):
         expect(reader.body(fields), b"early")
         expect(reader.rest(), b"")
         # The connection to the server was closed too.
-        upstream.may.release()
         came = upstream.told.get(timeout=PATIENCE)
         if not sent - left <= came <= sent:
             raise AssertionError("%d bytes came of %d that were read" % (came, sent - left))
@@ -946,7 +953,7 @@ def unread(gateway, upstream):
             except OSError:
                 pass  # closed at once
             lines.append(s)
-        # By what comes first on a line all was answered, and the line is closed: so few are open when the next come.
+        # By what comes first on a line its requests were answered, and it is closed or about to be: so few are open when the next come.
         for s in lines[90 * turn :]:
             is_told(s)
     for _ in range(100):
