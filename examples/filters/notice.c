@@ -1,5 +1,5 @@
 // Answers each request from a queue: the request waits, its context's number is put into a shared queue, and the notice of
-// that queue answers it.
+// that queue answers it. For one worker alone: all workers have the queue in common, and a context's number is one worker's.
 #define ROOM 4096
 #include "proxy_wasm.h"
 
