@@ -10,7 +10,7 @@ use gate_base::{Cause, Octets};
 use std::alloc::Global;
 
 /// Where a guest is told the place and the size of bytes.
-#[derive(Clone, Copy, Debug)]
+#[derive(Clone, Copy)]
 pub struct Place {
     /// Where the place of the bytes is written.
     pub pointer: u32,
@@ -19,7 +19,7 @@ pub struct Place {
 }
 
 /// Why bytes were not given.
-#[derive(Clone, Copy, Debug, PartialEq, Eq)]
+#[derive(Clone, Copy, PartialEq, Eq)]
 pub enum GiveEnd {
     /// A place for the answer, or the range that the allocator gave, is not inside, or the allocator gave 0.
     InvalidAccess,

@@ -9,7 +9,7 @@ use abi_types::Guest;
 use gate_base::{Cause, Octets};
 
 /// How a host call ends.
-#[derive(Clone, Copy, Debug, PartialEq, Eq)]
+#[derive(Clone, Copy, PartialEq, Eq)]
 pub enum HostEnd {
     /// Its answer: a status of the table of host calls.
     Status { status: u32 },

@@ -8,7 +8,7 @@ use gate_base::{Cause, Octets, OutOfMemory};
 use std::alloc::Global;
 
 /// Why bytes could not be read.
-#[derive(Debug, Drop)]
+#[derive(Drop)]
 pub enum GuestEnd {
     /// The range is not inside its memory.
     Outside,
@@ -23,7 +23,7 @@ impl From<OutOfMemory> for GuestEnd {
 }
 
 /// Why an allocation gave no place.
-#[derive(Clone, Copy, Debug, PartialEq, Eq)]
+#[derive(Clone, Copy, PartialEq, Eq)]
 pub enum AllocEnd {
     /// It exports none.
     NoAllocator,
@@ -34,7 +34,7 @@ pub enum AllocEnd {
 }
 
 /// What the host answers to one of the imports while it is closed.
-#[derive(Clone, Copy, Debug, PartialEq, Eq)]
+#[derive(Clone, Copy, PartialEq, Eq)]
 pub enum Closing {
     /// This number.
     Status { number: u32 },

@@ -5,7 +5,7 @@ ghost use Rattle.body_buffers.specs.declared.end.BodyEnd.TheVariants.{OutOfMemor
 use std::alloc::AllocError;
 
 /// Why bytes are not put into a body, which then is as it was.
-#[derive(Clone, Copy, Debug, PartialEq, Eq)]
+#[derive(Clone, Copy, PartialEq, Eq)]
 pub enum BodyEnd {
     /// The body would have more than 1,048,576 bytes.
     OverLimit,

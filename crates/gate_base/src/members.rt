@@ -7,7 +7,7 @@ use std::alloc::Global;
 use std::marker::Model;
 
 /// A list of members. Clauses see the list of what its members are.
-#[derive(Debug, Drop)]
+#[derive(Drop)]
 pub struct Members<M> {
     items: Vec<M>,
 }

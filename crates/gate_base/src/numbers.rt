@@ -4,7 +4,7 @@ ghost use Rattle.std.specs.Prelude.{◌≡◌, ◌≤◌, ◌<◌, ◌↔◌, �
 use std::marker::Model;
 
 /// The number of a worker, 1 to 8.
-#[derive(Clone, Copy, Debug, PartialEq, Eq)]
+#[derive(Clone, Copy, PartialEq, Eq)]
 pub struct WorkerNo {
     number: u8,
 }
@@ -44,7 +44,7 @@ impl WorkerNo {
 }
 
 /// The number of a VM, 0 to 15, in the order of the configuration.
-#[derive(Clone, Copy, Debug, PartialEq, Eq)]
+#[derive(Clone, Copy, PartialEq, Eq)]
 pub struct VmNo {
     number: u8,
 }
@@ -84,7 +84,7 @@ impl VmNo {
 }
 
 /// The number of a line (a downstream connection), from 1.
-#[derive(Clone, Copy, Debug, PartialEq, Eq, PartialOrd, Ord)]
+#[derive(Clone, Copy, PartialEq, Eq, PartialOrd, Ord)]
 pub struct LineNo {
     number: u32,
 }

@@ -14,7 +14,7 @@ use std::alloc::{AllocError, Global};
 use wasm_syntax::ValidModule;
 
 /// Why a route is not put in.
-#[derive(Clone, Copy, Debug, PartialEq, Eq)]
+#[derive(Clone, Copy, PartialEq, Eq)]
 pub enum RouteEnd {
     /// The router refuses the path.
     Conflict,

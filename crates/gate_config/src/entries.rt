@@ -3,7 +3,7 @@ use gate_base::{Members, Octets, Text, VmNo};
 use wasm_syntax::ValidModule;
 
 /// One VM: an instance of a module in each worker.
-#[derive(Debug, Drop)]
+#[derive(Drop)]
 pub struct VmEntry {
     /// The name, of at most 32 bytes, which no other VM has.
     pub name: Text,
@@ -20,7 +20,7 @@ pub struct VmEntry {
 }
 
 /// One plug-in: a filter that a VM runs.
-#[derive(Debug, Drop)]
+#[derive(Drop)]
 pub struct PluginEntry {
     /// The name, of at most 32 bytes, which no other plug-in has.
     pub name: Text,
@@ -33,7 +33,7 @@ pub struct PluginEntry {
 }
 
 /// One route: the filters of the requests whose path matches.
-#[derive(Debug, Drop)]
+#[derive(Drop)]
 pub struct RouteEntry {
     /// The path, as `matchit` reads it.
     pub path: Text,

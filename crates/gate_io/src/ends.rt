@@ -6,11 +6,11 @@ ghost use Rattle.gate_io.specs.declared.ends.WorldEnd.TheVariants.{OutOfMemory a
 use std::alloc::{AllocError, AllocFailed};
 
 /// A read, a write or another call of the outside failed. The object's count of faults rose.
-#[derive(Clone, Copy, Debug, PartialEq, Eq)]
+#[derive(Clone, Copy, PartialEq, Eq)]
 pub struct Failed;
 
 /// Why a file was not read.
-#[derive(Clone, Copy, Debug, PartialEq, Eq)]
+#[derive(Clone, Copy, PartialEq, Eq)]
 pub enum FileEnd {
     /// The read failed: the count of faults rose.
     Failed,
@@ -21,7 +21,7 @@ pub enum FileEnd {
 }
 
 /// Why a world gave no event.
-#[derive(Clone, Copy, Debug, PartialEq, Eq)]
+#[derive(Clone, Copy, PartialEq, Eq)]
 pub enum WorldEnd {
     /// The world failed: the count of faults rose.
     Failed,

@@ -5,21 +5,21 @@ use gate_base::{Level, LineNo, Octets, OutOfMemory};
 use std::alloc::Global;
 
 /// A side of a line: Down towards the client, Up towards the upstream server.
-#[derive(Clone, Copy, Debug, PartialEq, Eq)]
+#[derive(Clone, Copy, PartialEq, Eq)]
 pub enum Side {
     Down,
     Up,
 }
 
 /// What happened, at a moment in nanoseconds since 1970-01-01 00:00:00 UTC.
-#[derive(Debug, Drop)]
+#[derive(Drop)]
 pub struct Event {
     pub now: u64,
     pub what: What,
 }
 
 /// The kinds of event.
-#[derive(Debug, Drop)]
+#[derive(Drop)]
 pub enum What {
     /// A client's connection was opened.
     Opened {
@@ -105,7 +105,7 @@ impl What {
 }
 
 /// What a worker sends.
-#[derive(Debug, Drop)]
+#[derive(Drop)]
 pub enum Sent {
     /// Open the upstream connection of a line.
     Connect {

@@ -2,7 +2,7 @@
 use gate_base::{VmNo, WorkerNo};
 
 /// A point that a worker passes.
-#[derive(Clone, Copy, Debug, PartialEq, Eq)]
+#[derive(Clone, Copy, PartialEq, Eq)]
 pub enum Point {
     /// Before one of its turns.
     BeforeTurn,

@@ -12,7 +12,7 @@ pub type TextList = Members<Text>;
 
 /// Files with stated paths and bytes, of which the calls with the listed numbers, from 1, fail. A call that memory ran
 /// out in counts as none.
-#[derive(Debug, Drop)]
+#[derive(Drop)]
 pub struct MemFiles {
     files: Pairs,
     paths: TextList,

@@ -7,7 +7,7 @@ use std::marker::Model;
 
 /// A sink that keeps what it took, and of which the calls with the listed numbers, from 1, fail. So does a call that is
 /// refused memory.
-#[derive(Debug, Drop)]
+#[derive(Drop)]
 pub struct MemSink {
     taken: Octets,
     fails: CallNos,

@@ -12,7 +12,7 @@ use std::mem;
 
 /// A site with stated worlds, which it hands out at a start with as many workers. It fails a start with another number of
 /// workers, and the starts with the listed numbers, from 1. A start that memory ran out in counts as none.
-#[derive(Debug, Drop)]
+#[derive(Drop)]
 pub struct MemSite {
     worlds: Vec<MemWorld>,
     started: Vec<Settings>,

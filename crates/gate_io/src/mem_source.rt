@@ -7,7 +7,7 @@ use gate_base::{CallNos, Octets};
 use std::marker::Model;
 
 /// A source of stated bytes, of which the calls with the listed numbers, from 1, fail.
-#[derive(Debug, Drop)]
+#[derive(Drop)]
 pub struct MemSource {
     bytes: Octets,
     at: usize,

@@ -21,7 +21,7 @@ pub type SentList = Members<Sent>;
 /// 1, fail. All calls of `next`, `send`, `connect`, `close` and `log` count, in one row, but for those that memory ran out
 /// in. A listed call of `next` answers Failed, and a listed one of the others that memory ran out, and takes nothing. So does
 /// a call of `send` whose number is refused memory, where only the calls of `send` count.
-#[derive(Debug, Drop)]
+#[derive(Drop)]
 pub struct MemWorld {
     seed: [u8; 32],
     left: VecDeque<Event>,

@@ -6,7 +6,7 @@ use gate_base::{LineList, LineNo, Members, OutOfMemory};
 use std::alloc::Global;
 
 /// What a worker waits for, as it asks for the next event.
-#[derive(Debug, Drop)]
+#[derive(Drop)]
 pub struct Wants {
     /// The lines of which it takes bytes from the client.
     pub down: LineList,
@@ -41,7 +41,7 @@ fn copy_lines(alloc: Global, lines: &LineList) -> Result<LineList, OutOfMemory>
 }
 
 /// One thing that passed between a world and its worker.
-#[derive(Debug, Drop)]
+#[derive(Drop)]
 pub enum Passed {
     /// The worker asked for an event.
     Asked { wants: Wants },

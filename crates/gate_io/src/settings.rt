@@ -6,7 +6,7 @@ use gate_base::{OutOfMemory, Text};
 use std::alloc::{AllocError, AllocFailed, Global};
 
 /// With what a site is started.
-#[derive(Debug, Drop)]
+#[derive(Drop)]
 pub struct Settings {
     /// The address that clients reach.
     pub listen: Text,
@@ -33,7 +33,7 @@ impl Settings {
 }
 
 /// Why a site was not started.
-#[derive(Clone, Copy, Debug, PartialEq, Eq)]
+#[derive(Clone, Copy, PartialEq, Eq)]
 pub enum SiteEnd {
     /// The site failed: the count of faults rose.
     Failed,

@@ -6,7 +6,7 @@ ghost use Rattle.h1_chunks.specs.Seen.{seen_size, SizeWithin, seen_place, seen_s
 use crate::size::{SizeStep, size_step};
 
 /// What is due in a chunked body.
-#[derive(Clone, Copy, Debug, PartialEq, Eq)]
+#[derive(Clone, Copy, PartialEq, Eq)]
 pub enum Place {
     /// A size line.
     SizeLine,

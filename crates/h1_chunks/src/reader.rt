@@ -18,7 +18,7 @@ use std::marker::Model;
 const PIECE_LIMIT: usize = 16_384;
 
 /// What a text spells in a chunked body.
-#[derive(Debug, Drop)]
+#[derive(Drop)]
 pub enum ChunkStep {
     /// 1 to 16,384 bytes of data, however many chunks they come in, and how many bytes of the text they use up.
     Data { bytes: Octets, used: usize },
@@ -39,7 +39,7 @@ pub struct Run {
 }
 
 /// Reads a chunked body (RFC 9112 section 7.1). It keeps its place in the coding and no bytes; clauses see the place.
-#[derive(Debug, Drop)]
+#[derive(Drop)]
 pub struct ChunkReader {
     place: Place,
 }

@@ -5,7 +5,7 @@ use gate_base::{Members, Octets};
 use header_maps::HeaderList;
 
 /// What a text is: one side's messages.
-#[derive(Clone, Copy, Debug, PartialEq, Eq)]
+#[derive(Clone, Copy, PartialEq, Eq)]
 pub enum Kind {
     /// The requests of a client.
     Request,
@@ -28,7 +28,7 @@ impl Kind {
 }
 
 /// The length of a message's body (RFC 9112 section 6).
-#[derive(Clone, Copy, Debug, PartialEq, Eq)]
+#[derive(Clone, Copy, PartialEq, Eq)]
 pub enum Length {
     /// No body.
     Nothing,
@@ -41,7 +41,7 @@ pub enum Length {
 }
 
 /// The form of a request's target (RFC 9112 section 3.2).
-#[derive(Clone, Copy, Debug, PartialEq, Eq)]
+#[derive(Clone, Copy, PartialEq, Eq)]
 pub enum TargetForm {
     /// `/path?query`.
     Origin,
@@ -52,7 +52,7 @@ pub enum TargetForm {
 }
 
 /// The head of a message, as a gateway takes it in.
-#[derive(Debug, Drop)]
+#[derive(Drop)]
 pub struct Head {
     /// The pseudo-headers, and the fields that pass, in order, with names in lower case.
     pub fields: HeaderList,
@@ -72,7 +72,7 @@ pub struct Head {
 }
 
 /// What a text spells where a head is due.
-#[derive(Debug, Drop)]
+#[derive(Drop)]
 pub enum HeadStep {
     /// A head, and how many bytes of the text it uses up, empty lines in front of it included.
     Head { head: Head, used: usize },

@@ -5,7 +5,7 @@ use gate_base::Octets;
 use header_maps::HeaderList;
 
 /// An item of a message, as it was read or as it goes out.
-#[derive(Debug, Drop)]
+#[derive(Drop)]
 pub enum Item {
     /// The head of a request or of a response; `end` says that no body follows.
     Head { head: Head, end: bool },

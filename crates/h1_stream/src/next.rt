@@ -14,7 +14,7 @@ use header_maps::ListKind;
 use std::alloc::Global;
 
 /// Where a body goes on.
-#[derive(Debug, Drop)]
+#[derive(Drop)]
 pub(crate) enum Body {
     /// So many bytes are to come.
     Counted(u64),
@@ -28,7 +28,7 @@ pub(crate) enum Body {
 }
 
 /// What is due in a text.
-#[derive(Debug, Drop)]
+#[derive(Drop)]
 pub(crate) enum Due {
     /// A head.
     Head,
@@ -68,7 +68,7 @@ impl Due {
 }
 
 /// Why no further item comes.
-#[derive(Clone, Copy, Debug)]
+#[derive(Clone, Copy)]
 pub(crate) enum Stop {
     /// What is there spells no whole item.
     Rest,
@@ -79,7 +79,7 @@ pub(crate) enum Stop {
 }
 
 /// What is unread next.
-#[derive(Debug, Drop)]
+#[derive(Drop)]
 pub(crate) enum Next {
     /// An item that uses up so many bytes, and what is due behind it.
     Part {

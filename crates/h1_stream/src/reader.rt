@@ -15,7 +15,7 @@ use std::alloc::Global;
 use std::marker::Model;
 
 /// What a reader has next.
-#[derive(Debug, Drop)]
+#[derive(Drop)]
 pub enum Step {
     /// An item of a message.
     Item { item: Item },
@@ -67,7 +67,7 @@ fn is_unfinished(ended: bool, due: &Due, text: &[u8]) -> bool
 /// Reads one side of a line: the requests of a client, or the response to one request with its interim heads (RFC 9112). It
 /// keeps the bytes that no item has used, and no others. Clauses see what it answers, whether its text has ended, what is due
 /// and what is unread.
-#[derive(Debug, Drop)]
+#[derive(Drop)]
 pub struct MessageReader {
     alloc: Global,
     kind: Kind,

@@ -6,7 +6,7 @@ use std::alloc::Global;
 use std::marker::Model;
 
 /// A text that comes at its end and is used at its front. Clauses see what is left of it.
-#[derive(Debug, Drop)]
+#[derive(Drop)]
 pub(crate) struct Unread {
     bytes: Vec<u8>,
     /// How many bytes at the front are used.

@@ -7,7 +7,7 @@ ghost use Rattle.h1_write.specs.Seen.{seen_framing};
 use h1_head::Length;
 
 /// How a message on its way out says where its body ends (RFC 9112 section 6).
-#[derive(Clone, Copy, Debug, PartialEq, Eq)]
+#[derive(Clone, Copy, PartialEq, Eq)]
 pub enum Framing {
     /// It has no body, and says nothing of one.
     Nothing,

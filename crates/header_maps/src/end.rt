@@ -5,7 +5,7 @@ ghost use Rattle.header_maps.specs.declared.end.HeaderEnd.TheVariants.{OutOfMemo
 use std::alloc::{AllocError, AllocFailed};
 
 /// Why a field operation is refused. A name is judged before a value, and a value before the count.
-#[derive(Clone, Copy, Debug, PartialEq, Eq)]
+#[derive(Clone, Copy, PartialEq, Eq)]
 pub enum HeaderEnd {
     /// No name that the list may have, or a pseudo-header that may not be added or removed, or that is not given once.
     BadName,

@@ -10,7 +10,7 @@ use crate::judged::{
 };
 
 /// What pseudo-headers a list has.
-#[derive(Clone, Copy, Debug, PartialEq, Eq)]
+#[derive(Clone, Copy, PartialEq, Eq)]
 pub enum ListKind {
     /// `:method`, `:scheme`, `:authority` and `:path`.
     Request,

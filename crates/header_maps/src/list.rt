@@ -30,7 +30,7 @@ const FIRST_PAIRS: usize = 24;
 
 /// The pseudo-headers and the fields of a message, in order. Names are in lower case; pseudo-headers stand first.
 /// Clauses see a `Headers`.
-#[derive(Debug, Drop)]
+#[derive(Drop)]
 pub struct HeaderList {
     kind: ListKind,
     items: Texts,

@@ -12,7 +12,7 @@ use std::marker::Model;
 const SPARE_BYTES: usize = 4096;
 
 /// Where a name and its value stand in a buffer.
-#[derive(Clone, Copy, Debug)]
+#[derive(Clone, Copy)]
 pub struct Place {
     name: usize,
     name_end: usize,
@@ -23,7 +23,7 @@ pub struct Place {
 /// Pairs in order. All their bytes stand in one buffer, so that a list takes two pieces of memory, and not two for each pair. The bytes of a
 /// pair that was taken out, and of a value that another one was put in place of, stay there until `tighten` or `copy`. Clauses see the list
 /// of the pairs.
-#[derive(Debug, Drop)]
+#[derive(Drop)]
 pub struct Texts {
     bytes: Vec<u8>,
     places: Vec<Place>,

@@ -15,7 +15,7 @@ use std::alloc::Global;
 use std::marker::Model;
 
 /// A member that waits. Clauses see what is left of it.
-#[derive(Debug, Drop)]
+#[derive(Drop)]
 pub struct Held {
     pub(crate) member: Sent,
     /// So many of its bytes were taken. They stay in front of the others until they are more than those, so that no byte is moved once for

@@ -22,7 +22,7 @@ use std::mem;
 const FULL: usize = 65_536;
 
 /// What waits to be handed over, in order. Clauses see the list of its members.
-#[derive(Debug, Drop)]
+#[derive(Drop)]
 pub struct Outbox {
     waiting: Vec<Held>,
     /// What waits was left by a world: it is sorted by places, so that a turn costs no more for what waits elsewhere than to offer it.

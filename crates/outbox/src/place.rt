@@ -9,7 +9,7 @@ use gate_base::LineNo;
 use gate_io::{Sent, Side, What};
 
 /// Where a member goes.
-#[derive(Clone, Copy, Debug, PartialEq, Eq)]
+#[derive(Clone, Copy, PartialEq, Eq)]
 pub enum Place {
     /// The peer on a side of a line.
     Peer { line: LineNo, side: Side },

@@ -5,7 +5,7 @@ ghost use Rattle.pair_codec.specs.declared.end.PairsEnd.TheVariants.{OutOfMemory
 use std::alloc::AllocError;
 
 /// Why bytes were not read as pairs.
-#[derive(Clone, Copy, Debug, PartialEq, Eq)]
+#[derive(Clone, Copy, PartialEq, Eq)]
 pub enum PairsEnd {
     /// They are neither empty nor the serialised form of any pairs.
     NotPairs,

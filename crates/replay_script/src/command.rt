@@ -9,7 +9,7 @@ use gate_io::{Side, What};
 use std::alloc::Global;
 
 /// One line of a script.
-#[derive(Debug, Drop)]
+#[derive(Drop)]
 pub enum Command {
     /// `on K`: what stands behind it happens at this worker.
     On { worker: WorkerNo },

@@ -10,7 +10,7 @@ use gate_base::WorkerNo;
 use std::alloc::{AllocError, AllocFailed, Global};
 
 /// Why a script is refused.
-#[derive(Clone, Copy, Debug, PartialEq, Eq)]
+#[derive(Clone, Copy, PartialEq, Eq)]
 pub enum ScriptEnd {
     /// The line of this number, from 1, is of no form.
     BadLine { number: u32 },

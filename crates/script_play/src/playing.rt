@@ -21,7 +21,7 @@ use std::alloc::{AllocError, Global};
 const MAX_PENDING: usize = 65536;
 
 /// Why a script was not played to its end.
-#[derive(Clone, Copy, Debug, PartialEq, Eq)]
+#[derive(Clone, Copy, PartialEq, Eq)]
 pub enum PlayEnd {
     /// A write failed.
     OutFault,

@@ -2,7 +2,7 @@
 use gate_base::{ContextId, Octets, QueueId};
 
 /// A call on a shared store.
-#[derive(Debug, Drop)]
+#[derive(Drop)]
 pub enum Call {
     /// The value of a key.
     Get {

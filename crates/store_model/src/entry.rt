@@ -3,7 +3,7 @@ use crate::{Call, Reply};
 use gate_base::WorkerNo;
 
 /// A call in the history of one store: who made it, and what it was answered. Histories are spoken of in contracts; nothing stores them.
-#[derive(Debug, Drop)]
+#[derive(Drop)]
 pub struct Entry {
     pub who: WorkerNo,
     pub call: Call,

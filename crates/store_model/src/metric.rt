@@ -2,7 +2,7 @@
 use gate_base::Octets;
 
 /// The kind of a metric.
-#[derive(Clone, Copy, Debug, PartialEq, Eq)]
+#[derive(Clone, Copy, PartialEq, Eq)]
 pub enum MetricKind {
     /// It only rises, and stops below 2^64.
     Counter,
@@ -11,14 +11,14 @@ pub enum MetricKind {
 }
 
 /// What a metric is: a kind and a name.
-#[derive(Debug, Drop)]
+#[derive(Drop)]
 pub struct MetricName {
     pub kind: MetricKind,
     pub name: Octets,
 }
 
 /// What one worker has of a metric.
-#[derive(Clone, Copy, Debug, PartialEq, Eq)]
+#[derive(Clone, Copy, PartialEq, Eq)]
 pub struct Share {
     /// Whether it got the id from a Define.
     pub knows: bool,
@@ -27,7 +27,7 @@ pub struct Share {
 }
 
 /// A metric of a VM name: a kind and a name, which together are what it is, and what each worker has of it.
-#[derive(Debug, Drop)]
+#[derive(Drop)]
 pub struct Metric {
     pub kind: MetricKind,
     pub name: Octets,
@@ -36,7 +36,7 @@ pub struct Metric {
 }
 
 /// An ask of the metrics of a VM name.
-#[derive(Debug, Drop)]
+#[derive(Drop)]
 pub enum MetricAsk {
     /// The id of the metric of this kind and name, made where there is none.
     Define { kind: MetricKind, name: Octets },

@@ -19,7 +19,7 @@ pub const MOST_NUMBER: u32 = 4_294_967_295;
 pub const MOST_METRICS: u64 = 64;
 
 /// What a part of a store uses of its limits.
-#[derive(Clone, Copy, Debug, PartialEq, Eq)]
+#[derive(Clone, Copy, PartialEq, Eq)]
 pub struct Used {
     /// How many keys or queues there are.
     pub names: u64,

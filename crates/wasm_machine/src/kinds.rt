@@ -24,7 +24,7 @@ pub(crate) struct Home<'a> {
 }
 
 /// The types of neighbours.
-#[derive(Debug, Drop)]
+#[derive(Drop)]
 pub(crate) enum Kind {
     /// They are of one type.
     Alike(ValueType),
@@ -33,7 +33,7 @@ pub(crate) enum Kind {
 }
 
 /// Locals from one on, up to the next stretch.
-#[derive(Debug, Drop)]
+#[derive(Drop)]
 pub(crate) struct Stretch {
     start: usize,
     kind: Kind,
@@ -44,7 +44,7 @@ const MOST_STRETCHES: usize = 1024;
 
 /// The types of the locals of all frames, those of the innermost last. Clauses see them one by one. A frame takes as long for
 /// thousands of locals as for one: it keeps where they begin, and which code of the module tells their types.
-#[derive(Debug, Drop)]
+#[derive(Drop)]
 pub(crate) struct Kinds {
     stretches: Vec<Stretch>,
     /// How many locals there are. Stretches may reach behind them.

@@ -19,7 +19,7 @@ use wasm_syntax::{LocalList, Value, ValueType};
 /// The locals of all frames, those of the innermost last, with room for so many. Clauses see them in their
 /// order, and the room. Most locals that a frame begins with are zeros, and a frame may have thousands of which it uses few: so
 /// a zero is not written where its frame begins, but the local is marked as not given yet.
-#[derive(Debug, Drop)]
+#[derive(Drop)]
 pub(crate) struct Locals {
     /// Their types, which tell the zeros.
     kinds: Kinds,

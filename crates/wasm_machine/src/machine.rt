@@ -20,7 +20,7 @@ use wasm_store::{Instance, Memory};
 use wasm_syntax::{FunctionType, Value};
 
 /// What may be done with a machine.
-#[derive(Clone, Copy, Debug, PartialEq, Eq)]
+#[derive(Clone, Copy, PartialEq, Eq)]
 pub enum Mode {
     /// A call goes on.
     Running,
@@ -31,7 +31,7 @@ pub enum Mode {
 }
 
 /// A call from outside that is not finished.
-#[derive(Clone, Copy, Debug, PartialEq, Eq)]
+#[derive(Clone, Copy, PartialEq, Eq)]
 pub struct Pending {
     /// The function that was called, by its index.
     pub function: u32,
@@ -44,7 +44,7 @@ pub const MOST_PENDING: usize = 257;
 
 /// A machine that runs the code of an instance. Clauses see the program, the configuration of nested code that it
 /// stands for, and the calls from outside that are unfinished. All that it ever needs is reserved at the start.
-#[derive(Debug, Drop)]
+#[derive(Drop)]
 pub struct Machine {
     program: Program,
     state: State,

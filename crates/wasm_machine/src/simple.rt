@@ -24,7 +24,7 @@ use wasm_store::{Globals, Memory};
 use wasm_syntax::{Instr, Value, ValueType};
 
 /// How such an instruction ended.
-#[derive(Clone, Copy, Debug, PartialEq, Eq)]
+#[derive(Clone, Copy, PartialEq, Eq)]
 pub(crate) enum Acts {
     /// It did what it does.
     Fine,

@@ -9,7 +9,7 @@ use std::alloc::Global;
 use std::marker::Model;
 
 /// A stack with room for so many members. Clauses see them, the topmost first, and the room.
-#[derive(Debug, Drop)]
+#[derive(Drop)]
 pub(crate) struct Stack<T> {
     /// The topmost is the last.
     items: Vec<T>,

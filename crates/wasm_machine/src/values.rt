@@ -7,7 +7,7 @@ use std::marker::Model;
 use wasm_syntax::Value;
 
 /// At most 16 values, in place. Clauses see the list.
-#[derive(Debug, Drop)]
+#[derive(Drop)]
 pub struct Values {
     items: [Value; 16],
     count: usize,

@@ -9,7 +9,7 @@ use crate::op::{Op1, Op2};
 use wasm_syntax::Instr;
 
 /// The operator that an instruction is, if any.
-#[derive(Clone, Copy, Debug, PartialEq, Eq)]
+#[derive(Clone, Copy, PartialEq, Eq)]
 pub enum Numeric {
     /// One of one operand.
     One(Op1),

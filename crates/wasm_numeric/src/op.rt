@@ -16,7 +16,7 @@ pub enum NumTrap {
 }
 
 /// An operator with one operand (Core 1.0 section 5.4.5, opcodes from 0x45 on, and Core 2.0 section 5.4.7, from 0xC0 on).
-#[derive(Clone, Copy, Debug, PartialEq, Eq)]
+#[derive(Clone, Copy, PartialEq, Eq)]
 pub enum Op1 {
     I32Eqz,
     I64Eqz,
@@ -37,7 +37,7 @@ pub enum Op1 {
 }
 
 /// An operator with two operands (Core 1.0 section 5.4.5, opcodes from 0x46 on).
-#[derive(Clone, Copy, Debug, PartialEq, Eq)]
+#[derive(Clone, Copy, PartialEq, Eq)]
 pub enum Op2 {
     I32Eq,
     I32Ne,

@@ -1,7 +1,7 @@
 //! The operators with two operands, without a size.
 
 /// A relation, which is 1 where it holds and 0 where not.
-#[derive(Clone, Copy, Debug, PartialEq, Eq)]
+#[derive(Clone, Copy, PartialEq, Eq)]
 pub enum Relation {
     Eq,
     Ne,
@@ -16,7 +16,7 @@ pub enum Relation {
 }
 
 /// Arithmetic modulo 2 to the size in bits, quotients and remainders.
-#[derive(Clone, Copy, Debug, PartialEq, Eq)]
+#[derive(Clone, Copy, PartialEq, Eq)]
 pub enum Arithmetic {
     Add,
     Sub,
@@ -28,7 +28,7 @@ pub enum Arithmetic {
 }
 
 /// An operation bit by bit.
-#[derive(Clone, Copy, Debug, PartialEq, Eq)]
+#[derive(Clone, Copy, PartialEq, Eq)]
 pub enum Bitwise {
     And,
     Or,
@@ -36,7 +36,7 @@ pub enum Bitwise {
 }
 
 /// A shift or a rotation, by a count modulo the size in bits.
-#[derive(Clone, Copy, Debug, PartialEq, Eq)]
+#[derive(Clone, Copy, PartialEq, Eq)]
 pub enum Shift {
     Shl,
     ShrS,
@@ -46,7 +46,7 @@ pub enum Shift {
 }
 
 /// An operator with two operands, whatever their size.
-#[derive(Clone, Copy, Debug, PartialEq, Eq)]
+#[derive(Clone, Copy, PartialEq, Eq)]
 pub enum Operator {
     Relation(Relation),
     Arithmetic(Arithmetic),

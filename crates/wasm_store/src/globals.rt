@@ -10,7 +10,7 @@ use std::marker::Model;
 use wasm_syntax::{Module, Value};
 
 /// The values of the globals of an instance, by index. Clauses see the list.
-#[derive(Debug, Drop)]
+#[derive(Drop)]
 pub struct Globals {
     values: Vec<Value>,
 }

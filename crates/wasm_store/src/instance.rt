@@ -19,7 +19,7 @@ use wasm_syntax::{Import, ImportKind, Module, ValidModule};
 
 /// A module with its memory, its table and its globals. A module without a memory has one of no bytes that
 /// never grows, and one without a table has one of no elements.
-#[derive(Debug, Drop)]
+#[derive(Drop)]
 pub struct Instance {
     module: ValidModule,
     memory: Memory,
@@ -38,7 +38,7 @@ impl Model for Instance {
 }
 
 /// The parts of an instance.
-#[derive(Debug, Drop)]
+#[derive(Drop)]
 pub struct Parts {
     /// The module.
     pub module: ValidModule,
@@ -51,7 +51,7 @@ pub struct Parts {
 }
 
 /// Why a module was not linked: the first of these causes, in this order, each at the lowest index.
-#[derive(Clone, Copy, Debug, PartialEq, Eq)]
+#[derive(Clone, Copy, PartialEq, Eq)]
 pub enum LinkEnd {
     /// An import that is no function, or that the host does not know.
     UnknownImport { index: usize },

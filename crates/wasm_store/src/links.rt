@@ -8,7 +8,7 @@ ghost use Rattle.wasm_store.specs.declared.links.Judged.TheVariants.{Linked};
 use wasm_syntax::FunctionType;
 
 /// What a host says of a function that a module wants to import.
-#[derive(Clone, Copy, Debug, PartialEq, Eq)]
+#[derive(Clone, Copy, PartialEq, Eq)]
 pub enum Judged {
     /// The host has it.
     Linked,
@@ -33,7 +33,7 @@ pub trait Links {
 }
 
 /// A host that has nothing.
-#[derive(Clone, Copy, Debug, PartialEq, Eq)]
+#[derive(Clone, Copy, PartialEq, Eq)]
 pub struct NoLinks;
 
 impl Links for NoLinks {

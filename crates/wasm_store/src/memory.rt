@@ -13,7 +13,7 @@ pub const PAGE: usize = 65_536;
 
 /// The bytes of an instance, a whole number of pages of 65,536. Clauses see the bytes, and the number of
 /// pages that it never grows past. All that it may grow to is reserved from the start.
-#[derive(Debug, Drop)]
+#[derive(Drop)]
 pub struct Memory {
     bytes: Vec<u8>,
     most: u32,

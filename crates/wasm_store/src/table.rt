@@ -10,7 +10,7 @@ use std::marker::Model;
 
 /// The functions of a table, by the indices that the module gives them: none where an element was never
 /// set. Clauses see the list.
-#[derive(Debug, Drop)]
+#[derive(Drop)]
 pub struct Table {
     elements: Vec<Option<u32>>,
 }

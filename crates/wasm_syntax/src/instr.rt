@@ -9,7 +9,7 @@ use std::alloc::Global;
 use std::marker::Model;
 
 /// What a block leaves.
-#[derive(Clone, Copy, Debug, PartialEq, Eq)]
+#[derive(Clone, Copy, PartialEq, Eq)]
 pub enum BlockType {
     /// Nothing.
     Empty,
@@ -18,7 +18,7 @@ pub enum BlockType {
 }
 
 /// How an instruction reaches the memory.
-#[derive(Clone, Copy, Debug, PartialEq, Eq)]
+#[derive(Clone, Copy, PartialEq, Eq)]
 pub struct MemoryArgument {
     /// The exponent of the alignment, a power of two.
     pub align: u32,
@@ -27,7 +27,7 @@ pub struct MemoryArgument {
 }
 
 /// A block that is open at a place of a flat list.
-#[derive(Clone, Copy, Debug, PartialEq, Eq)]
+#[derive(Clone, Copy, PartialEq, Eq)]
 pub enum Open {
     /// An `if` that has had no `else`.
     InThen,
@@ -39,7 +39,7 @@ pub enum Open {
 pub type Indices = Members<u32>;
 
 /// The labels of a `br_table`. They are kept apart, so that other instructions take no room for them. Clauses see the list.
-#[derive(Debug, Drop)]
+#[derive(Drop)]
 pub struct Labels {
     kept: Box<Indices>,
 }
@@ -71,7 +71,7 @@ impl Labels {
 }
 
 /// The instructions of a body, an initial value or an offset, the last `End` included. Clauses see the list.
-#[derive(Debug, Drop)]
+#[derive(Drop)]
 pub struct Expression {
     instrs: Vec<Instr>,
 }
@@ -128,7 +128,7 @@ impl Expression {
 
 /// An instruction, one variant an opcode, or a number behind the byte 0xFC. Nested instructions stand in one flat list, in which
 /// `Else` and `End` are members, the last `End` of the whole included.
-#[derive(Debug, Drop)]
+#[derive(Drop)]
 pub enum Instr {
     /// `unreachable` (0x00).
     Unreachable,

@@ -3,7 +3,7 @@
 ghost use Rattle.std.specs.Prelude.{◌≡◌};
 
 /// What stands in a section. Its number is the section's id (WebAssembly Core 1.0 section 5.5.2).
-#[derive(Clone, Copy, Debug, PartialEq, Eq)]
+#[derive(Clone, Copy, PartialEq, Eq)]
 pub enum SectionKind {
     Custom,
     Type,
@@ -47,7 +47,7 @@ impl SectionKind {
 }
 
 /// What is imported or exported. Its number is the byte that says so (section 5.5.5).
-#[derive(Clone, Copy, Debug, PartialEq, Eq)]
+#[derive(Clone, Copy, PartialEq, Eq)]
 pub enum ExternalKind {
     Function,
     Table,

@@ -13,7 +13,7 @@ use std::marker::Model;
 const MOST_RUNS: usize = 64;
 
 /// Neighbouring locals of one type.
-#[derive(Clone, Copy, Debug, PartialEq, Eq)]
+#[derive(Clone, Copy, PartialEq, Eq)]
 pub(crate) struct LocalRun {
     /// How many locals there are up to its end, those of the runs before it included.
     pub(crate) end: u32,
@@ -22,7 +22,7 @@ pub(crate) struct LocalRun {
 }
 
 /// The types of locals, by runs of one type. Clauses see the types one by one.
-#[derive(Debug, Drop)]
+#[derive(Drop)]
 pub struct LocalRuns {
     runs: Members<LocalRun>,
 }
@@ -242,7 +242,7 @@ fn append(types: &mut Vec<ValueType>, more: &[ValueType])
 }
 
 /// How the types of locals are kept.
-#[derive(Debug, Drop)]
+#[derive(Drop)]
 enum Kept {
     /// So many of one type.
     Same(u32, ValueType),
@@ -252,7 +252,7 @@ enum Kept {
 }
 
 /// The types of a function's locals, parameters left out. Clauses see them one by one.
-#[derive(Debug, Drop)]
+#[derive(Drop)]
 pub struct LocalList {
     kept: Kept,
 }

@@ -6,7 +6,7 @@ use crate::types::{FunctionType, GlobalType, Limits};
 use gate_base::{Members, Octets, Text};
 
 /// What is imported.
-#[derive(Clone, Copy, Debug, PartialEq, Eq)]
+#[derive(Clone, Copy, PartialEq, Eq)]
 pub enum ImportKind {
     /// A function, by the index of its type.
     Function(u32),
@@ -19,7 +19,7 @@ pub enum ImportKind {
 }
 
 /// An entry of the imports.
-#[derive(Debug, Drop)]
+#[derive(Drop)]
 pub struct Import {
     /// The name of the module that has it.
     pub module: Text,
@@ -30,7 +30,7 @@ pub struct Import {
 }
 
 /// A global with its initial value.
-#[derive(Debug, Drop)]
+#[derive(Drop)]
 pub struct Global {
     /// Its type.
     pub of: GlobalType,
@@ -39,7 +39,7 @@ pub struct Global {
 }
 
 /// What is exported, by its index.
-#[derive(Clone, Copy, Debug, PartialEq, Eq)]
+#[derive(Clone, Copy, PartialEq, Eq)]
 pub enum ExportKind {
     /// A function.
     Function(u32),
@@ -52,7 +52,7 @@ pub enum ExportKind {
 }
 
 /// An entry of the exports.
-#[derive(Debug, Drop)]
+#[derive(Drop)]
 pub struct Export {
     /// Its name.
     pub name: Text,
@@ -61,7 +61,7 @@ pub struct Export {
 }
 
 /// Functions that are put into a table at the start.
-#[derive(Debug, Drop)]
+#[derive(Drop)]
 pub struct Element {
     /// The index of the table.
     pub table: u32,
@@ -72,7 +72,7 @@ pub struct Element {
 }
 
 /// The code of a function.
-#[derive(Debug, Drop)]
+#[derive(Drop)]
 pub struct Code {
     /// The types of its locals, parameters left out.
     pub locals: LocalList,
@@ -81,7 +81,7 @@ pub struct Code {
 }
 
 /// Bytes that are put into a memory at the start (a data segment).
-#[derive(Debug, Drop)]
+#[derive(Drop)]
 pub struct Segment {
     /// The index of the memory.
     pub memory: u32,
@@ -92,7 +92,7 @@ pub struct Segment {
 }
 
 /// A module. Its indices count imports first.
-#[derive(Debug, Drop)]
+#[derive(Drop)]
 pub struct Module {
     /// The types of functions.
     pub types: Members<FunctionType>,

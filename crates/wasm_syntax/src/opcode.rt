@@ -420,7 +420,7 @@ pub fn opcode_at(byte: u8) -> OpcodeByte
 }
 
 /// An instruction behind the byte 0xFC. Its number is the one that stands there (Core 2.0 section 5.4.6).
-#[derive(Clone, Copy, Debug, PartialEq, Eq)]
+#[derive(Clone, Copy, PartialEq, Eq)]
 pub enum Prefixed {
     MemoryCopy = 10,
     MemoryFill = 11,
@@ -438,7 +438,7 @@ impl Prefixed {
 }
 
 /// What a number says behind the byte 0xFC.
-#[derive(Clone, Copy, Debug, PartialEq, Eq)]
+#[derive(Clone, Copy, PartialEq, Eq)]
 pub enum PrefixedNumber {
     /// An instruction of the profile.
     Known(Prefixed),

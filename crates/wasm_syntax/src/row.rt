@@ -8,7 +8,7 @@ use crate::types::ValueType;
 
 /// The row of the table in which an instruction stands. An index is a function, type, local, global
 /// or label.
-#[derive(Clone, Copy, Debug, PartialEq, Eq)]
+#[derive(Clone, Copy, PartialEq, Eq)]
 pub enum Row {
     Unreachable,
     Nop,

@@ -6,7 +6,7 @@ use crate::types::{FunctionType, Limits};
 use gate_base::Members;
 
 /// What a section says.
-#[derive(Debug, Drop)]
+#[derive(Drop)]
 pub enum Section {
     /// Nothing that is kept.
     Custom,
@@ -25,7 +25,7 @@ pub enum Section {
 
 /// The sections so far: the greatest id, and how many functions and codes there are, where there
 /// were such sections.
-#[derive(Clone, Copy, Debug, PartialEq, Eq)]
+#[derive(Clone, Copy, PartialEq, Eq)]
 pub struct Before {
     /// The greatest id, 0 before the first.
     pub last: u8,

@@ -3,7 +3,7 @@
 use gate_base::Members;
 
 /// A value of the machine.
-#[derive(Clone, Copy, Debug, PartialEq, Eq)]
+#[derive(Clone, Copy, PartialEq, Eq)]
 pub enum Value {
     /// 32 bits.
     I32(u32),
@@ -12,7 +12,7 @@ pub enum Value {
 }
 
 /// The type of a value.
-#[derive(Clone, Copy, Debug, PartialEq, Eq)]
+#[derive(Clone, Copy, PartialEq, Eq)]
 pub enum ValueType {
     /// 32 bits.
     I32,
@@ -24,7 +24,7 @@ pub enum ValueType {
 pub type ValueTypes = Members<ValueType>;
 
 /// What a function takes and gives.
-#[derive(Debug, Drop)]
+#[derive(Drop)]
 pub struct FunctionType {
     /// The types of what it takes.
     pub parameters: ValueTypes,
@@ -33,7 +33,7 @@ pub struct FunctionType {
 }
 
 /// The bounds on the size of a table, in elements, or of a memory, in pages of 65,536 bytes.
-#[derive(Clone, Copy, Debug, PartialEq, Eq)]
+#[derive(Clone, Copy, PartialEq, Eq)]
 pub struct Limits {
     /// The size at the start.
     pub minimum: u32,
@@ -42,7 +42,7 @@ pub struct Limits {
 }
 
 /// The type of a global.
-#[derive(Clone, Copy, Debug, PartialEq, Eq)]
+#[derive(Clone, Copy, PartialEq, Eq)]
 pub struct GlobalType {
     /// The type of its value.
     pub value: ValueType,

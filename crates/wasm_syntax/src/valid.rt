@@ -24,7 +24,7 @@ pub enum Part {
 }
 
 /// A module that is valid. Clauses see the module.
-#[derive(Debug, Drop)]
+#[derive(Drop)]
 pub struct ValidModule {
     module: Module,
 }

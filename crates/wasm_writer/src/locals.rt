@@ -11,7 +11,7 @@ use std::alloc::Global;
 use wasm_syntax::{Code, LocalList, ValueType};
 
 /// Neighbouring locals of one type.
-#[derive(Clone, Copy, Debug, PartialEq, Eq)]
+#[derive(Clone, Copy, PartialEq, Eq)]
 pub(crate) struct Group {
     /// How many there are.
     pub(crate) count: u32,

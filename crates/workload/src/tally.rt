@@ -5,7 +5,7 @@ ghost use Rattle.workload.specs.Tallies.{sum_of, tally_of, with_sent};
 use gate_io::{Sent, Side};
 
 /// Counts of what worlds received, each modulo 2^64.
-#[derive(Clone, Copy, Debug, PartialEq, Eq)]
+#[derive(Clone, Copy, PartialEq, Eq)]
 pub struct Tally {
     /// The connections that were to be made, one for each request that is sent up.
     pub connects: u64,
