@@ -46,7 +46,7 @@ fn goes_up(x: &Exchange) -> Framing
     up_framing(x.filters_requests, x.asked)
 }
 
-/// The bytes of a piece of a body that is framed so.
+/// The bytes of a piece of a body that is framed so: those of the piece, not copied, where nothing stands around them.
 fn piece_bytes(
     alloc: Global,
     bytes: Octets,
@@ -55,6 +55,9 @@ fn piece_bytes(
 ) -> Result<Octets, OutOfMemory>
     ensures { IfOk result (λ out. out ≡ piece_wire (seen_framing framing) bytes end) }
 {
+    if let Framing::Length(_) | Framing::UntilClose = framing {
+        return Ok(bytes);
+    }
     let mut out = Octets::new(alloc);
     write_item(alloc, &mut out, &Part::Piece { bytes, end }, framing)?;
     Ok(out)

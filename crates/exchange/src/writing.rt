@@ -25,6 +25,9 @@ fn via_value(minor: u8) -> &'static [u8]
     }
 }
 
+/// So many bytes there is room for at first where a head is written: most heads have fewer.
+const HEAD_ROOM: usize = 1024;
+
 /// The bytes of the head of a request on its way up, which was received with this minor version.
 pub(crate) fn request_bytes(
     alloc: Global,
@@ -34,7 +37,7 @@ pub(crate) fn request_bytes(
 ) -> Result<Octets, OutOfMemory>
     ensures { IfOk result (λ bytes. bytes ≡ head_wire (seen_framing framing) (sent_head fields.now (up_tail minor))) }
 {
-    let mut out = Octets::new(alloc);
+    let mut out = Octets::from_vec(Vec::with_capacity(alloc, HEAD_ROOM)?);
     push_start(&mut out, fields)?;
     push_fields(alloc, &mut out, fields.texts())?;
     push_framing(&mut out, framing)?;
@@ -75,7 +78,7 @@ pub(crate) fn response_bytes(
 ) -> Result<Octets, OutOfMemory>
     ensures { IfOk result (λ bytes. bytes ≡ head_wire (seen_framing framing) (sent_head fields.now (down_tail stays now fields.now))) }
 {
-    let mut out = Octets::new(alloc);
+    let mut out = Octets::from_vec(Vec::with_capacity(alloc, HEAD_ROOM)?);
     push_start(&mut out, fields)?;
     push_fields(alloc, &mut out, fields.texts())?;
     push_framing(&mut out, framing)?;
