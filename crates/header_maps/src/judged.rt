@@ -26,7 +26,7 @@ fn ends_alike(a: &[u8], b: &[u8]) -> bool
 pub fn is_same_word(a: &[u8], b: &[u8]) -> bool
     ensures { result ≡ bytes_eq (lowercase a.now) (lowercase b.now) }
 {
-    a.len() == b.len() && ends_alike(a, b) && a.eq_ignore_ascii_case(b)
+    a.len() == b.len() && ends_alike(a, b) && (a == b || a.eq_ignore_ascii_case(b))
 }
 
 /// Whether all bytes are such as a token has.
