@@ -1,14 +1,3 @@
-pub mod Allowed
-pub mod Heard
-pub mod Homes
-pub mod Keeping
-pub mod Lines
 pub mod LogLine
-pub mod Numbers
-pub mod Origins
-pub mod Passing
 pub mod Sites
-pub mod Spent
-pub mod Told
-pub mod Waiting
 pub mod Worlds

@@ -2,7 +2,7 @@
 use Rattle.std.specs.Prelude.{◌≡◌, ℕ, false, List, [], ◌∷◌, All}
 use Rattle.std.specs.declared.net.socket_addr.SocketAddr.{SocketAddr}
 use Rattle.std.specs.Net.Grammar.{IsSocketText}
-use Rattle.gate_live.specs.Origins.{Accepts}
+use Rattle.live_sockets.specs.Origins.{Accepts}
 use Rattle.gate_live.specs.declared.live_world.LiveWorld.{LiveWorld}
 
 -- A world in which nothing has happened, with this address of the upstream server.

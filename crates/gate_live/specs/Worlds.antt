@@ -4,10 +4,10 @@ use Rattle.gate_io.specs.declared.event.Side.{Side}
 use Rattle.gate_io.specs.declared.event.What.{What}
 use Rattle.gate_io.specs.Events.{Last}
 use Rattle.gate_io.specs.Nature.{Nature}
-use Rattle.gate_live.specs.Keeping.{WasHeard}
-use Rattle.gate_live.specs.Lines.{SentIn, ConnectedIn, ClosedIn}
-use Rattle.gate_live.specs.Origins.{HasEnded}
-use Rattle.gate_live.specs.Told.{LiesIn}
+use Rattle.live_sockets.specs.Keeping.{WasHeard}
+use Rattle.live_lines.specs.Lines.{SentIn, ConnectedIn, ClosedIn}
+use Rattle.live_sockets.specs.Origins.{HasEnded}
+use Rattle.live_lines.specs.Told.{LiesIn}
 use Rattle.gate_live.specs.declared.live_world.LiveWorld.{LiveWorld}
 
 -- the last event that was given

@@ -1,15 +1,14 @@
 // The outside over sockets.
-ghost use Rattle.std.specs.Prelude.{◌≡◌, ◌≤◌, [], length, unwrap_or, IfOk};
+ghost use Rattle.std.specs.Prelude.{◌≡◌, ◌≤◌, ◌+◌, [], length, unwrap_or, IfOk};
 ghost use Rattle.std.specs.Net.Grammar.{IsSocketText};
-ghost use Rattle.gate_live.specs.Homes.{AreHome, AreUnused};
-ghost use Rattle.gate_live.specs.Origins.{Accepts};
+ghost use Rattle.live_sockets.specs.Homes.{AreHome, AreUnused};
+ghost use Rattle.live_sockets.specs.Origins.{Accepts};
 ghost use Rattle.gate_live.specs.Sites.{AreNew, AreUntouched, FirstAccepts, IsUntouched};
 
 use crate::LiveWorld;
-use crate::origin::{Acceptor, Neighbor, Origin, join_queue};
-use crate::peer::Peer;
-use crate::sockets::{ORIGIN, Sockets};
 use gate_io::{Settings, Site, SiteEnd};
+use live_lines::Peer;
+use live_sockets::{Acceptor, Buffers, Mailbox, Neighbor, ORIGIN, Origin, Sockets, join_queue};
 use mio::net::TcpListener;
 use mio::{Interest, Poll, Waker};
 use std::alloc::Global;
@@ -68,38 +67,84 @@ fn seed_of<R: RandomSource>(rt: &R) -> Result<[u8; 32], SiteEnd> {
     }
 }
 
+/// What a world has beside its poll and its origin.
+#[derive(Drop)]
+struct Ground<R> {
+    rt: R,
+    seed: [u8; 32],
+    buffers: Buffers,
+}
+
+/// What a world has beside its poll and its origin, with a handle of the runtime of its own.
+fn ground_of<R: RandomSource + Clone + Drop>(alloc: Global, rt: &R) -> Result<Ground<R>, SiteEnd> {
+    let seed = seed_of(rt)?;
+    let rt = rt.clone()?;
+    let buffers = Buffers::new(alloc)?;
+    Ok(Ground { rt, seed, buffers })
+}
+
 /// A world over a poll, whose lines come from an origin that it watches.
-fn world_of<R: RandomSource + Clone + Drop>(
+fn world_of<R: Drop>(
     alloc: Global,
-    rt: &R,
+    ground: Ground<R>,
     poll: Poll,
     origin: Origin,
     upstream: SocketAddr,
-) -> Result<LiveWorld<R, Peer>, SiteEnd>
-    ensures untouched { IfOk result (λ w. IsUntouched upstream w) }
-    ensures origin { IfOk result (λ w. w.sockets.origin ≡ origin) }
+) -> LiveWorld<R, Peer>
+    ensures untouched { IsUntouched upstream result }
+    ensures origin { result.sockets.origin ≡ origin }
 {
-    let seed = seed_of(rt)?;
-    let sockets = Sockets::new(alloc, poll, origin, upstream)?;
-    let rt = rt.clone()?;
-    Ok(LiveWorld::new(rt, seed, sockets))
+    let Ground { rt, seed, buffers } = ground;
+    LiveWorld::new(
+        rt,
+        seed,
+        Sockets::new(alloc, poll, origin, upstream, buffers),
+    )
 }
 
-/// A poll with its waker.
-fn waking_poll<R: Net>(rt: &R) -> Result<(Poll, Waker), SiteEnd> {
-    let poll = Poll::new(rt).map_err(end_of)?;
-    let waker = Waker::new(poll.registry(), ORIGIN).map_err(end_of)?;
-    Ok((poll, waker))
+/// A poll.
+fn poll_of<R: Net>(rt: &R) -> Result<Poll, SiteEnd> {
+    Poll::new(rt).map_err(end_of)
+}
+
+/// A waker of a poll.
+fn waker_of(poll: &Poll) -> Result<Waker, SiteEnd> {
+    Waker::new(poll.registry(), ORIGIN).map_err(end_of)
+}
+
+/// A listener at this address.
+fn listener_at<R: Net>(rt: &R, listen: SocketAddr) -> Result<TcpListener, SiteEnd> {
+    TcpListener::bind(rt, listen).map_err(end_of)
+}
+
+/// Has a poll watch a listener.
+fn watch(poll: &Poll, listener: &mut TcpListener) -> Result<(), SiteEnd> {
+    poll.registry()
+        .register(listener, ORIGIN, Interest::READABLE)
+        .map_err(end_of)
 }
 
 /// A poll that watches a listener at this address.
 fn listening_poll<R: Net>(rt: &R, listen: SocketAddr) -> Result<(Poll, TcpListener), SiteEnd> {
-    let poll = Poll::new(rt).map_err(end_of)?;
-    let mut listener = TcpListener::bind(rt, listen).map_err(end_of)?;
-    poll.registry()
-        .register(&mut listener, ORIGIN, Interest::READABLE)
-        .map_err(end_of)?;
+    let poll = poll_of(rt)?;
+    let mut listener = listener_at(rt, listen)?;
+    watch(&poll, &mut listener)?;
     Ok((poll, listener))
+}
+
+/// A poll with its waker, with which a queue is made.
+fn waking_poll<R: Net>(
+    alloc: Global,
+    rt: &R,
+    ended: &Arc<AtomicU64>,
+) -> Result<(Poll, Neighbor, Mailbox), SiteEnd>
+    ensures offered { IfOk result (λ ends. ends.1.giver.lines ≡ []) }
+{
+    let ended = Arc::try_clone(ended)?;
+    let poll = poll_of(rt)?;
+    let waker = waker_of(&poll)?;
+    let (neighbor, mailbox) = join_queue(alloc, waker, ended)?;
+    Ok((poll, neighbor, mailbox))
 }
 
 /// A world to which lines are handed over, and the queue to it.
@@ -112,13 +157,32 @@ fn other_world<R: Net + RandomSource + Clone + Drop>(
     ensures untouched { IfOk result (λ w. IsUntouched upstream w.1) }
     ensures offered { IfOk result (λ w. w.0.giver.lines ≡ []) }
 {
-    let (poll, waker) = waking_poll(rt)?;
-    let (neighbor, mailbox) = join_queue(alloc, waker, Arc::try_clone(ended)?)?;
-    let world = world_of(alloc, rt, poll, Origin::Mailbox(mailbox), upstream)?;
+    let ground = ground_of(alloc, rt)?;
+    let (poll, neighbor, mailbox) = waking_poll(alloc, rt, ended)?;
+    let world = world_of(alloc, ground, poll, Origin::Mailbox(mailbox), upstream);
     Ok((neighbor, world))
 }
 
-/// The worlds of workers 2 and up, to which lines are handed over.
+/// Puts a world to which lines are handed over behind others, and the queue to it behind theirs.
+fn add_world<R: Net + RandomSource + Clone + Drop>(
+    alloc: Global,
+    rt: &R,
+    upstream: SocketAddr,
+    ended: &Arc<AtomicU64>,
+    others: &mut Vec<Neighbor>,
+    worlds: &mut Vec<LiveWorld<R, Peer>>,
+) -> Result<(), SiteEnd>
+    ensures untouched { AreUntouched upstream worlds.old.items → IfOk result (λ _. AreUntouched upstream worlds.new.items) }
+    ensures count { IfOk result (λ _. length worlds.new.items ≡ length worlds.old.items + 1) }
+    ensures offered { AreUnused others.old.items → IfOk result (λ _. AreUnused others.new.items) }
+{
+    let (neighbor, world) = other_world(alloc, rt, upstream, ended)?;
+    others.push(neighbor)?;
+    worlds.push(world)?;
+    Ok(())
+}
+
+/// Puts the worlds of workers 2 and up, to which lines are handed over, behind others, and the queues to them behind theirs.
 fn other_worlds<R: Net + RandomSource + Clone + Drop>(
     alloc: Global,
     rt: &R,
@@ -126,18 +190,28 @@ fn other_worlds<R: Net + RandomSource + Clone + Drop>(
     upstream: SocketAddr,
     ended: &Arc<AtomicU64>,
     others: &mut Vec<Neighbor>,
-) -> Result<Vec<LiveWorld<R, Peer>>, SiteEnd>
-    ensures untouched { IfOk result (λ worlds. AreUntouched upstream worlds.items) }
-    ensures count { IfOk result (λ worlds. length worlds.items ≡ count) }
+    worlds: &mut Vec<LiveWorld<R, Peer>>,
+) -> Result<(), SiteEnd>
+    ensures untouched { AreUntouched upstream worlds.old.items → IfOk result (λ _. AreUntouched upstream worlds.new.items) }
+    ensures count { IfOk result (λ _. length worlds.new.items ≡ length worlds.old.items + count) }
     ensures offered { AreUnused others.old.items → IfOk result (λ _. AreUnused others.new.items) }
 {
-    let mut worlds = Vec::new(alloc);
     for _ in 0..count {
-        let (neighbor, world) = other_world(alloc, rt, upstream, ended)?;
-        others.push(neighbor)?;
-        worlds.push(world)?;
+        add_world(alloc, rt, upstream, ended, others, worlds)?;
     }
-    Ok(worlds)
+    Ok(())
+}
+
+/// What the world of worker 1 has, with a poll that watches a listener at the settings' address.
+fn listening<R: Net + RandomSource + Clone + Drop>(
+    alloc: Global,
+    rt: &R,
+    settings: &Settings,
+) -> Result<(Ground<R>, Poll, TcpListener), SiteEnd> {
+    let listen = address_of(settings.listen.as_str())?;
+    let ground = ground_of(alloc, rt)?;
+    let (poll, listener) = listening_poll(rt, listen)?;
+    Ok((ground, poll, listener))
 }
 
 /// The world of worker 1, which listens, and hands lines over to the others.
@@ -153,15 +227,36 @@ fn first_world<R: Net + RandomSource + Clone + Drop>(
     ensures untouched { IfOk result (λ w. IsUntouched upstream w) }
     ensures accepts { IfOk result (λ w. Accepts (unwrap_or settings.now.stop_after 4294967295) w.sockets.origin) }
 {
-    let listen = address_of(settings.listen.as_str())?;
-    let (poll, listener) = listening_poll(rt, listen)?;
+    let (ground, poll, listener) = listening(alloc, rt, settings)?;
     let most = settings.stop_after.unwrap_or(u32::MAX);
     let origin = Origin::Listener(Acceptor::new(listener, most, others, ended));
-    world_of(alloc, rt, poll, origin, upstream)
+    Ok(world_of(alloc, ground, poll, origin, upstream))
+}
+
+/// Puts a world for each worker among others, the first in front of them.
+#[tactic(auto, using(crate::proofs::Worlds::home))]
+fn fill<R: Net + RandomSource + Clone + Drop>(
+    alloc: Global,
+    rt: &R,
+    settings: &Settings,
+    upstream: SocketAddr,
+    worlds: &mut Vec<LiveWorld<R, Peer>>,
+) -> Result<(), SiteEnd>
+    requires { 1 ≤ settings.now.workers }
+    ensures untouched { AreUntouched upstream worlds.old.items → IfOk result (λ _. AreUntouched upstream worlds.new.items) }
+    ensures count { IfOk result (λ _. length worlds.new.items ≡ length worlds.old.items + settings.now.workers) }
+    ensures accepts { IfOk result (λ _. FirstAccepts (unwrap_or settings.now.stop_after 4294967295) worlds.new.items) }
+{
+    let ended = Arc::new(alloc, AtomicU64::new(0))?;
+    let mut others = Vec::new(alloc);
+    let count = settings.workers - 1;
+    other_worlds(alloc, rt, count, upstream, &ended, &mut others, worlds)?;
+    let first = first_world(alloc, rt, settings, upstream, others, ended)?;
+    worlds.insert(0, first)?;
+    Ok(())
 }
 
 /// Listens, and makes a world for each worker.
-#[tactic(auto, using(crate::proofs::Homes::unused_home))]
 fn worlds_of<R: Net + RandomSource + Clone + Drop>(
     alloc: Global,
     rt: &R,
@@ -174,13 +269,9 @@ fn worlds_of<R: Net + RandomSource + Clone + Drop>(
     if settings.workers == 0 {
         return Err(SiteEnd::Failed);
     }
-    let count = settings.workers - 1;
     let upstream = address_of(settings.upstream.as_str())?;
-    let ended = Arc::new(alloc, AtomicU64::new(0))?;
-    let mut others = Vec::new(alloc);
-    let mut worlds = other_worlds(alloc, rt, count, upstream, &ended, &mut others)?;
-    let first = first_world(alloc, rt, settings, upstream, others, ended)?;
-    worlds.insert(0, first)?;
+    let mut worlds = Vec::new(alloc);
+    fill(alloc, rt, settings, upstream, &mut worlds)?;
     Ok(worlds)
 }
 

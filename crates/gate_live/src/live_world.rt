@@ -1,14 +1,13 @@
 // A worker's outside over sockets.
 ghost use Rattle.std.specs.Prelude.{◌≡◌, ◌≤◌, ◌⊎◌, IfOk, IfSome, IfNone, IsSomeAnd, OnErr};
 ghost use Rattle.gate_io.specs.Events.{Follows, Obeys, is_stop};
-ghost use Rattle.gate_live.specs.Spent.{IsBefore, IsEarly, IsOfLine, is_clock};
+ghost use Rattle.live_sockets.specs.Spent.{IsBefore, IsEarly, IsOfLine, is_clock};
 
-use crate::duplex::Duplex;
 use crate::log_line::log_line;
-use crate::moments::Moments;
-use crate::sockets::Sockets;
 use gate_base::{Level, LineNo, OutOfMemory};
 use gate_io::{Event, Side, Wants, What, World, WorldEnd};
+use live_lines::Duplex;
+use live_sockets::{Moments, Sockets};
 use std::alloc::Global;
 use std::net::Net;
 use std::str;
@@ -49,13 +48,27 @@ impl<R, P> LiveWorld<R, P> {
             faults: 0,
         }
     }
+
+    /// A Clock comes at this moment.
+    fn tick(&mut self, now: u64)
+        ensures now { self.new.now ≡ now }
+        ensures stopped { self.new.stopped ≡ self.old.stopped }
+        ensures seed { self.new.seed ≡ self.old.seed }
+        ensures faults { self.new.faults ≡ self.old.faults }
+        ensures lines { self.new.sockets.lines ≡ self.old.sockets.lines }
+    {
+        // The system is asked in front of what is heard next, as in `Sockets::wait`.
+        self.sockets.turns = 0;
+        self.now = now;
+        self.told = true;
+    }
 }
 
 impl<R: Net + Clock + Wait + Eprint, P: Duplex> World for LiveWorld<R, P> {
     ghost use Rattle.std.specs.Prelude.{None, length};
     ghost use Rattle.gate_io.specs.Events.{after_next};
     ghost use Rattle.gate_io.specs.Told.{Rose};
-    ghost use Rattle.gate_live.specs.Allowed.{no_promise};
+    ghost use Rattle.live_lines.specs.Allowed.{no_promise};
     ghost use Rattle.gate_live.specs.Worlds.{last_in, nature_of, AcceptsNone, Gives, Sends, Connects, Closes};
 
     ghost trace = { λ _. None };
@@ -134,10 +147,7 @@ impl<R: Net + Clock + Wait + Eprint, P: Duplex> World for LiveWorld<R, P> {
         ensures faults { self.new.faults ≡ self.old.faults }
     {
         let line = log_line(alloc, level, text)?;
-        // A line that can't be written is lost.
-        if let Ok(line) = str::from_utf8(&line) {
-            let _ = self.rt.eprint(line);
-        }
+        show(&self.rt, &line);
         Ok(())
     }
 
@@ -148,13 +158,13 @@ impl<R: Net + Clock + Wait + Eprint, P: Duplex> World for LiveWorld<R, P> {
 
 impl<R: Net + Clock + Wait, P: Duplex> LiveWorld<R, P> {
     ghost use Rattle.std.specs.Prelude.{false};
-    ghost use Rattle.gate_live.specs.Spent.{IsDue, IsEarly};
+    ghost use Rattle.live_sockets.specs.Spent.{IsDue, IsEarly};
     ghost use Rattle.gate_live.specs.Worlds.{Gives};
 
     /// The next event, at the clock's moment, or that of the last one where the clock went back. What has fallen due comes by a Clock of its own, in
     /// front of what happens to lines or behind one event more: that event has a moment before it, whatever the clock says. A turn does what is due in
     /// front of its event, and may open another connection for the event's line then; so it would take what the former server said for the new one's.
-    #[tactic(auto, using(crate::proofs::Kept::kept_same))]
+    #[tactic(auto, using(crate::proofs::Worlds::kept_lines))]
     fn following(&mut self, alloc: Global, wants: &Wants) -> Result<Event, WorldEnd>
         ensures event { IfOk result (Follows (record { now = self.old.now; stopped = self.old.stopped })) }
         ensures last { IfOk result (λ event. (self.new.now ≡ event.now) × (self.new.stopped ≡ is_stop event.what)) }
@@ -173,16 +183,32 @@ impl<R: Net + Clock + Wait, P: Duplex> LiveWorld<R, P> {
             });
         }
         let moments = &mut self.sockets.moments;
-        if let Some(now) = fallen_due(&self.rt, moments, wants.due, self.now, self.told)? {
-            // The system is asked in front of what is heard next, as in `Sockets::wait`.
-            self.sockets.turns = 0;
-            self.now = now;
-            self.told = true;
-            return Ok(Event {
-                now,
-                what: What::Clock,
-            });
+        match fallen_due(&self.rt, moments, wants.due, self.now, self.told)? {
+            Some(now) => {
+                self.tick(now);
+                Ok(Event {
+                    now,
+                    what: What::Clock,
+                })
+            }
+            None => self.happening(alloc, wants),
         }
+    }
+
+    /// The next event where the last one was not Stop, and at it nothing that the worker asked for was due.
+    fn happening(&mut self, alloc: Global, wants: &Wants) -> Result<Event, WorldEnd>
+        requires goes_on { self.old.stopped ≡ false }
+        requires before { IsBefore wants.now.due self.old.now }
+        ensures event { IfOk result (Follows (record { now = self.old.now; stopped = self.old.stopped })) }
+        ensures last { IfOk result (λ event. (self.new.now ≡ event.now) × (self.new.stopped ≡ is_stop event.what)) }
+        ensures err { OnErr result ((self.new.now ≡ self.old.now) × (self.new.stopped ≡ self.old.stopped)) }
+        ensures obeys { IfOk result (λ event. Obeys wants.now event.what) }
+        ensures seed { self.new.seed ≡ self.old.seed }
+        ensures faults { self.new.faults ≡ self.old.faults }
+        ensures due { IfOk result (λ event. IsDue event.what wants.now.due event.now self.new.sockets) }
+        ensures early { IfOk result (λ event. IsEarly event.what wants.now.due event.now) }
+        ensures heard { IfOk result (λ event. Gives P.gave P.took self.old event.what self.new) }
+    {
         let what = self.sockets.wait(alloc, &self.rt, wants)?;
         let seen = self.now.max(self.sockets.seen());
         let moment = self.sockets.moments.now(&self.rt)?.max(seen);
@@ -191,6 +217,13 @@ impl<R: Net + Clock + Wait, P: Duplex> LiveWorld<R, P> {
         self.told = is_clock(&what);
         self.stopped = is_stop(&what);
         Ok(Event { now, what })
+    }
+}
+
+/// Writes a line of the log. One that can't be written is lost.
+fn show<R: Eprint>(rt: &R, line: &[u8]) {
+    if let Ok(line) = str::from_utf8(line) {
+        let _ = rt.eprint(line);
     }
 }
 

@@ -1,5 +1,0 @@
-use Rattle.gate_live.specs.Waiting.{is_full}
-use Rattle.gate_live.proofs.line.Line.heard.Goals as goal
-
-pub returns-clause-held : goal.returns-clause-held
-returns-clause-held g c = c.heard_up-2.ensures.free (is_full c.args.self.now.up)

@@ -1,6 +1,0 @@
-use Rattle.gate_live.specs.Keeping.{AreKept}
-use Rattle.gate_live.proofs.sockets.Sockets.heard.Given as goal
-
--- nothing was heard so far
-abbrev pub invariant-loop : goal.invariant-loop
-invariant-loop g l = AreKept g.P.Duplex.gave g.P.Duplex.took l.fn.self.lines.items l.self.lines.items

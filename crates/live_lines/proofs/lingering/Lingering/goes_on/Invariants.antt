@@ -1,0 +1,12 @@
+use Rattle.std.proofs.Common.{◌≡◌, []}
+use Rattle.live_lines.specs.Waiting.{GoesOn}
+use Rattle.live_lines.proofs.lingering.Lingering.goes_on.Given as goal
+
+-- what waited was sent on once, and what is read since then changes nothing of it
+abbrev pub invariant-loop : goal.invariant-loop
+invariant-loop g l =
+    let took = g.P.Duplex.took in
+    record {
+      goes_on : GoesOn (took l.fn.self.peer) l.fn.self.waiting [] (took l.self.peer) l.self.waiting;
+      until : l.self.until ≡ l.fn.self.until;
+    }

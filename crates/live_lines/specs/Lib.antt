@@ -1,0 +1,6 @@
+pub mod Allowed
+pub mod Heard
+pub mod Lines
+pub mod Passing
+pub mod Told
+pub mod Waiting

@@ -1,0 +1,82 @@
+// A connection, from which bytes are read and to which they are written.
+ghost use Rattle.std.specs.Prelude.{◌≡◌, ◌≤◌, ℕ, List, Option, length, take};
+ghost use Rattle.gate_io.specs.Told.{Gains};
+ghost use Rattle.live_lines.specs.Heard.{IsHeard, bytes_heard};
+
+use crate::room::Room;
+use mio::event::Event as Readiness;
+use mio::net::TcpStream;
+use mio::{Registry, Token};
+use std::io;
+
+/// What a read gave.
+pub enum Heard {
+    /// So many bytes.
+    Bytes(usize),
+    /// The peer sends nothing more.
+    End,
+    /// The connection is gone.
+    Lost,
+    /// Nothing as yet.
+    Nothing,
+}
+
+/// A connection, from which bytes are read and to which they are written.
+pub trait Duplex: Drop {
+    /// All bytes that it gave so far, in order, where told.
+    ghost gave: { Self → Option (List ℕ) };
+
+    /// All bytes that it took so far, in order, where told.
+    ghost took: { Self → Option (List ℕ) };
+
+    /// The connection over a stream, registered under a token. One that is `joining` was begun and is not known to stand.
+    fn over(
+        stream: TcpStream,
+        registry: &Registry,
+        token: Token,
+        joining: bool,
+    ) -> io::Result<Self>;
+
+    /// Reads what is there, at most 16,384 bytes.
+    fn read(&mut self, room: &mut Room) -> Heard
+        ensures heard { IsHeard result }
+        ensures gave { Gains (gave self.old) (bytes_heard room.new.bytes.items result) (gave self.new) }
+        ensures kept { took self.new ≡ took self.old };
+
+    /// Takes bytes from the front, as many as there is room for: the answer is how many. Those for a connection that is gone count
+    /// as taken.
+    fn write(&mut self, bytes: &[u8]) -> usize
+        ensures bound { result ≤ length bytes.now }
+        ensures took { Gains (took self.old) (take result bytes.now) (took self.new) }
+        ensures kept { gave self.new ≡ gave self.old };
+
+    /// Keeps what the system told.
+    fn note(&mut self, told: &Readiness)
+        ensures gave { gave self.new ≡ gave self.old }
+        ensures took { took self.new ≡ took self.old };
+
+    /// Whether a call on it failed.
+    fn is_broken(&self) -> bool;
+
+    /// Whether it was refused before it stood.
+    fn is_refused(&self) -> bool;
+
+    /// Whether something may be there to read.
+    fn is_readable(&self) -> bool;
+
+    /// Whether the peer's end was read.
+    fn is_ended(&self) -> bool;
+
+    /// Whether there is room again behind a write that took less than its piece. It is told once.
+    fn has_room_again(&mut self) -> bool
+        ensures gave { gave self.new ≡ gave self.old }
+        ensures took { took self.new ≡ took self.old };
+
+    /// Registers it under another token. False says that the system refused.
+    fn move_to(&mut self, registry: &Registry, token: Token) -> bool
+        ensures gave { gave self.new ≡ gave self.old }
+        ensures took { took self.new ≡ took self.old };
+
+    /// Tells the peer that nothing more comes.
+    fn finish(&self);
+}

@@ -1,0 +1,18 @@
+//! A line over connections: what is read of them, what goes to them, and what waits for the server.
+#![tactic(auto)]
+
+mod duplex;
+mod line;
+mod lingering;
+mod peer;
+mod room;
+mod upstream;
+mod waiting;
+
+pub use duplex::{Duplex, Heard};
+pub use line::Line;
+pub use lingering::{LINGER, Lingering, MOST_LEFT, MOST_LINGERING};
+pub use peer::Peer;
+pub use room::Room;
+pub use upstream::Upstream;
+pub use waiting::Waiting;

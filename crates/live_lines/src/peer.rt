@@ -1,0 +1,191 @@
+// A connection to a peer.
+ghost use Rattle.live_lines.specs.Heard.{IsHeard};
+
+use crate::duplex::{Duplex, Heard};
+use crate::room::Room;
+use mio::event::Event as Readiness;
+use mio::net::TcpStream;
+use mio::{Interest, Registry, Token};
+use std::io;
+use std::io::{ErrorKind, Read, Write};
+use std::net::Shutdown;
+
+/// The most bytes that one event brings.
+const MOST_BYTES: usize = 16_384;
+
+/// A connection, and what its socket is ready for as far as is known. The system tells a change once, so what it told
+/// stands until a call would have to wait.
+#[derive(Drop)]
+pub struct Peer {
+    stream: TcpStream,
+    /// Something may be there to read.
+    readable: bool,
+    /// The peer's end stands behind what is there to read.
+    ending: bool,
+    /// There may be room to write.
+    writable: bool,
+    /// A write took less than its piece, which was not told to be over.
+    short: bool,
+    /// It is not yet known to stand.
+    joining: bool,
+    /// A call on it failed.
+    broken: bool,
+    /// The peer's end was read.
+    ended: bool,
+}
+
+impl Peer {
+    /// The peer's end was read.
+    fn end(&mut self) -> Heard
+        ensures { IsHeard result }
+    {
+        self.ended = true;
+        if self.broken { Heard::Lost } else { Heard::End }
+    }
+
+    /// Nothing is there to read.
+    fn blocked(&mut self) -> Heard
+        ensures { IsHeard result }
+    {
+        self.readable = false;
+        if self.broken {
+            Heard::Lost
+        } else {
+            Heard::Nothing
+        }
+    }
+}
+
+// A socket tells nothing of what it gives and takes. What is written to a broken connection is dropped.
+impl Duplex for Peer {
+    ghost use Rattle.std.specs.Prelude.{None};
+
+    ghost gave = { λ _. None };
+
+    ghost took = { λ _. None };
+
+    fn over(
+        stream: TcpStream,
+        registry: &Registry,
+        token: Token,
+        joining: bool,
+    ) -> io::Result<Peer> {
+        let mut stream = stream;
+        let _ = stream.set_nodelay(true);
+        registry.register(&mut stream, token, Interest::READABLE | Interest::WRITABLE)?;
+        Ok(Peer {
+            stream,
+            readable: !joining,
+            ending: false,
+            writable: true,
+            short: false,
+            joining,
+            broken: false,
+            ended: false,
+        })
+    }
+
+    fn note(&mut self, told: &Readiness) {
+        if told.is_readable() {
+            self.readable = true;
+        }
+        if told.is_read_closed() {
+            self.readable = true;
+            self.ending = true;
+        }
+        if told.is_writable() {
+            self.writable = true;
+        }
+        if told.is_error() || told.is_write_closed() {
+            self.broken = true;
+            self.readable = true;
+        } else if told.is_writable() {
+            self.joining = false;
+        }
+    }
+
+    fn is_broken(&self) -> bool {
+        self.broken
+    }
+
+    fn is_refused(&self) -> bool {
+        self.joining && self.broken
+    }
+
+    fn is_readable(&self) -> bool {
+        self.readable && !self.ended
+    }
+
+    fn is_ended(&self) -> bool {
+        self.ended
+    }
+
+    fn has_room_again(&mut self) -> bool {
+        let again = self.short && self.writable && !self.joining;
+        if again {
+            self.short = false;
+        }
+        again
+    }
+
+    fn move_to(&mut self, registry: &Registry, token: Token) -> bool {
+        let both = Interest::READABLE | Interest::WRITABLE;
+        registry.reregister(&mut self.stream, token, both).is_ok()
+    }
+
+    fn finish(&self) {
+        let _ = self.stream.shutdown(Shutdown::Write);
+    }
+
+    fn read(&mut self, room: &mut Room) -> Heard {
+        match self.stream.read(room.bytes.as_mut_slice()) {
+            Ok(0) => self.end(),
+            Ok(n) => {
+                // Less than there was room for is all that was there, unless the end stands behind it.
+                if n < MOST_BYTES && !self.ending {
+                    self.readable = false;
+                }
+                Heard::Bytes(n)
+            }
+            Err(e) if e.kind() == ErrorKind::WouldBlock => self.blocked(),
+            Err(e) if e.kind() == ErrorKind::Interrupted => Heard::Nothing,
+            Err(_) => Heard::Lost,
+        }
+    }
+
+    fn write(&mut self, bytes: &[u8]) -> usize {
+        if self.broken {
+            return bytes.len();
+        }
+        if !self.writable {
+            self.short = true;
+            return 0;
+        }
+        match self.stream.write(bytes) {
+            Ok(n) => {
+                if n < bytes.len() {
+                    self.writable = false;
+                    self.short = true;
+                } else {
+                    self.joining = false;
+                    self.short = false;
+                }
+                n
+            }
+            Err(e) if e.kind() == ErrorKind::WouldBlock => {
+                self.writable = false;
+                self.short = true;
+                0
+            }
+            Err(e) if e.kind() == ErrorKind::Interrupted => {
+                self.short = true;
+                0
+            }
+            Err(_) => {
+                self.broken = true;
+                self.readable = true;
+                bytes.len()
+            }
+        }
+    }
+}

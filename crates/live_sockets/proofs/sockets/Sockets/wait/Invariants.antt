@@ -1,0 +1,6 @@
+use Rattle.live_sockets.specs.Keeping.{AreKept}
+use Rattle.live_sockets.proofs.sockets.Sockets.wait.Given as goal
+
+-- nothing was heard so far
+abbrev pub invariant-loop : goal.invariant-loop
+invariant-loop g l = AreKept g.P.Duplex.gave g.P.Duplex.took l.fn.self.lines.items l.self.lines.items

@@ -1,0 +1,41 @@
+-- Where a worker's lines come from.
+use Rattle.std.specs.Prelude.{◌≡◌, ℕ, ◌+◌, ◌<◌, ◌≤◌, Bool, nat_le, IsTrue, Option, IfSome, IsSomeAnd, vec_len}
+use Rattle.live_sockets.specs.Homes.{AreHome}
+use Rattle.live_sockets.specs.Numbers.{home_of}
+use Rattle.live_sockets.specs.declared.origin.Acceptor.{Acceptor}
+use Rattle.live_sockets.specs.declared.origin.Guest.{Guest}
+use Rattle.live_sockets.specs.declared.origin.Origin.{Origin}
+use Rattle.live_sockets.specs.declared.origin.Origin.TheVariants.{Listener, Mailbox}
+
+-- no line comes any more: all were accepted that may be, or all were taken that are ever handed over
+abbrev pub is_done : Origin → Bool
+is_done (Listener acceptor) = nat_le acceptor.most acceptor.accepted
+is_done (Mailbox mailbox) = mailbox.empty
+
+-- lines are accepted, so many at most, of which none was so far, and no other worker was offered one
+abbrev pub Accepts : ℕ → Origin → Type 0
+Accepts most (Listener acceptor) = (acceptor.most ≡ most) × ((acceptor.accepted ≡ 0) × AreHome 0 acceptor.others.items)
+Accepts most (Mailbox mailbox) = ⊥
+
+-- a worker that accepts accepts none any more
+abbrev pub HasEnded : Origin → Type 0
+HasEnded (Listener acceptor) = IsTrue (is_done (Listener acceptor))
+HasEnded (Mailbox mailbox) = Unit {0}
+
+-- Lines were accepted: each that is of this worker's place is what comes, so that there is one at most. The others were of other workers, of whom each was
+-- offered lines of its place alone.
+pub record Accepted (old : Acceptor) (guest : Option Guest) (new : Acceptor) : Type 0 where
+  pub most : new.most ≡ old.most
+  pub within : old.accepted ≤ old.most → new.accepted ≤ new.most
+  pub few : new.accepted + new.left ≤ old.accepted + old.left
+  pub number : IfSome guest (λ guest. (old.accepted < guest.number) × (guest.number ≡ new.accepted))
+  pub home : IfSome guest (λ guest. home_of guest.number (vec_len new.others) ≡ 0)
+  pub all : (k : ℕ) → old.accepted < k → k ≤ new.accepted → home_of k (vec_len new.others) ≡ 0 → IsSomeAnd guest (λ guest. guest.number ≡ k)
+  pub offered : AreHome old.accepted old.others.items → AreHome new.accepted new.others.items
+
+-- the next line of a worker: one that was accepted, or one that was handed over, of which fewer may come then
+abbrev pub GivesNext : Origin → Option Guest → Origin → Type 0
+GivesNext (Listener old) guest (Listener new) = Accepted old guest new
+GivesNext (Listener old) guest (Mailbox new) = ⊥
+GivesNext (Mailbox old) guest (Listener new) = ⊥
+GivesNext (Mailbox old) guest (Mailbox new) = IfSome guest (λ guest. new.left < old.left)

@@ -1,0 +1,731 @@
+// The sockets of one worker.
+ghost use Rattle.std.specs.Prelude.{◌≡◌, ◌==◌, ◌<◌, ◌≤◌, IsTrue, IsSomeAnd, None, length, vec_len, HoldsAt, remove, IfOk, IfSome, IfNone};
+ghost use Rattle.std.specs.List.{position};
+ghost use Rattle.live_lines.specs.Allowed.{IsAllowed};
+ghost use Rattle.live_sockets.specs.Keeping.{AreKept};
+ghost use Rattle.live_lines.specs.Lines.{most_lines, IsHeardAt, HeardIn, HeardNext, Forgets, SentTo, SentIn, ConnectedAt, ConnectedIn, ClosedIn, ClosedUp, next_place, place_after};
+ghost use Rattle.live_lines.specs.Told.{LiesIn};
+
+use crate::moments::Moments;
+use crate::origin::{Guest, Origin};
+use gate_base::{LineNo, OutOfMemory};
+use gate_io::{Side, Wants, What, WorldEnd};
+use live_lines::{
+    Duplex, LINGER, Line, Lingering, MOST_LEFT, MOST_LINGERING, Room, Upstream, Waiting,
+};
+use mio::event::Event as Readiness;
+use mio::net::TcpStream;
+use mio::{Events, Poll, Registry, Token};
+use std::alloc::Global;
+use std::net::{Net, SocketAddr};
+use std::sync::Wait;
+use std::time::{Clock, Duration};
+
+/// The token of what lines come from. Those of lines begin at 2.
+pub const ORIGIN: Token = Token(0);
+
+/// The tokens of closed connections to servers begin here, above those of all lines.
+const CLOSED: usize = 1_099_511_627_776;
+
+/// So many events are given before the system is asked what else there is.
+const TURNS: u32 = 64;
+
+/// So many lines are kept: twice as many as a worker has open, so that as many more may wait to be closed behind what their clients have not
+/// read. A further one is closed at once, or else a client that opens lines and reads nothing would take descriptors and memory without end.
+const MOST_LINES: usize = 256;
+
+/// Nanoseconds until a line that the system refused is asked for again.
+const AGAIN: u64 = 100_000_000;
+
+/// The sockets of one worker.
+#[derive(Drop)]
+pub struct Sockets<P> {
+    poll: Poll,
+    events: Events,
+    /// Where lines come from.
+    pub origin: Origin,
+    /// The address of the upstream server.
+    pub upstream: SocketAddr,
+    /// The lines that are kept.
+    pub lines: Vec<Line<P>>,
+    /// The connections that were closed and are not over.
+    pub lingering: Vec<Lingering<P>>,
+    /// What was read last.
+    pub room: Room,
+    /// The place of the line that is heard next.
+    next: usize,
+    /// How many events are given before the system is asked again.
+    pub turns: u32,
+    /// How many connections to servers lingered so far, modulo 2^32.
+    closed: u32,
+    /// The last moment, in nanoseconds since 1970, at which the moment that was asked for was looked at.
+    pub seen: u64,
+    /// The clock of events.
+    pub moments: Moments,
+}
+
+/// What is read into: the events of the system, and the bytes of connections.
+#[derive(Drop)]
+pub struct Buffers {
+    events: Events,
+    room: Room,
+}
+
+impl Buffers {
+    /// Buffers with nothing in them.
+    pub fn new(alloc: Global) -> Result<Buffers, OutOfMemory> {
+        let events = Events::with_capacity(alloc, 256)?;
+        let room = Room::new(alloc)?;
+        Ok(Buffers { events, room })
+    }
+}
+
+/// The token of a side of a line.
+fn token_of(line: LineNo, side: Side) -> Token {
+    let low = match side {
+        Side::Down => 0,
+        Side::Up => 1,
+    };
+    Token(line.get() as usize * 2 + low)
+}
+
+/// The side of a token.
+fn side_of(token: Token) -> Side {
+    if token.0 % 2 == 0 {
+        Side::Down
+    } else {
+        Side::Up
+    }
+}
+
+/// The place of the line of this number.
+fn place_of<P>(lines: &[Line<P>], number: LineNo) -> Option<usize>
+    ensures place { result ≡ position (λ line. line.number == number) lines.now }
+    ensures within { IfSome result (λ i. i < length lines.now) }
+    ensures found { IfSome result (HoldsAt (λ line. line.number ≡ number) lines.now) }
+{
+    lines.iter().position(|line| line.number == number)
+}
+
+/// A place of a line of this number. Lines come in the order of their numbers, so it is looked for by halves first, and through all of
+/// them where that finds none: what is found does not rest on that order.
+fn find<P>(lines: &[Line<P>], number: LineNo) -> Option<usize>
+    ensures within { IfSome result (λ i. i < length lines.now) }
+    ensures found { IfSome result (HoldsAt (λ line. line.number ≡ number) lines.now) }
+    ensures none { IfNone result (position (λ line. line.number == number) lines.now ≡ None) }
+{
+    let at = lines.partition_point(|line| line.number < number);
+    if at < lines.len() && lines[at].number == number {
+        return Some(at);
+    }
+    place_of(lines, number)
+}
+
+/// Offers bytes to a side of the line at a place.
+fn send_at<P: Duplex>(
+    lines: &mut [Line<P>],
+    alloc: Global,
+    at: usize,
+    side: Side,
+    bytes: &[u8],
+) -> Result<usize, OutOfMemory>
+    requires { at < length lines.old }
+    ensures bound { IfOk result (λ n. n ≤ length bytes.now) }
+    ensures whole { side ≡ Side.Up → IfOk result (λ n. n ≡ length bytes.now) }
+    ensures sent { IfOk result (λ n. SentTo P.gave P.took lines.old at side bytes.now n lines.new) }
+{
+    let line = &mut lines[at];
+    match side {
+        Side::Down => Ok(line.send_down(bytes)),
+        Side::Up => line.send_up(alloc, bytes),
+    }
+}
+
+/// Keeps what the system told of a side of the line at a place.
+fn note_at<P: Duplex>(lines: &mut Vec<Line<P>>, at: usize, side: Side, event: &Readiness)
+    requires { at < vec_len lines.old }
+    ensures { HeardIn P.gave P.took lines.old.items at None lines.new.items }
+{
+    lines[at].note(side, event);
+}
+
+impl<P: Duplex> Sockets<P> {
+    ghost use Rattle.std.specs.Prelude.{[], All};
+    ghost use Rattle.live_sockets.specs.Keeping.{Arrives, Begins, Heard, WasHeard};
+    ghost use Rattle.live_sockets.specs.Origins.{HasEnded};
+    ghost use Rattle.live_sockets.specs.Spent.{IsDue, IsOfLine, IsSpent};
+
+    /// The sockets over a poll, with lines from an origin that it watches, which send to this upstream server.
+    pub fn new(
+        alloc: Global,
+        poll: Poll,
+        origin: Origin,
+        upstream: SocketAddr,
+        buffers: Buffers,
+    ) -> Sockets<P>
+        ensures origin { result.origin ≡ origin }
+        ensures upstream { result.upstream ≡ upstream }
+        ensures lines { result.lines.items ≡ [] }
+    {
+        let Buffers { events, room } = buffers;
+        Sockets {
+            poll,
+            events,
+            origin,
+            upstream,
+            lines: Vec::new(alloc),
+            lingering: Vec::new(alloc),
+            room,
+            next: 0,
+            turns: 0,
+            closed: 0,
+            seen: 0,
+            moments: Moments::new(),
+        }
+    }
+
+    /// Waits until something happens that the worker wants or has to know.
+    #[tactic(auto, using(crate::proofs::Due::due_of_line, crate::proofs::Kept::kept_same, crate::proofs::Kept::kept_more, crate::proofs::Kept::was_heard))]
+    pub fn wait<R: Clock + Wait>(
+        &mut self,
+        alloc: Global,
+        rt: &R,
+        wants: &Wants,
+    ) -> Result<What, WorldEnd>
+        ensures allowed { IfOk result (IsAllowed wants.now) }
+        ensures read { IfOk result (LiesIn self.new.room.bytes.items) }
+        ensures due { IfOk result (λ what. IsDue what wants.now.due self.new.seen self.new) }
+        ensures heard { IfOk result (λ what. WasHeard P.gave P.took self.old.lines.items what self.new.lines.items) }
+    {
+        if self.turns == 0 {
+            self.look(rt, Some(Duration::ZERO))?;
+        }
+        // No run waits so often.
+        for _ in 0..u64::MAX {
+            if let Some(what) = self.heard(alloc, rt, wants)? {
+                self.turns = self.turns.saturating_sub(1);
+                return Ok(what);
+            }
+            if self.is_done() {
+                return Ok(What::Stop);
+            }
+            if self.look_until(rt, wants.due)? {
+                // The system is asked in front of what is heard next: ticks that are always late would keep it from being asked.
+                self.turns = 0;
+                return Ok(What::Clock);
+            }
+        }
+        Err(WorldEnd::Failed)
+    }
+
+    /// Whether nothing more comes.
+    fn is_done(&self) -> bool
+        ensures { IsTrue result → IsSpent self.now }
+    {
+        self.origin.is_done() && self.lines.is_empty() && self.lingering.is_empty()
+    }
+
+    /// Waits for the system, at most until this moment. True where it has come.
+    #[tactic(auto, using(crate::proofs::Kept::kept_same))]
+    fn look_until<R: Clock>(&mut self, rt: &R, due: Option<u64>) -> Result<bool, WorldEnd>
+        ensures due { IfOk result (λ came. IsTrue came → IsSomeAnd due (λ moment. moment ≤ self.new.seen)) }
+        ensures kept { AreKept P.gave P.took self.old.lines.items self.new.lines.items }
+    {
+        match first_of(due, self.first_over()) {
+            Some(first) => self.look_before(rt, due, first),
+            None => {
+                self.look(rt, None)?;
+                Ok(false)
+            }
+        }
+    }
+
+    /// The moment at which the first of those that linger is over.
+    fn first_over(&self) -> Option<u64> {
+        match self.lingering.first() {
+            Some(closed) => Some(closed.until),
+            None => None,
+        }
+    }
+
+    /// Waits for the system, at most until the second moment. True where the first has come.
+    #[tactic(auto, using(crate::proofs::Kept::kept_same))]
+    fn look_before<R: Clock>(
+        &mut self,
+        rt: &R,
+        due: Option<u64>,
+        first: u64,
+    ) -> Result<bool, WorldEnd>
+        ensures due { IfOk result (λ came. IsTrue came → IsSomeAnd due (λ moment. moment ≤ self.new.seen)) }
+        ensures kept { AreKept P.gave P.took self.old.lines.items self.new.lines.items }
+    {
+        let now = self.moments.now(rt)?;
+        self.seen = now;
+        if has_come(due, now) {
+            return Ok(true);
+        }
+        self.look(rt, Some(Duration::from_nanos(first.saturating_sub(now))))?;
+        Ok(false)
+    }
+
+    /// Lets those go that lingered for long enough.
+    fn drop_lingering<R: Clock>(&mut self, rt: &R) -> Result<(), WorldEnd>
+        ensures lines { self.new.lines ≡ self.old.lines }
+        ensures over { IfOk result (λ _. All (λ closed. self.new.moments.last < closed.until) self.new.lingering.items) }
+    {
+        if !self.lingering.is_empty() {
+            let now = self.moments.now(rt)?;
+            self.lingering.retain(|client| now < client.until);
+        }
+        Ok(())
+    }
+
+    /// How long the system is waited for, at most. It is not where lines may be there of which it tells nothing more, and not for long where it
+    /// refused one: nothing is told when another connection, of whatever worker, gives its descriptor back.
+    fn timeout(&self, wanted: Option<Duration>) -> Option<Duration> {
+        if self.origin.is_waiting() {
+            return Some(Duration::ZERO);
+        }
+        if self.origin.is_refused() {
+            let again = Duration::from_nanos(AGAIN);
+            return Some(wanted.unwrap_or(again).min(again));
+        }
+        wanted
+    }
+
+    /// Asks the system what is ready. A line that it refused is asked for again behind that.
+    #[tactic(auto, using(crate::proofs::Kept::kept_same))]
+    fn look<R: Clock>(&mut self, rt: &R, timeout: Option<Duration>) -> Result<(), WorldEnd>
+        ensures kept { AreKept P.gave P.took self.old.lines.items self.new.lines.items }
+    {
+        self.turns = TURNS;
+        self.drop_lingering(rt)?;
+        let timeout = self.timeout(timeout);
+        if self.poll.poll(&mut self.events, timeout).is_err() {
+            return Err(WorldEnd::Failed);
+        }
+        self.note_told();
+        Ok(())
+    }
+
+    /// Keeps what the system told.
+    fn note_told(&mut self)
+        ensures kept { AreKept P.gave P.took self.old.lines.items self.new.lines.items }
+    {
+        if self.origin.is_refused() {
+            self.origin.note_free();
+        }
+        note_all(
+            &self.events,
+            &mut self.origin,
+            &mut self.lines,
+            &mut self.lingering,
+        );
+        self.drain();
+    }
+
+    /// Goes on with what lingers, and lets that go which is over.
+    fn drain(&mut self)
+        ensures lines { self.new.lines ≡ self.old.lines }
+    {
+        let room = &mut self.room;
+        self.lingering.retain_mut(|closed| closed.goes_on(room));
+    }
+
+    /// What is heard next: of a line that comes, where one may come in front of what is heard of open ones, or of one of these after the other.
+    #[tactic(auto, using(crate::proofs::Due::line_of_event, crate::proofs::Kept::kept_same, crate::proofs::Kept::more_kept, crate::proofs::Kept::next_heard))]
+    fn heard<R: Wait>(
+        &mut self,
+        alloc: Global,
+        rt: &R,
+        wants: &Wants,
+    ) -> Result<Option<What>, OutOfMemory>
+        ensures allowed { IfOk result (λ told. IfSome told (IsAllowed wants.now)) }
+        ensures read { IfOk result (λ told. IfSome told (LiesIn self.new.room.bytes.items)) }
+        ensures line { IfOk result (λ told. IfSome told IsOfLine) }
+        ensures heard { IfOk result (λ told. Heard P.gave P.took self.old.lines.items told self.new.lines.items) }
+    {
+        if let Some(line) = self.arrive(rt) {
+            return Ok(Some(What::Opened { line }));
+        }
+        let count = self.lines.len();
+        for _ in 0..count {
+            if let Some(what) = self.heard_next(alloc, wants)? {
+                self.origin.allow_one();
+                return Ok(Some(what));
+            }
+        }
+        self.origin.allow_all();
+        Ok(None)
+    }
+
+    /// What is heard of the next line.
+    fn heard_next(&mut self, alloc: Global, wants: &Wants) -> Result<Option<What>, OutOfMemory>
+        ensures allowed { IfOk result (λ told. IfSome told (IsAllowed wants.now)) }
+        ensures of { IfOk result (λ told. IfSome told (IsHeardAt self.old.lines.items (next_place self.old.next (vec_len self.old.lines)))) }
+        ensures read { IfOk result (λ told. IfSome told (LiesIn self.new.room.bytes.items)) }
+        ensures heard { IfOk result (λ told. HeardNext P.gave P.took self.old.lines.items self.old.next told self.new.lines.items) }
+        ensures turn { self.new.next ≡ place_after self.old.next (vec_len self.old.lines) }
+    {
+        if self.next >= self.lines.len() {
+            self.next = 0;
+        }
+        let at = self.next;
+        if at >= self.lines.len() {
+            return Ok(None);
+        }
+        self.next = at + 1;
+        self.heard_at(alloc, wants, at)
+    }
+
+    /// What is heard of the line at a place.
+    fn heard_at(
+        &mut self,
+        alloc: Global,
+        wants: &Wants,
+        at: usize,
+    ) -> Result<Option<What>, OutOfMemory>
+        requires { at < vec_len self.old.lines }
+        ensures allowed { IfOk result (λ told. IfSome told (IsAllowed wants.now)) }
+        ensures of { IfOk result (λ told. IfSome told (IsHeardAt self.old.lines.items at)) }
+        ensures read { IfOk result (λ told. IfSome told (LiesIn self.new.room.bytes.items)) }
+        ensures heard { IfOk result (λ told. HeardIn P.gave P.took self.old.lines.items at told self.new.lines.items) }
+        ensures next { self.new.next ≡ self.old.next }
+    {
+        let told = self.lines[at].heard(alloc, wants, &mut self.room)?;
+        self.forget(at);
+        Ok(told)
+    }
+
+    /// The number of a line that comes. One that can't be kept is closed.
+    fn arrive<R: Wait>(&mut self, rt: &R) -> Option<LineNo>
+        ensures line { Arrives self.old.lines.items result self.new.lines.items }
+        ensures few { vec_len self.old.lines ≤ most_lines → vec_len self.new.lines ≤ most_lines }
+    {
+        for _ in 0..u32::MAX {
+            let Guest { number, stream } = self.origin.next(rt)?;
+            if self.begin(number, stream) {
+                return Some(number);
+            }
+        }
+        None
+    }
+
+    /// Keeps a line of a number that no other has. False says that it was closed: enough are kept, or the system or the memory refuses one more.
+    fn begin(&mut self, number: LineNo, stream: TcpStream) -> bool
+        ensures line { Begins self.old.lines.items number result self.new.lines.items }
+        ensures few { vec_len self.old.lines ≤ most_lines → vec_len self.new.lines ≤ most_lines }
+    {
+        if !self.may_keep(number) {
+            return false;
+        }
+        let token = token_of(number, Side::Down);
+        match P::over(stream, self.poll.registry(), token, false) {
+            Ok(down) => self.keep(number, down),
+            Err(_) => false,
+        }
+    }
+
+    /// Whether one line more may be kept, of this number, which no other has.
+    fn may_keep(&self, number: LineNo) -> bool
+        ensures fresh { IsTrue result → position (λ line. line.number == number) self.now.lines.items ≡ None }
+        ensures few { IsTrue result → vec_len self.now.lines < most_lines }
+    {
+        if self.lines.len() >= MOST_LINES {
+            return false;
+        }
+        let None = place_of(&self.lines, number) else {
+            return false;
+        };
+        true
+    }
+
+    /// Keeps a line of a number that no other has, with this connection to its client. False says that memory does not suffice.
+    fn keep(&mut self, number: LineNo, down: P) -> bool
+        requires fresh { position (λ line. line.number == number) self.old.lines.items ≡ None }
+        requires few { vec_len self.old.lines < most_lines }
+        ensures line { Begins self.old.lines.items number result self.new.lines.items }
+        ensures few { vec_len self.new.lines ≤ most_lines }
+    {
+        let line = Line {
+            number,
+            down: Some(down),
+            up: None,
+            refused: false,
+            server_first: false,
+        };
+        if self.lines.push(line).is_err() {
+            return false;
+        }
+        true
+    }
+
+    /// Begins the upstream connection of a line.
+    pub fn connect<R: Net>(&mut self, alloc: Global, rt: &R, number: LineNo)
+        ensures { ConnectedIn self.old.lines.items number self.new.lines.items }
+    {
+        let Some(at) = find(&self.lines, number) else {
+            return;
+        };
+        let peer = connected(rt, self.poll.registry(), self.upstream, number);
+        self.join_at(alloc, at, peer);
+    }
+
+    /// Goes on with this connection to the server of the line at a place, or with none.
+    fn join_at(&mut self, alloc: Global, at: usize, peer: Option<P>)
+        requires { at < vec_len self.old.lines }
+        ensures { ConnectedAt self.old.lines.items at self.new.lines.items }
+    {
+        let line = &mut self.lines[at];
+        line.join(alloc, peer);
+    }
+
+    /// Offers bytes to a peer. Those for a peer that is not there are dropped, and a server takes them whole.
+    pub fn send(
+        &mut self,
+        alloc: Global,
+        number: LineNo,
+        side: Side,
+        bytes: &[u8],
+    ) -> Result<usize, OutOfMemory>
+        ensures bound { IfOk result (λ n. n ≤ length bytes.now) }
+        ensures whole { side ≡ Side.Up → IfOk result (λ n. n ≡ length bytes.now) }
+        ensures sent { IfOk result (λ n. SentIn P.gave P.took self.old.lines.items number side bytes.now n self.new.lines.items) }
+    {
+        let Some(at) = find(&self.lines, number) else {
+            return Ok(bytes.len());
+        };
+        send_at(&mut self.lines, alloc, at, side, bytes)
+    }
+
+    /// Lets a line go of which no connection is left: one whose client is gone is not closed by the worker.
+    fn forget(&mut self, at: usize)
+        ensures room { self.new.room ≡ self.old.room }
+        ensures next { self.new.next ≡ self.old.next }
+        ensures lines { Forgets self.old.lines.items at self.new.lines.items }
+    {
+        if at < self.lines.len() && self.lines[at].is_over() {
+            let line = self.lines.remove(at);
+            drop(line);
+            // A descriptor came free.
+            self.origin.note_free();
+        }
+    }
+
+    /// Closes a connection, of which nothing more is told. What waits for it is sent on.
+    pub fn close<R: Clock>(&mut self, alloc: Global, rt: &R, number: LineNo, side: Side)
+        ensures { ClosedIn self.old.lines.items number side self.new.lines.items }
+    {
+        let Some(at) = place_of(&self.lines, number) else {
+            return;
+        };
+        match side {
+            Side::Down => self.close_down(alloc, rt, at),
+            Side::Up => self.close_up(rt, at),
+        }
+    }
+
+    /// Closes the connection to the client of the line at a place, and forgets the line.
+    fn close_down<R: Clock>(&mut self, alloc: Global, rt: &R, at: usize)
+        requires { at < vec_len self.old.lines }
+        ensures { self.new.lines.items ≡ remove self.old.lines.items at }
+    {
+        let number = self.lines[at].number;
+        if let Some(peer) = client_of(self.lines.remove(at)) {
+            self.finish(alloc, rt, number, peer);
+        }
+        // A descriptor came free.
+        self.origin.note_free();
+    }
+
+    /// Tells the client of a line that nothing more comes, and lets its connection linger. One that is over is dropped.
+    fn finish<R: Clock>(&mut self, alloc: Global, rt: &R, number: LineNo, peer: P)
+        ensures { self.new.lines ≡ self.old.lines }
+    {
+        if !peer.is_ended() && !peer.is_broken() {
+            peer.finish();
+            self.linger(rt, token_of(number, Side::Down), peer, Waiting::new(alloc));
+        }
+    }
+
+    /// Closes the connection to the server of the line at a place.
+    fn close_up<R: Clock>(&mut self, rt: &R, at: usize)
+        requires { at < vec_len self.old.lines }
+        ensures { ClosedUp self.old.lines.items at self.new.lines.items }
+    {
+        let line = &mut self.lines[at];
+        line.refused = false;
+        if let Some(up) = line.up.take() {
+            self.leave(rt, up);
+        }
+        self.forget(at);
+    }
+
+    /// Sends on what waits for a server whose connection is closed, where something does, and not too much.
+    fn leave<R: Clock>(&mut self, rt: &R, up: Upstream<P>)
+        ensures { self.new.lines ≡ self.old.lines }
+    {
+        let Upstream { peer, waiting } = up;
+        if !waiting.is_empty() && waiting.len() <= MOST_LEFT && !peer.is_broken() {
+            self.send_on(rt, peer, waiting);
+        }
+    }
+
+    /// Sends on what waits for a server whose connection is closed, under a token of its own.
+    fn send_on<R: Clock>(&mut self, rt: &R, peer: P, waiting: Waiting)
+        ensures { self.new.lines ≡ self.old.lines }
+    {
+        let token = Token(CLOSED + self.closed as usize);
+        self.closed = self.closed.wrapping_add(1);
+        let mut peer = peer;
+        if peer.move_to(self.poll.registry(), token) {
+            self.linger(rt, token, peer, waiting);
+        }
+    }
+
+    /// Lets a connection linger. Where too many do, the first of them is dropped.
+    fn linger<R: Clock>(&mut self, rt: &R, token: Token, peer: P, waiting: Waiting)
+        ensures { self.new.lines ≡ self.old.lines }
+    {
+        if let Ok(now) = self.moments.now(rt) {
+            let until = now.saturating_add(LINGER);
+            self.go_on(Lingering {
+                token,
+                peer,
+                waiting,
+                until,
+            });
+        }
+    }
+
+    /// Goes on with a connection that was closed, and keeps it where it is not over.
+    fn go_on(&mut self, closed: Lingering<P>)
+        ensures { self.new.lines ≡ self.old.lines }
+    {
+        let mut closed = closed;
+        if closed.goes_on(&mut self.room) {
+            self.drop_first();
+            let _ = self.lingering.push(closed);
+        }
+    }
+
+    /// Drops the first of those that linger where too many do.
+    fn drop_first(&mut self)
+        ensures { self.new.lines ≡ self.old.lines }
+    {
+        if self.lingering.len() >= MOST_LINGERING {
+            let closed = self.lingering.remove(0);
+            drop(closed);
+        }
+    }
+
+    /// The last moment at which the moment that was asked for was looked at.
+    pub fn seen(&self) -> u64
+        ensures { result ≡ self.now.seen }
+    {
+        self.seen
+    }
+
+    /// No line comes any more, and the other workers are told so.
+    pub fn end(&mut self)
+        ensures ended { HasEnded self.new.origin }
+        ensures lines { self.new.lines ≡ self.old.lines }
+    {
+        self.origin.end();
+    }
+}
+
+/// The place of the line of a token, which is looked for by halves first, as in `find`.
+fn place_of_token<P>(lines: &[Line<P>], token: Token, side: Side) -> Option<usize>
+    ensures within { IfSome result (λ i. i < length lines.now) }
+{
+    let number = token.0 / 2;
+    let at = lines.partition_point(|line| (line.number.get() as usize) < number);
+    if at < lines.len() && token_of(lines[at].number, side) == token {
+        Some(at)
+    } else {
+        lines
+            .iter()
+            .position(|line| token_of(line.number, side) == token)
+    }
+}
+
+/// Keeps what the system told.
+#[tactic(auto, using(crate::proofs::Kept::kept_same, crate::proofs::Kept::kept_more))]
+fn note_all<P: Duplex>(
+    events: &Events,
+    origin: &mut Origin,
+    lines: &mut Vec<Line<P>>,
+    lingering: &mut [Lingering<P>],
+)
+    ensures { AreKept P.gave P.took lines.old.items lines.new.items }
+{
+    for event in events {
+        if event.token() == ORIGIN {
+            origin.note();
+        } else {
+            note(lines, lingering, event);
+        }
+    }
+}
+
+/// Keeps what the system told of a connection.
+#[tactic(auto, using(crate::proofs::Kept::kept_same, crate::proofs::Kept::heard_in_kept))]
+fn note<P: Duplex>(lines: &mut Vec<Line<P>>, lingering: &mut [Lingering<P>], event: &Readiness)
+    ensures { AreKept P.gave P.took lines.old.items lines.new.items }
+{
+    let token = event.token();
+    let side = side_of(token);
+    if let Some(at) = place_of_token(lines, token, side) {
+        note_at(lines, at, side, event);
+        return;
+    }
+    for closed in lingering.iter_mut() {
+        if closed.token == token {
+            closed.peer.note(event);
+            return;
+        }
+    }
+}
+
+/// The first of two moments, where there are some.
+fn first_of(a: Option<u64>, b: Option<u64>) -> Option<u64> {
+    match (a, b) {
+        (Some(a), Some(b)) => Some(a.min(b)),
+        (a, None) => a,
+        (None, b) => b,
+    }
+}
+
+/// Whether a moment has come.
+fn has_come(due: Option<u64>, now: u64) -> bool
+    ensures { IsTrue result → IsSomeAnd due (λ moment. moment ≤ now) }
+{
+    match due {
+        Some(due) => due <= now,
+        None => false,
+    }
+}
+
+/// The connection to the client of a line, of which nothing else is kept.
+fn client_of<P: Duplex>(line: Line<P>) -> Option<P> {
+    let Line {
+        number: _,
+        down,
+        up: _,
+        refused: _,
+        server_first: _,
+    } = line;
+    down
+}
+
+/// An upstream connection that is begun.
+fn connected<P: Duplex, R: Net>(
+    rt: &R,
+    registry: &Registry,
+    upstream: SocketAddr,
+    number: LineNo,
+) -> Option<P> {
+    let stream = TcpStream::connect(rt, upstream).ok()?;
+    P::over(stream, registry, token_of(number, Side::Up), true).ok()
+}
