@@ -50,6 +50,10 @@ within names name (Some j) k h = by_test (is_name names name j) refl h
 pub found_within : (tree : NameTree) (name : List ℕ) (k : ℕ) → found tree name ≡ Some k → k < length tree.names
 found_within tree name k h = within tree.names name (number_of tree name) k h
 
+-- what is found under a number is its name
+pub found_name : (tree : NameTree) (name : List ℕ) (k : ℕ) → found tree name ≡ Some k → lowercase (slice_index_or tree.names k []) ≡ name
+found_name tree name k h = named_is tree.names name (number_of tree name) k h
+
 -- two names that are found under one number are the same
 found_same : (tree : NameTree) (a b : List ℕ) (k : ℕ) → found tree a ≡ Some k → found tree b ≡ Some k → a ≡ b
 found_same tree a b k h i = sym (named_is tree.names a (number_of tree a) k h) ∙ named_is tree.names b (number_of tree b) k i

@@ -3,3 +3,4 @@ pub mod Examples
 pub mod Members
 pub mod Names
 pub mod Spans
+pub mod Wanted

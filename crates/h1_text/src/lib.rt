@@ -7,6 +7,7 @@ mod lines;
 mod listed;
 mod members;
 mod names;
+mod wanted;
 
 pub use lines::{BYTE_LIMIT, Cut, closed_cut, is_empty_line, line_len, line_len_at, open_cut};
 pub use listed::listed_among;

@@ -30,7 +30,7 @@ pub fn trim(bytes: &[u8]) -> &[u8]
 }
 
 /// The place of the first comma, and where there is none the length. Most members are so short that a search by words of bytes would be dearer.
-fn comma_at(list: &[u8]) -> usize
+pub fn comma_at(list: &[u8]) -> usize
     ensures within { result ≤ length list.now }
     ensures before { (k : ℕ) → k < result → is_comma (slice_index list.now k) ≡ false }
     ensures comma { result < length list.now → is_comma (slice_index list.now result) ≡ true }

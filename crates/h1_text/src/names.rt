@@ -4,8 +4,9 @@ ghost use Rattle.std.specs.List.{list_any};
 ghost use Rattle.http_header.specs.Token.{lowercase};
 ghost use Rattle.http1_model.specs.Fields.{lists};
 ghost use Rattle.h1_text.specs.Names.{byte_at, next_in, number_of, is_name, found, is_number, AreMarked};
+ghost use Rattle.h1_text.specs.Wanted.{AreWanted, HasBlanks};
 
-use crate::members::first_member;
+use crate::wanted::Wanted;
 use gate_base::{Members, Octets, OutOfMemory};
 use header_maps::is_same_word;
 use std::alloc::Global;
@@ -15,6 +16,9 @@ const NAME_LIMIT: usize = 128;
 
 /// How many steps are taken at most where a name is looked for.
 const STEP_LIMIT: usize = 128;
+
+/// How many members are looked for before it is noted anew what those names look like that are not marked.
+const LOOK_LIMIT: usize = 16;
 
 /// What is left of the names behind a byte.
 #[derive(Clone, Copy)]
@@ -48,7 +52,7 @@ pub struct NameTree {
 }
 
 /// The byte at a place of a name, in lower case, and 0 behind its end.
-fn byte_at(name: &[u8], place: usize) -> usize
+pub fn byte_at(name: &[u8], place: usize) -> usize
     ensures value { result ≡ byte_at (lowercase name.now) place }
     ensures within { result < 128 }
 {
@@ -108,6 +112,14 @@ impl NameTree {
         number < self.names.len() && is_same_word(self.names.get(number).as_slice(), name)
     }
 
+    /// The name of a number.
+    fn name(&self, number: usize) -> &[u8]
+        requires { number < length self.now.names }
+        ensures { result.now ≡ slice_index_or self.now.names number [] }
+    {
+        self.names.get(number).as_slice()
+    }
+
     /// The number under which a name is found, in any case of letters.
     fn found(&self, name: &[u8]) -> Option<usize>
         ensures { result ≡ found self.now (lowercase name.now) }
@@ -150,6 +162,10 @@ impl NameTree {
         let count = self.names.len();
         if count >= NAME_LIMIT {
             return Ok(());
+        }
+        if count == 0 {
+            // Nodes are large, and are not moved so.
+            self.nodes = Vec::with_capacity(alloc, NAME_LIMIT)?;
         }
         let near = self.near(name);
         if near >= count {
@@ -268,21 +284,39 @@ impl ListedNames {
         })
     }
 
-    /// Marks the name that a member is, if it is one of them.
-    fn mark(&mut self, member: &[u8])
+    /// Marks the name that a member is, if it is one of them. Whether one is marked that was not.
+    fn mark(&mut self, member: &[u8]) -> bool
         ensures tree { self.new.tree ≡ self.old.tree }
         ensures count { length self.new.marks.items ≡ length self.old.marks.items }
         ensures marks { (k : ℕ) → k < length self.old.marks.items → slice_index_or self.new.marks.items k false
             ≡ (slice_index_or self.old.marks.items k false || is_number k (found self.old.tree (lowercase member.now))) }
     {
         let Some(number) = self.tree.number_of(member) else {
-            return;
+            return false;
         };
         let number = number as usize;
         // A name that is marked needs no second look.
-        if number < self.marks.len() && !self.marks[number] && self.tree.is_name(number, member) {
+        let is_new = number < self.marks.len()
+            && !self.marks[number]
+            && self.tree.is_name(number, member);
+        if is_new {
             self.marks[number] = true;
         }
+        is_new
+    }
+
+    /// What the names look like that are not marked.
+    fn wanted(&self) -> Wanted
+        ensures blanks { HasBlanks result }
+        ensures unmarked { AreWanted self.now result }
+    {
+        let mut wanted = Wanted::none();
+        for number in 0..self.tree.names.len() {
+            if !self.mark_of(number) {
+                wanted.add(self.tree.name(number));
+            }
+        }
+        wanted
     }
 
     /// Marks those names that are members of one value more (RFC 9110 section 5.6.1).
@@ -290,10 +324,18 @@ impl ListedNames {
         ensures tree { self.new.tree ≡ self.old.tree }
         ensures marks { (values : List (List ℕ)) → AreMarked values self.old → AreMarked (values ++ value.now ∷ []) self.new }
     {
+        let mut wanted = Wanted::all();
+        let mut is_stale = true;
+        let mut looks: usize = 0;
         let mut rest = Some(value);
-        while let Some(list) = rest {
-            let (member, after) = first_member(list);
-            self.mark(member);
+        while let Some((member, after)) = wanted.next(rest) {
+            is_stale = self.mark(member) || is_stale;
+            looks = looks.saturating_add(1);
+            if looks >= LOOK_LIMIT && is_stale {
+                wanted = self.wanted();
+                is_stale = false;
+                looks = 0;
+            }
             rest = after;
         }
     }
