@@ -2,3 +2,4 @@ pub mod Answers
 pub mod Held
 pub mod Seen
 pub mod Spans
+pub mod Waits

@@ -1,5 +1,5 @@
 -- The fields of a section, as the spans of its text say them.
-use Rattle.std.specs.Prelude.{◌≡◌, ◌≤◌, ℕ, List, length, All, Option, true}
+use Rattle.std.specs.Prelude.{◌≡◌, ◌≤◌, List, length, All, Option, true}
 use Rattle.std.specs.Option.{option_map}
 use Rattle.header_maps.specs.Headers.{Headers}
 use Rattle.header_maps.specs.Judged.{is_field_name, is_field_value}

@@ -1,13 +1,15 @@
 // The reader of a chunked body.
-ghost use Rattle.std.specs.Prelude.{◌≡◌, ◌≤◌, ◌<◌, ◌↔◌, length, IfOk, OnErr, IsTrue};
+ghost use Rattle.std.specs.Prelude.{◌≡◌, true, ◌≤◌, ◌<◌, ◌↔◌, length, IfOk, OnErr, IsTrue};
 ghost use Rattle.http1_model.specs.Chunks.{start, sought, section_at, section_taken, place_taken, run_of};
 ghost use Rattle.http1_model.specs.Trailers.{piece_limit};
 ghost use Rattle.h1_chunks.specs.Answers.{is_data, seen_run, Answers, IsWithinSection, UsesWithin};
 ghost use Rattle.h1_chunks.specs.Seen.{seen_place};
+ghost use Rattle.h1_chunks.specs.Waits.{IsWithinSize};
 
 use crate::lines::section_cut;
 use crate::place::{Place, Sought};
 use crate::section::trailers;
+use crate::size::is_extending;
 use gate_base::{Octets, OutOfMemory};
 use h1_text::Cut;
 use header_maps::HeaderList;
@@ -123,6 +125,22 @@ impl ChunkReader {
         match self.place {
             Place::Section => matches!(section_cut(text), Cut::Unfinished),
             Place::SizeLine | Place::Inside(_) | Place::Over => false,
+        }
+    }
+
+    /// Whether the extensions of a size line stand at the end of a text, which none but CR and LF ends or refuses, as long as the text has
+    /// fewer than 4,095 bytes. Where it answers no, that is not said. It takes no memory.
+    #[tactic(auto, using(crate::proofs::Extensions::within_line, crate::proofs::Extensions::within_inside))]
+    pub fn is_within_size(&self, text: &[u8]) -> bool
+        ensures { result ≡ true → IsWithinSize self.now text.now }
+    {
+        match self.place {
+            Place::SizeLine => is_extending(text),
+            Place::Inside(0) => match text {
+                [b'\r', b'\n', line @ ..] => is_extending(line),
+                _ => false,
+            },
+            Place::Inside(_) | Place::Section | Place::Over => false,
         }
     }
 

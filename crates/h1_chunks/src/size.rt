@@ -3,8 +3,9 @@ ghost use Rattle.std.specs.Prelude.{◌≡◌, ◌≤◌, ◌<◌, ◌+◌, true
 ghost use Rattle.std.specs.List.{list_all, prefix_len};
 ghost use Rattle.std.specs.Char.{is_ascii_hexdigit};
 ghost use Rattle.httparse.specs.Grammar.{is_ows, skip_ows};
-ghost use Rattle.http1_model.specs.Chunks.{front_of, size_line_limit, number_of_digits, is_no_line_end, are_extensions, size_told, line_ended, size_step};
+ghost use Rattle.http1_model.specs.Chunks.{front_of, size_line_limit, number_of_digits, is_before_end, is_no_line_end, are_extensions, size_told, line_ended, size_step};
 ghost use Rattle.h1_chunks.specs.Seen.{seen_size, SizeWithin};
+ghost use Rattle.h1_chunks.specs.Waits.{IsExtending};
 
 use httparse::parse_hex_digit;
 use memchr::memchr;
@@ -104,6 +105,26 @@ fn size_told(front: &[u8]) -> Option<u64>
         return None;
     }
     number_of_digits(&front[..count])
+}
+
+/// Whether no byte is a CR.
+fn has_no_end(bytes: &[u8]) -> bool
+    ensures { result ≡ list_all is_before_end bytes.now }
+{
+    bytes.iter().all(|b| *b != b'\r')
+}
+
+/// Whether this is the front of a size line as far as into its extensions, where no byte but CR and LF changes what the line is.
+pub fn is_extending(line: &[u8]) -> bool
+    ensures { result ≡ true → IsExtending line.now }
+{
+    if skip_blanks(&line[digit_count(line)..]).is_empty() {
+        return false;
+    }
+    match size_told(line) {
+        Some(_) => has_no_end(line),
+        None => false,
+    }
 }
 
 /// How many bytes stand in front of the first CR, or none where they leave no room for CR LF.
