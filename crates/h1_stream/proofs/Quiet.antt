@@ -1,16 +1,21 @@
 -- A piece without LF finishes no head and no trailer section.
-use Rattle.std.proofs.Common.{◌≡◌, ℕ, ◌+◌, ◌<◌, Bool, true, false, List, [], ◌∷◌, ◌++◌, length, take, drop, Option, None, Some, refl, sym, ap, ◌∙◌, subst, arith, length-append, inl}
+use Rattle.std.proofs.Common.{◌≡◌, ℕ, ◌+◌, ◌<◌, ◌≤◌, Bool, true, false, List, [], ◌∷◌, ◌++◌, length, take, drop, Option, None, Some, refl, sym, ap, ◌∙◌, subst, arith, length-append, inl}
 use Rattle.std.specs.Prelude.{not, is_some, MatchOption, if◌then◌else◌, ◌||◌, ◌==◌, nat_le, nat_lt, bytes_eq, codes}
-use Rattle.std.proofs.lemmas.List.{take_all}
-use Rattle.std.proofs.lemmas.Bool.{lt-leb}
+use Rattle.std.specs.List.{list_all}
+use Rattle.std.proofs.lemmas.List.{take_all, append_assoc, append-nil}
+use Rattle.std.proofs.lemmas.List.Folds.{list_all-append}
+use Rattle.std.proofs.lemmas.Bool.{lt-leb, and_from}
 use Rattle.http1_model.specs.Lines.{with_first, whole_lines, empty_len, skipped, after_empty_lines, section_of, Cut, too_large, unfinished, cut_open, cut_lines, cut_of, window_cut, head_cut, head_limit, line_limit}
 use Rattle.http1_model.specs.Head.{not_yet, IsStepAt, IsAnswer, IsResponseAnswer}
-use Rattle.http1_model.specs.Chunks.{Place, section}
-use Rattle.http1_model.specs.Messages.{counted, coded, unbounded, Due, head, body, done, rest, SpellsHead, stop, stop_at}
+use Rattle.http1_model.specs.Chunks.{Place, section, Sought, sought, waiting, place_taken, section_taken}
+use Rattle.http1_model.specs.Messages.{counted, coded, unbounded, Due, head, body, done, rest, IsCodedStep, SpellsHead, stop, stop_at}
 use Rattle.http1_model.specs.Trailers as trailing
 use Rattle.http1_model.specs.Trailers.{window_section, section_cut, IsEnd}
 use Rattle.http1_model.specs.Unread.{Reading, none, IsNext, Halts, due_at, unread_at}
-use Rattle.h1_stream.specs.Quiet.{IsOpen, IsQuiet}
+use Rattle.h1_chunks.specs.Waits.{extends, IsWithinSize}
+use Rattle.h1_stream.specs.declared.reader.Quiet.{Quiet}
+use Rattle.h1_stream.specs.declared.reader.Quiet.TheVariants as quiets
+use Rattle.h1_stream.specs.Quiet.{IsOpen, IsSizeOpen, IsQuiet, is_quiet}
 
 lines_behind : (t p : List ℕ) → whole_lines p ≡ [] → whole_lines (t ++ p) ≡ whole_lines t
 lines_behind [] p h = h
@@ -70,8 +75,28 @@ open_stays (body (coded connection place)) t p none_there lt (is, h) = (is, sect
 open_stays (body unbounded) t p none_there lt h = h
 open_stays done t p none_there lt h = h
 
-pub stays : (ended : Bool) (due : Due) (t p : List ℕ) → whole_lines p ≡ [] → length t + length p < 65536 → IsQuiet true ended due t → IsQuiet true ended due (t ++ p)
-stays ended due t p none_there lt (e, h) = (e, open_stays due t p none_there lt h)
+-- more of a size line's extensions
+size_stays : (due : Due) (t p : List ℕ) → list_all extends p ≡ true → length t + length p ≤ 4094 → IsSizeOpen due t → IsSizeOpen due (t ++ p)
+size_stays head t p all lt h = h
+size_stays (body (counted n)) t p all lt h = h
+size_stays (body (coded connection place)) t p all lt (h, small) =
+    let len : length (t ++ p) ≡ length t + length p = length-append t p in (
+      λ more more_all room.
+          let both : list_all extends (p ++ more) ≡ true = list_all-append extends p more ∙ and_from (list_all extends p) (list_all extends more) all more_all in
+          let more_len : length (p ++ more) ≡ length p + length more = length-append p more in
+          ap (sought place) (append_assoc t p more) ∙ h (p ++ more) both (omega (arith, room, len, more_len)),
+      omega (arith, len, lt),
+    )
+size_stays (body unbounded) t p all lt h = h
+size_stays done t p all lt h = h
+
+pub stays_lines : (ended : Bool) (due : Due) (t p : List ℕ) → (whole_lines p ≡ []) × (length t + length p < 65536) → IsQuiet quiets.Lines ended due t
+    → IsQuiet quiets.Lines ended due (t ++ p)
+stays_lines ended due t p (none_there, lt) (e, h) = (e, open_stays due t p none_there lt h)
+
+pub stays_size : (ended : Bool) (due : Due) (t p : List ℕ) → (list_all extends p ≡ true) × (length t + length p ≤ 4094) → IsQuiet quiets.Size ended due t
+    → IsQuiet quiets.Size ended due (t ++ p)
+stays_size ended due t p (all, lt) (e, h) = (e, size_stays due t p all lt h)
 
 spelled : (asked : Option (List ℕ)) (t : List ℕ) → skipped t ≡ 0 → head_cut t ≡ unfinished → SpellsHead asked t not_yet
 spelled None t s h =
@@ -121,19 +146,47 @@ unread_kept (body (coded connection place)) t (is, h) =
 unread_kept (body unbounded) t h = refl
 unread_kept done t h = refl
 
--- nothing as yet, and nothing is dropped
-pub halts : (r : Reading) → IsQuiet true r.ended r.due r.unread → Halts r rest r
-halts r (e, h) = record {
-  next = subst (λ (b : Bool). IsNext b r.asked r.due r.unread (none rest)) (sym e) (open_none r.asked r.due r.unread h);
-  is =
-      let due_is : r.due ≡ due_at r.due r.unread = due_kept r.due r.unread h in
-      let unread_is : r.unread ≡ unread_at r.due r.unread = unread_kept r.due r.unread h in
-      (λ j. record r { due = due_is j; unread = unread_is j });
+-- nothing is next within a size line
+size_waits : (place : Place) (t : List ℕ) → IsWithinSize place t → length t ≤ 4094 → sought place t ≡ waiting
+size_waits place t h small = sym (ap (sought place) (append-nil t)) ∙ h [] refl (omega (arith, small))
+
+size_none : (asked : Option (List ℕ)) (due : Due) (t : List ℕ) → IsSizeOpen due t → IsNext false asked due t (none rest)
+size_none asked head t h = absurd h
+size_none asked (body (counted n)) t h = absurd h
+size_none asked (body (coded connection place)) t (h, small) =
+    inl (record {
+      step = stop rest;
+      there = subst (λ (s : Sought). IsCodedStep false asked connection t s (stop rest)) (sym (size_waits place t h small)) refl;
+      is = refl;
+    })
+size_none asked (body unbounded) t h = absurd h
+size_none asked done t h = absurd h
+
+size_due : (due : Due) (t : List ℕ) → IsSizeOpen due t → due ≡ due_at due t
+size_due head t h = absurd h
+size_due (body (counted n)) t h = absurd h
+size_due (body (coded connection place)) t (h, small) = sym (ap (λ s. body (coded connection (place_taken place s))) (size_waits place t h small))
+size_due (body unbounded) t h = absurd h
+size_due done t h = absurd h
+
+size_unread : (due : Due) (t : List ℕ) → IsSizeOpen due t → t ≡ unread_at due t
+size_unread head t h = absurd h
+size_unread (body (counted n)) t h = absurd h
+size_unread (body (coded connection place)) t (h, small) = sym (ap (λ s. drop (section_taken s) t) (size_waits place t h small))
+size_unread (body unbounded) t h = absurd h
+size_unread done t h = absurd h
+
+halts_from : (r : Reading) → r.ended ≡ false → IsNext false r.asked r.due r.unread (none rest) → r.due ≡ due_at r.due r.unread → r.unread ≡ unread_at r.due r.unread
+    → Halts r rest r
+halts_from r e next due_is unread_is = record {
+  next = subst (λ (b : Bool). IsNext b r.asked r.due r.unread (none rest)) (sym e) next;
+  is = (λ j. record r { due = due_is j; unread = unread_is j });
 }
 
-pub stays_by : (quiet r : Bool) (o : Option ℕ) (ended : Bool) (due : Due) (t p : List ℕ) → quiet ≡ true → MatchOption o (whole_lines p ≡ []) (λ len. whole_lines p ≡ take len p ∷ whole_lines (drop len p))
-    → is_some o ≡ not r → length t + length p < 65536 → IsQuiet quiet ended due t → IsQuiet r ended due (t ++ p)
-stays_by false r o ended due t p bad lines is lt h = absurd (let wrong : false ≡ true = bad in cc)
-stays_by true false o ended due t p q lines is lt h = tt
-stays_by true true None ended due t p q lines is lt h = stays ended due t p lines lt h
-stays_by true true (Some n) ended due t p q lines is lt h = absurd (let wrong : true ≡ false = is in cc)
+-- nothing as yet, and nothing is dropped
+pub halts : (r : Reading) (q : Quiet) → is_quiet q ≡ true → IsQuiet q r.ended r.due r.unread → Halts r rest r
+halts r quiets.No is h = absurd (let wrong : false ≡ true = is in cc)
+halts r quiets.Lines is (e, h) =
+    halts_from r e (open_none r.asked r.due r.unread h) (due_kept r.due r.unread h) (unread_kept r.due r.unread h)
+halts r quiets.Size is (e, h) =
+    halts_from r e (size_none r.asked r.due r.unread h) (size_due r.due r.unread h) (size_unread r.due r.unread h)

@@ -1,6 +1,9 @@
 -- When a reader need not look at its text again.
-use Rattle.std.specs.Prelude.{◌≡◌, ℕ, Bool, true, false, List}
+use Rattle.std.specs.Prelude.{◌≡◌, ◌≤◌, ℕ, Bool, true, false, List, length}
 use Rattle.h1_chunks.specs.Answers.{IsWithinSection}
+use Rattle.h1_chunks.specs.Waits.{IsWithinSize}
+use Rattle.h1_stream.specs.declared.reader.Quiet as quiet
+use Rattle.h1_stream.specs.declared.reader.Quiet.TheVariants as quiets
 use Rattle.http1_model.specs.Lines.{skipped, head_cut, unfinished}
 use Rattle.http1_model.specs.Messages.{counted, coded, unbounded, Due, head, body, done}
 
@@ -12,7 +15,21 @@ IsOpen (body (coded connection place)) text = IsWithinSection place text
 IsOpen (body unbounded) text = ⊥
 IsOpen done text = ⊥
 
+-- a size line is due that has come as far as into its extensions, and there is room for more of them
+abbrev pub IsSizeOpen : Due → List ℕ → Type 0
+IsSizeOpen head text = ⊥
+IsSizeOpen (body (counted n)) text = ⊥
+IsSizeOpen (body (coded connection place)) text = IsWithinSize place text × (length text ≤ 4094)
+IsSizeOpen (body unbounded) text = ⊥
+IsSizeOpen done text = ⊥
+
+abbrev pub is_quiet : quiet.Quiet → Bool
+is_quiet quiets.No = false
+is_quiet quiets.Lines = true
+is_quiet quiets.Size = true
+
 -- that is all there is of the text so far
-abbrev pub IsQuiet : Bool → Bool → Due → List ℕ → Type 0
-IsQuiet true ended due text = (ended ≡ false) × IsOpen due text
-IsQuiet false ended due text = Unit {0}
+abbrev pub IsQuiet : quiet.Quiet → Bool → Due → List ℕ → Type 0
+IsQuiet quiets.No ended due text = Unit {0}
+IsQuiet quiets.Lines ended due text = (ended ≡ false) × IsOpen due text
+IsQuiet quiets.Size ended due text = (ended ≡ false) × IsSizeOpen due text

@@ -1,14 +1,18 @@
 // The reader of one side of a line.
-ghost use Rattle.std.specs.Prelude.{◌≡◌, ◌↔◌, ◌++◌, Bool, false, length, IfOk, OnOk, OnErr, IsTrue};
+ghost use Rattle.std.specs.List.{list_all};
+ghost use Rattle.std.specs.Prelude.{◌≡◌, ◌↔◌, ◌++◌, ◌+◌, ◌<◌, ◌≤◌, Bool, true, false, List, ℕ, [], length, IfOk, OnOk, OnErr, IsTrue};
 ghost use Rattle.http1_model.specs.Unread.{IsNext, new_reading, fed, finished, waiting};
 ghost use Rattle.h1_stream.specs.Quiet.{IsOpen, IsQuiet};
-ghost use Rattle.http1_model.specs.Messages.{head, Due as Dues};
+ghost use Rattle.http1_model.specs.Messages.{head, body, coded, Due as Dues};
+ghost use Rattle.http1_model.specs.Lines.{whole_lines};
+ghost use Rattle.h1_chunks.specs.Waits.{extends, IsWithinSize};
 ghost use Rattle.h1_stream.specs.Seen.{seen_due};
 
 use crate::body::body_next;
 use crate::next::{Body, Due, Next, Stop, head_next};
 use crate::unread::Unread;
 use gate_base::OutOfMemory;
+use h1_chunks::ChunkReader;
 use h1_head::{Item, Kind, head_cut, skip_empty_lines};
 use h1_text::{Cut, line_len};
 use std::alloc::Global;
@@ -30,17 +34,71 @@ pub enum Step {
 /// How many bytes of a head, or of a trailer section, may come.
 const OPEN_LIMIT: usize = 65_536;
 
-/// Whether an unfinished head or trailer section is still all there is when a piece comes.
-fn stays_quiet(quiet: bool, text: &[u8], piece: &[u8]) -> bool
-    ensures { (ended : Bool) (due : Dues) → IsQuiet quiet ended due text.now → IsQuiet result ended due (text.now ++ piece.now) }
-{
-    if !quiet {
-        return false;
+/// How many bytes of a size line may come, its CR LF not with them.
+const SIZE_LIMIT: usize = 4_094;
+
+/// Whether and why the text is looked at no more until what comes tells more.
+#[derive(Clone, Copy, Debug)]
+pub(crate) enum Quiet {
+    /// It is looked at.
+    No,
+    /// A head or a trailer section is not finished: until a line, an end or too much comes.
+    Lines,
+    /// A size line has come as far as into its extensions: until CR, LF, an end or too much comes.
+    Size,
+}
+
+impl Quiet {
+    ghost use Rattle.h1_stream.specs.Quiet.{is_quiet};
+
+    /// Whether it is looked at no more.
+    fn holds(self) -> bool
+        ensures { result ≡ is_quiet self }
+    {
+        match self {
+            Quiet::No => false,
+            Quiet::Lines | Quiet::Size => true,
+        }
     }
+}
+
+/// Whether a piece leaves a head or a trailer section unfinished.
+fn ends_no_line(text: &[u8], piece: &[u8]) -> bool
+    ensures { result ≡ true → (whole_lines piece.now ≡ []) × (length text.now + length piece.now < 65536) }
+{
     if text.len() >= OPEN_LIMIT || piece.len() >= OPEN_LIMIT - text.len() {
         return false;
     }
     line_len(piece).is_none()
+}
+
+/// Whether no byte is a CR or an LF.
+fn has_no_line_end(bytes: &[u8]) -> bool
+    ensures { result ≡ list_all extends bytes.now }
+{
+    bytes.iter().all(|b| *b != b'\r' && *b != b'\n')
+}
+
+/// Whether a piece leaves a size line within its extensions.
+fn extends_size(text: &[u8], piece: &[u8]) -> bool
+    ensures { result ≡ true → (list_all extends piece.now ≡ true) × (length text.now + length piece.now ≤ 4094) }
+{
+    if text.len() > SIZE_LIMIT || piece.len() > SIZE_LIMIT - text.len() {
+        return false;
+    }
+    has_no_line_end(piece)
+}
+
+/// Whether what there is still needs no look when a piece comes.
+#[tactic(auto, using(crate::proofs::Quiet::stays_size))]
+fn stays_quiet(quiet: Quiet, text: &[u8], piece: &[u8]) -> Quiet
+    ensures { (ended : Bool) (due : Dues) → IsQuiet quiet ended due text.now → IsQuiet result ended due (text.now ++ piece.now) }
+{
+    match quiet {
+        Quiet::Lines if ends_no_line(text, piece) => Quiet::Lines,
+        Quiet::Size if extends_size(text, piece) => Quiet::Size,
+        _ => Quiet::No,
+    }
 }
 
 /// Whether a text is an unfinished head, with no empty lines before it.
@@ -50,17 +108,37 @@ fn is_open_head(text: &[u8]) -> bool
     skip_empty_lines(text) == 0 && matches!(head_cut(text), Cut::Unfinished)
 }
 
-/// Whether a head or a trailer section is due that is not finished, and with it the text.
-fn is_unfinished(ended: bool, due: &Due, text: &[u8]) -> bool
+/// Whether the extensions of a size line stand at the end of a text, and there is room for more.
+fn is_open_size(reader: &ChunkReader, text: &[u8]) -> bool
+    ensures { result ≡ true → (IsWithinSize reader.now text.now × (length text.now ≤ 4094)) }
+{
+    text.len() <= SIZE_LIMIT && reader.is_within_size(text)
+}
+
+/// Whether a chunked body's text needs no look until more of it comes: a trailer section that is not finished, or a size line within its extensions.
+fn coded_quiet(reader: &ChunkReader, text: &[u8]) -> Quiet
+    ensures { (connection : List (List ℕ)) → IsQuiet result false (body (coded connection reader.now)) text.now }
+{
+    if reader.is_within_section(text) {
+        Quiet::Lines
+    } else if is_open_size(reader, text) {
+        Quiet::Size
+    } else {
+        Quiet::No
+    }
+}
+
+/// Whether the text needs no look until more of it comes.
+fn quiet_of(ended: bool, due: &Due, text: &[u8]) -> Quiet
     ensures { IsQuiet result ended (seen_due due.now) text.now }
 {
     if ended {
-        return false;
+        return Quiet::No;
     }
     match due {
-        Due::Head => is_open_head(text),
-        Due::Body(Body::Coded { reader, .. }) => reader.is_within_section(text),
-        Due::Body(Body::Counted(_) | Body::Unbounded) | Due::Done => false,
+        Due::Head if is_open_head(text) => Quiet::Lines,
+        Due::Body(Body::Coded { reader, .. }) => coded_quiet(reader, text),
+        Due::Head | Due::Body(Body::Counted(_) | Body::Unbounded) | Due::Done => Quiet::No,
     }
 }
 
@@ -74,8 +152,8 @@ pub struct MessageReader {
     ended: bool,
     due: Due,
     text: Unread,
-    /// Whether the text is looked at no more until a line, an end or too much comes.
-    quiet: bool,
+    /// Whether the text is looked at no more until what comes tells more.
+    quiet: Quiet,
 }
 
 impl Model for MessageReader {
@@ -106,7 +184,7 @@ impl MessageReader {
             ended: false,
             due: Due::Head,
             text: Unread::new(alloc),
-            quiet: false,
+            quiet: Quiet::No,
         })
     }
 
@@ -126,7 +204,7 @@ impl MessageReader {
     pub fn end(&mut self)
         ensures { self.new ≡ finished self.old }
     {
-        self.quiet = false;
+        self.quiet = Quiet::No;
         self.ended = true;
     }
 
@@ -151,7 +229,7 @@ impl MessageReader {
         ensures ok { IfOk result (λ step. Answers self.old step self.new) }
         ensures err { OnErr result (self.new ≡ self.old) }
     {
-        if self.quiet {
+        if self.quiet.holds() {
             return Ok(Step::NotYet);
         }
         let next = self.next()?;
@@ -179,7 +257,7 @@ impl MessageReader {
         requires { IsWithin (length self.old.unread) next }
         ensures { Takes self.old next result self.new }
     {
-        self.quiet = false;
+        self.quiet = Quiet::No;
         match next {
             Next::Part { item, used, due } => {
                 self.text.use_up(used);
@@ -208,18 +286,18 @@ impl MessageReader {
         }
     }
 
-    /// Notes whether an unfinished head or trailer section is all there is.
+    /// Notes whether what there is needs no look until more of it comes.
     fn hush(&mut self)
         ensures { self.new ≡ self.old }
     {
-        self.quiet = is_unfinished(self.ended, &self.due, self.text.as_slice());
+        self.quiet = quiet_of(self.ended, &self.due, self.text.as_slice());
     }
 
     /// Reads over what counts as read where no part is next.
     fn skip(&mut self)
         ensures { self.new ≡ waiting self.old }
     {
-        self.quiet = false;
+        self.quiet = Quiet::No;
         let used = self.due.read_over(self.text.as_slice());
         self.text.use_up(used);
     }

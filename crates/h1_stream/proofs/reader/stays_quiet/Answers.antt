@@ -1,8 +1,10 @@
-use Rattle.std.proofs.Common.{arith}
-use Rattle.h1_stream.proofs.Quiet.{stays_by}
+use Rattle.std.proofs.Common.{subst}
+use Rattle.h1_stream.specs.declared.reader.Quiet.{Quiet}
+use Rattle.h1_stream.specs.Quiet.{IsQuiet}
+use Rattle.h1_stream.proofs.Quiet.{stays_lines}
 use Rattle.h1_stream.proofs.reader.stays_quiet.Goals as goal
 
-pub returns : goal.returns
-returns c =
-    λ ended due h. stays_by c.args.quiet c.is_none.result c.line_len.result ended due c.args.text.now c.args.piece.now c.if-not-quiet.false c.line_len.ensures.lines c.is_none.ensures
-    (omega (arith, c.if-text-ge-OPEN_LIMIT.false, c.if-piece-text.false)) h
+pub returns-in-Lines : goal.returns-in-Lines
+returns-in-Lines c =
+    λ ended due h. stays_lines ended due c.args.text.now c.args.piece.now (c.ends_no_line.ensures c.if-ends_no_line.true)
+    (subst (λ (q : Quiet). IsQuiet q ended due c.args.text.now) c.in-Lines.is h)
