@@ -10,3 +10,4 @@ pub mod TurnLaws
 pub mod Firsts
 pub mod Stirs
 pub mod Wished
+pub mod Listing

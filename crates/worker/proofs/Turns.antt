@@ -1,6 +1,6 @@
 -- Turns, by how they end.
 use Rattle.std.proofs.Common.{◌≡◌, ◌∙◌, ℕ, Bool, true, false, List, [], ◌∷◌, ◌++◌, refl, ap, sym, subst, Option, Ok, Err}
-use Rattle.std.specs.Prelude.{IsTrue}
+use Rattle.std.specs.Prelude.{IsTrue, IfOk, Result}
 use Rattle.contexts.specs.declared.parts.Contexts.{Contexts}
 use Rattle.course.specs.Called.{Called}
 use Rattle.course.specs.Course.{Course, ends, Goes}
@@ -9,6 +9,7 @@ use Rattle.course.specs.declared.host.Callback.{Callback}
 use Rattle.gate_io.specs.Events.{is_stop, Last, given, Follows, Obeys}
 use Rattle.gate_io.specs.Passing.{asking}
 use Rattle.gate_io.specs.Told.{Gains}
+use Rattle.gate_io.specs.declared.ends.WorldEnd.{WorldEnd}
 use Rattle.gate_io.specs.declared.event.Event.{Event}
 use Rattle.gate_io.specs.declared.event.Sent.{Sent}
 use Rattle.gate_io.specs.declared.event.What.{What}
@@ -29,7 +30,7 @@ use Rattle.worker.specs.State.{Standing, rules_of}
 use Rattle.worker.specs.Steps.{Both, both}
 use Rattle.worker.specs.declared.worker.Turn.{Turn}
 use Rattle.worker.specs.Turn.{Outcome, outcome, emptied, comes_to, facing, most_steps, turn, turn_by}
-use Rattle.worker.specs.Turned.{TookWhole, one_turn, wanted, Heard, NoEvent, Whole, Unanswered, PartlySent, TurnedOn}
+use Rattle.worker.specs.Turned.{TookWhole, one_turn, wanted, Heard, NoEvent, Whole, Unanswered, PartlySent, Turned, TurnedOn}
 
 -- of a world that takes each piece whole, no `send` took less
 pub took_whole : {E : Type 0} (takes_whole : Bool) (old mid new : Option (List Passed)) (before after : List Sent) (wants : Wants) (event : Event) → IsTrue takes_whole
@@ -53,6 +54,22 @@ heard_so keeps wants asked before mid after event same follows obeys last kept =
   last = kept ∙ last;
 }
 
+-- the same was asked in other words
+pub asked_so : (wants asked : Wants) (r : Result Event WorldEnd) (old new : Option (List Passed)) → wants ≡ asked → Gains old (asking wants r) new → Gains old (asking asked r) new
+asked_so wants asked r old new same gained = subst (λ (w : Wants). Gains old (asking w r) new) same gained
+
+pub obeys_so : (keeps : Bool) (wants asked : Wants) (r : Result Event WorldEnd) → wants ≡ asked → (IsTrue keeps → IfOk r (λ (event : Event). Obeys wants event.what))
+    → IsTrue keeps → IfOk r (λ (event : Event). Obeys asked event.what)
+obeys_so keeps wants asked r same obeys = subst (λ (w : Wants). IsTrue keeps → IfOk r (λ (event : Event). Obeys w event.what)) same obeys
+
+-- a refusal of the world by its name
+pub refused_as : (wants : Wants) (e named : WorldEnd) (old new : Option (List Passed)) → e ≡ named → Gains old (asking wants (Err e)) new → Gains old (asking wants (Err named)) new
+refused_as wants e named old new same gained = subst (λ (x : WorldEnd). Gains old (asking wants (Err x)) new) same gained
+
+-- with a room that is the same to all who look
+pub in_room : {H : Type 0} (from seen : Standing H) (room : Room) → from ≡ seen → room ≡ from.state.room → record from { state = record from.state { room = room } } ≡ seen
+in_room from seen room is same = (λ i. record from { state = record from.state { room = same i } }) ∙ is
+
 -- what was sent is taken out of the room
 same_room : (sent : List Sent) (room : Room) → room.hub.sent ≡ [] → emptied (filled sent room) ≡ room
 same_room sent room is = λ i. record room { hub = record room.hub { sent = sym is i } }
@@ -62,6 +79,10 @@ module _ {H S : Type 0} (calling : H → ℕ → Callback → ℕ → ℕ → �
   pub turned_from : (keeps : Bool) (before after : Last) (s : S) (old : Option (List Passed)) (from seen : Standing H) (end : Turn) (to : Standing H) (t : S) (new : Option (List Passed)) → from ≡ seen
       → TurnedOn calling performs keeps before after s old from end to t new → TurnedOn calling performs keeps before after s old seen end to t new
   turned_from keeps before after s old from seen end to t new same turned = subst (λ (at : Standing H). TurnedOn calling performs keeps before after s old at end to t new) same turned
+
+  pub turned_at : (s : S) (old : Option (List Passed)) (from seen : Standing H) (end : Turn) (to : Standing H) (t : S) (new : Option (List Passed)) → from ≡ seen
+      → Turned calling performs s old from end to t new → Turned calling performs s old seen end to t new
+  turned_at s old from seen end to t new same turned = subst (λ (at : Standing H). Turned calling performs s old at end to t new) same turned
 
   -- the turn that is no Stop went to its end
   pub went_to : (s t : S) (from : Standing H) (event : Event) (host : H) (room : Room) (sent : List Sent) → is_stop event.what ≡ false → room.hub.sent ≡ []

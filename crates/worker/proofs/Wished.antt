@@ -6,13 +6,17 @@ use Rattle.std.specs.Prelude.{not, slice_get, slice_set, position, filter, optio
 use Rattle.std.proofs.lemmas.Option.{slice_get-map, slice_get_past, slice_get_read}
 use Rattle.gate_io.specs.declared.event.Sent.{Sent}
 use Rattle.gate_io.specs.declared.event.Side.TheVariants.{Down, Up}
+use Rattle.gate_io.specs.declared.passed.Wants.{Wants}
+use Rattle.worker.specs.Plan.{Plan}
 use Rattle.worker.specs.Rooms.{moves, is_over}
-use Rattle.worker.specs.Stirring.{Covers, StirsWithin}
+use Rattle.worker.specs.Stirring.{Covers}
 use Rattle.worker.specs.Steps.{exchange_reading}
-use Rattle.worker.specs.Wants.{is_wanted, wanted_of, with_lines, earlier, due_on, reads_more, wished, with_wishes}
-use Rattle.worker.specs.Wishes.{wish_of, takes_on, takes_up, falls_due, Fits, Touched, Sees, Sound}
+use Rattle.worker.specs.Wants.{is_wanted, wanted_of, wants_of, with_lines, due_in, due_on, reads_more}
+use Rattle.worker.specs.Wishes.{wish_of, takes_on, takes_up, falls_due, earlier, wished, with_wishes, Fits, Touched, Listed, Lists, Sees, Sound}
 use Rattle.exchange.specs.declared.types.Exchange.{Exchange}
 use Rattle.http1_model.specs.Unread.{Reading}
+use Rattle.worker.specs.declared.kept.Kept.{Kept}
+use Rattle.worker.specs.declared.room.Room.{Room}
 use Rattle.worker.specs.declared.span.Span.{Span}
 use Rattle.worker.specs.declared.types.Line.{Line}
 use Rattle.worker.specs.declared.types.Seen.{Seen}
@@ -57,6 +61,20 @@ fits_all span each lines all = record { at = λ k. inl (λ not_all. absurd (cc))
 pub fits_each : (span : Span) (each : List Wish) (lines : List Line) → each ≡ map wish_of lines → Fits span each lines
 fits_each span each lines is = record { at = λ k. inr (ap (λ (ws : List Wish). slice_get ws k) is ∙ slice_get-map wish_of lines k) }
 
+-- nothing is said where something was done to all lines
+pub lists_all : (wishes : Wishes) → wishes.touched.is_all ≡ true → Lists wishes
+lists_all wishes all = record { at = λ some. absurd (cc) }
+
+pub lists_of : (wishes : Wishes) → Listed wishes.kept → Lists wishes
+lists_of wishes listed = record { at = λ some. listed }
+
+not_all : (span : Span) (b : Bool) → span.is_all ≡ b → ((k : ℕ) → Covers span k → ⊥) → span.is_all ≡ false
+not_all span false is none = is
+not_all span true is none = absurd (none 0 (λ some. absurd (cc)))
+
+pub lists_whole : (wishes : Wishes) → Lists wishes → ((k : ℕ) → Covers wishes.touched k → ⊥) → Listed wishes.kept
+lists_whole wishes lists none = lists.at (not_all wishes.touched wishes.touched.is_all refl none)
+
 pub length_set : {X : Type 0} (xs : List X) (at : ℕ) (x : X) → length (slice_set xs at x) ≡ length xs
 length_set [] at x = refl
 length_set (z ∷ zs) zero x = refl
@@ -87,8 +105,9 @@ pub sound_set : (old new : Span) (was is : Wishes) (seen : Option Seen) (lines :
 sound_set old new was is seen lines at line before sound here others touched low value number = record {
   sees = sees_set seen lines at line before sound.sees (slice_get_read lines (length lines) at before refl low value) number;
   stirs = stirs_set old new lines at line sound.stirs here others;
-  fits = subst (λ each. Fits is.touched each.items (slice_set lines at line)) (sym touched.same)
-      (fits_set was.touched is.touched was.each.items lines at line sound.fits touched.here touched.others);
+  fits = subst (λ (kept : Kept). Fits is.touched kept.each.items (slice_set lines at line)) (sym touched.same)
+      (fits_set was.touched is.touched was.kept.each.items lines at line sound.fits touched.here touched.others);
+  lists = record { at = λ some. subst Listed (sym touched.same) (sound.lists.at (sym touched.all ∙ some)) };
 }
 
 -- all are covered, and none was looked for
@@ -96,21 +115,32 @@ pub sound_all : (span : Span) (wishes : Wishes) (seen : Option Seen) (lines : Li
 sound_all span wishes seen lines due touched none = record {
   sees = record { at = λ s is. absurd (cc) };
   stirs = stirs_all span lines due;
-  fits = fits_all wishes.touched wishes.each.items lines touched;
+  fits = fits_all wishes.touched wishes.kept.each.items lines touched;
+  lists = lists_all wishes touched;
 }
 
 -- nothing is due
 pub sound_calm : (old new : Span) (wishes : Wishes) (seen : Option Seen) (lines : List Line) → Sound old wishes seen lines → position moves lines ≡ None → position is_over lines ≡ None → Sound new wishes seen lines
-sound_calm old new wishes seen lines sound first next = record { sees = sound.sees; stirs = stirs_calm new lines first next; fits = sound.fits }
+sound_calm old new wishes seen lines sound first next = record { sees = sound.sees; stirs = stirs_calm new lines first next; fits = sound.fits; lists = sound.lists }
 
 -- they were looked at again
-pub sound_renewed : (due : Span) (was is : Wishes) (seen : Option Seen) (lines : List Line) → Sound due was seen lines → Fits is.touched is.each.items lines → Sound due is seen lines
-sound_renewed due was is seen lines sound fits = record { sees = sound.sees; stirs = sound.stirs; fits = fits }
+pub sound_renewed : (due : Span) (was is : Wishes) (seen : Option Seen) (lines : List Line) → Sound due was seen lines → Fits is.touched is.kept.each.items lines → Lists is → Sound due is seen lines
+sound_renewed due was is seen lines sound fits lists = record { sees = sound.sees; stirs = sound.stirs; fits = fits; lists = lists }
+
+-- the world is to be asked to call at another moment
+pub sound_called : (due : Span) (wishes : Wishes) (seen : Option Seen) (lines : List Line) (moment : Option ℕ) → Sound due wishes seen lines
+    → Sound due (record wishes { kept = record wishes.kept { wants = record wishes.kept.wants { due = moment } } }) seen lines
+sound_called due wishes seen lines moment sound = record {
+  sees = sound.sees;
+  stirs = sound.stirs;
+  fits = sound.fits;
+  lists = record { at = λ some. let listed = sound.lists.at some in record { down = listed.down; up = listed.up; first = listed.first } };
+}
 
 -- another was looked for
 pub sound_seen : (due : Span) (wishes : Wishes) (was : Option Seen) (number place : ℕ) (lines : List Line) → Sound due wishes was lines
     → position (λ (line : Line). line.number == number) lines ≡ Some place → Sound due wishes (Some (record { number = number; place = place })) lines
-sound_seen due wishes was number place lines sound found = record { sees = record { at = λ s is. by s is }; stirs = sound.stirs; fits = sound.fits }
+sound_seen due wishes was number place lines sound found = record { sees = record { at = λ s is. by s is }; stirs = sound.stirs; fits = sound.fits; lists = sound.lists }
   where
     by : (s : Seen) → ◌≡◌ {A = Option Seen} (Some (record { number = number; place = place })) (Some s) → position (λ (line : Line). line.number == s.number) lines ≡ Some s.place
     by s is =
@@ -180,6 +210,21 @@ due_in_all due (x ∷ xs) = ap (λ (d : Option ℕ). with_wishes (earlier due d)
 
 pub wished_due : (due : Option ℕ) (each : List Wish) (lines : List Line) → each ≡ map wish_of lines → with_wishes due each ≡ with_lines due lines
 wished_due due each lines is = ap (λ (ws : List Wish). with_wishes due ws) is ∙ due_in_all due lines
+
+-- what is kept is what the worker wants, where nothing waits
+pub asked_is : (plan : Plan) (room : Room) (waiting : List Sent) (lines : List Line) (wants : Wants) → lines ≡ room.lines → waiting ≡ []
+    → wants.down ≡ wished (λ w. w.down) (map wish_of lines) → wants.up ≡ wished (λ w. w.up) (map wish_of lines) → wants.due ≡ due_in plan room → wants ≡ wants_of plan room waiting
+asked_is plan room waiting lines wants same none down_is up_is due_is =
+    let down = down_is ∙ wished_down (map wish_of lines) waiting lines none refl ∙ ap (λ (ls : List Line). wanted_of Down waiting ls) same in
+    let up = up_is ∙ wished_up (map wish_of lines) waiting lines none refl ∙ ap (λ (ls : List Line). wanted_of Up waiting ls) same in
+    λ i. record { down = down i; up = up i; due = due_is i }
+
+pub looked_is : (plan : Plan) (room : Room) (waiting : List Sent) (lines : List Line) (wants : Wants) → lines ≡ room.lines
+    → wants.down ≡ wanted_of Down waiting lines → wants.up ≡ wanted_of Up waiting lines → wants.due ≡ due_in plan room → wants ≡ wants_of plan room waiting
+looked_is plan room waiting lines wants same down_is up_is due_is =
+    let down = down_is ∙ ap (λ (ls : List Line). wanted_of Down waiting ls) same in
+    let up = up_is ∙ ap (λ (ls : List Line). wanted_of Up waiting ls) same in
+    λ i. record { down = down i; up = up i; due = due_is i }
 
 -- ---- lines that are looked at again, one after the other
 

@@ -1,5 +1,5 @@
 -- What a worker asks of its world: from which sides of which lines it takes bytes, and when it wants to be called at the latest.
-use Rattle.std.specs.Prelude.{ℕ, zero, suc, ◌+◌, Bool, true, false, not, ◌&&◌, ◌||◌, slice_get, List, [], ◌∷◌, map, filter, length, nat_lt, nat_le, Option, None, Some, if◌then◌else◌}
+use Rattle.std.specs.Prelude.{ℕ, zero, suc, ◌+◌, Bool, true, false, not, ◌&&◌, ◌||◌, slice_get, List, [], ◌∷◌, map, filter, length, nat_lt, Option, None, Some, if◌then◌else◌}
 use Rattle.contexts.specs.declared.parts.Context.{Context}
 use Rattle.contexts.specs.declared.parts.Tick.{Tick}
 use Rattle.contexts.specs.Reached.{vm_in}
@@ -13,11 +13,11 @@ use Rattle.outbox.specs.Places.{octets_in, marks_at}
 use Rattle.outbox.specs.declared.place.Place.TheVariants.{Peer}
 use Rattle.worker.specs.declared.room.Room.{Room}
 use Rattle.worker.specs.declared.types.Line.{Line}
-use Rattle.worker.specs.declared.types.Wish.{Wish}
 use Rattle.worker.specs.Plan.{Plan}
 use Rattle.worker.specs.Rooms.{is_dead}
 use Rattle.worker.specs.Steps.{line_reading, at_most_last}
 use Rattle.worker.specs.Turn.{registers_at, vms_in}
+use Rattle.worker.specs.Wishes.{earlier}
 
 -- less than 65,536 bytes wait on a side of a line
 abbrev pub has_room : List Sent → Side → Line → Bool
@@ -43,11 +43,6 @@ wanted_of side waiting lines = map (λ line. line.number) (filter (is_wanted sid
 
 -- ---- the moment at which something falls due
 
-abbrev pub earlier : Option ℕ → Option ℕ → Option ℕ
-earlier None other = other
-earlier (Some a) None = Some a
-earlier (Some a) (Some b) = if nat_le a b then Some a else Some b
-
 -- the earliest of these and of the roots
 abbrev pub due_of : Option Tick → Option ℕ
 due_of None = None
@@ -70,15 +65,6 @@ due_on (Some x) = if x.is_headed || x.is_answered then None else x.due
 abbrev pub with_lines : Option ℕ → List Line → Option ℕ
 with_lines due [] = due
 with_lines due (line ∷ lines) = with_lines (earlier due (due_on line.exchange)) lines
-
--- ---- the same by what each line wants where nothing waits
-
-abbrev pub wished : (Wish → Bool) → List Wish → List ℕ
-wished takes each = map (λ w. w.number) (filter takes each)
-
-abbrev pub with_wishes : Option ℕ → List Wish → Option ℕ
-with_wishes due [] = due
-with_wishes due (w ∷ each) = with_wishes (earlier due w.due) each
 
 -- ---- all that a worker wants
 

@@ -2,9 +2,11 @@
 #![tactic(auto)]
 
 mod agenda;
+mod asking;
 mod calls;
 mod happening;
 mod hearing;
+mod kept;
 mod laws;
 mod lines;
 mod making;

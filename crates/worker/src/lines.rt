@@ -1,6 +1,6 @@
 // The open lines, by their numbers.
 ghost use Rattle.std.specs.List.{list_any, position_or_len};
-ghost use Rattle.worker.specs.Wishes.{wish_of};
+ghost use Rattle.worker.specs.Wishes.{wish_of, wished, with_wishes, Listed};
 ghost use Rattle.std.specs.Prelude.{◌≡◌, false, [], ◌∷◌, ◌++◌, ◌==◌, ◌&&◌, OnOk, IfOk, IfSome, length, map, filter, reverse, position, slice_get, option_map, Some, None, insert, nat_lt, not};
 ghost use Rattle.worker.specs.Rooms.{moves, is_over, exchange_moves, exchange_ends, has_open, place_in, place_of, marking, in_exchange, in_line, at_some, at_place, all_lines};
 ghost use Rattle.worker.specs.Changes.{changed};
@@ -9,8 +9,9 @@ ghost use Rattle.worker.specs.Moves.{count_of, asks_at, asks_line, asks_exchange
 ghost use Rattle.exchange.specs.Maps.{request_map, response_map, request_trailers, response_trailers};
 ghost use Rattle.exchange.specs.Passing.{dies, expires, chain_of, passed_on};
 
+use crate::kept::{Kept, is_same};
 use crate::span::Span;
-use crate::types::{Asked, Change, Line, Seen, Wish};
+use crate::types::{Asked, Change, Line, Seen};
 use crate::wishes::Wishes;
 use exchange::{
     Exchange, Filter, Hub, act, answer, close, die, expire, is_due, mark, pair_count, pass_on,
@@ -18,6 +19,7 @@ use exchange::{
 };
 use filter_chain::{Ask, AskKind, Asking, Passed, Stage};
 use gate_base::{ContextId, LineNo, OutOfMemory, VmNo};
+use gate_io::Wants;
 use h1_head::Kind;
 use h1_stream::MessageReader;
 use queue::Queue;
@@ -346,12 +348,47 @@ impl Lines {
         let _ = self.wishes.renew(self.list.as_slice());
     }
 
-    /// What each line wants, where nothing was done to any since it was asked.
-    #[tactic(auto, using(crate::proofs::Wished::fits_whole))]
-    pub(crate) fn wishes(&self) -> Option<&[Wish]>
-        ensures { IfSome result (λ each. each.now ≡ map wish_of self.now) }
+    /// What lines want, where nothing was done to any since it was asked.
+    #[tactic(auto, using(crate::proofs::Wished::fits_whole, crate::proofs::Wished::lists_whole))]
+    fn fresh(&self) -> Option<&Kept>
+        ensures each { IfSome result (λ kept. kept.now.each.items ≡ map wish_of self.now) }
+        ensures listed { IfSome result (λ kept. Listed kept.now) }
     {
-        self.wishes.all()
+        self.wishes.fresh()
+    }
+
+    /// When the first response is due, where that is known.
+    pub(crate) fn first_due(&self) -> Option<Option<u64>>
+        ensures { IfSome result (λ first. first ≡ with_wishes None (map wish_of self.now)) }
+    {
+        match self.fresh() {
+            None => None,
+            Some(kept) => Some(kept.first),
+        }
+    }
+
+    /// The world is to be asked to call at a moment at the latest.
+    #[tactic(auto, using(crate::proofs::Wished::sound_called))]
+    pub(crate) fn call_at(&mut self, due: Option<u64>)
+        ensures { self.new ≡ self.old }
+    {
+        self.wishes.kept.wants.due = due;
+    }
+
+    /// What the world is asked for where nothing waits and it is to call at a moment at the latest, where that is known.
+    pub(crate) fn asked(&self, due: Option<u64>) -> Option<&Wants>
+        ensures down { IfSome result (λ wants. wants.now.down ≡ wished (λ w. w.down) (map wish_of self.now)) }
+        ensures up { IfSome result (λ wants. wants.now.up ≡ wished (λ w. w.up) (map wish_of self.now)) }
+        ensures due { IfSome result (λ wants. wants.now.due ≡ due) }
+    {
+        let Some(kept) = self.fresh() else {
+            return None;
+        };
+        if is_same(kept.wants.due, due) {
+            Some(&kept.wants)
+        } else {
+            None
+        }
     }
 
     /// Whether a response is due on some line.

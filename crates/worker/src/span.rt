@@ -38,6 +38,7 @@ impl Span {
     pub fn with(self, place: usize) -> Span
         ensures here { Covers result place }
         ensures others { (k : ℕ) → Covers self k → Covers result k }
+        ensures all { result.is_all ≡ self.is_all }
     {
         if !self.is_any {
             return Span {
@@ -60,7 +61,9 @@ impl Span {
     }
 
     /// Whether these are all places that there are.
-    pub fn is_all(self) -> bool {
+    pub fn is_all(self) -> bool
+        ensures { result ≡ self.is_all }
+    {
         self.is_all
     }
 

@@ -5,8 +5,8 @@ ghost use Rattle.std.specs.Option.{option_map};
 ghost use Rattle.worker.specs.Steps.{line_reading, at_most_last};
 ghost use Rattle.gate_io.specs.declared.event.Side.TheVariants.{Down, Up};
 ghost use Rattle.worker.specs.Turn.{vms_in};
-ghost use Rattle.worker.specs.Wants.{has_room, reads_more, is_wanted, wanted_of, earlier, due_of, with_ticks, ticks_up_to, due_on, with_lines, looks_one, looks, with_notices, due_in, wants_of, wished, with_wishes};
-ghost use Rattle.worker.specs.Wishes.{takes_more, takes_up, falls_due, wish_of};
+ghost use Rattle.worker.specs.Wants.{has_room, reads_more, is_wanted, wanted_of, due_of, with_ticks, ticks_up_to, due_on, with_lines, looks_one, looks, with_notices, due_in};
+ghost use Rattle.worker.specs.Wishes.{earlier, takes_more, takes_up, falls_due, wish_of, wished, with_wishes};
 
 use crate::agenda::{contexts_of, registers_at, vm_of, vms_in};
 use crate::lines::Lines;
@@ -69,7 +69,7 @@ fn are_wanted(outbox: &Outbox, line: &Line) -> (bool, bool)
 }
 
 /// The earlier of two moments, of which each may be none.
-fn earlier(a: Option<u64>, b: Option<u64>) -> Option<u64>
+pub(crate) fn earlier(a: Option<u64>, b: Option<u64>) -> Option<u64>
     ensures { result ≡ earlier a b }
 {
     match a {
@@ -190,7 +190,11 @@ fn put_at(numbers: &mut LineList, at: usize, number: LineNo) -> Result<(), OutOf
 }
 
 /// What lines want by what is known of each, where nothing waits. What stands in the lists already is not written again.
-fn wished_on(due: Option<u64>, each: &[Wish], wants: &mut Wants) -> Result<(), OutOfMemory>
+pub(crate) fn wished_on(
+    due: Option<u64>,
+    each: &[Wish],
+    wants: &mut Wants,
+) -> Result<(), OutOfMemory>
     ensures down { OnOk result (wants.new.down ≡ wished (λ w. w.down) each.now) }
     ensures up { OnOk result (wants.new.up ≡ wished (λ w. w.up) each.now) }
     ensures due { OnOk result (wants.new.due ≡ with_wishes due each.now) }
@@ -215,20 +219,28 @@ fn wished_on(due: Option<u64>, each: &[Wish], wants: &mut Wants) -> Result<(), O
     Ok(())
 }
 
-/// What lines want, each looked at once: of which bytes are taken, and the earliest of a moment and of their responses.
-fn wants_on(
+/// When the first response is due that lines wait for, by what is known of each.
+pub(crate) fn first_of(each: &[Wish]) -> Option<u64>
+    ensures { result ≡ with_wishes None each.now }
+{
+    let mut first = None;
+    for wish in each {
+        first = earlier(first, wish.due);
+    }
+    first
+}
+
+/// What lines want, each looked at once: of which bytes are taken.
+pub(crate) fn wants_on(
     outbox: &Outbox,
-    due: Option<u64>,
     lines: &[Line],
     wants: &mut Wants,
 ) -> Result<(), OutOfMemory>
     ensures down { OnOk result (wants.new.down ≡ wanted_of Down outbox.now lines.now) }
     ensures up { OnOk result (wants.new.up ≡ wanted_of Up outbox.now lines.now) }
-    ensures due { OnOk result (wants.new.due ≡ with_lines due lines.now) }
 {
     cut(&mut wants.down, 0);
     cut(&mut wants.up, 0);
-    let mut first = due;
     for line in lines {
         let wanted = are_wanted(outbox, line);
         if wanted.0 {
@@ -237,37 +249,37 @@ fn wants_on(
         if wanted.1 {
             wants.up.push(line.number)?;
         }
-        first = earlier(first, due_on(&line.exchange));
     }
-    wants.due = first;
     Ok(())
 }
 
+/// The earliest of a moment and of lines' responses.
+fn with_each(due: Option<u64>, lines: &[Line]) -> Option<u64>
+    ensures { result ≡ with_lines due lines.now }
+{
+    let mut first = due;
+    for line in lines {
+        first = earlier(first, due_on(&line.exchange));
+    }
+    first
+}
+
+/// The same, by what is known of the lines already.
+#[tactic(auto, using(crate::proofs::Listing::first_line))]
+fn with_lines(due: Option<u64>, lines: &Lines) -> Option<u64>
+    ensures { result ≡ with_lines due lines.now }
+{
+    match lines.first_due() {
+        None => with_each(due, lines.as_slice()),
+        Some(first) => earlier(due, first),
+    }
+}
+
 /// Whether nothing waits.
-fn nothing_waits(outbox: &Outbox) -> bool
+pub(crate) fn nothing_waits(outbox: &Outbox) -> bool
     ensures { result ≡ true → outbox.now ≡ [] }
 {
     outbox.waiting().is_empty()
-}
-
-/// The same, where nothing waits by what is known of the lines already.
-#[tactic(auto, using(crate::proofs::Wished::wished_due))]
-fn wants_of_lines(
-    outbox: &Outbox,
-    due: Option<u64>,
-    lines: &Lines,
-    wants: &mut Wants,
-) -> Result<(), OutOfMemory>
-    ensures down { OnOk result (wants.new.down ≡ wanted_of Down outbox.now lines.now) }
-    ensures up { OnOk result (wants.new.up ≡ wanted_of Up outbox.now lines.now) }
-    ensures due { OnOk result (wants.new.due ≡ with_lines due lines.now) }
-{
-    if nothing_waits(outbox) {
-        if let Some(each) = lines.wishes() {
-            return wished_on(due, each, wants);
-        }
-    }
-    wants_on(outbox, due, lines.as_slice(), wants)
 }
 
 /// Whether a VM looks for notices.
@@ -302,27 +314,14 @@ fn with_notices(rules: &Rules, room: &Room, due: Option<u64>) -> Option<u64>
     earlier(due, Some(room.hub.moment.saturating_add(NOTICE_PERIOD)))
 }
 
-/// The moment at which something falls due, where that of roots and responses is this one.
-fn due_by(rules: &Rules, room: &Room, due: Option<u64>) -> Option<u64>
-    ensures { result ≡ if room.now.is_begun then with_notices (plan_of rules.now) room.now due else None }
+/// The moment at which something falls due.
+pub(crate) fn due_in(rules: &Rules, room: &Room) -> Option<u64>
+    ensures { result ≡ due_in (plan_of rules.now) room.now }
 {
     if !room.is_begun {
         return None;
     }
-    with_notices(rules, room, due)
-}
-
-/// What the worker wants, in the memory of what it wanted before.
-pub(crate) fn wants_of(
-    rules: &Rules,
-    room: &Room,
-    outbox: &Outbox,
-    wants: &mut Wants,
-) -> Result<(), OutOfMemory>
-    ensures { OnOk result (wants.new ≡ wants_of (plan_of rules.now) room.now outbox.now) }
-{
     let ticks = ticks_up_to(room, vms_in(room));
-    wants_of_lines(outbox, ticks, &room.lines, wants)?;
-    wants.due = due_by(rules, room, wants.due);
-    Ok(())
+    let due = with_lines(ticks, &room.lines);
+    with_notices(rules, room, due)
 }

@@ -1,23 +1,24 @@
 // What lines want, as it was last looked at.
-ghost use Rattle.std.specs.Prelude.{◌≡◌, ◌≤◌, ◌<◌, ℕ, length, map, true, OnOk, IfSome};
+ghost use Rattle.std.specs.Prelude.{◌≡◌, ◌≤◌, ◌<◌, ℕ, length, map, true, false, OnOk, IfSome};
 ghost use Rattle.worker.specs.Stirring.{Covers};
-ghost use Rattle.worker.specs.Wishes.{wish_of, Fits, Touched};
+ghost use Rattle.worker.specs.Wishes.{wish_of, Fits, Listed, Lists, Touched};
 
+use crate::kept::{Kept, list_all, put};
 use crate::span::Span;
 use crate::types::{Line, Wish};
 use crate::wanted::wish_of;
 use gate_base::OutOfMemory;
 use std::alloc::Global;
 
-/// What each line wanted when it was last looked at, and the places at which something was done since.
+/// What lines wanted when they were last looked at, and the places at which something was done since.
 #[derive(Drop)]
 pub struct Wishes {
     pub touched: Span,
-    pub each: Vec<Wish>,
+    pub kept: Kept,
 }
 
 /// What each of these lines wants.
-fn look_at_all(each: &mut Vec<Wish>, lines: &[Line]) -> Result<(), OutOfMemory>
+fn look_at_each(each: &mut Vec<Wish>, lines: &[Line]) -> Result<(), OutOfMemory>
     ensures { OnOk result (each.new.items ≡ map wish_of lines.now) }
 {
     each.clear();
@@ -27,15 +28,43 @@ fn look_at_all(each: &mut Vec<Wish>, lines: &[Line]) -> Result<(), OutOfMemory>
     Ok(())
 }
 
+/// The same, with what is asked by all.
+fn look_at_all(kept: &mut Kept, lines: &[Line]) -> Result<(), OutOfMemory>
+    ensures each { OnOk result (kept.new.each.items ≡ map wish_of lines.now) }
+    ensures listed { OnOk result (Listed kept.new) }
+{
+    look_at_each(&mut kept.each, lines)?;
+    list_all(kept)
+}
+
 /// What lines want at places at which something was done, where it is known of the others.
-fn look_at(each: &mut Vec<Wish>, touched: Span, lines: &[Line])
-    requires length { length each.old.items ≡ length lines.now }
-    requires fits { Fits touched each.old.items lines.now }
-    ensures { each.new.items ≡ map wish_of lines.now }
+fn look_at(kept: &mut Kept, touched: Span, lines: &[Line]) -> Result<(), OutOfMemory>
+    requires length { length kept.old.each.items ≡ length lines.now }
+    requires fits { Fits touched kept.old.each.items lines.now }
+    requires listed { Listed kept.old }
+    ensures each { OnOk result (kept.new.each.items ≡ map wish_of lines.now) }
+    ensures listed { OnOk result (Listed kept.new) }
 {
     for at in touched.start()..touched.end(lines.len()) {
-        each[at] = wish_of(&lines[at]);
+        put(kept, at, wish_of(&lines[at]))?;
     }
+    Ok(())
+}
+
+/// The same, or all of it where something was done to all lines.
+fn look_again(kept: &mut Kept, touched: Span, lines: &[Line]) -> Result<(), OutOfMemory>
+    requires fits { Fits touched kept.old.each.items lines.now }
+    requires listed { touched.is_all ≡ false → Listed kept.old }
+    ensures each { OnOk result (kept.new.each.items ≡ map wish_of lines.now) }
+    ensures listed { OnOk result (Listed kept.new) }
+{
+    if touched.is_all() {
+        return look_at_all(kept, lines);
+    }
+    if kept.each.len() != lines.len() {
+        return look_at_all(kept, lines);
+    }
+    look_at(kept, touched, lines)
 }
 
 impl Wishes {
@@ -45,7 +74,7 @@ impl Wishes {
     {
         Wishes {
             touched: Span::all(),
-            each: Vec::new(alloc),
+            kept: Kept::new(alloc),
         }
     }
 
@@ -64,29 +93,27 @@ impl Wishes {
     }
 
     /// What these lines want is looked at where something was done since.
-    #[tactic(auto, using(crate::proofs::Wished::fits_all, crate::proofs::Wished::fits_each))]
+    #[tactic(auto, using(crate::proofs::Wished::fits_all, crate::proofs::Wished::fits_each, crate::proofs::Wished::lists_all, crate::proofs::Wished::lists_of))]
     pub fn renew(&mut self, lines: &[Line]) -> Result<(), OutOfMemory>
-        requires { Fits self.old.touched self.old.each.items lines.now }
-        ensures { Fits self.new.touched self.new.each.items lines.now }
+        requires fits { Fits self.old.touched self.old.kept.each.items lines.now }
+        requires lists { Lists self.old }
+        ensures fits { Fits self.new.touched self.new.kept.each.items lines.now }
+        ensures lists { Lists self.new }
     {
         let touched = self.touched;
         self.touched = Span::all();
-        if touched.is_all() || self.each.len() != lines.len() {
-            look_at_all(&mut self.each, lines)?;
-        } else {
-            look_at(&mut self.each, touched, lines);
-        }
+        look_again(&mut self.kept, touched, lines)?;
         self.touched = Span::none();
         Ok(())
     }
 
-    /// What each line wants, where nothing was done to any since it was looked at.
-    pub fn all(&self) -> Option<&[Wish]>
-        ensures each { IfSome result (λ each. each.now ≡ self.now.each.items) }
-        ensures none { IfSome result (λ each. (k : ℕ) → Covers self.now.touched k → ⊥) }
+    /// What is kept, where nothing was done to any line since it was looked at.
+    pub fn fresh(&self) -> Option<&Kept>
+        ensures kept { IfSome result (λ kept. kept.now ≡ self.now.kept) }
+        ensures none { IfSome result (λ kept. (k : ℕ) → Covers self.now.touched k → ⊥) }
     {
         if self.touched.is_none() {
-            Some(self.each.as_slice())
+            Some(&self.kept)
         } else {
             None
         }

@@ -14,11 +14,11 @@ ghost use Rattle.worker.specs.Turn.{facing, most_steps};
 ghost use Rattle.worker.specs.Turned.{Turned, TurnedOn, TookWhole};
 
 use crate::agenda::agenda_of;
+use crate::asking::ask;
 use crate::making_worker::parts_of;
 use crate::room::Room;
 use crate::turning::settle;
 use crate::types::Rules;
-use crate::wanted::wants_of;
 use course::Host;
 use gate_base::{Members, OutOfMemory, WorkerNo};
 use gate_config::Config;
@@ -53,7 +53,7 @@ pub struct Worker<H> {
     room: Room,
     outbox: Outbox,
     took: bool,
-    /// What it asked its world for, of which the memory is used again.
+    /// What it asked its world for where the lists that are kept would not do, of which the memory is used again.
     wants: Wants,
 }
 
@@ -136,10 +136,14 @@ impl<H: Host + Drop> Worker<H> {
         ensures turned { Turned H.calling S.performs shared.old (W.trace world.old) self.old result self.new shared.new (W.trace world.new) }
         ensures heard { TurnedOn H.calling S.performs (W.nature world.old).obeys (W.last world.old) (W.last world.new) shared.old (W.trace world.old) self.old result self.new shared.new (W.trace world.new) }
     {
-        let Ok(()) = wants_of(&self.rules, &self.room, &self.outbox, &mut self.wants) else {
-            return Turn::OutOfMemory;
-        };
-        let event = match world.next(alloc, &self.wants) {
+        let event = match ask(
+            alloc,
+            &self.rules,
+            &mut self.room,
+            &self.outbox,
+            &mut self.wants,
+            world,
+        ) {
             Ok(event) => event,
             Err(WorldEnd::Failed) => return Turn::WorldFault,
             Err(WorldEnd::OutOfMemory) => return Turn::OutOfMemory,

@@ -1,5 +1,5 @@
 use Rattle.std.proofs.Common.{◌≡◌, ◌≤◌, length, take, drop}
-use Rattle.worker.specs.Wants.{wished, with_wishes}
+use Rattle.worker.specs.Wishes.{wished, with_wishes}
 use Rattle.worker.proofs.wanted.wished_on.Given as goal
 
 -- what is wanted of the lines that were looked at stands in front, and the others are due when they are

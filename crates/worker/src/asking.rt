@@ -1,0 +1,56 @@
+// How a worker asks its world for an event.
+ghost use Rattle.worker.specs.Plan.{plan_of};
+ghost use Rattle.std.specs.Prelude.{◌≡◌, ◌≤◌, Err, IfOk, IsTrue};
+ghost use Rattle.gate_io.specs.Events.{Follows, Obeys, after_next};
+ghost use Rattle.gate_io.specs.Passing.{asking};
+ghost use Rattle.gate_io.specs.Told.{Gains, Rose};
+ghost use Rattle.worker.specs.Wants.{due_in, wants_of};
+
+use crate::room::Room;
+use crate::types::Rules;
+use crate::wanted::{due_in, nothing_waits, wants_on};
+use gate_io::{Event, Wants, World, WorldEnd};
+use outbox::Outbox;
+use std::alloc::Global;
+
+/// The moment at which something falls due, at which the lists that are kept ask to be called from now on.
+fn call_when_due(rules: &Rules, room: &mut Room) -> Option<u64>
+    ensures room { room.new ≡ room.old }
+    ensures due { result ≡ due_in (plan_of rules.now) room.new }
+{
+    let due = due_in(rules, room);
+    room.lines.call_at(due);
+    due
+}
+
+/// Asks the world for an event, with what the worker wants: lists that are kept, where nothing waits, and else others, in the memory of
+/// those before.
+pub(crate) fn ask<W: World>(
+    alloc: Global,
+    rules: &Rules,
+    room: &mut Room,
+    outbox: &Outbox,
+    wants: &mut Wants,
+    world: &mut W,
+) -> Result<Event, WorldEnd>
+    ensures room { room.new ≡ room.old }
+    ensures trace { Gains (W.trace world.old) (asking (wants_of (plan_of rules.now) room.new outbox.now) result) (W.trace world.new) }
+    ensures event { IfOk result (Follows (W.last world.old)) }
+    ensures last { W.last world.new ≡ after_next (W.last world.old) result }
+    ensures obeys { IsTrue (W.nature world.old).obeys → IfOk result (λ event. Obeys (wants_of (plan_of rules.now) room.new outbox.now) event.what) }
+    ensures nature { W.nature world.new ≡ W.nature world.old }
+    ensures faults { W.faults world.old ≤ W.faults world.new }
+    ensures failed { result ≡ Err WorldEnd.Failed → Rose (W.faults world.old) (W.faults world.new) }
+{
+    let due = call_when_due(rules, room);
+    if nothing_waits(outbox) {
+        if let Some(asked) = room.lines.asked(due) {
+            return world.next(alloc, asked);
+        }
+    }
+    let Ok(()) = wants_on(outbox, room.lines.as_slice(), wants) else {
+        return Err(WorldEnd::OutOfMemory);
+    };
+    wants.due = due;
+    world.next(alloc, wants)
+}
