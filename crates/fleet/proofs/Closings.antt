@@ -5,7 +5,7 @@ use Rattle.gate_io.specs.declared.event.Side.{Side}
 use Rattle.gate_io.specs.declared.event.Side.TheVariants.{Down, Up}
 use Rattle.gate_io.specs.declared.passed.Passed.{Passed}
 use Rattle.gate_io.specs.Told.{Gains}
-use Rattle.fleet.specs.Closing.{Closes, ClosesAll, ClosingExamples, AllClosed, SomeClosed, AreCloses, closed, connection, is_side, one_if}
+use Rattle.fleet.specs.Closing.{Closes, ClosesAll, ClosingExamples, AllClosed, SomeClosed, AreCloses, AreRising, closed, connection, is_side, one_if}
 use Rattle.fleet.specs.declared.watched.Connection.{Connection}
 
 -- the steps behind a trace that is told are those that it gained
@@ -20,6 +20,12 @@ some_of trace more h = subst (SomeClosed trace) (steps_are trace h.steps more h.
 
 all_of : (trace more : List Passed) → ClosesAll (Some trace) (Some (trace ++ more)) → AllClosed trace more
 all_of trace more h = subst (AllClosed trace) (steps_are trace h.steps more h.told) h.all
+
+rising_of : (trace more : List Passed) → ClosesAll (Some trace) (Some (trace ++ more)) → AreRising 0 more
+rising_of trace more h = subst (AreRising 0) (steps_are trace h.steps more h.told) h.rising
+
+rising_cut : (trace more : List Passed) → Closes (Some trace) (Some (trace ++ more)) → AreRising 0 more
+rising_cut trace more h = subst (AreRising 0) (steps_are trace h.steps more h.told) h.rising
 
 closes_alone : (trace more : List Passed) → Closes (Some trace) (Some (trace ++ more)) → AreCloses more
 closes_alone trace more h = subst AreCloses (steps_are trace h.steps more h.told) h.closes
@@ -51,21 +57,21 @@ examples = record {
     steps = closed 3 Up ∷ closed 3 Down ∷ closed 4 Up ∷ [];
     closes = (tt, (tt, (tt, tt)));
     all = by_line (λ p q s. one_if (p && is_side s Up) + (one_if (p && is_side s Down) + (one_if (q && is_side s Up) + 0)) ≡ one_if (stood p q s)) refl refl refl refl refl refl;
+    rising = (omega arith, (omega arith, (omega arith, tt)));
     told = refl;
     none_stands = by_line (λ p q s. close_if q Up s (close_if p Down s (close_if p Up s (stood p q s))) ≡ false) refl refl refl refl refl refl;
   };
-  other_order = record {
-    steps = closed 4 Up ∷ closed 3 Down ∷ closed 3 Up ∷ [];
-    closes = (tt, (tt, (tt, tt)));
-    all = by_line (λ p q s. one_if (q && is_side s Up) + (one_if (p && is_side s Down) + (one_if (p && is_side s Up) + 0)) ≡ one_if (stood p q s)) refl refl refl refl refl refl;
-    told = refl;
-    none_stands = by_line (λ p q s. close_if p Up s (close_if p Down s (close_if q Up s (stood p q s))) ≡ false) refl refl refl refl refl refl;
-  };
+  not_falling = λ h. absurd (let low = (rising_of _ _ h).1.0 in omega (arith, low));
+  not_client_first = λ h. absurd (let low = (rising_of _ _ h).1.0 in omega (arith, low));
+  other_order = λ h. absurd (let low = (rising_of _ _ h).1.0 in omega (arith, low));
+  not_falling_cut = λ h. absurd (let low = (rising_cut _ _ h).1.0 in omega (arith, low));
+  not_client_first_cut = λ h. absurd (let low = (rising_cut _ _ h).1.0 in omega (arith, low));
   not_fewer = λ h. absurd (let e = all_of _ _ h (connection 4 Up) in omega (arith, e));
   fewer_cut = record {
     steps = closed 3 Up ∷ closed 3 Down ∷ [];
     closes = (tt, (tt, tt));
     some = by_line (λ p q s. (one_if (p && is_side s Up) + (one_if (p && is_side s Down) + 0)) + one_if (close_if p Down s (close_if p Up s (stood p q s))) ≡ one_if (stood p q s)) refl refl refl refl refl refl;
+    rising = (omega arith, (omega arith, tt));
     told = refl;
   };
   not_twice = λ h. absurd (let e = some_of _ _ h (connection 3 Up) in omega (arith, e));

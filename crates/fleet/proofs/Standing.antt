@@ -1,5 +1,6 @@
 -- Which connections stand as more passes.
-use Rattle.std.proofs.Common.{◌≡◌, ◌∙◌, ◌+◌, ◌&&◌, not, ℕ, Bool, true, false, List, [], ◌∷◌, ◌++◌, append_assoc, length, take, Option, None, Some, Result, Ok, Err, nat_lt, refl, ap, sym, subst, arith, if◌then◌else◌}
+use Rattle.std.proofs.Common.{◌≡◌, ◌∙◌, ◌+◌, ◌&&◌, ◌||◌, not, ℕ, ◌<◌, ◌≤◌, eq-eqb, ⊎_elim, Bool, true, false, List, [], ◌∷◌, ◌++◌, append_assoc, length, take, Option, None, Some, Result, Ok, Err, nat_lt, refl, ap, sym, subst, arith, if◌then◌else◌}
+use Rattle.std.proofs.lemmas.Bool.{cases_eq}
 use Rattle.std.proofs.lemmas.List.{append-nil}
 use Rattle.gate_io.specs.Passing.{asking, sending, taking, piece}
 use Rattle.gate_io.specs.Told.{Gains, gains_more, gains_nothing}
@@ -8,12 +9,13 @@ use Rattle.gate_io.specs.declared.ends.WorldEnd.TheVariants as ends
 use Rattle.gate_io.specs.declared.event.Sent.{Sent}
 use Rattle.gate_io.specs.declared.event.Sent.TheVariants.{Close}
 use Rattle.gate_io.specs.declared.event.Side.{Side}
+use Rattle.gate_io.specs.declared.event.Side.TheVariants.{Down, Up}
 use Rattle.gate_io.specs.declared.passed.Passed.{Passed}
 use Rattle.gate_io.specs.declared.passed.Passed.TheVariants.{Asked, Gave, Took, Short}
 use Rattle.gate_io.specs.declared.passed.Wants.{Wants}
-use Rattle.fleet.specs.Closing.{AllClosed, AreStanding, AreCloses, Behind, Closes, ClosesAll, NothingStands, SomeClosed, after_step, after_sent, closes_of, connection, is_in, is_one, one_if, stands, stands_from}
+use Rattle.fleet.specs.Closing.{AllClosed, AreStanding, AreCloses, AreRising, Behind, Closes, ClosesAll, NothingStands, SomeClosed, after_step, after_sent, closes_of, connection, is_in, is_one, is_side, low_behind, one_if, rank, side_rank, stands, stands_from}
 use Rattle.fleet.specs.declared.watched.Connection.{Connection}
-use Rattle.fleet.proofs.Listing.{same}
+use Rattle.fleet.proofs.Listing.{put_behind, same}
 
 more_steps : (c : Connection) (now : Bool) (xs ys : List Passed) → stands_from c now (xs ++ ys) ≡ stands_from c (stands_from c now xs) ys
 more_steps c now [] ys = refl
@@ -111,16 +113,86 @@ one_more_closed None mid steps line side so told stood = tt
 one_more_closed (Some trace) mid steps line side so told stood =
     some_closed_more trace steps line side so (subst (λ (o : Option (List Passed)). StandsNow o (connection line side)) told stood)
 
-pub no_close : (told : Option (List Passed)) → Closes told told
-no_close told = record { steps = []; closes = tt; some = some_closed_none told; told = gains_nothing told }
+-- ---- in which order
 
-pub closes_more : (old mid new : Option (List Passed)) (line : ℕ) (side : Side) → Closes old mid → StandsNow mid (connection line side) → Gains mid (Took (Close line side) ∷ []) new → Closes old new
-closes_more old mid new line side a stood b = record {
-  steps = a.steps ++ Took (Close line side) ∷ [];
-  closes = one_more a.steps line side a.closes;
-  some = one_more_closed old mid a.steps line side a.some a.told stood;
-  told = gains_more old a.steps mid (Took (Close line side) ∷ []) new a.told b;
+abbrev closing : Connection → Passed
+closing c = Took (Close c.line c.side)
+
+side_low : (s : Side) → side_rank s ≤ 1
+side_low Up = omega arith
+side_low Down = omega arith
+
+-- of two connections in one place both are one
+rank_side : (s t : Side) → side_rank s ≡ side_rank t → is_side s t ≡ true
+rank_side Down Down e = refl
+rank_side Down Up e = absurd (omega (arith, e))
+rank_side Up Down e = absurd (omega (arith, e))
+rank_side Up Up e = refl
+
+rank_one : (c d : Connection) → rank c ≡ rank d → is_one c d ≡ true
+rank_one c d e =
+    let low = side_low c.side in
+    let low_too = side_low d.side in
+    let line : c.line ≡ d.line = omega (arith, e, low, low_too) in
+    let side : side_rank c.side ≡ side_rank d.side = omega (arith, e, low, low_too) in
+    ap (λ b. b && is_side c.side d.side) (eq-eqb c.line d.line line) ∙ rank_side c.side d.side side
+
+above : (c d : Connection) → rank c ≤ rank d → is_one d c ≡ false → rank c < rank d
+above c d low apart =
+    ⊎_elim
+    (λ (e : rank c ≡ rank d). absurd (let one : is_one d c ≡ true = rank_one d c (sym e) in cc (sym one ∙ apart)))
+    (λ (n : rank c ≡ rank d → ⊥). omega (arith, low, n))
+    (cases_eq (rank c) (rank d))
+
+-- behind a close, one of a connection above it
+rising_more : (low : ℕ) (steps : List Passed) (c d : Connection) → AreRising low (steps ++ closing c ∷ []) → rank c < rank d → AreRising low ((steps ++ closing c ∷ []) ++ closing d ∷ [])
+rising_more low [] c d h less = (h.0, (less, tt))
+rising_more low (Asked wants ∷ steps) c d h less = rising_more low steps c d h less
+rising_more low (Gave event ∷ steps) c d h less = rising_more low steps c d h less
+rising_more low (Took sent ∷ steps) c d h less = (h.0, rising_more (low_behind low sent) steps c d h.1 less)
+rising_more low (Short line side ∷ steps) c d h less = rising_more low steps c d h less
+
+left_of : (b now : Bool) → (not b && now) ≡ true → (b ≡ false) × (now ≡ true)
+left_of true now h = absurd (cc h)
+left_of false now h = (refl, h)
+
+-- Some are closed, and the closes go on rising whichever of the list is closed next.
+pub record ClosesThen (old new : Option (List Passed)) (list : List Connection) : Type 0 where
+  pub so : Closes old new
+  pub next : (c : Connection) → is_in c list ≡ true → AreRising 0 (so.steps ++ closing c ∷ [])
+
+pub no_close : (told : Option (List Passed)) (list : List Connection) → ClosesThen told told list
+no_close told list = record {
+  so = record { steps = []; closes = tt; some = some_closed_none told; rising = tt; told = gains_nothing told };
+  next = λ c here. (omega arith, tt);
 }
+
+pub closes_more : (old mid new : Option (List Passed)) (list after : List Connection) (one : Connection) → ClosesThen old mid list → is_in one list ≡ true
+    → ((c : Connection) → is_in c list ≡ true → rank one ≤ rank c) → ((c : Connection) → is_in c after ≡ (not (is_one c one) && is_in c list)) → StandsNow mid one → Gains mid (closing one ∷ []) new → ClosesThen old new after
+closes_more old mid new list after one a here least left stood b = record {
+  so = record {
+    steps = a.so.steps ++ closing one ∷ [];
+    closes = one_more a.so.steps one.line one.side a.so.closes;
+    some = one_more_closed old mid a.so.steps one.line one.side a.so.some a.so.told stood;
+    rising = a.next one here;
+    told = gains_more old a.so.steps mid (closing one ∷ []) new a.so.told b;
+  };
+  next = λ c there.
+      let two = left_of (is_one c one) (is_in c list) (sym (left c) ∙ there) in
+      rising_more 0 a.so.steps one c (a.next one here) (above one c (least c two.1) two.0);
+}
+
+-- the least of those so far
+pub least_more : (first new x : Connection) (xs : List Connection) → ((c : Connection) → is_in c xs ≡ true → rank first ≤ rank c) → rank new ≤ rank first → rank new ≤ rank x
+    → (c : Connection) → is_in c (xs ++ x ∷ []) ≡ true → rank new ≤ rank c
+least_more first new x xs least low low_too c here =
+    either (is_in c xs) (is_one c x) (sym (put_behind x xs c) ∙ here)
+    (λ e. let most = least c e in omega (arith, most, low))
+    (λ e. subst (λ (d : Connection). rank new ≤ rank d) (sym (same c x e)) low_too)
+  where
+    either : {A : Type 0} (a b : Bool) → (a || b) ≡ true → (a ≡ true → A) → (b ≡ true → A) → A
+    either true b h f g = f refl
+    either false b h f g = g h
 
 pub nothing_stands : (told : Option (List Passed)) (list : List Connection) → AreStanding told list → list ≡ [] → NothingStands told
 nothing_stands None list are none = tt
@@ -134,4 +206,4 @@ all_closed (Some trace) steps new so told none =
     λ c. (let left = ap one_if (nothing c) in let before = so c in omega (arith, left, before))
 
 pub closes_all : (old new : Option (List Passed)) → Closes old new → NothingStands new → ClosesAll old new
-closes_all old new a none = record { steps = a.steps; closes = a.closes; all = all_closed old a.steps new a.some a.told none; told = a.told; none_stands = none }
+closes_all old new a none = record { steps = a.steps; closes = a.closes; all = all_closed old a.steps new a.some a.told none; rising = a.rising; told = a.told; none_stands = none }

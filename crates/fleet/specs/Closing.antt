@@ -1,5 +1,5 @@
 -- Which connections stand, and the closes between two lives.
-use Rattle.std.specs.Prelude.{◌≡◌, ◌==◌, ◌&&◌, ◌||◌, not, ℕ, ◌+◌, Bool, true, false, List, [], ◌∷◌, ◌++◌, Option, None, Some}
+use Rattle.std.specs.Prelude.{◌≡◌, ◌==◌, ◌&&◌, ◌||◌, not, ℕ, suc, ◌+◌, ◌*◌, ◌≤◌, Bool, true, false, List, [], ◌∷◌, ◌++◌, Option, None, Some}
 use Rattle.std.specs.List.{list_any}
 use Rattle.gate_io.specs.Told.{Gains}
 use Rattle.gate_io.specs.declared.event.Sent.{Sent}
@@ -106,6 +106,36 @@ closes_of c (Gave event ∷ steps) = closes_of c steps
 closes_of c (Took sent ∷ steps) = one_if (closed_by c sent) + closes_of c steps
 closes_of c (Short line side ∷ steps) = closes_of c steps
 
+-- THE PLACE OF A CONNECTION AMONG THE CLOSES: lines rise, and the one to the server of a line comes before the one to its client
+abbrev pub side_rank : Side → ℕ
+side_rank Up = 0
+side_rank Down = 1
+
+abbrev pub rank : Connection → ℕ
+rank c = 2 * c.line + side_rank c.side
+
+-- what was taken is no close of a connection below this place
+abbrev pub IsFrom : ℕ → Sent → Type 0
+IsFrom low (sents.Connect line) = Unit {0}
+IsFrom low (sents.Bytes line side bytes) = Unit {0}
+IsFrom low (sents.Close line side) = low ≤ rank (connection line side)
+IsFrom low (sents.Log level text) = Unit {0}
+
+-- the first place behind it
+abbrev pub low_behind : ℕ → Sent → ℕ
+low_behind low (sents.Connect line) = low
+low_behind low (sents.Bytes line side bytes) = low
+low_behind low (sents.Close line side) = suc (rank (connection line side))
+low_behind low (sents.Log level text) = low
+
+-- THE CLOSES RISE: none is of a connection below this place, and each is of one above those that are closed before it
+abbrev pub AreRising : ℕ → List Passed → Type 0
+AreRising low [] = Unit {0}
+AreRising low (Asked wants ∷ steps) = AreRising low steps
+AreRising low (Gave event ∷ steps) = AreRising low steps
+AreRising low (Took sent ∷ steps) = IsFrom low sent × AreRising (low_behind low sent) steps
+AreRising low (Short line side ∷ steps) = AreRising low steps
+
 -- each connection that stood is closed once, or stands still; and no other is closed
 abbrev pub SomeClosed : (trace steps : List Passed) → Type 0
 SomeClosed trace steps = (c : Connection) → closes_of c steps + one_if (stands c (trace ++ steps)) ≡ one_if (stands c trace)
@@ -119,19 +149,22 @@ abbrev pub Behind : (List Passed → List Passed → Type 0) → Option (List Pa
 Behind P None steps = Unit {0}
 Behind P (Some trace) steps = P trace steps
 
--- What passed meanwhile, where that is told: closes alone, of connections that stood, each closed once or standing still.
+-- What passed meanwhile, where that is told: closes alone, of connections that stood, each closed once or standing still; lines rise, and the server of
+-- each comes before its client.
 pub record Closes (old new : Option (List Passed)) : Type 0 where
   pub steps : List Passed
   pub closes : AreCloses steps
   pub some : Behind SomeClosed old steps
+  pub rising : AreRising 0 steps
   pub told : Gains old steps new
 
--- ALL CONNECTIONS ARE CLOSED. What passed meanwhile, where that is told: closes alone, one of each connection that stood and none of any other. So
--- none stands behind them.
+-- ALL CONNECTIONS ARE CLOSED. What passed meanwhile, where that is told: closes alone, one of each connection that stood and none of any other; lines
+-- rise, and the server of each comes before its client. So none stands behind them.
 pub record ClosesAll (old new : Option (List Passed)) : Type 0 where
   pub steps : List Passed
   pub closes : AreCloses steps
   pub all : Behind AllClosed old steps
+  pub rising : AreRising 0 steps
   pub told : Gains old steps new
   pub none_stands : NothingStands new
 
@@ -154,9 +187,14 @@ abbrev pub three_stand : List Passed
 three_stand = opened 3 ∷ connected 3 ∷ opened 4 ∷ connected 4 ∷ gone 4 Down ∷ gone 4 Up ∷ []
 
 pub record ClosingExamples : Type 0 where
-  -- both sides of line 3 are closed, and the server's side of line 4, in any order
+  -- both sides of line 3 are closed, the server's first, and then the server's side of line 4
   pub each_once : ClosesAll (Some three_stand) (Some (three_stand ++ closed 3 Up ∷ closed 3 Down ∷ closed 4 Up ∷ []))
-  pub other_order : ClosesAll (Some three_stand) (Some (three_stand ++ closed 4 Up ∷ closed 3 Down ∷ closed 3 Up ∷ []))
+  -- lines do not fall, and no client is closed before its server, where memory ran out either
+  pub not_falling : ClosesAll (Some three_stand) (Some (three_stand ++ closed 4 Up ∷ closed 3 Up ∷ closed 3 Down ∷ [])) → ⊥
+  pub not_client_first : ClosesAll (Some three_stand) (Some (three_stand ++ closed 3 Down ∷ closed 3 Up ∷ closed 4 Up ∷ [])) → ⊥
+  pub other_order : ClosesAll (Some three_stand) (Some (three_stand ++ closed 4 Up ∷ closed 3 Down ∷ closed 3 Up ∷ [])) → ⊥
+  pub not_falling_cut : Closes (Some three_stand) (Some (three_stand ++ closed 4 Up ∷ closed 3 Up ∷ [])) → ⊥
+  pub not_client_first_cut : Closes (Some three_stand) (Some (three_stand ++ closed 3 Down ∷ closed 3 Up ∷ [])) → ⊥
   -- none is left out where all are closed; some may be where memory ran out
   pub not_fewer : ClosesAll (Some three_stand) (Some (three_stand ++ closed 3 Up ∷ closed 3 Down ∷ [])) → ⊥
   pub fewer_cut : Closes (Some three_stand) (Some (three_stand ++ closed 3 Up ∷ closed 3 Down ∷ []))

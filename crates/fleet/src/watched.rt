@@ -1,6 +1,6 @@
 // A world, and which of its connections stand.
-ghost use Rattle.std.specs.Prelude.{◌≡◌, ◌&&◌, ◌||◌, not, ◌<◌, ◌≤◌, [], true, IfSome, IfNone, OnOk, vec_len, vec_capacity};
-ghost use Rattle.fleet.specs.Closing.{Closes, ClosesAll, after_event, connection, is_in, is_one};
+ghost use Rattle.std.specs.Prelude.{◌≡◌, ◌&&◌, ◌||◌, not, ◌<◌, ◌≤◌, [], true, false, IfSome, IfNone, OnOk, vec_len, vec_capacity};
+ghost use Rattle.fleet.specs.Closing.{Closes, ClosesAll, after_event, connection, is_in, is_one, rank};
 ghost use Rattle.fleet.specs.declared.watched.Connection.{Connection};
 
 use gate_base::{Level, LineNo, OutOfMemory};
@@ -23,7 +23,10 @@ fn is_one(one: &Connection, other: &Connection) -> bool
 }
 
 /// Whether one is closed before the other: lines rise, and the server of a line comes before its client.
-fn is_before(one: &Connection, other: &Connection) -> bool {
+fn is_before(one: &Connection, other: &Connection) -> bool
+    ensures before { result ≡ true → rank one.now ≤ rank other.now }
+    ensures behind { result ≡ false → rank other.now ≤ rank one.now }
+{
     one.line < other.line || (one.line == other.line && matches!(one.side, Side::Up))
 }
 
@@ -79,6 +82,7 @@ fn note(list: &mut Vec<Connection>, what: &What)
 /// The connection that is closed first.
 fn first_of(list: &[Connection]) -> Option<Connection>
     ensures some { IfSome result (λ one. is_in one list.now ≡ true) }
+    ensures least { IfSome result (λ one. (c : Connection) → is_in c list.now ≡ true → rank one ≤ rank c) }
     ensures none { IfNone result (list.now ≡ []) }
 {
     let Some(head) = list.first() else {
