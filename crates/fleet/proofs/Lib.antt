@@ -3,6 +3,7 @@ mod Calls
 mod Causes
 mod Closings
 mod Counting
+mod Cutting
 mod Eaches
 mod Ending
 mod Faults

@@ -1,9 +1,10 @@
--- The calls and asks that lives make, in order.
+-- The calls and asks that lives make, and the events that they are given, in order.
 use Rattle.std.proofs.Common.{⊎_elim}
 use Rattle.course.specs.Called.{Calling}
-use Rattle.std.specs.Prelude.{ℕ, Bool, zero, suc, ◌⊎◌, List, [], ◌++◌, Option}
+use Rattle.std.specs.Prelude.{ℕ, Bool, zero, suc, ◌⊎◌, List, [], ◌∷◌, ◌++◌, Option}
 use Rattle.course.specs.Course.{Course, Goes, calls_in}
 use Rattle.fleet.specs.Lives.{Turns, Life, OneLife, Cut, Early, Last, Lives}
+use Rattle.gate_io.specs.declared.event.Event.{Event}
 use Rattle.gate_io.specs.declared.passed.Passed.{Passed}
 use Rattle.store_model.specs.Made.{Made}
 use Rattle.worker.specs.State.{Standing}
@@ -43,3 +44,18 @@ module _ {H S : Type 0} (calling : Calling H) (performs : S → List Made → S 
   -- THE CALLS OF A WORKER: those of its lives, turn by turn
   abbrev pub made_in : (first : Standing H) (s : S) (old : Option (List Passed)) (end : Turn) (again : Bool) (t : S) (new : Option (List Passed)) → Lives calling performs first s old end again t new → List Made
   made_in first s old end again t new h = made_in_early first h.count s old h.at h.mid h.early ++ made_in_last first h.at h.mid end t new h.last
+
+  -- the event of a turn, where one was given
+  abbrev pub event_in_turn : (end : Turn) (s : S) (old : Option (List Passed)) (from to : Standing H) (t : S) (new : Option (List Passed)) → Turned calling performs s old from end to t new → List Event
+  event_in_turn Went s old from to t new h = h.event ∷ []
+  event_in_turn Stopped s old from to t new h = h.event ∷ []
+  event_in_turn WorldFault s old from to t new h = []
+  event_in_turn OutOfMemory s old from to t new h = ⊎_elim (λ a. []) (λ b. ⊎_elim (λ u. u.event ∷ []) (λ p. p.event ∷ []) b) h
+
+  abbrev pub events_in_turns : (n : ℕ) (s : S) (old : Option (List Passed)) (from to : Standing H) (t : S) (new : Option (List Passed)) → Turns calling performs n s old from to t new → List Event
+  events_in_turns zero s old from to t new h = []
+  events_in_turns (suc n) s old from to t new h = events_in_turns n s old from h.0 h.1 h.2 h.3 ++ event_in_turn Went h.1 h.2 h.0 to t new h.4
+
+  -- THE EVENTS OF A LIFE, that of its last turn behind the others
+  abbrev pub events_in_life : (s : S) (old : Option (List Passed)) (from : Standing H) (end : Turn) (to : Standing H) (t : S) (new : Option (List Passed)) → Life calling performs s old from end to t new → List Event
+  events_in_life s old from end to t new h = events_in_turns h.count s old from h.before h.at h.mid h.went ++ event_in_turn end h.at h.mid h.before to t new h.last

@@ -1,7 +1,7 @@
 // What holds of all lives and of all fleets, as functions without a body.
 ghost use Rattle.fleet.specs.Alone.{AloneExamples, OneWorkerIsAlone, RunsAloneAreOfOneThread};
 ghost use Rattle.fleet.specs.Closing.{ClosingExamples};
-ghost use Rattle.fleet.specs.Laws.{EachVmHasOne, LivesAreMeant, SeatsGoOnByLives, two_vms_leave_two};
+ghost use Rattle.fleet.specs.Laws.{AllLivesAreMeant, EachVmHasOne, LivesAreMeant, SeatsGoOnByLives, two_vms_leave_two};
 ghost use Rattle.fleet.specs.Run.{EndExamples};
 
 use course::Host;
@@ -12,9 +12,15 @@ pub fn seats_go_on_by_lives<H: Host>()
     ensures { SeatsGoOnByLives H.calling }
 {}
 
-/// The turns of a life are those that its events mean, from where it began, with the replies of the worker's seats.
+/// The turns of a life are those that its events mean, from where it began, with the replies of the worker's seats. Their calls are those of that
+/// meaning; and however the life ended, all that it called is what the meaning of its events calls first.
 pub fn lives_are_meant<H: Host>()
     ensures { LivesAreMeant H.calling }
+{}
+
+/// The events that a worker was given are cut into its lives, and its calls are, one life behind the other, what the meanings of these call first.
+pub fn all_lives_are_meant<H: Host>()
+    ensures { AllLivesAreMeant H.calling }
 {}
 
 /// However the workers of a fleet ended, each VM of the configuration came to one store, with one history of the calls of all workers, and
@@ -24,7 +30,7 @@ pub fn each_vm_has_one_history<H: Host, W: World>()
     ensures two { two_vms_leave_two W.trace W.nature W.faults H.calling }
 {}
 
-/// Which closes stand between two lives: one of each connection that stood, and of no other.
+/// Which closes stand between two lives: one of each connection that stood, and of no other; lines rise, and the server of each comes before its client.
 pub fn worked_closes()
     ensures { ClosingExamples }
 {}
