@@ -5,7 +5,7 @@ use Rattle.std.proofs.lemmas.Grind.{reverse_onto}
 use mathlib.Core.Option.{some, some-injective, some-ne-none}
 use lib.ListN.{get_elem?, length-map}
 use Rattle.fleet.specs.Fleet.{Each, HasWorked}
-use Rattle.fleet.specs.Laws.{EachVmHasOne, HasOne, SeatsGoOnByLives}
+use Rattle.fleet.specs.Laws.{AllLivesAreMeant, AreMeant, EachVmHasOne, HasOne, SeatsGoOnByLives}
 use Rattle.fleet.specs.Made.{made_in}
 use Rattle.fleet.specs.Moves.{AreFrom, seats_in}
 use Rattle.fleet.specs.Run.{Ended}
@@ -128,9 +128,37 @@ module _ {W H : Type 0} (trace_of : W → Option (List Passed)) (nature_of : W �
   suc_of zero low = absurd (omega (arith, low))
   suc_of (suc w) low = (w, omega arith)
 
-  pub has_all : SeatsGoOnByLives calling → EachVmHasOne trace_of nature_of faults_of calling → CallsOnce → DefinitionsOnce → (config : Config) (old new : List W) (closed : ClosedOf) (ended : Ended trace_of nature_of faults_of calling first config old new closed) (vm : ℕ) → vm < length config.vms
+  numbered_low : (ps : List (Post W)) (k : ℕ) (p : Post W) → AreFrom 0 ps → get_elem? ps k ≡ some p → p.who ≤ length ps
+  numbered_low [] k p from at = absurd (none_there k p at)
+  numbered_low (x ∷ ps) zero p from at =
+      let is : x.who ≡ p.who = ap (λ (y : Post W). y.who) (some-injective x p at) in
+      let number = from.0 in
+      omega (arith, is, number)
+  numbered_low (x ∷ ps) (suc k) p from at = let low = numbered_low ps k p from.1 at in omega (arith, low)
+
+  abbrev MeantBy : (p q : Post W) → List Made → Type 0
+  MeantBy p q calls = AreMeant calling (first p.who (nature_of p.watched).seed) p.seats (trace_of p.watched) q.again q.seats (trace_of q.watched) calls
+
+  -- the calls of the worker of a post are meant
+  meant_at : AllLivesAreMeant calling → (before after : List (Post W)) (each : Each DidIt before after) → AreFrom 0 before → (k : ℕ) (p q : Post W) → get_elem? before k ≡ some p → get_elem? after k ≡ some q
+      → MeantBy p q (by p.who before after each)
+  meant_at all [] after each from k p q at_p at_q = absurd (none_there k p at_p)
+  meant_at all (x ∷ ps) [] each from k p q at_p at_q = absurd each
+  meant_at all (x ∷ ps) (y ∷ qs) each from zero p q at_p at_q =
+      let is_p : x ≡ p = some-injective x p at_p in
+      let is_q : y ≡ q = some-injective y q at_q in
+      subst (λ (z : Post W). MeantBy z q (by z.who (x ∷ ps) (y ∷ qs) each)) is_p
+      (subst (λ (z : Post W). MeantBy x z (by x.who (x ∷ ps) (y ∷ qs) each)) is_q
+      (subst (λ (ms : List Made). MeantBy x y ms) (sym (by_here x.who x y ps qs each refl)) (all _ x.seats _ y.end y.again y.seats _ each.0.lives)))
+  meant_at all (x ∷ ps) (y ∷ qs) each from (suc k) p q at_p at_q =
+      let low = numbered_low ps k p from.1 at_p in
+      let number = from.0 in
+      subst (λ (ms : List Made). MeantBy p q ms) (sym (by_behind p.who x y ps qs each (λ (e : x.who ≡ p.who). absurd (omega (arith, e, low, number)))))
+      (meant_at all ps qs each.1 from.1 k p q at_p at_q)
+
+  pub has_all : SeatsGoOnByLives calling → AllLivesAreMeant calling → EachVmHasOne trace_of nature_of faults_of calling → CallsOnce → DefinitionsOnce → (config : Config) (old new : List W) (closed : ClosedOf) (ended : Ended trace_of nature_of faults_of calling first config old new closed) (vm : ℕ) → vm < length config.vms
       → HasAll trace_of nature_of faults_of calling first config old new closed ended vm
-  has_all by_lives each_has calls_once definitions_once config old new closed ended vm low =
+  has_all by_lives all_meant each_has calls_once definitions_once config old new closed ended vm low =
       let has = each_has first config old new closed vm ended low in
       let made : ℕ → List Made = λ who. by who ended.worked.before ended.worked.after ended.worked.worked in
       let lists = reverse (map seats_in ended.worked.after) in
@@ -152,12 +180,13 @@ module _ {W H : Type 0} (trace_of : W → Option (List Passed)) (nature_of : W �
             subst (λ (k : ℕ). own k has.asks.history ≡ definitions_by k (asks_on vm (made k))) (sym is)
             (definitions_once ended.worked.tables config.workers vm s.0 made (reverse (map seats_in ended.worked.before)) lists has.metrics all (omega (arith, low, metrics)) (omega (arith, to, is)) has.asks);
         no_other_definitions = of_workers (length lists) config.workers has.asks.history as_many has.asks.no_others;
+        meant = meant_at all_meant ended.worked.before ended.worked.after ended.worked.worked ended.worked.numbers;
       }
 
 module _ {W H : Type 0} (trace_of : W → Option (List Passed)) (nature_of : W → Nature) (faults_of : W → ℕ) (calling : Calling H) where
-  pub each_once : SeatsGoOnByLives calling → EachVmHasOne trace_of nature_of faults_of calling → CallsOnce → DefinitionsOnce → EachCallStandsOnce trace_of nature_of faults_of calling
-  each_once by_lives each_has calls_once definitions_once first config old new closed ended vm low =
-      has_all trace_of nature_of faults_of calling first by_lives each_has calls_once definitions_once config old new closed ended vm low
+  pub each_once : SeatsGoOnByLives calling → AllLivesAreMeant calling → EachVmHasOne trace_of nature_of faults_of calling → CallsOnce → DefinitionsOnce → EachCallStandsOnce trace_of nature_of faults_of calling
+  each_once by_lives all_meant each_has calls_once definitions_once first config old new closed ended vm low =
+      has_all trace_of nature_of faults_of calling first by_lives all_meant each_has calls_once definitions_once config old new closed ended vm low
 
   pub examples : CallsExamples trace_of nature_of faults_of calling
   examples = record {

@@ -1,8 +1,10 @@
 -- The calls of all workers of a fleet, and the one history of each VM's store.
 use Rattle.std.specs.Prelude.{◌≡◌, ◌≢◌, ◌==◌, ℕ, ◌<◌, ◌≤◌, if◌then◌else◌, All, List, [], ◌∷◌, length, map, reverse, Option}
 use Rattle.course.specs.Called.{Calling}
+use mathlib.Core.Option.{some}
+use lib.ListN.{get_elem?}
 use Rattle.fleet.specs.Fleet.{Each, HasWorked}
-use Rattle.fleet.specs.Laws.{HasOne}
+use Rattle.fleet.specs.Laws.{AreMeant, HasOne}
 use Rattle.fleet.specs.Made.{made_in}
 use Rattle.fleet.specs.Moves.{seats_in}
 use Rattle.fleet.specs.Run.{Ended}
@@ -34,13 +36,16 @@ module _ {W H : Type 0} (trace_of : W → Option (List Passed)) (nature_of : W �
   made_by first who (p ∷ ps) [] each = []
   made_by first who (p ∷ ps) (q ∷ qs) each = if p.who == who then made_in calling SeatsGoOn _ p.seats _ q.end q.again q.seats _ each.0.lives else made_by first who ps qs each.1
 
-  -- A VM's one history has the calls of each worker, each once and in its order, and no others; and so has that of its definitions.
+  -- A VM's one history has the calls of each worker, each once and in its order, and no others; and so has that of its definitions. The events that a
+  -- worker was given are cut into its lives, and its calls are those that the meanings of these call first.
   pub record HasAll (first : ℕ → List ℕ → Standing H) (config : Config) (old new : List W) (closed : ClosedOf) (ended : Ended trace_of nature_of faults_of calling first config old new closed) (vm : ℕ) : Type 0 where
     pub one : HasOne vm (reverse (map seats_in ended.worked.after)) closed
     pub calls : (who : ℕ) → 1 ≤ who → who ≤ config.workers → own who one.calls.history ≡ entries_on who vm (made_by first who ended.worked.before ended.worked.after ended.worked.worked)
     pub no_other_calls : All (IsOfAWorker config.workers) one.calls.history
     pub definitions : (who : ℕ) → 1 ≤ who → who ≤ config.workers → own who one.asks.history ≡ definitions_by who (asks_on vm (made_by first who ended.worked.before ended.worked.after ended.worked.worked))
     pub no_other_definitions : All (IsOfAWorker config.workers) one.asks.history
+    pub meant : (k : ℕ) (p q : Post W) → get_elem? ended.worked.before k ≡ some p → get_elem? ended.worked.after k ≡ some q
+        → AreMeant calling (first p.who (nature_of p.watched).seed) p.seats (trace_of p.watched) q.again q.seats (trace_of q.watched) (made_by first p.who ended.worked.before ended.worked.after ended.worked.worked)
 
   -- EACH CALL STANDS ONCE in the one legal history of its VM's store, however the workers of the fleet ended.
   abbrev pub EachCallStandsOnce : Type 0

@@ -2,16 +2,18 @@
 ghost use Rattle.fleet_laws.specs.Calls.{CallsExamples, EachCallStandsOnce};
 
 use course::Host;
-use fleet::{each_vm_has_one_history, seats_go_on_by_lives};
+use fleet::{all_lives_are_meant, each_vm_has_one_history, seats_go_on_by_lives};
 use gate_io::World;
 use shared_seats::each_call_and_definition_stands_once;
 
 /// However the workers of a fleet ended: each VM of the configuration came to one store with one legal history, in which stand the calls that each worker's
 /// turns made on it, each once and in the worker's order, and nobody else's; and to one set of metrics, of whose one history of definitions the same holds.
+/// The events that a worker was given are cut into its lives, and its calls are those that the meanings of these call first.
 pub fn each_call_of_a_fleet_stands_once<H: Host, W: World>()
     ensures { EachCallStandsOnce W.trace W.nature W.faults H.calling }
 {
     seats_go_on_by_lives::<H>();
+    all_lives_are_meant::<H>();
     each_vm_has_one_history::<H, W>();
     each_call_and_definition_stands_once();
 }
