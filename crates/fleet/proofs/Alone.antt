@@ -23,12 +23,14 @@ use Rattle.store_model.specs.Store.{Store, applied, empty_store}
 use Rattle.store_model.specs.declared.call.Call.TheVariants.{Dequeue}
 use Rattle.store_model.specs.declared.call.Reply.TheVariants.{Absent, Empty}
 use Rattle.store_model.specs.declared.entry.Entry.{Entry}
-use Rattle.fleet.specs.Alone.{AloneExamples, AreAlone, AreWithin, OneWorkerIsAlone, RunsAloneAreOfOneThread, own_stores}
+use Rattle.fleet.specs.Alone.{AloneExamples, AreAlone, AreWithin, OneWorkerIsAlone, OneWorkerIsOfOneThread, RunsAloneAreOfOneThread, own_stores}
 use Rattle.fleet.specs.Made.{made_in}
 use Rattle.fleet.specs.Moves.{seats_in}
 use Rattle.fleet.specs.declared.post.Post.{Post}
 use Rattle.fleet.proofs.Calls.{lives_made}
 use Rattle.fleet.proofs.Counting.{has_one}
+use Rattle.fleet.proofs.Meant.{lives_are_meant}
+use Rattle.fleet.proofs.OneLife.{one_life}
 
 parts : {A : Type 0} (x y : A) (xs ys : List A) → x ∷ xs ≡ y ∷ ys → (x ≡ y) × (xs ≡ ys)
 parts x y xs ys e = (cc e, cc e)
@@ -139,6 +141,7 @@ runs_alone calling who n s old from to t new life a =
         delivers = life.delivers;
       };
       turns_are = refl;
+      calls_are = refl;
     }
 
 -- ---- a fleet of one worker
@@ -179,6 +182,20 @@ one_worker {W} trace_of nature_of faults_of calling first config old new closed 
     one_history tables q.seats (made_in calling SeatsGoOn _ p.seats _ q.end q.again q.seats _ h.lives) has.store vm
     (subst (λ (s : SeatsOf). SeatsGoOn s (made_in calling SeatsGoOn _ p.seats _ q.end q.again q.seats _ h.lives) q.seats) seats (lives_made calling SeatsGoOn seats_nothing seats_joined _ _ _ _ _ _ _ h.lives))
     (omega (arith, low, count)) (subst (λ (l : List (Post W)). HasOneHistory vm (reverse (map seats_in l)) has.store) after_is has.calls)
+
+pub one_thread : {W H : Type 0} (trace_of : W → Option (List Passed)) (nature_of : W → Nature) (faults_of : W → ℕ) (calling : Calling H) → OneWorkerIsOfOneThread trace_of nature_of faults_of calling
+one_thread trace_of nature_of faults_of calling first config old new closed ended p q one before_is after_is stopped again h within no_asks =
+    let n = length config.vms in
+    let from = first p.who (nature_of p.watched).seed in
+    let calls : List Made = made_in calling SeatsGoOn from p.seats (trace_of p.watched) q.end q.again q.seats (trace_of q.watched) h.lives in
+    let lived = one_life calling SeatsGoOn from p.seats (trace_of p.watched) q.end q.again q.seats (trace_of q.watched) stopped again h.lives in
+    let meant = lives_are_meant calling p.seats (trace_of p.watched) from q.end lived.after q.seats (trace_of q.watched) lived.life in
+    let life = meant.to_stop stopped in
+    let same : calls_in life.goes.met ≡ calls = meant.calls_to_stop stopped ∙ lived.calls_are in
+    let alone : AreAlone 1 n calls =
+    record { within = within; legal = λ vm low. one_worker trace_of nature_of faults_of calling first config old new closed ended p q one before_is after_is h vm low; no_asks = no_asks } in
+    let thread = runs_alone calling 1 n p.seats (trace_of p.watched) from lived.after q.seats (trace_of q.watched) life (subst (AreAlone 1 n) (sym same) alone) in
+    record { to = lived.after; shared = thread.shared; run = thread.run; calls_are = thread.calls_are ∙ same }
 
 -- ---- worked examples
 

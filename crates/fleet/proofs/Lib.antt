@@ -10,6 +10,7 @@ mod Faults
 mod Listing
 mod Meant
 mod Moving
+mod OneLife
 mod Posting
 mod Sharing
 mod Standing

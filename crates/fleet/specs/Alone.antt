@@ -1,5 +1,5 @@
 -- Runs over seats that no other worker's calls come between: those of one thread's stores.
-use Rattle.std.specs.Prelude.{◌≡◌, ℕ, ◌<◌, List, [], ◌∷◌, length, Option}
+use Rattle.std.specs.Prelude.{◌≡◌, ℕ, ◌<◌, false, List, [], ◌∷◌, length, Option}
 use Rattle.course.specs.Called.{Calling}
 use Rattle.course.specs.Course.{calls_in}
 use Rattle.gate_config.specs.declared.config.Config.{Config}
@@ -18,6 +18,7 @@ use Rattle.store_model.specs.declared.call.Reply.TheVariants.{Absent, Empty}
 use Rattle.store_model.specs.declared.metric.MetricAsk.TheVariants.{Sum}
 use Rattle.store_model.specs.declared.metric.MetricReply.TheVariants.{Unknown}
 use Rattle.worker.specs.State.{Standing}
+use Rattle.worker.specs.declared.worker.Turn.TheVariants.{Stopped}
 use Rattle.fleet.specs.Fleet.{HasWorked}
 use Rattle.fleet.specs.Made.{made_in}
 use Rattle.fleet.specs.Run.{Ended}
@@ -39,18 +40,26 @@ pub record AreAlone (who n : ℕ) (calls : List Made) : Type 0 where
   pub legal : (vm : ℕ) → vm < n → IsLegal vm (entries_on who vm calls)
   pub no_asks : asks_among calls ≡ []
 
--- the turns of a run over seats, with what they deliver, are those of a run over one thread's stores
+-- the turns of a run over seats, with what they deliver and what they call, are those of a run over one thread's stores
 pub record IsOfOneThread {H : Type 0} (calling : Calling H) (who n : ℕ) (s : SeatsOf) (old : Option (List Passed)) (from to : Standing H) (t : SeatsOf) (new : Option (List Passed))
     (life : Means calling SeatsGoOn s old from to t new) : Type 0 where
   pub shared : Stores
   pub run : Means calling Performs (own_stores who n) old from to shared new
   pub turns_are : run.turns ≡ life.turns
+  pub calls_are : calls_in run.goes.met ≡ calls_in life.goes.met
 
 -- A RUN OVER SEATS WHOSE CALLS ARE ALONE IS ONE OVER ONE THREAD'S STORES, as that of a script is.
 abbrev pub RunsAloneAreOfOneThread : {H : Type 0} → Calling H → Type 0
 RunsAloneAreOfOneThread {H} calling =
     (who n : ℕ) (s : SeatsOf) (old : Option (List Passed)) (from to : Standing H) (t : SeatsOf) (new : Option (List Passed))
     → (life : Means calling SeatsGoOn s old from to t new) → AreAlone who n (calls_in life.goes.met) → IsOfOneThread calling who n s old from to t new life
+
+-- what passed is that of a run of whole turns over one thread's stores, with these calls
+pub record IsOneRun {H : Type 0} (calling : Calling H) (n : ℕ) (from : Standing H) (old new : Option (List Passed)) (calls : List Made) : Type 0 where
+  pub to : Standing H
+  pub shared : Stores
+  pub run : Means calling Performs (own_stores 1 n) old from to shared new
+  pub calls_are : calls_in run.goes.met ≡ calls
 
 module _ {W H : Type 0} (trace_of : W → Option (List Passed)) (nature_of : W → Nature) (faults_of : W → ℕ) (calling : Calling H) where
   -- IN A FLEET OF ONE WORKER its calls on the store of each VM of the configuration are a legal history by themselves, however it ended
@@ -59,6 +68,15 @@ module _ {W H : Type 0} (trace_of : W → Option (List Passed)) (nature_of : W �
       (first : ℕ → List ℕ → Standing H) (config : Config) (old new : List W) (closed : ClosedOf) (ended : Ended trace_of nature_of faults_of calling first config old new closed) (p q : Post W)
       → config.workers ≡ 1 → ended.worked.before ≡ p ∷ [] → ended.worked.after ≡ q ∷ [] → (h : HasWorked trace_of nature_of faults_of calling first p q) → (vm : ℕ) → vm < length config.vms
       → IsLegal vm (entries_on 1 vm (made_in calling SeatsGoOn _ p.seats _ q.end q.again q.seats _ h.lives))
+
+  -- IN A FLEET OF ONE WORKER WHICH HAD ONE LIFE THAT ENDED WITH STOP, whose calls are on stores of VMs of the configuration and which asked no metrics, it
+  -- did what the meaning of its events says over the stores of one thread.
+  abbrev pub OneWorkerIsOfOneThread : Type 0
+  OneWorkerIsOfOneThread =
+      (first : ℕ → List ℕ → Standing H) (config : Config) (old new : List W) (closed : ClosedOf) (ended : Ended trace_of nature_of faults_of calling first config old new closed) (p q : Post W)
+      → config.workers ≡ 1 → ended.worked.before ≡ p ∷ [] → ended.worked.after ≡ q ∷ [] → q.end ≡ Stopped → q.again ≡ false → (h : HasWorked trace_of nature_of faults_of calling first p q)
+      → AreWithin (length config.vms) (calls_among (made_in calling SeatsGoOn _ p.seats _ q.end q.again q.seats _ h.lives)) → asks_among (made_in calling SeatsGoOn _ p.seats _ q.end q.again q.seats _ h.lives) ≡ []
+      → IsOneRun calling (length config.vms) (first p.who (nature_of p.watched).seed) (trace_of p.watched) (trace_of q.watched) (made_in calling SeatsGoOn _ p.seats _ q.end q.again q.seats _ h.lives)
 
 -- ---- worked examples
 

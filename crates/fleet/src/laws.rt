@@ -1,5 +1,5 @@
 // What holds of all lives and of all fleets, as functions without a body.
-ghost use Rattle.fleet.specs.Alone.{AloneExamples, OneWorkerIsAlone, RunsAloneAreOfOneThread};
+ghost use Rattle.fleet.specs.Alone.{AloneExamples, OneWorkerIsAlone, OneWorkerIsOfOneThread, RunsAloneAreOfOneThread};
 ghost use Rattle.fleet.specs.Closing.{ClosingExamples};
 ghost use Rattle.fleet.specs.Laws.{AllLivesAreMeant, EachVmHasOne, LivesAreMeant, SeatsGoOnByLives, two_vms_leave_two};
 ghost use Rattle.fleet.specs.Run.{EndExamples};
@@ -49,6 +49,12 @@ pub fn runs_alone_are_of_one_thread<H: Host>()
 /// In a fleet of one worker its calls on each VM's store are legal by themselves.
 pub fn one_worker_is_alone<H: Host, W: World>()
     ensures { OneWorkerIsAlone W.trace W.nature W.faults H.calling }
+{}
+
+/// In a fleet of one worker, which had one life that ended with Stop, called stores that are there and asked no metrics, it did what the meaning of its events
+/// says over the stores of one thread, with the same calls.
+pub fn one_worker_is_of_one_thread<H: Host, W: World>()
+    ensures { OneWorkerIsOfOneThread W.trace W.nature W.faults H.calling }
 {}
 
 /// Which calls are alone.
