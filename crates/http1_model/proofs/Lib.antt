@@ -24,3 +24,5 @@ pub mod Taken
 pub mod TrailerLaws
 pub mod Numbers
 pub mod ResponseReceived
+pub mod FrontExamples
+pub mod Fronts

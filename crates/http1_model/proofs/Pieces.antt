@@ -295,18 +295,37 @@ stops_there text ended asked next at due unread why (inr (inr u)) x =
     (section_goes_behind ended asked u.connection u.size (drop u.size (drop at text)) (stop why) moved) in
     subst (λ (d : Due). StepsTo ended asked d (drop at text) (stop why)) (sym u.next_is) there
 
+-- a new reader stands in front of its text
+stands_new : (asked : Option (List ℕ)) → Stands asked [] [] (new_reading asked)
+stands_new asked = record {
+  same_asked = refl;
+  items = [];
+  at = 0;
+  next = head;
+  chain = (refl, refl);
+  same = refl;
+  left = inl (record { same_due = refl; are = refl });
+}
+
+stands_now : (asked : Option (List ℕ)) (acts : List Act) (r : Reading) → DoesAll (new_reading asked) acts r
+    → Stands asked (text_of acts) (items_handed asked acts) r
+stands_now asked acts r does = stands_behind asked acts [] [] (new_reading asked) r (stands_new asked) does
+
+-- What was handed on by now, whether or not a further part is there: a chain of items from the beginning of the text.
+pub record HandedOn (asked : Option (List ℕ)) (acts : List Act) (ended : Bool) : Type 0 where
+  pub items : List Placed
+  pub at : ℕ
+  pub next : Due
+  pub chain : Chain (text_of acts) ended asked head 0 items next at
+  pub same : map item_at items ≡ items_handed asked acts
+
+pub handed_on : (asked : Option (List ℕ)) (acts : List Act) (r : Reading) → DoesAll (new_reading asked) acts r → HandedOn asked acts r.ended
+handed_on asked acts r does =
+    let s = stands_now asked acts r does in record { items = s.items; at = s.at; next = s.next; chain = s.chain; same = s.same }
+
 pub pieces_are_whole : PiecesAreWhole
 pieces_are_whole asked acts r why does next =
-    let new : Stands asked [] [] (new_reading asked) = record {
-      same_asked = refl;
-      items = [];
-      at = 0;
-      next = head;
-      chain = (refl, refl);
-      same = refl;
-      left = inl (record { same_due = refl; are = refl });
-    } in
-    let s = stands_behind asked acts [] [] (new_reading asked) r new does in
+    let s = stands_now asked acts r does in
     let halted : StepsTo r.ended asked r.due r.unread (stop why) =
     subst (λ (a : Option (List ℕ)). StepsTo r.ended a r.due r.unread (stop why)) s.same_asked (none_is_stop r.ended r.asked r.due r.unread why next) in
     let there = stops_there (text_of acts) r.ended asked s.next s.at r.due r.unread why s.left halted in

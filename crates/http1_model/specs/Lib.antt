@@ -19,3 +19,5 @@ pub mod Target
 pub mod Trailers
 pub mod Unread
 pub mod Wire
+pub mod FrontExamples
+pub mod Fronts

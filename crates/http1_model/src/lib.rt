@@ -4,6 +4,8 @@
 ghost use Rattle.http1_model.specs.ChunkExamples.{WorkedBody, SizeExamples, PlaceExamples, TrailerExamples, ChunkWireExamples};
 ghost use Rattle.http1_model.specs.ChunkLaws.{OneChunkStep, SizeStays, SoughtStays, RunsJoin, LastStepStays, TrailersAreFields};
 ghost use Rattle.http1_model.specs.Examples.{WorkedHead, ClosingHead, WorkedResponse, ResponseExamples, OrderExamples, LineExamples, FieldExamples, WireExamples, LengthExamples, ResponseLengthExamples, BareExamples, ListExamples, TargetExamples, RefusalExamples};
+ghost use Rattle.http1_model.specs.FrontExamples.{FrontExamples};
+ghost use Rattle.http1_model.specs.Fronts.{PiecesAreAFront, FrontsOfOneText};
 ghost use Rattle.http1_model.specs.ReadingExamples.{CountedExamples, UnboundedExamples, CodedExamples, SectionExamples, ListedExamples, LeftExamples, PlacedExamples};
 ghost use Rattle.http1_model.specs.ReadingLaws.{OnePart, PiecesAreWhole, CutsAlike, RefusedStays, UnreadIsCut, RestsAreShort};
 ghost use Rattle.http1_model.specs.Laws.{OneStep, EachText, StepStays, OneReading, ReadingGrows, RefusalStays, ToldAsReceived, ResponseAsReceived, RefusalNumbers, ValuesAccepted, WholeFits, RequestListed, ResponseListed, FramedOnce, RequestTaken, ResponseTaken, TrailersUnlisted};
@@ -167,6 +169,23 @@ pub fn pieces_are_whole()
 /// reason (segmentation independence).
 pub fn cuts_alike()
     ensures { CutsAlike }
+{}
+
+/// Whatever was handed on by any moment, whether or not a further part is there, is a front of what the text so far spells; and,
+/// where that has not ended, of what every longer text spells.
+pub fn pieces_are_a_front()
+    ensures { PiecesAreAFront }
+{}
+
+/// Of two readings of one text with the same end, or of which one has come further, what one handed on by any moment is a front of
+/// what the other did by any.
+pub fn fronts_of_one_text()
+    ensures { FrontsOfOneText }
+{}
+
+/// A reader that has a further part, worked on a text that is written out: of two requests one is handed on, and the next one waits.
+pub fn front_examples()
+    ensures { FrontExamples }
 {}
 
 /// A refusal stays, whatever comes behind it.
