@@ -16,3 +16,4 @@ pub mod Sizes
 pub mod Limits
 pub mod Paid
 pub mod Examples
+pub mod Paused

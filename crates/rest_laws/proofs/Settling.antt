@@ -13,6 +13,7 @@ use Rattle.worker.specs.Settling.{settling, settling_step, settling_rest, settli
 use Rattle.worker.specs.Steps.{Both, step}
 use Rattle.rest_laws.specs.Laws.{IsAtRest, StepsLeaveLess, StepsComeToRest, NothingIsLeft, RestIsRest}
 use Rattle.rest_laws.specs.Left.{left, AllFit, RoutesFit}
+use Rattle.rest_laws.proofs.Paused.{all_rest}
 use Rattle.rest_laws.proofs.Rooms.{IsLess}
 use Rattle.rest_laws.proofs.Steps.{step_less}
 use Rattle.rest_laws.proofs.Tests.{of_if}
@@ -36,7 +37,8 @@ no_next room rested =
 
     by_agenda : room.reading ≡ None → position moves room.lines ≡ None → room.jobs ≡ [] → position (is_released room) room.waits ≡ None → position is_over room.lines ≡ None
         → (l : List Job) → room.agenda ≡ l → Given (begins_or_rests l)
-    by_agenda reading moving jobs released ended [] is = λ here. record { reading = reading; moving = moving; jobs = jobs; released = released; ended = ended; agenda = is }
+    by_agenda reading moving jobs released ended [] is =
+        λ here. record { reading = reading; moving = moving; paused = all_rest room.lines moving ended; jobs = jobs; released = released; ended = ended; agenda = is }
     by_agenda reading moving jobs released ended (job ∷ more) is = λ (never : false ≡ true). absurd (cc)
 
     by_end : room.reading ≡ None → position moves room.lines ≡ None → room.jobs ≡ [] → position (is_released room) room.waits ≡ None → (o : Option ℕ) → position is_over room.lines ≡ o

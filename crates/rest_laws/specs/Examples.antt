@@ -9,8 +9,9 @@ use Rattle.course.specs.declared.host.Callback.{Callback}
 use Rattle.exchange.specs.declared.types.Exchange.{Exchange}
 use Rattle.exchange.specs.declared.types.Request.{Request}
 use Rattle.exchange.specs.declared.types.Response.{Response}
+use Rattle.filter_chain.specs.declared.item.Held.{Held}
 use Rattle.filter_chain.specs.declared.item.Held.TheVariants as held
-use Rattle.filter_chain.specs.declared.item.Item.TheVariants.{Head}
+use Rattle.filter_chain.specs.declared.item.Item.TheVariants.{Head, Piece}
 use Rattle.filter_chain.specs.declared.stage.Stage.{Stage}
 use Rattle.gate_base.specs.declared.level.Level.TheVariants.{Info}
 use Rattle.gate_io.specs.declared.event.Event.{Event}
@@ -36,7 +37,7 @@ use Rattle.worker.specs.declared.types.Line.{Line}
 use Rattle.worker.specs.declared.types.Next.TheVariants as next
 use Rattle.worker.specs.declared.types.Reads.{Reads}
 use Rattle.rest_laws.specs.Left.{left}
-use Rattle.rest_laws.specs.Laws.{IsAtRest}
+use Rattle.rest_laws.specs.Laws.{IsAtRest, AllRest}
 use Rattle.rest_laws.specs.Paid.{brought}
 use Rattle.rest_laws.specs.Sizes.{room_size, start_size}
 
@@ -176,3 +177,18 @@ pub record EventExample : Type 0 where
   pub begins : left 16 (facing plan three_bytes resting) ≡ 772
   pub brings : brought resting three_bytes ≡ 1667
   pub size : start_size {H = ℕ} (both 0 resting) three_bytes ≡ 4
+
+-- ---- a line whose filter holds something, while a piece of the body waits at its stage
+
+abbrev pub holding : Held → Room
+holding h = room (record { number = 1; requests = new_reading None; is_gone = false; exchange = Some (record exchange { request = record (stage false) { waiting = Piece (codes "ab") true ∷ []; held = h } ∷ [] }) } ∷ []) None []
+
+-- Where it holds the head, or trailers, all is at rest with what waits. Where it holds nothing, or bytes of the body, the stage is asked.
+pub record PausedExample : Type 0 where
+  pub at_head : IsAtRest (holding (held.Head false))
+  pub head_paused : AllRest (holding (held.Head false)).lines
+  pub at_trailers : IsAtRest (holding (held.Trailers true))
+  pub nothing_held : next_of (holding held.Nothing) ≡ next.Move 0
+  pub body_held : next_of (holding (held.Body false)) ≡ next.Move 0
+  pub no_rest : IsAtRest (holding (held.Body false)) → ⊥
+  pub no_pause : AllRest (holding (held.Body false)).lines → ⊥

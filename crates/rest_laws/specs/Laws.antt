@@ -1,8 +1,11 @@
 -- A TURN COMES TO REST, whatever the machines do, whatever the shared stores reply, and whatever is read.
-use Rattle.std.specs.Prelude.{◌≡◌, ◌<◌, ◌≤◌, ◌↔◌, ℕ, ◌+◌, true, false, List, [], ◌∷◌, Option, None, Some, position}
+use Rattle.std.specs.Prelude.{◌≡◌, ◌<◌, ◌≤◌, ◌↔◌, ◌⊎◌, ℕ, ◌+◌, true, false, List, [], ◌∷◌, Option, None, Some, position}
 use Rattle.course.specs.Called.{Calling}
 use Rattle.course.specs.Course.{ends, Met, Reaches}
 use Rattle.exchange.specs.declared.types.Exchange.{Exchange}
+use Rattle.filter_chain.specs.declared.item.Held.{Held}
+use Rattle.filter_chain.specs.declared.item.Held.TheVariants as held
+use Rattle.filter_chain.specs.declared.stage.Stage.{Stage}
 use Rattle.gate_config.specs.declared.config.Config.{Config}
 use Rattle.gate_io.specs.Events.{is_stop}
 use Rattle.gate_io.specs.declared.event.Event.{Event}
@@ -83,11 +86,33 @@ RoomsComeToRest H =
     → (n : ℕ) × ((calling : Calling H) (host : H) (k : ℕ) (ms : List Met) (c : Both H)
     → Reaches (settling calling plan (n + k) host room) ms (ends c) → IsAtRest c.room)
 
--- WHAT REST IS: nothing is being read, no stage is to be asked, no job is in hand, no context that waited was released, no exchange has ended,
--- and no part of the turn is left
+-- A stage is paused: it holds a head or trailers, which its filter has not let go on. (What it holds of a body stops nothing: more may come to it.)
+abbrev pub IsPaused : Held → Type 0
+IsPaused held.Nothing = ⊥
+IsPaused (held.Head end) = Unit {0}
+IsPaused (held.Body end) = ⊥
+IsPaused (held.Trailers body) = Unit {0}
+
+-- at each stage of a chain nothing waits, or it is paused
+abbrev pub WaitWherePaused : List Stage → Type 0
+WaitWherePaused [] = Unit {0}
+WaitWherePaused (s ∷ stages) = ((s.waiting ≡ []) ⊎ IsPaused s.held) × WaitWherePaused stages
+
+-- so it is in both directions of an exchange, and it has not ended
+abbrev pub OpenRests : Option Exchange → Type 0
+OpenRests None = Unit {0}
+OpenRests (Some x) = (x.has_ended ≡ false) × WaitWherePaused x.request × WaitWherePaused x.response
+
+abbrev pub AllRest : List Line → Type 0
+AllRest [] = Unit {0}
+AllRest (line ∷ lines) = OpenRests line.exchange × AllRest lines
+
+-- WHAT REST IS: nothing is being read, no stage is to be asked, each stage at which an item waits is paused, no job is in hand, no context that waited
+-- was released, no exchange has ended, and no part of the turn is left
 pub record NothingIsLeft (room : Room) : Type 0 where
   pub reading : room.reading ≡ None
   pub moving : position moves room.lines ≡ None
+  pub paused : AllRest room.lines
   pub jobs : room.jobs ≡ []
   pub released : position (is_released room) room.waits ≡ None
   pub ended : position is_over room.lines ≡ None

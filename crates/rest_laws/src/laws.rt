@@ -1,5 +1,5 @@
 // A turn comes to rest, whatever the machines do. The functions have nothing to do: their contracts are the laws.
-ghost use Rattle.rest_laws.specs.Examples.{MovingExample, ReadingExample, EventExample};
+ghost use Rattle.rest_laws.specs.Examples.{MovingExample, ReadingExample, EventExample, PausedExample};
 ghost use Rattle.rest_laws.specs.Laws.{StepsLeaveLess, StepsComeToRest, BoundsChangeNothing, StepsArePaid, RestIsRest};
 ghost use Rattle.rest_laws.specs.Laws.{TurnsComeToRest, RoomsComeToRest};
 ghost use Rattle.rest_laws.specs.Limits.{LimitsAreSmall};
@@ -24,8 +24,8 @@ pub fn steps_come_to_rest<H>()
     ensures { StepsComeToRest H }
 {}
 
-/// At rest nothing is being read, no stage is to be asked, no job is in hand, no context that waited was released, no exchange has ended, and
-/// no part of the turn is left.
+/// At rest nothing is being read, no stage is to be asked, each stage at which an item waits is paused at its head or trailers, no job is in hand, no
+/// context that waited was released, no exchange has ended, and no part of the turn is left.
 pub fn rest_is_rest()
     ensures { RestIsRest }
 {}
@@ -72,9 +72,10 @@ pub fn limits_are_small()
     ensures { LimitsAreSmall }
 {}
 
-/// What is left to do in worked rooms: a head passes a filter, a request is read, and three bytes come.
+/// What is left to do in worked rooms: a head passes a filter, a request is read, three bytes come, and a piece waits at a stage that is paused.
 pub fn worked_rooms()
     ensures moving { MovingExample }
     ensures reading { ReadingExample }
     ensures event { EventExample }
+    ensures paused { PausedExample }
 {}
