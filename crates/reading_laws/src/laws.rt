@@ -1,6 +1,6 @@
 // What is read of lines over turns. The functions have nothing to do: their contracts are the laws.
 ghost use Rattle.reading_laws.specs.Wholly.{WorkersReadWhatCame, WorkersLeaveLittleUnread};
-ghost use Rattle.reading_laws.specs.Cuts.{CutsDoNotMatter};
+ghost use Rattle.reading_laws.specs.Cuts.{CutsDoNotMatter, FrontsAtAnyMoment};
 ghost use Rattle.reading_laws.specs.Examples.{ReadingExamples};
 ghost use Rattle.reading_laws.specs.Laws.{LinesReadWhatCame, NumbersReadOnce};
 ghost use Rattle.reading_laws.specs.Limits.{LinesKeepLimits, UnreadStaysShort};
@@ -27,10 +27,17 @@ pub fn numbers_read_once<H>()
     ensures { NumbersReadOnce H }
 {}
 
-/// Where such a reader has no further part, what was handed on is what the joined text spells by the grammar of messages; and of two lines, of whatever
-/// workers, whose events spell the same text with the same end, the same was handed on, and both stop for the same reason.
+/// Where a reader of either side has no further part, what was handed on is what the joined text spells by the grammar of messages; and of two lines, of
+/// whatever workers, whose events spell the same text there with the same end, the same was handed on, and both stop for the same reason.
 pub fn cuts_do_not_matter()
     ensures { CutsDoNotMatter }
+{}
+
+/// At any moment, also while such a reader has a further part, what was handed on by then is a front of what the joined text so far spells, and, where that
+/// has not ended, of what any longer text spells; and of two lines, of whatever workers, whose events spell the same text with the same end, or of which one
+/// has come further in it, what was handed on of one is a front of what was handed on of the other.
+pub fn fronts_at_any_moment()
+    ensures { FrontsAtAnyMoment }
 {}
 
 /// The same of the server of an exchange that is open: the reader of its response came from a new one by text that, joined, is exactly what a run of the
@@ -64,8 +71,9 @@ pub fn workers_leave_little_unread<H, S: Shared>()
     ensures { WorkersLeaveLittleUnread H S S.performs }
 {}
 
-/// Two requests that come at once, or cut at any place of the second: their texts, joined, are read of the line, and two workers hand on the same. Of two
-/// lines whose bytes come in turns each has its own. And what the definitions refuse.
+/// Two requests that come at once, or cut at any place of the second: their texts, joined, are read of the line, and two workers hand on the same, or a front
+/// of it. Of two lines whose bytes come in turns each has its own. A response of which the head was handed on, while its body waits: what is handed on of the
+/// same text on another line begins with that head, or is nothing. And what the definitions refuse.
 pub fn worked_readings<H, G>()
     ensures { ReadingExamples H G }
 {}
