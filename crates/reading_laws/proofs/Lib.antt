@@ -14,3 +14,4 @@ pub mod Once
 pub mod Worked
 pub mod Servers
 pub mod Wholly
+pub mod Small

@@ -5,14 +5,13 @@ use Rattle.store_model.specs.Made.{Made}
 use Rattle.worker.specs.Making.{new_worker}
 use Rattle.worker.specs.Plan.{Plan}
 use Rattle.worker.specs.State.{Standing, rules_of}
-use Rattle.worker.specs.declared.types.Line.{Line}
 use Rattle.reading_laws.specs.Limits.{AreWanted}
 use Rattle.reading_laws.specs.Wholly.{Worked, no_turn, a_turn, Obeyed, none_heard, one_heard, WorkersReadWhatCame, WorkersLeaveLittleUnread}
 use Rattle.reading_laws.specs.Turns.{OneTurn, Turns}
 use Rattle.reading_laws.proofs.Limits.{unread_stays_short}
 use Rattle.reading_laws.proofs.Since.{lines_read}
 
-worked_turns : {H S : Type 0} (calling : Calling H) (performs : S → List Made → S → Type 0) (from to : Standing H) (turns : List (OneTurn H)) → Worked calling performs from turns to
+pub worked_turns : {H S : Type 0} (calling : Calling H) (performs : S → List Made → S → Type 0) (from to : Standing H) (turns : List (OneTurn H)) → Worked calling performs from turns to
     → Turns calling (rules_of from.setting) from.state turns to.state
 worked_turns calling performs from to turns (no_turn f) = refl
 worked_turns calling performs from to turns (a_turn stop s t old new f mid l more w same later) =
@@ -24,7 +23,7 @@ workers_read H S performs calling exported registering config who seed host turn
     lines_read H calling (rules_of from.setting) config seed host turns to.state n l (worked_turns calling performs from to turns worked) whole there
 
 -- such turns are turns
-obeyed_worked : {H S : Type 0} (calling : Calling H) (performs : S → List Made → S → Type 0) (from to : Standing H) (turns : List (OneTurn H)) → Obeyed calling performs from turns to
+pub obeyed_worked : {H S : Type 0} (calling : Calling H) (performs : S → List Made → S → Type 0) (from to : Standing H) (turns : List (OneTurn H)) → Obeyed calling performs from turns to
     → Worked calling performs from turns to
 obeyed_worked calling performs from to turns (none_heard f) = no_turn from
 obeyed_worked calling performs from to turns (one_heard stop before after s t old new f mid l more w heard same later) =

@@ -7,3 +7,4 @@ pub mod Cuts
 pub mod Examples
 pub mod Servers
 pub mod Wholly
+pub mod Small
