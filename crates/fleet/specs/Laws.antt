@@ -5,7 +5,7 @@ use Rattle.course.specs.Course.{Course, Goes, calls_in, ends}
 use mathlib.Core.Option.{some}
 use lib.ListN.{get_elem?}
 use Rattle.fleet.specs.Lives.{Life, Lives}
-use Rattle.fleet.specs.Made.{events_in_life, events_in_turns, made_in, made_in_life, made_in_turns}
+use Rattle.fleet.specs.Made.{events_in_life, events_in_turns, events_of_each, made_in, made_in_life, made_in_turns}
 use Rattle.fleet.specs.Moves.{seats_in}
 use Rattle.fleet.specs.Run.{Ended}
 use Rattle.gate_config.specs.declared.config.Config.{Config}
@@ -76,20 +76,21 @@ CallsOfLives calling first [] s calls t = (calls ≡ []) × (t ≡ s)
 CallsOfLives {H} calling first (events ∷ lives) s calls t =
     (u : SeatsOf) × (left : Course (Run H)) × (goes : Goes SeatsGoOn s (meaning calling first events) left u) × (later : List Made) × (calls ≡ calls_in goes.met ++ later) × CallsOfLives calling first lives u later t
 
--- ALL LIVES OF A WORKER ARE MEANT: the events that it was given, where that is told, are cut into its lives, and its calls are those that the meanings of
--- these call first. Where none ended for want of memory before the last, there is one.
-pub record AreMeant {H : Type 0} (calling : Calling H) (first : Standing H) (s : SeatsOf) (old : Option (List Passed)) (again : Bool) (t : SeatsOf) (new : Option (List Passed)) (calls : List Made) : Type 0 where
+-- ALL LIVES OF A WORKER ARE MEANT: given the events of each of its lives, its calls are, one life behind the other, what the meanings of these events call
+-- first. In a world that tells what passed, the events that it told of giving are those of the lives, one behind the other. Where none ended for want of
+-- memory before the last, there is one life.
+pub record AreMeant {H : Type 0} (calling : Calling H) (first : Standing H) (s : SeatsOf) (old : Option (List Passed)) (again : Bool) (t : SeatsOf) (new : Option (List Passed)) (lives : List (List Event)) (calls : List Made) : Type 0 where
   pub steps : List Passed
   pub told : Gains old steps new
-  pub lives : List (List Event)
   pub cut : happened steps ≡ events_of_lives lives
   pub goes : CallsOfLives calling first lives s calls t
   pub one : again ≡ false → length lives ≡ 1
 
+-- so it is of all lives, with the events of each and the calls of all
 abbrev pub AllLivesAreMeant : {H : Type 0} → Calling H → Type 0
 AllLivesAreMeant {H} calling =
     (first : Standing H) (s : SeatsOf) (old : Option (List Passed)) (end : Turn) (again : Bool) (t : SeatsOf) (new : Option (List Passed))
-    → (lives : Lives calling SeatsGoOn first s old end again t new) → AreMeant calling first s old again t new (made_in calling SeatsGoOn first s old end again t new lives)
+    → (lives : Lives calling SeatsGoOn first s old end again t new) → AreMeant calling first s old again t new (events_of_each calling SeatsGoOn first s old end again t new lives) (made_in calling SeatsGoOn first s old end again t new lives)
 
 -- what a VM came to: its store, with the one history of all workers' calls on it, and its metrics, with the one of their definitions
 pub record HasOne (vm : ℕ) (lists : List SeatsOf) (closed : ClosedOf) : Type 0 where

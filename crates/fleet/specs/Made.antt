@@ -59,3 +59,18 @@ module _ {H S : Type 0} (calling : Calling H) (performs : S → List Made → S 
   -- THE EVENTS OF A LIFE, that of its last turn behind the others
   abbrev pub events_in_life : (s : S) (old : Option (List Passed)) (from : Standing H) (end : Turn) (to : Standing H) (t : S) (new : Option (List Passed)) → Life calling performs s old from end to t new → List Event
   events_in_life s old from end to t new h = events_in_turns h.count s old from h.before h.at h.mid h.went ++ event_in_turn end h.at h.mid h.before to t new h.last
+
+  -- (none where a life was not begun)
+  abbrev pub events_in_one : (first : Standing H) (s : S) (old : Option (List Passed)) (end : Turn) (took : Bool) (t : S) (new : Option (List Passed)) → OneLife calling performs first s old end took t new → List Event
+  events_in_one first s old end took t new h = ⊎_elim (λ l. events_in_life s old first end l.after t new l.life) (λ e. []) h
+
+  abbrev pub events_of_early : (first : Standing H) (n : ℕ) (s : S) (old : Option (List Passed)) (t : S) (new : Option (List Passed)) → Early calling performs first n s old t new → List (List Event)
+  events_of_early first zero s old t new h = []
+  events_of_early first (suc n) s old t new h = events_of_early first n s old h.0 h.1 h.2 ++ events_in_life h.0 h.1 first OutOfMemory h.3.lived.after t h.3.left h.3.lived.life ∷ []
+
+  abbrev pub events_in_last : (first : Standing H) (s : S) (old : Option (List Passed)) (end : Turn) (t : S) (new : Option (List Passed)) → Last calling performs first s old end t new ⊎ Cut calling performs first s old end t new → List Event
+  events_in_last first s old end t new h = ⊎_elim (λ l. events_in_one first s old end l.took t new l.once) (λ k. events_in_life s old first OutOfMemory k.lived.after t k.left k.lived.life) h
+
+  -- THE EVENTS OF EACH LIFE OF A WORKER: those of the lives that ended for want of memory before the last, in order, and then those of the last
+  abbrev pub events_of_each : (first : Standing H) (s : S) (old : Option (List Passed)) (end : Turn) (again : Bool) (t : S) (new : Option (List Passed)) → Lives calling performs first s old end again t new → List (List Event)
+  events_of_each first s old end again t new h = events_of_early first h.count s old h.at h.mid h.early ++ events_in_last first h.at h.mid end t new h.last ∷ []

@@ -18,7 +18,8 @@ pub fn lives_are_meant<H: Host>()
     ensures { LivesAreMeant H.calling }
 {}
 
-/// The events that a worker was given are cut into its lives, and its calls are, one life behind the other, what the meanings of these call first.
+/// A worker's calls are, one life behind the other, what the meanings of the events of each of its lives call first. In a world that tells what passed, the
+/// events that it told of giving are those of the lives, one behind the other.
 pub fn all_lives_are_meant<H: Host>()
     ensures { AllLivesAreMeant H.calling }
 {}

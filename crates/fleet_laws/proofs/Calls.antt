@@ -6,12 +6,13 @@ use mathlib.Core.Option.{some, some-injective, some-ne-none}
 use lib.ListN.{get_elem?, length-map}
 use Rattle.fleet.specs.Fleet.{Each, HasWorked}
 use Rattle.fleet.specs.Laws.{AllLivesAreMeant, AreMeant, EachVmHasOne, HasOne, SeatsGoOnByLives}
-use Rattle.fleet.specs.Made.{made_in}
+use Rattle.fleet.specs.Made.{events_of_each, made_in}
 use Rattle.fleet.specs.Moves.{AreFrom, seats_in}
 use Rattle.fleet.specs.Run.{Ended}
 use Rattle.fleet.specs.declared.post.Post.{Post}
 use Rattle.gate_config.specs.declared.config.Config.{Config}
 use Rattle.gate_io.specs.Nature.{Nature}
+use Rattle.gate_io.specs.declared.event.Event.{Event}
 use Rattle.gate_io.specs.declared.passed.Passed.{Passed}
 use Rattle.metric_seats.specs.Measuring.{asks_on}
 use Rattle.shared_seats.specs.Asked.{AllMade, definitions_by}
@@ -25,7 +26,7 @@ use Rattle.store_model.specs.History.{own}
 use Rattle.store_model.specs.Made.{Made, entries_on}
 use Rattle.store_model.specs.declared.entry.Entry.{Entry}
 use Rattle.worker.specs.State.{Standing}
-use Rattle.fleet_laws.specs.Calls.{CallsExamples, Did, EachCallStandsOnce, HasAll, IsOfAWorker, made_by}
+use Rattle.fleet_laws.specs.Calls.{CallsExamples, Did, EachCallStandsOnce, HasAll, IsOfAWorker, events_by, made_by}
 
 -- what stands at a place of a list with one member more: a member of the list, or that one
 at_end : {A : Type 0} (xs : List A) (x y : A) (k : ℕ) → get_elem? (xs ++ x ∷ []) k ≡ some y → ((get_elem? xs k ≡ some y) × (k < length xs)) ⊎ ((k ≡ length xs) × (x ≡ y))
@@ -61,6 +62,16 @@ module _ {W H : Type 0} (trace_of : W → Option (List Passed)) (nature_of : W �
 
   by_behind : (who : ℕ) (p q : Post W) (ps qs : List (Post W)) (each : Each DidIt (p ∷ ps) (q ∷ qs)) → (p.who ≡ who → ⊥) → by who (p ∷ ps) (q ∷ qs) each ≡ by who ps qs each.1
   by_behind who p q ps qs each isnt = ap (λ (b : Bool). if b then made_in calling SeatsGoOn _ p.seats _ q.end q.again q.seats _ each.0.lives else by who ps qs each.1) (ne_eqb p.who who isnt)
+
+  abbrev events : (who : ℕ) (before after : List (Post W)) → Each DidIt before after → List (List Event)
+  events who before after each = events_by trace_of nature_of faults_of calling first who before after each
+
+  events_here : (who : ℕ) (p q : Post W) (ps qs : List (Post W)) (each : Each DidIt (p ∷ ps) (q ∷ qs)) → p.who ≡ who
+      → events who (p ∷ ps) (q ∷ qs) each ≡ events_of_each calling SeatsGoOn _ p.seats _ q.end q.again q.seats _ each.0.lives
+  events_here who p q ps qs each is = ap (λ (b : Bool). if b then events_of_each calling SeatsGoOn _ p.seats _ q.end q.again q.seats _ each.0.lives else events who ps qs each.1) (eq-eqb p.who who is)
+
+  events_behind : (who : ℕ) (p q : Post W) (ps qs : List (Post W)) (each : Each DidIt (p ∷ ps) (q ∷ qs)) → (p.who ≡ who → ⊥) → events who (p ∷ ps) (q ∷ qs) each ≡ events who ps qs each.1
+  events_behind who p q ps qs each isnt = ap (λ (b : Bool). if b then events_of_each calling SeatsGoOn _ p.seats _ q.end q.again q.seats _ each.0.lives else events who ps qs each.1) (ne_eqb p.who who isnt)
 
   lens : (before after : List (Post W)) → Each DidIt before after → length after ≡ length before
   lens [] [] each = refl
@@ -136,24 +147,25 @@ module _ {W H : Type 0} (trace_of : W → Option (List Passed)) (nature_of : W �
       omega (arith, is, number)
   numbered_low (x ∷ ps) (suc k) p from at = let low = numbered_low ps k p from.1 at in omega (arith, low)
 
-  abbrev MeantBy : (p q : Post W) → List Made → Type 0
-  MeantBy p q calls = AreMeant calling (first p.who (nature_of p.watched).seed) p.seats (trace_of p.watched) q.again q.seats (trace_of q.watched) calls
+  abbrev MeantBy : (p q : Post W) → List (List Event) → List Made → Type 0
+  MeantBy p q lives calls = AreMeant calling (first p.who (nature_of p.watched).seed) p.seats (trace_of p.watched) q.again q.seats (trace_of q.watched) lives calls
 
   -- the calls of the worker of a post are meant
   meant_at : AllLivesAreMeant calling → (before after : List (Post W)) (each : Each DidIt before after) → AreFrom 0 before → (k : ℕ) (p q : Post W) → get_elem? before k ≡ some p → get_elem? after k ≡ some q
-      → MeantBy p q (by p.who before after each)
+      → MeantBy p q (events p.who before after each) (by p.who before after each)
   meant_at all [] after each from k p q at_p at_q = absurd (none_there k p at_p)
   meant_at all (x ∷ ps) [] each from k p q at_p at_q = absurd each
   meant_at all (x ∷ ps) (y ∷ qs) each from zero p q at_p at_q =
       let is_p : x ≡ p = some-injective x p at_p in
       let is_q : y ≡ q = some-injective y q at_q in
-      subst (λ (z : Post W). MeantBy z q (by z.who (x ∷ ps) (y ∷ qs) each)) is_p
-      (subst (λ (z : Post W). MeantBy x z (by x.who (x ∷ ps) (y ∷ qs) each)) is_q
-      (subst (λ (ms : List Made). MeantBy x y ms) (sym (by_here x.who x y ps qs each refl)) (all _ x.seats _ y.end y.again y.seats _ each.0.lives)))
+      subst (λ (z : Post W). MeantBy z q (events z.who (x ∷ ps) (y ∷ qs) each) (by z.who (x ∷ ps) (y ∷ qs) each)) is_p
+      (subst (λ (z : Post W). MeantBy x z (events x.who (x ∷ ps) (y ∷ qs) each) (by x.who (x ∷ ps) (y ∷ qs) each)) is_q
+      (subst (λ (z : List (List Event) × List Made). MeantBy x y z.0 z.1) (λ i. (sym (events_here x.who x y ps qs each refl) i, sym (by_here x.who x y ps qs each refl) i)) (all _ x.seats _ y.end y.again y.seats _ each.0.lives)))
   meant_at all (x ∷ ps) (y ∷ qs) each from (suc k) p q at_p at_q =
       let low = numbered_low ps k p from.1 at_p in
       let number = from.0 in
-      subst (λ (ms : List Made). MeantBy p q ms) (sym (by_behind p.who x y ps qs each (λ (e : x.who ≡ p.who). absurd (omega (arith, e, low, number)))))
+      let other : x.who ≡ p.who → ⊥ = λ e. absurd (omega (arith, e, low, number)) in
+      subst (λ (z : List (List Event) × List Made). MeantBy p q z.0 z.1) (λ i. (sym (events_behind p.who x y ps qs each other) i, sym (by_behind p.who x y ps qs each other) i))
       (meant_at all ps qs each.1 from.1 k p q at_p at_q)
 
   pub has_all : SeatsGoOnByLives calling → AllLivesAreMeant calling → EachVmHasOne trace_of nature_of faults_of calling → CallsOnce → DefinitionsOnce → (config : Config) (old new : List W) (closed : ClosedOf) (ended : Ended trace_of nature_of faults_of calling first config old new closed) (vm : ℕ) → vm < length config.vms
@@ -197,4 +209,8 @@ module _ {W H : Type 0} (trace_of : W → Option (List Passed)) (nature_of : W �
     third = λ first p q r s worked other two one.
         by_behind trace_of nature_of faults_of calling first 3 p q (r ∷ []) (s ∷ []) (worked, (other, tt)) (λ e. absurd (omega (arith, e, two)))
         ∙ by_behind trace_of nature_of faults_of calling first 3 r s [] [] (other, tt) (λ e. absurd (omega (arith, e, one)));
+    events_of_second = λ first p q r s worked other two one. events_here trace_of nature_of faults_of calling first 2 p q (r ∷ []) (s ∷ []) (worked, (other, tt)) two;
+    events_of_first = λ first p q r s worked other two one.
+        events_behind trace_of nature_of faults_of calling first 1 p q (r ∷ []) (s ∷ []) (worked, (other, tt)) (λ e. absurd (omega (arith, e, two)))
+        ∙ events_here trace_of nature_of faults_of calling first 1 r s [] [] (other, tt) one;
   }

@@ -8,7 +8,8 @@ use shared_seats::each_call_and_definition_stands_once;
 
 /// However the workers of a fleet ended: each VM of the configuration came to one store with one legal history, in which stand the calls that each worker's
 /// turns made on it, each once and in the worker's order, and nobody else's; and to one set of metrics, of whose one history of definitions the same holds.
-/// The events that a worker was given are cut into its lives, and its calls are those that the meanings of these call first.
+/// A worker's calls are those that the meanings of the events of its lives call first; and in a world that tells what passed, these events are those that it
+/// told of giving.
 pub fn each_call_of_a_fleet_stands_once<H: Host, W: World>()
     ensures { EachCallStandsOnce W.trace W.nature W.faults H.calling }
 {
@@ -18,7 +19,7 @@ pub fn each_call_of_a_fleet_stands_once<H: Host, W: World>()
     each_call_and_definition_stands_once();
 }
 
-/// Whose calls are whose.
+/// Whose calls are whose, and whose events.
 pub fn worked_calls<H: Host, W: World>()
     ensures { CallsExamples W.trace W.nature W.faults H.calling }
 {}
