@@ -8,7 +8,9 @@ use mathlib.Core.Option.{some, some-injective, some-ne-none}
 use lib.ListN.{get_elem?, length-map}
 use Rattle.course.specs.Course.{calls_in}
 use Rattle.gate_io.specs.Nature.{Nature}
+use Rattle.gate_io.specs.declared.event.Event.{Event}
 use Rattle.gate_io.specs.declared.passed.Passed.{Passed}
+use Rattle.outbox.specs.Turns.{OneTurn, events_of}
 use Rattle.shared_seats.specs.Moving.{SeatsGoOn, seats_joined, seats_nothing}
 use Rattle.shared_seats.specs.Seats.{SeatsOf, TablesOf}
 use Rattle.shared_seats.specs.Workers.{HasOneHistory, new_seats}
@@ -24,7 +26,7 @@ use Rattle.store_model.specs.declared.call.Call.TheVariants.{Dequeue}
 use Rattle.store_model.specs.declared.call.Reply.TheVariants.{Absent, Empty}
 use Rattle.store_model.specs.declared.entry.Entry.{Entry}
 use Rattle.fleet.specs.Alone.{AloneExamples, AreAlone, AreWithin, OneWorkerIsAlone, OneWorkerIsOfOneThread, RunsAloneAreOfOneThread, own_stores}
-use Rattle.fleet.specs.Made.{made_in}
+use Rattle.fleet.specs.Made.{made_in, standing_at_end}
 use Rattle.fleet.specs.Moves.{seats_in}
 use Rattle.fleet.specs.declared.post.Post.{Post}
 use Rattle.fleet.proofs.Calls.{lives_made}
@@ -189,13 +191,19 @@ one_thread trace_of nature_of faults_of calling first config old new closed ende
     let from = first p.who (nature_of p.watched).seed in
     let calls : List Made = made_in calling SeatsGoOn from p.seats (trace_of p.watched) q.end q.again q.seats (trace_of q.watched) h.lives in
     let lived = one_life calling SeatsGoOn from p.seats (trace_of p.watched) q.end q.again q.seats (trace_of q.watched) stopped again h.lives in
-    let meant = lives_are_meant calling p.seats (trace_of p.watched) from q.end lived.after q.seats (trace_of q.watched) lived.life in
+    let to = standing_at_end calling SeatsGoOn from p.seats (trace_of p.watched) q.end q.again q.seats (trace_of q.watched) h.lives in
+    let meant = lives_are_meant calling p.seats (trace_of p.watched) from q.end to q.seats (trace_of q.watched) lived.life in
     let life = meant.to_stop stopped in
     let same : calls_in life.goes.met ≡ calls = meant.calls_to_stop stopped ∙ lived.calls_are in
     let alone : AreAlone 1 n calls =
     record { within = within; legal = λ vm low. one_worker trace_of nature_of faults_of calling first config old new closed ended p q one before_is after_is h vm low; no_asks = no_asks } in
-    let thread = runs_alone calling 1 n p.seats (trace_of p.watched) from lived.after q.seats (trace_of q.watched) life (subst (AreAlone 1 n) (sym same) alone) in
-    record { to = lived.after; shared = thread.shared; run = thread.run; calls_are = thread.calls_are ∙ same }
+    let thread = runs_alone calling 1 n p.seats (trace_of p.watched) from to q.seats (trace_of q.watched) life (subst (AreAlone 1 n) (sym same) alone) in
+    record {
+      shared = thread.shared;
+      run = thread.run;
+      events_are = ap (λ (turns : List OneTurn). events_of turns ∷ []) thread.turns_are ∙ ap (λ (es : List Event). es ∷ []) (meant.events_to_stop stopped) ∙ lived.events_are;
+      calls_are = thread.calls_are ∙ same;
+    }
 
 -- ---- worked examples
 

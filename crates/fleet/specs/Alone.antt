@@ -4,8 +4,10 @@ use Rattle.course.specs.Called.{Calling}
 use Rattle.course.specs.Course.{calls_in}
 use Rattle.gate_config.specs.declared.config.Config.{Config}
 use Rattle.gate_io.specs.Nature.{Nature}
+use Rattle.gate_io.specs.declared.event.Event.{Event}
 use Rattle.gate_io.specs.declared.passed.Passed.{Passed}
 use Rattle.meaning.specs.Meaning.{Means}
+use Rattle.outbox.specs.Turns.{events_of}
 use Rattle.shared_seats.specs.Closed.{ClosedOf}
 use Rattle.shared_seats.specs.Moving.{SeatsGoOn}
 use Rattle.shared_seats.specs.Seats.{SeatsOf}
@@ -20,7 +22,7 @@ use Rattle.store_model.specs.declared.metric.MetricReply.TheVariants.{Unknown}
 use Rattle.worker.specs.State.{Standing}
 use Rattle.worker.specs.declared.worker.Turn.TheVariants.{Stopped}
 use Rattle.fleet.specs.Fleet.{HasWorked}
-use Rattle.fleet.specs.Made.{made_in}
+use Rattle.fleet.specs.Made.{events_of_each, made_in, standing_at_end}
 use Rattle.fleet.specs.Run.{Ended}
 use Rattle.fleet.specs.declared.post.Post.{Post}
 
@@ -40,7 +42,7 @@ pub record AreAlone (who n : ℕ) (calls : List Made) : Type 0 where
   pub legal : (vm : ℕ) → vm < n → IsLegal vm (entries_on who vm calls)
   pub no_asks : asks_among calls ≡ []
 
--- the turns of a run over seats, with what they deliver and what they call, are those of a run over one thread's stores
+-- the turns of a run over seats, and their calls, are those of a run over one thread's stores between the same standings
 pub record IsOfOneThread {H : Type 0} (calling : Calling H) (who n : ℕ) (s : SeatsOf) (old : Option (List Passed)) (from to : Standing H) (t : SeatsOf) (new : Option (List Passed))
     (life : Means calling SeatsGoOn s old from to t new) : Type 0 where
   pub shared : Stores
@@ -54,11 +56,12 @@ RunsAloneAreOfOneThread {H} calling =
     (who n : ℕ) (s : SeatsOf) (old : Option (List Passed)) (from to : Standing H) (t : SeatsOf) (new : Option (List Passed))
     → (life : Means calling SeatsGoOn s old from to t new) → AreAlone who n (calls_in life.goes.met) → IsOfOneThread calling who n s old from to t new life
 
--- what passed is that of a run of whole turns over one thread's stores, with these calls
-pub record IsOneRun {H : Type 0} (calling : Calling H) (n : ℕ) (from : Standing H) (old new : Option (List Passed)) (calls : List Made) : Type 0 where
-  pub to : Standing H
+-- There is one life; and from one standing to the other a run of whole turns over one thread's stores has its events and these calls. In a world that tells
+-- what passed, what it told is what passes in this run.
+pub record IsOneRun {H : Type 0} (calling : Calling H) (n : ℕ) (from to : Standing H) (old new : Option (List Passed)) (lives : List (List Event)) (calls : List Made) : Type 0 where
   pub shared : Stores
   pub run : Means calling Performs (own_stores 1 n) old from to shared new
+  pub events_are : events_of run.turns ∷ [] ≡ lives
   pub calls_are : calls_in run.goes.met ≡ calls
 
 module _ {W H : Type 0} (trace_of : W → Option (List Passed)) (nature_of : W → Nature) (faults_of : W → ℕ) (calling : Calling H) where
@@ -70,13 +73,14 @@ module _ {W H : Type 0} (trace_of : W → Option (List Passed)) (nature_of : W �
       → IsLegal vm (entries_on 1 vm (made_in calling SeatsGoOn _ p.seats _ q.end q.again q.seats _ h.lives))
 
   -- IN A FLEET OF ONE WORKER WHICH HAD ONE LIFE THAT ENDED WITH STOP, whose calls are on stores of VMs of the configuration and which asked no metrics, it
-  -- did what the meaning of its events says over the stores of one thread.
+  -- came to its last standing, at the events of this life and with its calls, as their meaning says over the stores of one thread.
   abbrev pub OneWorkerIsOfOneThread : Type 0
   OneWorkerIsOfOneThread =
       (first : ℕ → List ℕ → Standing H) (config : Config) (old new : List W) (closed : ClosedOf) (ended : Ended trace_of nature_of faults_of calling first config old new closed) (p q : Post W)
       → config.workers ≡ 1 → ended.worked.before ≡ p ∷ [] → ended.worked.after ≡ q ∷ [] → q.end ≡ Stopped → q.again ≡ false → (h : HasWorked trace_of nature_of faults_of calling first p q)
       → AreWithin (length config.vms) (calls_among (made_in calling SeatsGoOn _ p.seats _ q.end q.again q.seats _ h.lives)) → asks_among (made_in calling SeatsGoOn _ p.seats _ q.end q.again q.seats _ h.lives) ≡ []
-      → IsOneRun calling (length config.vms) (first p.who (nature_of p.watched).seed) (trace_of p.watched) (trace_of q.watched) (made_in calling SeatsGoOn _ p.seats _ q.end q.again q.seats _ h.lives)
+      → IsOneRun calling (length config.vms) (first p.who (nature_of p.watched).seed) (standing_at_end calling SeatsGoOn _ p.seats _ q.end q.again q.seats _ h.lives) (trace_of p.watched) (trace_of q.watched)
+      (events_of_each calling SeatsGoOn _ p.seats _ q.end q.again q.seats _ h.lives) (made_in calling SeatsGoOn _ p.seats _ q.end q.again q.seats _ h.lives)
 
 -- ---- worked examples
 

@@ -74,3 +74,14 @@ module _ {H S : Type 0} (calling : Calling H) (performs : S → List Made → S 
   -- THE EVENTS OF EACH LIFE OF A WORKER: those of the lives that ended for want of memory before the last, in order, and then those of the last
   abbrev pub events_of_each : (first : Standing H) (s : S) (old : Option (List Passed)) (end : Turn) (again : Bool) (t : S) (new : Option (List Passed)) → Lives calling performs first s old end again t new → List (List Event)
   events_of_each first s old end again t new h = events_of_early first h.count s old h.at h.mid h.early ++ events_in_last first h.at h.mid end t new h.last ∷ []
+
+  -- what a worker stands as where its last life ended (as at first, where that was not begun)
+  abbrev pub standing_of_one : (first : Standing H) (s : S) (old : Option (List Passed)) (end : Turn) (took : Bool) (t : S) (new : Option (List Passed)) → OneLife calling performs first s old end took t new → Standing H
+  standing_of_one first s old end took t new h = ⊎_elim (λ l. l.after) (λ e. first) h
+
+  abbrev pub standing_of_last : (first : Standing H) (s : S) (old : Option (List Passed)) (end : Turn) (t : S) (new : Option (List Passed)) → Last calling performs first s old end t new ⊎ Cut calling performs first s old end t new → Standing H
+  standing_of_last first s old end t new h = ⊎_elim (λ l. standing_of_one first s old end l.took t new l.once) (λ k. k.lived.after) h
+
+  -- THE STANDING OF A WORKER AT THE END of its last life
+  abbrev pub standing_at_end : (first : Standing H) (s : S) (old : Option (List Passed)) (end : Turn) (again : Bool) (t : S) (new : Option (List Passed)) → Lives calling performs first s old end again t new → Standing H
+  standing_at_end first s old end again t new h = standing_of_last first h.at h.mid end t new h.last

@@ -52,8 +52,9 @@ pub fn one_worker_is_alone<H: Host, W: World>()
     ensures { OneWorkerIsAlone W.trace W.nature W.faults H.calling }
 {}
 
-/// In a fleet of one worker, which had one life that ended with Stop, called stores that are there and asked no metrics, it did what the meaning of its events
-/// says over the stores of one thread, with the same calls.
+/// In a fleet of one worker, which had one life that ended with Stop, called stores that are there and asked no metrics, it came to its last standing, at the
+/// events of this life and with its calls, as their meaning says over the stores of one thread; and in a world that tells what passed, what it told is what
+/// passes in this run.
 pub fn one_worker_is_of_one_thread<H: Host, W: World>()
     ensures { OneWorkerIsOfOneThread W.trace W.nature W.faults H.calling }
 {}
