@@ -1,11 +1,11 @@
 -- Each call of each worker stands once.
-use Rattle.std.proofs.Common.{◌≡◌, ◌==◌, ◌∙◌, ℕ, zero, suc, ◌+◌, ◌<◌, ◌≤◌, Bool, true, false, cond, if◌then◌else◌, All, List, [], ◌∷◌, ◌++◌, length, map, reverse, Option, refl, ap, sym, subst, arith, inl, inr, ◌⊎◌, ⊎_elim, eq-eqb, ne_eqb}
+use Rattle.std.proofs.Common.{◌≡◌, ◌∙◌, ℕ, zero, suc, ◌+◌, ◌<◌, ◌≤◌, Bool, if◌then◌else◌, All, List, [], ◌∷◌, ◌++◌, length, map, reverse, Option, refl, ap, sym, subst, arith, inl, inr, ◌⊎◌, ⊎_elim, eq-eqb, ne_eqb}
 use Rattle.course.specs.Called.{Calling}
 use Rattle.std.proofs.lemmas.Grind.{reverse_onto}
 use mathlib.Core.Option.{some, some-injective, some-ne-none}
-use lib.ListN.{get_elem?, length-map}
+use lib.ListN.{get_elem?}
 use Rattle.fleet.specs.Fleet.{Each, HasWorked}
-use Rattle.fleet.specs.Laws.{AllLivesAreMeant, AreMeant, EachVmHasOne, HasOne, SeatsGoOnByLives}
+use Rattle.fleet.specs.Laws.{AllLivesAreMeant, AreMeant, EachVmHasOne, SeatsGoOnByLives}
 use Rattle.fleet.specs.Made.{events_of_each, made_in}
 use Rattle.fleet.specs.Moves.{AreFrom, seats_in}
 use Rattle.fleet.specs.Run.{Ended}
@@ -26,7 +26,7 @@ use Rattle.store_model.specs.History.{own}
 use Rattle.store_model.specs.Made.{Made, entries_on}
 use Rattle.store_model.specs.declared.entry.Entry.{Entry}
 use Rattle.worker.specs.State.{Standing}
-use Rattle.fleet_laws.specs.Calls.{CallsExamples, Did, EachCallStandsOnce, HasAll, IsOfAWorker, events_by, made_by}
+use Rattle.fleet_laws.specs.Calls.{CallsExamples, EachCallStandsOnce, HasAll, IsOfAWorker, events_by, made_by}
 
 -- what stands at a place of a list with one member more: a member of the list, or that one
 at_end : {A : Type 0} (xs : List A) (x y : A) (k : ℕ) → get_elem? (xs ++ x ∷ []) k ≡ some y → ((get_elem? xs k ≡ some y) × (k < length xs)) ⊎ ((k ≡ length xs) × (x ≡ y))

@@ -1,5 +1,5 @@
 -- The calls of all workers of a fleet, and the one history of each VM's store.
-use Rattle.std.specs.Prelude.{◌≡◌, ◌≢◌, ◌==◌, ℕ, ◌<◌, ◌≤◌, if◌then◌else◌, All, List, [], ◌∷◌, length, map, reverse, Option}
+use Rattle.std.specs.Prelude.{◌≡◌, ◌==◌, ℕ, ◌<◌, ◌≤◌, if◌then◌else◌, All, List, [], ◌∷◌, length, map, reverse, Option}
 use Rattle.course.specs.Called.{Calling}
 use mathlib.Core.Option.{some}
 use lib.ListN.{get_elem?}
