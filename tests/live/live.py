@@ -7,6 +7,7 @@ Each group tells how many lines it opens, and the gateway is to stop by itself a
 import calendar
 import os
 import queue
+import re
 import resource
 import select
 import shutil
@@ -30,6 +31,9 @@ METER = os.path.join(HERE, "..", "..", "examples", "filters", "meter.wasm")
 SHOUT = os.path.join(HERE, "..", "..", "examples", "filters", "shout.wasm")
 # A filter that gives random bytes, writes lines of the log, ticks and dies, as the last byte of a path asks: teller.c.
 TELLER = os.path.join(HERE, "teller.wasm")
+# Filters of the cases of `tests/run`: one holds a request until a notice comes, and one puts the request's path into the first one's queue.
+WAITS = os.path.join(HERE, "..", "modules", "waits_for_notice.wasm")
+ENQUEUES = os.path.join(HERE, "..", "modules", "enqueues_path.wasm")
 
 
 def closed_port(address="127.0.0.1"):
@@ -278,11 +282,12 @@ class Gateway:
             time.sleep(0.05)
 
     def ends(self, wanted=b"", told=None):
-        """It stops by itself once all lines have closed, with status 0 and this output, and of what it wrote to standard error this is true."""
+        """It stops by itself once all lines have closed, with status 0 and this output, or output of this form, and of what it wrote to standard error this is true."""
         if self.opened != self.lines:
             raise AssertionError("a group opened %d lines and told %d" % (self.opened, self.lines))
         out, err = self.process.communicate(timeout=PATIENCE)
-        if self.process.returncode != 0 or out != wanted:
+        is_wanted = out == wanted if isinstance(wanted, bytes) else wanted.fullmatch(out) is not None
+        if self.process.returncode != 0 or not is_wanted:
             raise AssertionError("status %d, output %r, errors %r" % (self.process.returncode, out, err[-500:]))
         if told is not None and not told(err):
             raise AssertionError("errors %r" % err[-500:])
@@ -814,13 +819,31 @@ def remembers_nothing(gateway, upstream):
 
 
 def metered(gateway, upstream):
-    """Requests on three lines, which two workers share, are counted in one metric."""
+    """Requests on three lines, which two workers share, are counted in one metric, and each is told how many there were by then."""
+    seen = 0
     for line, count in ((0, 3), (1, 2), (2, 1)):
         with gateway.connect() as s:
             reader = Reader(s)
             for n in range(count):
-                get(s, reader, "/metered/%d/%d" % (line, n), b"/metered/%d/%d" % (line, n))
+                seen += 1
+                fields = get(s, reader, "/metered/%d/%d" % (line, n), b"/metered/%d/%d" % (line, n))
+                expect(fields["x-requests"], str(seen))
             get(s, reader, "/not/metered", b"/not/metered")
+
+
+def noticed(gateway, upstream):
+    """A worker to which nothing else happens is told of an item that another one put into its queue."""
+    with gateway.connect() as s:
+        reader = Reader(s)
+        get(s, reader, "/b", b"/b")
+        with gateway.connect() as t:
+            # (Its worker starts its VMs at this, and so is the one that registered the queue last.)
+            t.sendall(request("/a"))
+            expect(select.select([t], [], [], 0.3)[0], [])
+            get(s, reader, "/b", b"/b")
+            waiting = Reader(t)
+            first, fields = waiting.head()
+            expect((status_of(first), waiting.body(fields)), ("200", b"/a"))
 
 
 def deadline(gateway, upstream):
@@ -1034,6 +1057,14 @@ WITH_A_METER = (
     '[[route]]\npath = "/metered/{*rest}"\nfilters = ["meter"]\n'
 )
 
+WITH_A_QUEUE = (
+    '[[vm]]\nname = "m1"\nmodule = "waits_for_notice.wasm"\n[[vm]]\nname = "m2"\nmodule = "enqueues_path.wasm"\n'
+    '[[plugin]]\nname = "m1"\nvm = "m1"\n[[plugin]]\nname = "m2"\nvm = "m2"\n'
+    '[[route]]\npath = "/a"\nfilters = ["m1"]\n[[route]]\npath = "/b"\nfilters = ["m2"]\n'
+)
+# (How often notices were asked for depends on the time that it took.)
+AFTER_A_QUEUE = re.compile(rb"store m1 calls [0-9]+ keys 0 items 0\nstore m2 calls [0-9]+ keys 0 items 0\n")
+
 WITH_SHOUT = (
     '[[vm]]\nname = "shout"\nmodule = "shout.wasm"\n'
     '[[plugin]]\nname = "shout"\nvm = "shout"\n'
@@ -1098,6 +1129,7 @@ GROUPS = [
         b"store meter calls 0 keys 0 items 0\nmetric meter counter 7265717565737473 6\n",
         [(metered, 3)],
     ),
+    ("a queue", 2, WITH_A_QUEUE, AFTER_A_QUEUE, [(noticed, 2)], lambda err: err == b""),
     ("a deadline", 1, "deadline_ms = 300", b"", [(deadline, 1)], lambda err: err == b""),
     ("responses at their deadlines", 1, "deadline_ms = 40", b"", [(due_response, 240)], lambda err: err == b""),
     ("short lines", 3, "", b"", [(short_lines, 600)]),
@@ -1150,7 +1182,7 @@ def main():
     with tempfile.TemporaryDirectory() as folder:
         with open(os.path.join(folder, "marked.wasm"), "wb") as f:
             f.write(MARKED)
-        for module in (METER, SHOUT, TELLER):
+        for module in (METER, SHOUT, TELLER, WAITS, ENQUEUES):
             shutil.copy(module, folder)
         for group in GROUPS:
             p, f = run_group(program, folder, upstream, group)

@@ -22,7 +22,7 @@ enum Ask {
 use Ask::*;
 
 /// Workers 1 and 2 define a counter, worker 2 a gauge of the same name, and both count. `true` stands for worker 1.
-const ROW: [(bool, Ask); 9] = [
+const ROW: [(bool, Ask); 13] = [
     (true, Define(MetricKind::Counter)),
     (false, Define(MetricKind::Counter)),
     (false, Define(MetricKind::Gauge)),
@@ -32,6 +32,10 @@ const ROW: [(bool, Ask); 9] = [
     (false, Add(1, -1)),
     (true, Put(2, 3)),
     (false, Put(2, 9)),
+    (true, Define(MetricKind::Gauge)),
+    (true, Put(2, 30)),
+    (false, Sum(2)),
+    (true, Sum(2)),
 ];
 
 /// The ask, of a metric with the name `n`.
