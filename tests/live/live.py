@@ -21,7 +21,7 @@ import threading
 import time
 
 PATIENCE = 20.0  # seconds for one answer
-ALL = 180  # seconds for everything
+ALL = 240  # seconds for everything
 
 HEAD_END = b"\r\n\r\n"
 # A filter that counts requests in a metric.
@@ -116,7 +116,7 @@ def answer(body, status="200 OK"):
 class Upstream:
     """A server at an address. What it does is in the path of the request. It keeps what it read, by path."""
 
-    def __init__(self, address="127.0.0.1"):
+    def __init__(self, address="127.0.0.1", sips=False):
         self.seen = {}
         # How often a case has let it go on, and what it tells the case.
         self.may = threading.Semaphore(0)
@@ -125,6 +125,10 @@ class Upstream:
         self.listener = socket.socket()
         self.listener.setsockopt(socket.SOL_SOCKET, socket.SO_REUSEADDR, 1)
         self.listener.bind((address, 0))
+        if sips:
+            # Little room and small segments: the system of what sends takes less, so that more waits there.
+            self.listener.setsockopt(socket.SOL_SOCKET, socket.SO_RCVBUF, 65536)
+            self.listener.setsockopt(socket.IPPROTO_TCP, socket.TCP_MAXSEG, 1400)
         self.listener.listen(128)
         self.port = self.listener.getsockname()[1]
         threading.Thread(target=self.accept, daemon=True).start()
@@ -184,6 +188,36 @@ class Upstream:
             time.sleep(0.2)
             self.told.put(len(reader.rest()))
             return
+        if path == "/early-half":
+            # As "/early-unread", but it sends its end behind the answer.
+            self.may.acquire(timeout=PATIENCE)
+            s.sendall(answer(b"early"))
+            s.shutdown(socket.SHUT_WR)
+            time.sleep(0.2)
+            self.told.put(len(reader.rest()))
+            return
+        if path == "/early-counted":
+            # Tells that the head came, answers once it may, tells so, and then how much of the body came.
+            self.told.put("head")
+            self.may.acquire(timeout=PATIENCE)
+            s.sendall(answer(b"early"))
+            self.told.put("answered")
+            self.told.put(len(reader.rest()))
+            return
+        if path == "/kept":
+            # Reads a whole body, of which it keeps nothing, with a rest now and then, tells how much it was, and answers once it may.
+            came, rested, piece = len(reader.left), 0, b"-"
+            while piece and came < int(fields["content-length"]):
+                piece = s.recv(65536)
+                came += len(piece)
+                if came - rested > 262144:
+                    rested = came
+                    time.sleep(0.001)
+            self.told.put(came)
+            self.may.acquire(timeout=PATIENCE)
+            s.sendall(answer(b"kept"))
+            reader.rest()
+            return
         if path == "/early":
             # Answers before the request is whole, stays open, and sends more.
             s.sendall(answer(b"early"))
@@ -239,8 +273,8 @@ class Gateway:
                 '[gateway]\nlisten = "%s:%d"\nupstream = "%s:%d"\nworkers = %d\n%s\n[[route]]\npath = "/{*rest}"\n'
                 % (address, self.port, *server, workers, more)
             )
-        words = program + ["serve", config, "--stop-after", str(lines)]
-        self.process = subprocess.Popen(words, stdout=subprocess.PIPE, stderr=subprocess.PIPE, cwd=folder)
+        self.words = program + ["serve", config, "--stop-after", str(lines)]
+        self.process = subprocess.Popen(self.words, stdout=subprocess.PIPE, stderr=subprocess.PIPE, cwd=folder)
 
     def connect(self):
         with self.guard:
@@ -263,6 +297,17 @@ class Gateway:
                     return int(line.split()[1])
         return 0
 
+    def seconds(self):
+        """How much processor time it has used."""
+        with open("/proc/%d/stat" % self.process.pid) as f:
+            fields = f.read().rsplit(")", 1)[1].split()
+        return (int(fields[11]) + int(fields[12])) / os.sysconf("SC_CLK_TCK")
+
+    def stop(self):
+        """Stops it until it is sent SIGCONT."""
+        self.process.send_signal(signal.SIGSTOP)
+        os.waitid(os.P_PID, self.process.pid, os.WSTOPPED)
+
     def descriptors(self):
         return len(os.listdir("/proc/%d/fd" % self.process.pid))
 
@@ -272,6 +317,14 @@ class Gateway:
         free = min(set(range(len(used) + 1)) - used)
         _, most = resource.prlimit(self.process.pid, resource.RLIMIT_NOFILE)
         resource.prlimit(self.process.pid, resource.RLIMIT_NOFILE, (free + 1, most))
+
+    def allow_none(self):
+        """Lets it have no further descriptor, and answers with what it was allowed."""
+        used = {int(name) for name in os.listdir("/proc/%d/fd" % self.process.pid)}
+        free = min(set(range(len(used) + 1)) - used)
+        before = resource.prlimit(self.process.pid, resource.RLIMIT_NOFILE)
+        resource.prlimit(self.process.pid, resource.RLIMIT_NOFILE, (free, before[1]))
+        return before
 
     def frees(self, base, seconds=5.0):
         """Within so many seconds it has no more descriptors than this."""
@@ -437,24 +490,30 @@ def unread_of(gateway, s):
     raise AssertionError("it goes on: %r" % looks[-5:])
 
 
+def filled(gateway, s, path):
+    """Sends a body to a server that reads nothing of it until no more of it is read: how much was sent, and how much of that was not read."""
+    s.sendall(b"POST %s HTTP/1.1\r\nHost: a\r\nContent-Length: 1000000000\r\n\r\n" % path.encode())
+    sent = left = 0
+    for _ in range(5):
+        s.settimeout(0.5)
+        try:
+            for _ in range(2000):
+                sent += s.send(b"u" * 65536)
+        except socket.timeout:
+            pass
+        s.settimeout(PATIENCE)
+        left = unread_of(gateway, s)
+        if left > 0:
+            break
+    expect(left > 0, True)
+    return sent, left
+
+
 def sent_on(gateway, upstream):
     """What waits for a server at the close of its connection is sent on: one that answers an upload early and reads late gets all that was read of it."""
     with gateway.connect() as s:
-        s.sendall(b"POST /early-unread HTTP/1.1\r\nHost: a\r\nContent-Length: 1000000000\r\n\r\n")
         # The server reads nothing, so that in the end no more is read of the client: then 65,536 bytes wait in the gateway.
-        sent = left = 0
-        for _ in range(5):
-            s.settimeout(0.5)
-            try:
-                for _ in range(2000):
-                    sent += s.send(b"u" * 65536)
-            except socket.timeout:
-                pass
-            s.settimeout(PATIENCE)
-            left = unread_of(gateway, s)
-            if left > 0:
-                break
-        expect(left > 0, True)
+        sent, left = filled(gateway, s, "/early-unread")
         upstream.may.release()
         reader = Reader(s)
         first, fields = reader.head()
@@ -598,13 +657,14 @@ def settled(gateway):
 def stalled(gateway, upstream):
     """A client that does not read keeps nobody else waiting, and the gateway does not keep what it does not take."""
     slow = gateway.connect()
+    before = gateway.rss()
     slow.sendall(request("/big/20000000"))
-    before = settled(gateway)
+    settled(gateway)
     with gateway.connect() as s:
         reader = Reader(s)
         for n in range(30):
             get(s, reader, "/beside/%d" % n, b"/beside/%d" % n)
-    if gateway.rss() - before > 20000:
+    if gateway.rss() - before > 8000:
         raise AssertionError("it grew by %d kB" % (gateway.rss() - before))
     reader = Reader(slow)
     first, fields = reader.head()
@@ -752,10 +812,10 @@ FLOOD = 200  # lines that come at once
 ARRIVALS = 32  # so many are accepted before open lines are heard
 
 
-def is_told(s):
+def is_told(s, of=select.POLLIN):
     """Something comes on a line: bytes, or that it is closed."""
     look = select.poll()
-    look.register(s, select.POLLIN)
+    look.register(s, of)
     expect(len(look.poll(PATIENCE * 1000)), 1)
 
 
@@ -1004,6 +1064,18 @@ def is_unrouted(s):
     expect((status_of(first), fields.get("content-length")), ("404", "0"))
 
 
+def is_quiet(gateway):
+    """Within some looks of half a second there is one in which it uses hardly any processor time."""
+    looks = []
+    for _ in range(10):
+        before = gateway.seconds()
+        time.sleep(0.5)
+        looks.append(gateway.seconds() - before)
+        if looks[-1] <= 0.02:
+            return
+    raise AssertionError("it never rests: %r seconds in half ones" % looks)
+
+
 def no_descriptor(gateway, upstream):
     """Where the descriptors ran out a line that waits comes once another that was answered 400 is gone, by its client's close or a second later."""
     with gateway.connect() as first:
@@ -1016,7 +1088,9 @@ def no_descriptor(gateway, upstream):
             last.sendall(UNROUTED)
             is_unrouted(last)
             waits.sendall(UNROUTED)
-            expect(select.select([waits], [], [], 0.3)[0], [])
+            # It asks again now and then, and not without pause.
+            is_quiet(gateway)
+            expect(select.select([waits], [], [], 0)[0], [])
             last.sendall(b"GET /\x00 HTTP/1.1\r\n\r\n")
             expect(status_of(Reader(last).head()[0]), "400")
             if stays:
@@ -1027,6 +1101,223 @@ def no_descriptor(gateway, upstream):
             is_unrouted(waits)
             waits.close()
             gateway.frees(base)
+
+
+def rests(gateway, upstream):
+    """Where nothing happens no worker is busy: with lines to come and none to come, silent, waiting, half closed, read no further and not reading ones."""
+    lines = [gateway.connect() for _ in range(10)]
+    for s in lines[2:]:
+        s.sendall(UNROUTED)
+        is_unrouted(s)
+    # Of each kind one at each of the two workers.
+    for s in lines[2:4]:
+        s.sendall(request("/silent"))
+    for s in lines[4:6]:
+        s.sendall(request("/silent"))
+        s.shutdown(socket.SHUT_WR)
+    for s in lines[6:8]:
+        s.sendall(request("/silent") + UNROUTED * 10000)
+    for s in lines[8:]:
+        s.sendall(request("/big/20000000"))
+    is_quiet(gateway)
+    # The last line that is to come.
+    lines.append(gateway.connect())
+    is_quiet(gateway)
+    # (A client that is half closed and only closes now would not be missed while its answer waits.)
+    for s in lines:
+        reset(s)
+
+
+def undialled(gateway, upstream):
+    """Where no descriptor is left for a connection to the server the answer is 502, and once there is one the line goes on."""
+    with gateway.connect() as s:
+        s.sendall(UNROUTED)
+        is_unrouted(s)
+        reader = Reader(s)
+        before = gateway.allow_none()
+        for _ in range(2):
+            s.sendall(request("/undialled"))
+            first, fields = reader.head()
+            expect((status_of(first), reader.body(fields)), ("502", b""))
+        resource.prlimit(gateway.process.pid, resource.RLIMIT_NOFILE, before)
+        get(s, reader, "/dialled", b"/dialled")
+
+
+def more_than_is_read(gateway, upstream):
+    """A client that sends more than is read before its line is closed, and reads when that is over, gets its whole answer and then the end."""
+    with gateway.connect() as s:
+        s.sendall(request("/big/800000", extra="Connection: close\r\n") + b"y" * 300000)
+        # All of the answer fits in what the system keeps, so that the line is closed before any of it is read, and let go a second later.
+        time.sleep(1.4)
+        reader = Reader(s)
+        first, fields = reader.head()
+        expect((status_of(first), fields.get("connection")), ("200", "close"))
+        expect(reader.body(fields) == b"0123456789" * 80000, True)
+        expect(reader.rest(), b"")
+
+
+def closes_at_once(gateway, upstream):
+    """The end of a line that is closed comes right behind its answer."""
+    took = []
+    for n in range(5):
+        with gateway.connect() as s:
+            reader = Reader(s)
+            s.sendall(request("/last/%d" % n, extra="Connection: close\r\n"))
+            first, fields = reader.head()
+            expect(reader.body(fields), b"/last/%d" % n)
+            begun = time.monotonic()
+            expect(reader.rest(), b"")
+            took.append(time.monotonic() - begun)
+    # A lingering connection is over after a second.
+    if min(took) > 0.7:
+        raise AssertionError("seconds between answers and ends: %r" % took)
+
+
+def in_turn(gateway, upstream):
+    """Lines are heard in turn: an older and a newer line that sent much are not heard to their ends before one that sent one request."""
+    lines = [gateway.connect() for _ in range(3)]
+    for s in lines:
+        s.sendall(UNROUTED)
+        is_unrouted(s)
+    older, between, newer = lines
+    # Eight requests of 8 kB, which come in four pieces or more, and behind the last of which the line is closed.
+    much = b"OPTIONS * HTTP/1.1\r\nHost:\r\nX: %s\r\n" % (b"x" * 8000)
+    gateway.stop()
+    for s in (older, newer):
+        s.sendall((much + b"\r\n") * 7 + much + b"Connection: close\r\n\r\n")
+    between.sendall(UNROUTED)
+    with select.epoll() as ready:
+        # As in `order_of_answers`: of two lines the end, of the third its answer.
+        for s in (older, newer):
+            ready.register(s, select.EPOLLRDHUP)
+        ready.register(between, select.EPOLLIN)
+        gateway.process.send_signal(signal.SIGCONT)
+        for s in (older, newer):
+            is_told(s, select.POLLRDHUP)
+        is_told(between)
+        order = [fd for fd, _ in ready.poll(0, 3)]
+    expect(len(order), 3)
+    expect(order[0], between.fileno())
+    is_unrouted(between)
+    for s in (older, newer):
+        expect(Reader(s).rest().count(b"HTTP/1.1 404"), 8)
+    for s in lines:
+        s.close()
+
+
+def both_sides_in_turn(gateway, upstream):
+    """A client that goes on sending does not keep the server's early answer from being heard: two pieces of a body go up at most."""
+    with gateway.connect() as s:
+        s.sendall(b"POST /early-counted HTTP/1.1\r\nHost: a\r\nContent-Length: 1000000000\r\n\r\n")
+        expect(upstream.told.get(timeout=PATIENCE), "head")
+        gateway.stop()
+        s.sendall(b"u" * 200000)
+        upstream.may.release()
+        expect(upstream.told.get(timeout=PATIENCE), "answered")
+        gateway.process.send_signal(signal.SIGCONT)
+        reader = Reader(s)
+        first, fields = reader.head()
+        expect((status_of(first), fields.get("connection")), ("200", "close"))
+        expect(reader.body(fields), b"early")
+        came = upstream.told.get(timeout=PATIENCE)
+        if came > 2 * 16384:
+            raise AssertionError("%d bytes went up before the answer was heard" % came)
+
+
+def sent_on_of_two(gateway, upstream):
+    """What waits for two servers whose connections are closed at once is sent on to both, also where one sent its end behind its answer."""
+    paths = ("/early-unread", "/early-half")
+    lines = [gateway.connect() for _ in paths]
+    sizes = [(0, 0)] * len(paths)
+
+    def one(n):
+        sizes[n] = filled(gateway, lines[n], paths[n])
+
+    at_once(len(paths), one)
+    for _ in paths:
+        upstream.may.release()
+    for s in lines:
+        reader = Reader(s)
+        first, fields = reader.head()
+        expect((status_of(first), fields.get("connection")), ("200", "close"))
+        expect(reader.body(fields), b"early")
+        expect(reader.rest(), b"")
+        s.close()
+    came = sum(upstream.told.get(timeout=PATIENCE) for _ in paths)
+    read, sent = sum(sent - left for sent, left in sizes), sum(sent for sent, _ in sizes)
+    if not read <= came <= sent:
+        raise AssertionError("%d bytes came of %d that were read" % (came, read))
+
+
+def few_linger(gateway, upstream):
+    """Of clients that are answered 400 and stay at most 256 are kept at once."""
+    with gateway.connect() as s:
+        s.sendall(UNROUTED)
+        is_unrouted(s)
+        base = gateway.descriptors()
+        lines = []
+        for _ in range(350):
+            t = gateway.connect()
+            lines.append(t)
+            t.sendall(b"GET /\x00 HTTP/1.1\r\n\r\n")
+            is_told(t)
+        # Some more may be open for a moment.
+        kept = gateway.descriptors() - base
+        if kept > 260:
+            raise AssertionError("%d descriptors" % kept)
+        for t in lines:
+            t.close()
+
+
+def slow_server(gateway, upstream):
+    """An upload to a server that takes less than comes takes no memory for what has gone up: of 48 million bytes some five wait in the gateway."""
+    size = 48000000
+    with gateway.connect() as s:
+        reader = Reader(s)
+        get(s, reader, "/before", b"/before")
+        before = gateway.rss()
+        s.sendall(request("/kept", b"k" * size))
+        expect(upstream.told.get(timeout=PATIENCE), size)
+        grew = gateway.rss() - before
+        upstream.may.release()
+        first, fields = reader.head()
+        expect(reader.body(fields), b"kept")
+        if grew > 2000:
+            raise AssertionError("it grew by %d kB" % grew)
+
+
+def silent_lines(gateway, upstream):
+    """Of a hundred lines that come at once to two workers each is answered, the last ones first, while the others are silent."""
+    first = gateway.connect()
+    first.sendall(UNROUTED)
+    is_unrouted(first)
+    gateway.stop()
+    lines = [gateway.connect() for _ in range(100)]
+    gateway.process.send_signal(signal.SIGCONT)
+    for s in lines[::-1]:
+        s.sendall(UNROUTED)
+        is_unrouted(s)
+    for s in [first] + lines:
+        s.close()
+
+
+def two_deadlines(gateway, upstream):
+    """The deadline of a request is counted from when it came, also where another line's falls due before."""
+    with gateway.connect() as s, gateway.connect() as t:
+        s.sendall(request("/silent"))
+        time.sleep(0.7)
+        # It is answered half a second later: 0.2 seconds behind the deadline of the first, and 0.5 in front of its own.
+        get(t, Reader(t), "/late", b"late")
+        first, fields = Reader(s).head()
+        expect(status_of(first), "504")
+
+
+def address_taken(gateway, upstream):
+    """A second gateway at the same address ends at once, with the status and the line of sockets that failed."""
+    with gateway.connect() as s:
+        get(s, Reader(s), "/taken", b"/taken")
+        ran = subprocess.run(gateway.words, stdout=subprocess.PIPE, stderr=subprocess.PIPE, timeout=PATIENCE)
+        expect((ran.returncode, ran.stdout, ran.stderr), (6, b"", b"wasmgate: site\n"))
 
 
 def nothing(gateway, upstream):
@@ -1108,6 +1399,24 @@ GROUPS = [
             (remembers_nothing, 45),
         ],
     ),
+    (
+        "one worker, at ends",
+        1,
+        "",
+        b"",
+        [
+            (more_than_is_read, 1),
+            (closes_at_once, 5),
+            (in_turn, 3),
+            (both_sides_in_turn, 1),
+            (sent_on_of_two, 2),
+            (few_linger, 351),
+            (address_taken, 1),
+        ],
+    ),
+    ("that rests", 2, "", b"", [(rests, 11)], lambda err: err == b""),
+    ("silent lines", 2, "", b"", [(silent_lines, 101)]),
+    ("a slow server", 1, "", b"", [(slow_server, 1)]),
     ("a crowd", 1, "", b"", [(crowd, 200)]),
     ("a flood", 1, "", b"", [(flooded, 128 + FLOOD)]),
     ("three workers", 3, "", b"", [(many, 30)]),
@@ -1130,6 +1439,7 @@ GROUPS = [
         [(metered, 3)],
     ),
     ("a queue", 2, WITH_A_QUEUE, AFTER_A_QUEUE, [(noticed, 2)], lambda err: err == b""),
+    ("two deadlines", 1, "deadline_ms = 1000", b"", [(two_deadlines, 2)]),
     ("a deadline", 1, "deadline_ms = 300", b"", [(deadline, 1)], lambda err: err == b""),
     ("responses at their deadlines", 1, "deadline_ms = 40", b"", [(due_response, 240)], lambda err: err == b""),
     ("short lines", 3, "", b"", [(short_lines, 600)]),
@@ -1139,6 +1449,7 @@ GROUPS = [
     *[("its random bytes by workers, %d" % n, 8, WITH_A_TELLER % "", TOLD, [(random_by_workers, 8)]) for n in range(6)],
     ("ticks", 1, WITH_A_TELLER % 'configuration = "tick"\n', TOLD, [(quiet, 1)], has_ticked),
     ("late ticks", 1, WITH_A_TELLER % 'configuration = "slow"\n', TOLD, [(late_ticks, 3)], lambda err: err == b""),
+    ("no descriptor for a server", 1, "", b"", [(undialled, 1)], lambda err: err == b""),
     ("descriptors that run out", 1, "", b"", [(no_descriptor, 5)], lambda err: err == b""),
     ("lines that are not read", 1, "", b"", [(unread, 363)]),
 ]
@@ -1151,6 +1462,8 @@ def run_group(program, folder, upstream, group):
     address = "127.0.0.1"
     if name == "other addresses":
         address, upstream = "127.0.0.3", Upstream("127.0.0.2")
+    if name == "a slow server":
+        upstream = Upstream(sips=True)
     port = closed_port() if name == "no server" else upstream.port
     gateway = Gateway(program, folder, address, (upstream.address, port), lines, workers, more)
     passed, failed = 0, 0
