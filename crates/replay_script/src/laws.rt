@@ -1,6 +1,6 @@
 // Laws of scripts, for every text.
 ghost use Rattle.std.specs.Prelude.{◌≡◌, ◌∷◌, ◌++◌, [], ℕ, List, codes};
-ghost use Rattle.gate_base.specs.declared.level.Level.TheVariants.{Info};
+ghost use Rattle.gate_base.specs.declared.level.Level.TheVariants as level;
 ghost use Rattle.gate_io.specs.declared.event.Side.TheVariants.{Down, Up};
 ghost use Rattle.gate_io.specs.declared.event.Sent.TheVariants as sent;
 ghost use Rattle.replay_script.specs.declared.command.Command.{Command};
@@ -28,7 +28,7 @@ pub fn worlds_play_their_scripts()
     ensures { PlaysItsScript }
 {}
 
-/// Worked lines: what a script of each kind of line is, and what is printed.
+/// Worked lines: what a script of each kind of line is, and what is printed, of a log line of each level too.
 pub fn worked_lines()
     ensures open { text_of (command.Open 1) ≡ codes "open 1" }
     ensures bytes { text_of (command.Bytes 4294967295 (0 ∷ 171 ∷ 255 ∷ [])) ≡ codes "bytes 4294967295 00abff" }
@@ -48,7 +48,12 @@ pub fn worked_lines()
         ≡ codes "connect 1\nup 1 47\ndown 1 0a\nclose 129\nupclose 2\n" }
     ensures by_worker { printed_by 1 (told 1 (sent.Connect 1) ∷ told 2 (sent.Connect 1) ∷ told 2 (sent.Connect 2) ∷ told 1 (sent.Close 1 Up) ∷ [])
         ≡ codes "connect 1\non 2\nconnect 1\nconnect 2\non 1\nupclose 1\n" }
-    ensures log { printed (sent.Log Info (104 ∷ 105 ∷ []) ∷ []) ≡ codes "log info 6869\n" }
+    ensures log { printed (sent.Log level.Info (104 ∷ 105 ∷ []) ∷ []) ≡ codes "log info 6869\n" }
+    ensures trace { printed (sent.Log level.Trace (97 ∷ []) ∷ []) ≡ codes "log trace 61\n" }
+    ensures debug { printed (sent.Log level.Debug (97 ∷ []) ∷ []) ≡ codes "log debug 61\n" }
+    ensures warn { printed (sent.Log level.Warn (97 ∷ []) ∷ []) ≡ codes "log warn 61\n" }
+    ensures error { printed (sent.Log level.Error (97 ∷ []) ∷ []) ≡ codes "log error 61\n" }
+    ensures critical { printed (sent.Log level.Critical [] ∷ []) ≡ codes "log critical \n" }
 {}
 
 /// Worked scripts: their events, moments that rise and that fall, and what the world of a script keeps.

@@ -62,3 +62,23 @@ returns-clause-on c = refl
 pub returns-clause-by_worker : goal.returns-clause-by_worker
 unfolding digits
 returns-clause-by_worker c = refl
+
+pub returns-clause-trace : goal.returns-clause-trace
+unfolding encode_with
+returns-clause-trace c = refl
+
+pub returns-clause-debug : goal.returns-clause-debug
+unfolding encode_with
+returns-clause-debug c = refl
+
+pub returns-clause-warn : goal.returns-clause-warn
+unfolding encode_with
+returns-clause-warn c = refl
+
+pub returns-clause-error : goal.returns-clause-error
+unfolding encode_with
+returns-clause-error c = refl
+
+pub returns-clause-critical : goal.returns-clause-critical
+unfolding encode_with
+returns-clause-critical c = refl
