@@ -17,3 +17,4 @@ mod Leaving
 mod Firsts
 pub mod Backlog
 mod Ended
+mod Due

@@ -18,3 +18,4 @@ pub mod Leaving
 pub mod Firsts
 pub mod Backlog
 pub mod Ended
+pub mod Due

@@ -16,6 +16,7 @@ ghost use Rattle.turn_laws.specs.Waiting.{WaitingExample};
 ghost use Rattle.turn_laws.specs.Starts.{OneVmExample, TwoVmsExample, RefusedExample};
 ghost use Rattle.turn_laws.specs.Leaving.{GoneExample, StopExample};
 ghost use Rattle.turn_laws.specs.Firsts.{EventsComeFirst, LateExample};
+ghost use Rattle.turn_laws.specs.Due.{DueIsEarliest, DueExamples, DeadlineExamples, TickExamples, NoticeExamples};
 ghost use Rattle.turn_laws.specs.Backlog.{RoomExamples, TextExamples, LineExamples, BacklogIsBounded, UnreadIsBounded, ReaderIsBounded};
 
 /// Whatever the machines are, a turn is a function of what the shared stores reply.
@@ -156,4 +157,15 @@ pub fn backlog_is_bounded()
     ensures waiting { BacklogIsBounded }
     ensures unread { UnreadIsBounded }
     ensures reader { ReaderIsBounded }
+{}
+
+/// What falls due. Whatever the room of a worker that has begun, it wants to be called not behind the tick of any root of a VM that lives, nor behind any
+/// response that it waits for, nor, where a VM that lives takes notices, behind 50 milliseconds. Worked are that it is just the earliest of these;
+/// from which moment on a response is due, and a tick, and when that is due again; and which VMs take notices.
+pub fn worked_due()
+    ensures earliest { DueIsEarliest }
+    ensures wanted { DueExamples }
+    ensures deadlines { DeadlineExamples }
+    ensures ticks { TickExamples }
+    ensures notices { NoticeExamples }
 {}
