@@ -18,3 +18,4 @@ mod Firsts
 pub mod Backlog
 mod Ended
 mod Due
+mod Rules

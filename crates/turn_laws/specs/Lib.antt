@@ -19,3 +19,4 @@ pub mod Firsts
 pub mod Backlog
 pub mod Ended
 pub mod Due
+pub mod Rules

@@ -17,6 +17,7 @@ ghost use Rattle.turn_laws.specs.Starts.{OneVmExample, TwoVmsExample, RefusedExa
 ghost use Rattle.turn_laws.specs.Leaving.{GoneExample, StopExample};
 ghost use Rattle.turn_laws.specs.Firsts.{EventsComeFirst, LateExample};
 ghost use Rattle.turn_laws.specs.Due.{DueIsEarliest, DueExamples, DeadlineExamples, TickExamples, NoticeExamples};
+ghost use Rattle.turn_laws.specs.Rules.{FilteringExamples, TargetExamples};
 ghost use Rattle.turn_laws.specs.Backlog.{RoomExamples, TextExamples, LineExamples, BacklogIsBounded, UnreadIsBounded, ReaderIsBounded};
 
 /// Whatever the machines are, a turn is a function of what the shared stores reply.
@@ -168,4 +169,15 @@ pub fn worked_due()
     ensures deadlines { DeadlineExamples }
     ensures ticks { TickExamples }
     ensures notices { NoticeExamples }
+{}
+
+/// Which bodies the filters of an exchange filter, worked over four plug-ins; and which bodies a plug-in filters, and which VMs take notices, by
+/// what their modules export.
+pub fn worked_filtering()
+    ensures { FilteringExamples }
+{}
+
+/// The path of a target ends before its first `?`, and the route is the path's.
+pub fn worked_targets()
+    ensures { TargetExamples }
 {}
