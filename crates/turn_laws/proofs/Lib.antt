@@ -19,3 +19,4 @@ pub mod Backlog
 mod Ended
 mod Due
 mod Rules
+mod Interim

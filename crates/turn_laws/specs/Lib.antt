@@ -20,3 +20,4 @@ pub mod Backlog
 pub mod Ended
 pub mod Due
 pub mod Rules
+pub mod Interim

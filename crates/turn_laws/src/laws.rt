@@ -18,6 +18,7 @@ ghost use Rattle.turn_laws.specs.Leaving.{GoneExample, StopExample};
 ghost use Rattle.turn_laws.specs.Firsts.{EventsComeFirst, LateExample};
 ghost use Rattle.turn_laws.specs.Due.{DueIsEarliest, DueExamples, DeadlineExamples, TickExamples, NoticeExamples};
 ghost use Rattle.turn_laws.specs.Rules.{FilteringExamples, TargetExamples};
+ghost use Rattle.turn_laws.specs.Interim.{InterimKeepsLines, InterimExample};
 ghost use Rattle.turn_laws.specs.Backlog.{RoomExamples, TextExamples, LineExamples, BacklogIsBounded, UnreadIsBounded, ReaderIsBounded};
 
 /// Whatever the machines are, a turn is a function of what the shared stores reply.
@@ -180,4 +181,11 @@ pub fn worked_filtering()
 /// The path of a target ends before its first `?`, and the route is the path's.
 pub fn worked_targets()
     ensures { TargetExamples }
+{}
+
+/// An interim head, whatever it is, leaves lines and contexts as they were, but for what is read and sent: the response is still waited for, by the
+/// same moment.
+pub fn interim_heads_keep_lines()
+    ensures law { InterimKeepsLines }
+    ensures worked { InterimExample }
 {}

@@ -1,0 +1,21 @@
+-- Interim heads.
+use Rattle.std.proofs.Common.{refl}
+use Rattle.turn_laws.specs.Interim.{InterimKeepsLines, InterimExample}
+
+pub interim_keeps_lines : InterimKeepsLines
+interim_keeps_lines = record {
+  lines = λ plan r h new old. refl;
+  contexts = λ plan r h new old. refl;
+  jobs = λ plan r h new old. refl;
+  agenda = λ plan r h new old. refl;
+  goes_on = λ plan r h new old. refl;
+}
+
+pub interim_example : InterimExample
+interim_example = record {
+  exchange = refl;
+  due = refl;
+  sends = refl;
+  old_client = refl;
+  old_due = refl;
+}
