@@ -20,3 +20,4 @@ mod Ended
 mod Due
 mod Rules
 mod Interim
+mod Deaths

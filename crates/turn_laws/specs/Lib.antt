@@ -21,3 +21,4 @@ pub mod Ended
 pub mod Due
 pub mod Rules
 pub mod Interim
+pub mod Deaths

@@ -19,6 +19,7 @@ ghost use Rattle.turn_laws.specs.Firsts.{EventsComeFirst, LateExample};
 ghost use Rattle.turn_laws.specs.Due.{DueIsEarliest, DueExamples, DeadlineExamples, TickExamples, NoticeExamples};
 ghost use Rattle.turn_laws.specs.Rules.{FilteringExamples, TargetExamples};
 ghost use Rattle.turn_laws.specs.Interim.{InterimKeepsLines, InterimExample};
+ghost use Rattle.turn_laws.specs.Deaths.{DeathLines};
 ghost use Rattle.turn_laws.specs.Backlog.{RoomExamples, TextExamples, LineExamples, BacklogIsBounded, UnreadIsBounded, ReaderIsBounded};
 
 /// Whatever the machines are, a turn is a function of what the shared stores reply.
@@ -188,4 +189,9 @@ pub fn worked_targets()
 pub fn interim_heads_keep_lines()
     ensures law { InterimKeepsLines }
     ensures worked { InterimExample }
+{}
+
+/// The log is told the name of a VM that died, and why, by a word for each cause.
+pub fn worked_death_lines()
+    ensures { DeathLines }
 {}
