@@ -16,3 +16,4 @@ mod OwnLines
 mod Examples
 mod Lasting
 mod Lives
+mod Levels

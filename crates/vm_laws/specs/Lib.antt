@@ -10,3 +10,4 @@ pub mod LastIds
 pub mod OwnLines
 pub mod Examples
 pub mod Lives
+pub mod Levels

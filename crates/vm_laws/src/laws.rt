@@ -3,6 +3,7 @@ ghost use Rattle.vm_laws.specs.Apart.{CallbacksAreApart};
 ghost use Rattle.vm_laws.specs.Examples.{IsolationExamples};
 ghost use Rattle.vm_laws.specs.Frames.{FramesCountTogether, AllocationsNeedAFrame, FrameExamples};
 ghost use Rattle.vm_laws.specs.LastIds.{IdsRunOut, LastIdExamples};
+ghost use Rattle.vm_laws.specs.Levels.{LevelExamples};
 ghost use Rattle.vm_laws.specs.Lives.{LivesKeepPlaces};
 ghost use Rattle.vm_laws.specs.MadeVms.{MadeVmsAreInPlace};
 ghost use Rattle.vm_laws.specs.OwnChanges.{CallbacksChangeTheirOwn, PlacesBegin, PlacesStay};
@@ -94,4 +95,9 @@ pub fn frames_count_together()
 pub fn ids_run_out()
     ensures ids { IdsRunOut }
     ensures worked { LastIdExamples }
+{}
+
+/// The numbers of the levels of log lines, and the levels of the numbers.
+pub fn worked_levels()
+    ensures { LevelExamples }
 {}
