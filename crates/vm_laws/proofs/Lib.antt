@@ -16,4 +16,5 @@ mod OwnLines
 mod Examples
 mod Lasting
 mod Lives
+mod Fits
 mod Levels

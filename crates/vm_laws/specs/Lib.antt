@@ -10,4 +10,5 @@ pub mod LastIds
 pub mod OwnLines
 pub mod Examples
 pub mod Lives
+pub mod Fits
 pub mod Levels

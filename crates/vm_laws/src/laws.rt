@@ -1,6 +1,7 @@
 // What holds of the VMs of a worker whatever their modules do. The functions have nothing to do: their contracts are the laws.
 ghost use Rattle.vm_laws.specs.Apart.{CallbacksAreApart};
 ghost use Rattle.vm_laws.specs.Examples.{IsolationExamples};
+ghost use Rattle.vm_laws.specs.Fits.{FitExamples};
 ghost use Rattle.vm_laws.specs.Frames.{FramesCountTogether, AllocationsNeedAFrame, FrameExamples};
 ghost use Rattle.vm_laws.specs.LastIds.{IdsRunOut, LastIdExamples};
 ghost use Rattle.vm_laws.specs.Levels.{LevelExamples};
@@ -95,6 +96,12 @@ pub fn frames_count_together()
 pub fn ids_run_out()
     ensures ids { IdsRunOut }
     ensures worked { LastIdExamples }
+{}
+
+/// Modules that are written out, each with what stands first against its being a filter's: what keeps it from being linked, that no function of it is
+/// the marker, and an export under a name of the table that is no function of the type there.
+pub fn worked_fits()
+    ensures { FitExamples }
 {}
 
 /// The numbers of the levels of log lines, and the levels of the numbers.
