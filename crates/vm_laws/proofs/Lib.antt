@@ -18,3 +18,4 @@ mod Lasting
 mod Lives
 mod Fits
 mod Levels
+mod Bounds

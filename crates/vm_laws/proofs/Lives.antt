@@ -26,7 +26,7 @@ use Rattle.worker.specs.Turn.{Outcome, emptied, facing, turn}
 -- ---- what a callback keeps
 
 -- the two ways to say it
-all_of : {A : Type 0} (P : A → Type 0) (p : Program A) → programs.AllEnds P p → AllOf P p
+pub all_of : {A : Type 0} (P : A → Type 0) (p : Program A) → programs.AllEnds P p → AllOf P p
 all_of P (done a) is = is
 all_of P (ask vm call k) is = λ r. all_of P (k r) (is r)
 all_of P (measure vm asked k) is = λ r. all_of P (k r) (is r)
@@ -44,12 +44,12 @@ gone_kept vm v called name context first second now h gone =
     (cases_eq called vm)
 
 module _ (P : Vms → Type 0) (kept : KeptBy calling P) where
-  life_so : (plan : Plan) (b e : Both Vms) → Lives plan b e → P b.host → P e.host
+  pub life_so : (plan : Plan) (b e : Both Vms) → Lives plan b e → P b.host → P e.host
   life_so plan _ _ (no_turn b) is = is
   life_so plan _ _ (one_turn b e event ms out reaches later) is =
       life_so plan out.state e later (all_reached (λ (o : Outcome Vms). P o.state.host) ms (turn calling plan b event) out (turn_so calling P kept plan b event is) reaches)
 
-  goes_so : (plan : Plan) (b e : Both Vms) → Goes plan b e → P b.host → P e.host
+  pub goes_so : (plan : Plan) (b e : Both Vms) → Goes plan b e → P b.host → P e.host
   goes_so plan _ _ (no_step b) is = is
   goes_so plan _ _ (one_step b m e ms reaches later) is =
       goes_so plan m e later (all_reached (λ (o : Both Vms). P o.host) ms (step calling plan (next_of b.room) b.host b.room) m (step_so calling P kept plan (next_of b.room) b.host b.room is) reaches)

@@ -12,3 +12,4 @@ pub mod Examples
 pub mod Lives
 pub mod Fits
 pub mod Levels
+pub mod Bounds

@@ -1,5 +1,6 @@
 // What holds of the VMs of a worker whatever their modules do. The functions have nothing to do: their contracts are the laws.
 ghost use Rattle.vm_laws.specs.Apart.{CallbacksAreApart};
+ghost use Rattle.vm_laws.specs.Bounds.{VmsKeepTheirBounds};
 ghost use Rattle.vm_laws.specs.Examples.{IsolationExamples};
 ghost use Rattle.vm_laws.specs.Fits.{FitExamples};
 ghost use Rattle.vm_laws.specs.Frames.{FramesCountTogether, AllocationsNeedAFrame, FrameExamples};
@@ -107,4 +108,11 @@ pub fn worked_fits()
 /// The numbers of the levels of log lines, and the levels of the numbers.
 pub fn worked_levels()
     ensures { LevelExamples }
+{}
+
+/// What of a VM never changes, whatever its module does and whatever the shared stores reply, in a callback and over a worker's whole life: the program that its machine runs, with the
+/// most pages that its memory may have; the function that allocates, and what the host answers meanwhile; what its imports stand for; the functions that it exports, and its start function;
+/// and the fuel of each run. Where no machine stood none stands afterwards.
+pub fn vms_keep_their_bounds()
+    ensures { VmsKeepTheirBounds }
 {}
