@@ -30,7 +30,7 @@ all_bind P Q (done a) f is next = next a is
 all_bind P Q (ask vm call k) f is next = λ r. all_bind P Q (k r) f (is r) next
 all_bind P Q (measure vm asked k) f is next = λ r. all_bind P Q (k r) f (is r) next
 
-all_given : {A B : Type 0} (Q : B → Type 0) (p : Program A) (g : A → B) → ((a : A) → Q (g a)) → AllEnds Q (bind p (λ a. done (g a)))
+pub all_given : {A B : Type 0} (Q : B → Type 0) (p : Program A) (g : A → B) → ((a : A) → Q (g a)) → AllEnds Q (bind p (λ a. done (g a)))
 all_given Q (done a) g next = next a
 all_given Q (ask vm call k) g next = λ r. all_given Q (k r) g next
 all_given Q (measure vm asked k) g next = λ r. all_given Q (k r) g next

@@ -11,3 +11,4 @@ mod Bare
 mod Unasked
 mod Marks
 mod Gone
+mod Fuel

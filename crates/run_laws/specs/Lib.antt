@@ -5,3 +5,4 @@ pub mod Made
 pub mod Bare
 pub mod Marks
 pub mod Gone
+pub mod Fuel

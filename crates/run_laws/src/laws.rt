@@ -1,6 +1,7 @@
 // What is run of the machines of a worker. The functions have nothing to do: their contracts are the laws.
 ghost use Rattle.run_laws.specs.Bare.{RunsAllItAsks};
 ghost use Rattle.run_laws.specs.Denying.{DenyingExample};
+ghost use Rattle.run_laws.specs.Fuel.{FuelExamples, RunsHaveTheirFuel};
 ghost use Rattle.run_laws.specs.Gone.{GoneEndNext, GoneExamples};
 ghost use Rattle.run_laws.specs.Homes.{BeginsAtHome, StaysAtHome, LiveVmsKeepMachines, RunsOverLives};
 ghost use Rattle.run_laws.specs.Made.{MadeExample, VmsAreMadeWithMachines};
@@ -9,7 +10,7 @@ ghost use Rattle.run_laws.specs.Runs.{RunsWhatIsAsked};
 
 use vm_laws::{
     callbacks_are_apart, callbacks_change_their_own, lives_keep_places, made_vms_are_in_place,
-    nothing_runs,
+    nothing_runs, vms_keep_their_bounds,
 };
 
 /// A callback of a VM whose machine lives, where there are contexts for each slot, is the run of its machine and nothing else: of the function that its module
@@ -95,3 +96,13 @@ pub fn gone_end_next<H>()
     ensures next { GoneEndNext H }
     ensures worked { GoneExamples }
 {}
+
+/// A VM whose entry of the configuration holds the code of its module is made with the program of that module and with as many pages and as much fuel as the entry tells,
+/// and has these for its worker's whole life. Each callback of it, and its start function and then `_initialize` or else `_start` where it begins, is a run of one function with the whole
+/// of that fuel, of its own, and no more. Worked are modules whose start function or `_initialize` has too little, and one that asks for more pages than its entry tells.
+pub fn runs_have_their_fuel()
+    ensures runs { RunsHaveTheirFuel }
+    ensures worked { FuelExamples }
+{
+    vms_keep_their_bounds();
+}
