@@ -1,5 +1,5 @@
 -- All VMs of a worker, and what their callbacks do.
-use Rattle.std.specs.Prelude.{◌&&◌, ℕ, Bool, false, nat_lt, nat_le, if◌then◌else◌, List, [], length, Option, None, Some, is_some, slice_index_or, slice_set}
+use Rattle.std.specs.Prelude.{◌&&◌, ℕ, Bool, true, false, nat_lt, nat_le, if◌then◌else◌, List, [], length, Option, None, Some, is_some, slice_index_or, slice_set}
 use Rattle.wasm_syntax.specs.declared.module.Module.{Module}
 use Rattle.gate_io.specs.declared.event.Sent.{Sent}
 use Rattle.store_model.specs.Program.{Program, done, bind}
@@ -96,6 +96,12 @@ calling_live v name context first second now h = bind (by_role (role_of name) v 
 -- its contexts are there, and no more VMs than the worker has
 abbrev pub is_at_home : (most place : ℕ) → Contexts → Bool
 is_at_home most place h = nat_lt place (length h.vms) && nat_le (length h.vms) most
+
+-- whether a callback runs something: its VM lives, and has a function of the role; what begins a VM is run in any case
+abbrev pub has_work : Option VmAt → Option Role → Bool
+has_work None r = false
+has_work (Some v) None = true
+has_work (Some v) (Some r) = is_some (function_for v.functions r)
 
 -- a VM that is no more does nothing
 unfoldable pub calling_slot : (most : ℕ) → Option VmAt → Callback → (context first second now : ℕ) → Contexts → Program Came

@@ -7,7 +7,7 @@ ghost use Rattle.vm_host.specs.HostStates.{host_state};
 ghost use Rattle.vm_host.specs.RoleTypes.{functions_for};
 ghost use Rattle.vm_host.specs.Targets.{is_register as is_register_of, registers_in, targets_of};
 ghost use Rattle.vm_host.specs.Vms.{ran};
-ghost use Rattle.vm_host.specs.Slots.{role_of, first_slot, no_slot, exports_role as exports_role_in, end_of, came, by_role, calling_live, is_at_home as is_at_home_in, calling_slot};
+ghost use Rattle.vm_host.specs.Slots.{role_of, first_slot, no_slot, exports_role as exports_role_in, end_of, came, by_role, calling_live, is_at_home as is_at_home_in, has_work as has_work_in, calling_slot};
 
 use crate::ended::Ended;
 use crate::roles::Role;
@@ -118,6 +118,29 @@ fn is_at_home(most: usize, place: VmNo, contexts: &Contexts) -> bool
     ensures { result ≡ is_at_home_in most place contexts.now }
 {
     (place.get() as usize) < contexts.vms.len() && contexts.vms.len() <= most
+}
+
+/// Whether a callback of a VM runs something: the VM lives, and has a function of the role, or the callback begins it.
+fn has_work(live: &Option<Vm>, role: Option<Role>) -> bool
+    ensures { result ≡ has_work_in live.now role }
+{
+    match live {
+        Some(vm) => match role {
+            Some(r) => vm.has_role(r),
+            None => true,
+        },
+        None => false,
+    }
+}
+
+/// Whether a callback of the VM at a place does.
+fn is_called(slots: &[Slot], at: usize, name: Callback) -> bool
+    ensures { result ≡ has_work_in (slice_index_or slots.now at no_slot).live (role_of name) }
+{
+    match slots.get(at) {
+        Some(slot) => has_work(&slot.live, role(name)),
+        None => false,
+    }
 }
 
 /// Nothing was done.
@@ -352,6 +375,9 @@ impl Host for Vms {
         let at = vm.get() as usize;
         let most = self.slots.len();
         if at >= most {
+            return Ok(silence(alloc));
+        }
+        if !is_called(self.slots.as_slice(), at, name) {
             return Ok(silence(alloc));
         }
         let live = taken(&mut self.slots, at);

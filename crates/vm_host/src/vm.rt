@@ -1,6 +1,6 @@
 //! The machine of a VM.
 
-ghost use Rattle.std.specs.Prelude.{◌≡◌, ◌≢◌, ◌≤◌, ◌<◌, Option, [], ◌∷◌, length, take, None, Some, IfOk, IfSome, IsErr, IsOkAnd, unwrap_or};
+ghost use Rattle.std.specs.Prelude.{◌≡◌, ◌≢◌, ◌≤◌, ◌<◌, Option, [], ◌∷◌, length, take, None, Some, IfOk, IfSome, IsErr, IsOkAnd, is_some, unwrap_or};
 ghost use Rattle.gate_base.specs.declared.cause.Cause.{Cause as Causes};
 ghost use Rattle.wasm_syntax.specs.declared.types.Value.{Value as Values};
 ghost use Rattle.std.specs.Option.{option_or};
@@ -363,6 +363,13 @@ impl Vm {
         ensures typed { IfSome result (HasRole self.now.guest.program role) }
     {
         function(self.functions.as_slice(), role)
+    }
+
+    /// Whether it has a function of a role.
+    pub(crate) fn has_role(&self, role: Role) -> bool
+        ensures { result ≡ is_some (function_for self.now.functions role) }
+    {
+        self.function_of(role).is_some()
     }
 
     /// Runs a function with the whole budget.

@@ -1,13 +1,14 @@
-use Rattle.std.proofs.Common.{◌≡◌, ◌<◌, ℕ, length, Option, sym, ap, ◌∙◌, subst, arith}
+use Rattle.std.proofs.Common.{◌≡◌, ◌<◌, ℕ, List, false, length, Option, sym, ap, ◌∙◌, subst, arith}
 use Rattle.std.specs.Prelude.{slice_index_or, slice_set}
 use Rattle.std.proofs.lemmas.Bool.{lt-ltb, le-ltb}
 use Rattle.course.specs.Called.{called_back}
 use Rattle.store_model.specs.Program.{Program, done, Runs}
 use Rattle.store_model.specs.Runs.{runs_as}
+use Rattle.vm_host.specs.declared.slots.Slot.{Slot}
 use Rattle.vm_host.specs.declared.slots.Vms.{Vms}
 use Rattle.vm_host.specs.Vms.{VmAt}
-use Rattle.vm_host.specs.Slots.{no_slot, slot_in, Came, came, calling_slot}
-use Rattle.vm_host.proofs.Calling.{slot_part, slot_cut, absent_part, put_again}
+use Rattle.vm_host.specs.Slots.{role_of, no_slot, slot_in, Came, came, has_work, calling_slot}
+use Rattle.vm_host.proofs.Calling.{slot_part, slot_cut, absent_part, idle_part, put_again}
 use Rattle.vm_host.proofs.slots.VmsHost.callback.Goals as goal
 use Rattle.vm_host.proofs.slots.VmsHost.callback.Given as given
 use Rattle.vm_host.proofs.slots.VmsHost.callback.Goals.{After-call_slot}
@@ -16,6 +17,20 @@ pub returns-then-at-most-clause-run : goal.returns-then-at-most-clause-run
 returns-then-at-most-clause-run g c =
     absent_part g.S.Shared.performs g.met.S.Shared.nothing c.args.name c.args.context c.args.first c.args.second c.args.now c.args.contexts.now c.args.shared.now c.silence.result.end c.silence.result.lines c.silence.ensures.end c.silence.ensures.lines c.args.self.now c.args.vm
     (le-ltb c.args.vm (length c.args.self.now.slots) (omega arith))
+
+pub returns-then-not-is_called-clause-run : goal.returns-then-not-is_called-clause-run
+returns-then-not-is_called-clause-run g c =
+    let v = c.args.self.now in
+    let vm = c.args.vm in
+    let q = c.silence-then-not-is_called in
+    let inside : vm < length v.slots = omega arith in
+    let none : has_work (slot_in v vm).live (role_of c.args.name) ≡ false =
+    ap (λ (k : ℕ). has_work (slice_index_or v.slots k no_slot).live (role_of c.args.name)) (sym c.get-at.ensures.number)
+    ∙ ap (λ (xs : List Slot). has_work (slice_index_or xs c.get-at.result no_slot).live (role_of c.args.name)) (sym c.as_slice.ensures)
+    ∙ sym c.is_called.ensures
+    ∙ c.if-not-is_called.true in
+    idle_part g.S.Shared.performs g.met.S.Shared.nothing c.args.name c.args.context c.args.first c.args.second c.args.now c.args.contexts.now c.args.shared.now q.result.end q.result.lines q.ensures.end q.ensures.lines v vm
+    (lt-ltb vm (length v.slots) inside) none
 
 -- the machine that was taken is the one of its place
 taken : (g : given.Over) (c : After-call_slot g) → (slot_in c.args.self.now c.args.vm).live ≡ c.taken-live.result
