@@ -35,15 +35,21 @@ use wasm_machine::Machine;
 use wasm_store::Instance;
 use wasm_syntax::{Export, Import, Module, ValidModule, Value};
 
-/// The machine of a VM that lives. Clauses see its guest as host calls do, what its imports stand for, the functions that
-/// it exports by their roles, the start function, and the fuel of each run.
+/// What a VM is made of. It stands behind a pointer, which alone is moved where a callback takes the VM out of its place.
 #[derive(Drop)]
-pub struct Vm {
+struct Parts {
     guest: MachineGuest,
     calls: Dispatcher,
     functions: Members<Option<u32>>,
     start: Option<u32>,
     budget: u64,
+}
+
+/// The machine of a VM that lives. Clauses see its guest as host calls do, what its imports stand for, the functions that
+/// it exports by their roles, the start function, and the fuel of each run.
+#[derive(Drop)]
+pub struct Vm {
+    parts: Box<Parts>,
 }
 
 impl Model for Vm {
@@ -56,9 +62,9 @@ impl Model for Vm {
 
     ghost coded = { Prim.hlevel (codes, nested_code, thread_code) };
 
-    ghost view = { λ a. record { guest = guest_at a.guest; calls = a.calls; functions = a.functions; start = a.start; budget = a.budget } };
+    ghost view = { λ a. record { guest = guest_at a.parts.value.guest; calls = a.parts.value.calls; functions = a.parts.value.functions; start = a.parts.value.start; budget = a.parts.value.budget } };
 
-    ghost invariant = { λ a. IsVm a.guest a.calls a.functions a.start };
+    ghost invariant = { λ a. IsVm a.parts.value.guest a.parts.value.calls a.parts.value.functions a.parts.value.start };
 }
 
 /// What has become of a VM.
@@ -276,29 +282,16 @@ fn gone(end: RunEnd) -> Result<Ran, OutOfMemory>
 }
 
 /// What is told of a run that returned: its VM lives.
-fn alive(
-    value: Option<Value>,
-    guest: MachineGuest,
-    calls: Dispatcher,
-    functions: Members<Option<u32>>,
-    start: Option<u32>,
-    budget: u64,
-) -> Ran
-    requires { IsVm guest calls functions start }
+fn alive(value: Option<Value>, parts: Box<Parts>) -> Ran
+    requires { IsVm parts.value.guest parts.value.calls parts.value.functions parts.value.start }
     ensures end { result.end ≡ Ended.Returned (number_of value) }
-    ensures vm { result.vm ≡ Some (record { guest = guest_at guest; calls = calls; functions = functions; start = start; budget = budget }) }
+    ensures vm { result.vm ≡ Some (record { guest = guest_at parts.value.guest; calls = parts.value.calls; functions = parts.value.functions; start = parts.value.start; budget = parts.value.budget }) }
 {
     Ran {
         end: Ended::Returned {
             value: number(value),
         },
-        vm: Some(Vm {
-            guest,
-            calls,
-            functions,
-            start,
-            budget,
-        }),
+        vm: Some(Vm { parts }),
     }
 }
 
@@ -333,28 +326,32 @@ impl Vm {
         };
         let machine = machine_of(alloc, code, pages)?;
         let allocator = allocator(outline.functions.as_slice());
-        Ok(Vm {
-            guest: MachineGuest {
-                machine,
-                allocator,
-                closed: outline.closed,
-                fuel,
+        let parts = Box::new(
+            alloc,
+            Parts {
+                guest: MachineGuest {
+                    machine,
+                    allocator,
+                    closed: outline.closed,
+                    fuel,
+                },
+                calls: Dispatcher {
+                    place,
+                    targets: outline.targets,
+                },
+                functions: outline.functions,
+                start: outline.start,
+                budget: fuel,
             },
-            calls: Dispatcher {
-                place,
-                targets: outline.targets,
-            },
-            functions: outline.functions,
-            start: outline.start,
-            budget: fuel,
-        })
+        )?;
+        Ok(Vm { parts })
     }
 
     /// Its number.
     pub(crate) fn place(&self) -> VmNo
         ensures { result ≡ self.now.calls.place }
     {
-        self.calls.place
+        self.parts.calls.place
     }
 
     /// The function of a role, which takes what the role says.
@@ -362,7 +359,7 @@ impl Vm {
         ensures is { result ≡ function_for self.now.functions role }
         ensures typed { IfSome result (HasRole self.now.guest.program role) }
     {
-        function(self.functions.as_slice(), role)
+        function(self.parts.functions.as_slice(), role)
     }
 
     /// Whether it has a function of a role.
@@ -391,22 +388,25 @@ impl Vm {
         ensures vms { IfOk result (λ r. IfSome r.vm (λ _. length contexts.new.vms ≡ length contexts.old.vms)) }
         ensures stores { S.stores shared.new ≡ S.stores shared.old }
     {
-        let Vm {
-            mut guest,
-            calls,
-            functions,
-            start,
-            budget,
-        } = self;
-        guest.fuel = budget;
+        let Vm { mut parts } = self;
+        let p = &mut *parts;
+        p.guest.fuel = p.budget;
         let end = run(
-            alloc, &mut guest, &calls, contexts, lines, shared, now, func, args,
+            alloc,
+            &mut p.guest,
+            &p.calls,
+            contexts,
+            lines,
+            shared,
+            now,
+            func,
+            args,
         );
         let RunEnd::Returned { value } = end else {
-            drop(guest);
+            drop(parts);
             return gone(end);
         };
-        Ok(alive(value, guest, calls, functions, start, budget))
+        Ok(alive(value, parts))
     }
 
     /// Runs a function that takes nothing, where there is one.
@@ -450,7 +450,7 @@ impl Vm {
         ensures run { Ends S.performs shared.old (running_if self now (beginner_in self.functions) [] (host_state contexts.old lines.old)) (λ r. ran r.end r.vm (host_state contexts.new lines.new)) result shared.new }
         ensures stores { S.stores shared.new ≡ S.stores shared.old }
     {
-        let func = beginner(self.functions.as_slice());
+        let func = beginner(self.parts.functions.as_slice());
         self.run_if(alloc, contexts, lines, shared, now, func)
     }
 
@@ -470,7 +470,7 @@ impl Vm {
         ensures vms { IfOk result (λ r. IfSome r.vm (λ _. length contexts.new.vms ≡ length contexts.old.vms)) }
         ensures stores { S.stores shared.new ≡ S.stores shared.old }
     {
-        let func = self.start;
+        let func = self.parts.start;
         self.run_if(alloc, contexts, lines, shared, now, func)
     }
 

@@ -13,6 +13,7 @@ machine_of-requires-clause-none c = fits_linked c.args.code c.args.pages c.requi
 pub invariant_of-result : goal.invariant_of-result
 invariant_of-result c =
     let o = c.in-Ok.outline in
-    first_is c.args.code c.args.pages (subst (λ (m : Module). IsValid m) c.module.ensures.holds c.module.ensures.valid) c.requires.fits c.in_ok-machine.machine c.in_ok-machine.ensures
+    rw c.in_ok-parts.ensures.ok
+    (first_is c.args.code c.args.pages (subst (λ (m : Module). IsValid m) c.module.ensures.holds c.module.ensures.valid) c.requires.fits c.in_ok-machine.machine c.in_ok-machine.ensures
     o.targets o.closed o.functions o.start (subst (λ (m : Module). IsOutline m o.targets o.closed o.functions o.start) c.module.ensures.holds c.in-Ok.ensures)
-    c.args.place c.args.fuel c.allocator-allocator.result (c.allocator-allocator.ensures ∙ ap allocator_in c.as_slice.ensures)
+    c.args.place c.args.fuel c.allocator-allocator.result (c.allocator-allocator.ensures ∙ ap allocator_in c.as_slice.ensures))
