@@ -5,6 +5,7 @@ pub mod GivenBack
 pub mod Kept
 pub mod Lengths
 pub mod Looking
+pub mod Lowered
 pub mod Places
 pub mod Replacing
 pub mod Setting

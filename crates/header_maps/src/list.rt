@@ -3,7 +3,7 @@ ghost use Rattle.std.specs.Prelude.{◌≡◌, ◌≤◌, ◌<◌, ◌↔◌, []
 ghost use Rattle.std.specs.List.{list_all, position};
 ghost use Rattle.http_header.specs.Token.{lowercase};
 ghost use Rattle.header_maps.specs.Faults.{fault_of, add_fault, replace_fault, remove_fault, set_fault, request_fault, response_fault, has_each_once, are_names_for, are_values_for};
-ghost use Rattle.header_maps.specs.Judged.{is_field_name, is_field_value, status_text};
+ghost use Rattle.header_maps.specs.Judged.{is_authority, is_field_name, is_field_value, is_path, status_text};
 ghost use Rattle.header_maps.specs.Kept.{byte_limit, is_short, IsHeaders};
 ghost use Rattle.header_maps.specs.Operations.{no_headers, request_headers, response_headers, get_of, first_of, added, removed, without, replaced, with_value, in_order, all_set, size_of};
 ghost use Rattle.header_maps.specs.Pairs.{lowered, is_named, plain_among, plain_count, joined_behind};
@@ -84,10 +84,34 @@ impl HeaderList {
         ensures cause { fault_of result ≡ request_fault method.now scheme.now authority.now path.now }
         ensures ok { IfOk result (λ list. list ≡ request_headers method.now scheme.now authority.now path.now) }
     {
-        if !(is_method(method) && is_scheme(scheme) && is_authority(authority) && is_path(path)) {
+        if !(is_authority(authority) && is_path(path)) {
             return Err(HeaderEnd::BadValue);
         }
-        let mut items = Texts::with_room(alloc, FIRST_BYTES, FIRST_PAIRS)?;
+        HeaderList::request_read(alloc, method, scheme, authority, path, 0, 0)
+    }
+
+    /// The same, of an authority and a path that were judged before, with room for at least so many bytes and pairs in all.
+    pub fn request_read(
+        alloc: Global,
+        method: &[u8],
+        scheme: &[u8],
+        authority: &[u8],
+        path: &[u8],
+        bytes: usize,
+        pairs: usize,
+    ) -> Result<Self, HeaderEnd>
+        requires method { length method.now ≤ byte_limit }
+        requires authority { length authority.now ≤ byte_limit }
+        requires path { length path.now ≤ byte_limit }
+        requires judged_authority { is_authority authority.now ≡ true }
+        requires judged_path { is_path path.now ≡ true }
+        ensures cause { fault_of result ≡ request_fault method.now scheme.now authority.now path.now }
+        ensures ok { IfOk result (λ list. list ≡ request_headers method.now scheme.now authority.now path.now) }
+    {
+        if !(is_method(method) && is_scheme(scheme)) {
+            return Err(HeaderEnd::BadValue);
+        }
+        let mut items = Texts::with_room(alloc, bytes.max(FIRST_BYTES), pairs.max(FIRST_PAIRS))?;
         items.push(b":method", method)?;
         items.push(b":scheme", scheme)?;
         items.push(b":authority", authority)?;

@@ -11,6 +11,9 @@ use std::marker::Model;
 /// How many bytes of a buffer may be of no pair, beside as many as its pairs have.
 const SPARE_BYTES: usize = 4096;
 
+/// How many bytes are put in lower case at once.
+const BLOCK: usize = 8;
+
 /// Where a name and its value stand in a buffer.
 #[derive(Clone, Copy)]
 pub struct Place {
@@ -41,6 +44,25 @@ impl Model for Texts {
     ghost invariant = { λ t. All (IsWithin (length t.bytes.items)) t.places.items };
 }
 
+/// Puts the letters of a text in lower case, in blocks of 8 bytes, for which a compiler knows better code than for any number of bytes. The last
+/// block may have bytes in common with the one before it.
+fn lower(text: &mut [u8])
+    ensures { text.new ≡ lowercase text.old }
+{
+    let len = text.len();
+    if len < BLOCK {
+        text.make_ascii_lowercase();
+        return;
+    }
+    let last = len - BLOCK;
+    let mut at = 0;
+    while at < last {
+        text[at..at + BLOCK].make_ascii_lowercase();
+        at += BLOCK;
+    }
+    text[last..].make_ascii_lowercase();
+}
+
 /// Puts a copy of a text at the end, with its letters in lower case.
 fn put_lowered(bytes: &mut Vec<u8>, text: &[u8]) -> Result<(), OutOfMemory>
     ensures ok { OnOk result (bytes.new.items ≡ bytes.old.items ++ lowercase text.now) }
@@ -48,7 +70,7 @@ fn put_lowered(bytes: &mut Vec<u8>, text: &[u8]) -> Result<(), OutOfMemory>
 {
     let start = bytes.len();
     bytes.extend_from_slice(text)?;
-    bytes.slice_mut(start..).make_ascii_lowercase();
+    lower(bytes.slice_mut(start..));
     Ok(())
 }
 
