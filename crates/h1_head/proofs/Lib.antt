@@ -8,3 +8,4 @@ pub mod Reading
 pub mod Short
 pub mod Taken
 pub mod Unlisted
+pub mod Whole

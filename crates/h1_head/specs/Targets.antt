@@ -47,3 +47,7 @@ is_plain_origin t =
     (nat_le (length t) 65534 && slice_index t 0 == slash)
     && (list_all is_plain_path_byte (split_once_front question_mark t)
     && query_passes is_plain_query_byte (split_once_back question_mark t))
+
+-- the parts that a path gives
+abbrev pub path_parts : List ℕ → model.Target
+path_parts path = record { form = model.origin; scheme = model.http; authority = None; path = path }

@@ -14,6 +14,11 @@ use header_maps::{HeaderEnd, HeaderList, is_same_word};
 use httparse::spans::HeaderSpan;
 use std::alloc::Global;
 
+/// How many bytes the names of pseudo-headers take with a scheme, at most, and how many pairs they are.
+const PSEUDO_BYTES: usize = 64;
+
+const PSEUDO_PAIRS: usize = 4;
+
 /// The field lines of one name: none, one with its value, or more.
 #[derive(Clone, Copy)]
 pub enum Lines<'t> {
@@ -143,6 +148,14 @@ impl<'t> Fields<'t> {
         ensures short { length result.1.now ≤ head_limit }
     {
         (span.name.of(self.text), span.value.of(self.text))
+    }
+
+    /// For how many bytes and pairs a list needs room that takes these fields: those of the head, and some for its pseudo-headers.
+    pub fn room(&self) -> (usize, usize) {
+        (
+            self.text.len().saturating_add(PSEUDO_BYTES),
+            self.spans.len().saturating_add(PSEUDO_PAIRS),
+        )
     }
 
     /// The lines of those fields that say what the head is.

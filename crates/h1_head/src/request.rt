@@ -1,13 +1,15 @@
 // From the text of a whole request head to what a gateway makes of it.
 ghost use Rattle.std.specs.List.{list_all};
-ghost use Rattle.std.specs.Option.{option_map};
-ghost use Rattle.std.specs.Prelude.{◌≡◌, ◌≤◌, ℕ, List, codes, length, take, All, IfOk, IfSome, IfNone, option_copied};
+ghost use Rattle.std.specs.Prelude.{◌≡◌, ◌≤◌, true, ℕ, List, Option, Some, codes, length, slice_index, take, All, IfOk, IfSome, IfNone, option_copied};
+ghost use Rattle.header_maps.specs.Headers.{Headers};
 ghost use Rattle.header_maps.specs.Kept.{byte_limit};
 ghost use Rattle.http1_model.specs.Fields.{values_of};
-ghost use Rattle.http1_model.specs.Head.{host_of, IsTargeted, IsJudged, IsAnswer};
+ghost use Rattle.http1_model.specs.Head.{host_of, listed, IsTargeted, IsJudged, IsAnswer};
+ghost use Rattle.http1_model.specs.Length.{request_measure};
 ghost use Rattle.http1_model.specs.Lines.{head_cut, head_limit, skipped, whole};
 ghost use Rattle.http1_model.specs.Listed.{request_list};
-ghost use Rattle.http1_model.specs.Target.{is_visible};
+ghost use Rattle.http1_model.specs.Target.{is_path_value, is_visible};
+ghost use Rattle.http_uri.specs.ByteClasses.{slash};
 ghost use Rattle.httparse.specs.Grammar.{RequestHead, ReadsRequest};
 ghost use Rattle.httparse.specs.Spans.{IsRequestWithin, IsRequestOf, header_bytes};
 ghost use Rattle.h1_head.specs.Held.{fields_of};
@@ -15,12 +17,13 @@ ghost use Rattle.h1_head.specs.Lengths.{IsConnectionOf};
 ghost use Rattle.h1_head.specs.Noted.{AreNoted};
 ghost use Rattle.h1_head.specs.Spans.{AreLines, IsRead};
 ghost use Rattle.h1_head.specs.Seen.{seen_answer, IsHost, IsListed};
-ghost use Rattle.h1_head.specs.Targets.{seen_target};
+ghost use Rattle.h1_head.specs.Targets.{path_parts, seen_form, seen_target};
 
 use crate::fields::{Connection, Fields, Lines, Noted};
+use crate::head::TargetForm;
 use crate::length::request_measure;
 use crate::parts::{Answer, FEW_FIELDS, FIELD_LIMIT, measured, refusal_of};
-use crate::target::{Target, is_visible, target_of};
+use crate::target::{Target, begins_with, is_plain_origin, is_visible, target_of};
 use gate_base::OutOfMemory;
 use header_maps::{HeaderEnd, HeaderList};
 use httparse::Status;
@@ -71,8 +74,89 @@ fn request_list(
     fields.passing(false, connection, list)
 }
 
-/// A head by what its target gives.
-fn targeted(
+/// The header list of a request whose target is a path, which was judged before, as its Host was.
+fn path_list(
+    alloc: Global,
+    method: &[u8],
+    path: &[u8],
+    host: &[u8],
+    fields: &Fields,
+    connection: &Connection,
+) -> Result<HeaderList, HeaderEnd>
+    requires connection { IsConnectionOf (fields_of fields.now) connection.now }
+    requires method { length method.now ≤ byte_limit }
+    requires host { length host.now ≤ byte_limit }
+    requires path { length path.now ≤ byte_limit }
+    requires visible { list_all is_visible host.now ≡ true }
+    requires plain { is_path_value path.now ≡ true }
+    ensures { IsListed (request_list method.now (path_parts path.now) host.now (fields_of fields.now)) result }
+{
+    let (bytes, pairs) = fields.room();
+    let list = HeaderList::request_read(alloc, method, b"http", host, path, bytes, pairs)?;
+    fields.passing(false, connection, list)
+}
+
+/// A head of this list, or the status of its refusal where none was made.
+fn listed(
+    alloc: Global,
+    list: Result<HeaderList, HeaderEnd>,
+    form: TargetForm,
+    minor: u8,
+    fields: &Fields,
+    noted: &Noted,
+    connection: &Connection,
+) -> Result<Answer, OutOfMemory>
+    requires noted { AreNoted (fields_of fields.now) noted.now }
+    requires connection { IsConnectionOf (fields_of fields.now) connection.now }
+    ensures { (o : Option Headers) → IsListed o list → IfOk result (λ answer. seen_answer answer ≡
+        listed 400 o (Some (seen_form form)) minor (fields_of fields.now) (request_measure minor
+        (values_of (codes "transfer-encoding") (fields_of fields.now)) (values_of (codes "content-length") (fields_of fields.now)))) }
+{
+    let list = match list {
+        Ok(list) => list,
+        Err(end) => return Ok(Err(refusal_of(end, 400)?)),
+    };
+    let measure = request_measure(fields, noted, minor);
+    measured(alloc, list, Some(form), minor, fields, connection, measure)
+}
+
+/// A head whose target is a path, which stands in the head's list as it is.
+fn path_targeted(
+    alloc: Global,
+    method: &[u8],
+    target: &[u8],
+    minor: u8,
+    fields: &Fields,
+    noted: &Noted,
+    host: &[u8],
+) -> Result<Answer, OutOfMemory>
+    requires noted { AreNoted (fields_of fields.now) noted.now }
+    requires host { host.now ≡ host_of (values_of (codes "host") (fields_of fields.now)) }
+    requires visible { list_all is_visible host.now ≡ true }
+    requires method { length method.now ≤ head_limit }
+    requires target { length target.now ≤ head_limit }
+    requires slash { slice_index target.now 0 ≡ slash }
+    ensures { IfOk result (λ answer.
+        IsTargeted method.now target.now minor (fields_of fields.now) (seen_answer answer)) }
+{
+    if !is_plain_origin(target) {
+        return Ok(Err(400));
+    }
+    let connection = fields.connection(alloc, noted.connection);
+    let list = path_list(alloc, method, target, host, fields, &connection);
+    listed(
+        alloc,
+        list,
+        TargetForm::Origin,
+        minor,
+        fields,
+        noted,
+        &connection,
+    )
+}
+
+/// A head by what its target gives, which is none that begins with `/`.
+fn parts_targeted(
     alloc: Global,
     method: &[u8],
     target: &[u8],
@@ -92,20 +176,33 @@ fn targeted(
         return Ok(Err(400));
     };
     let connection = fields.connection(alloc, noted.connection);
-    let list = match request_list(alloc, method, &target, host, fields, &connection) {
-        Ok(list) => list,
-        Err(end) => return Ok(Err(refusal_of(end, 400)?)),
-    };
-    let measure = request_measure(fields, noted, minor);
-    measured(
-        alloc,
-        list,
-        Some(target.form),
-        minor,
-        fields,
-        &connection,
-        measure,
-    )
+    let list = request_list(alloc, method, &target, host, fields, &connection);
+    listed(alloc, list, target.form, minor, fields, noted, &connection)
+}
+
+/// A head by what its target gives.
+fn targeted(
+    alloc: Global,
+    method: &[u8],
+    target: &[u8],
+    minor: u8,
+    fields: &Fields,
+    noted: &Noted,
+    host: &[u8],
+) -> Result<Answer, OutOfMemory>
+    requires noted { AreNoted (fields_of fields.now) noted.now }
+    requires host { host.now ≡ host_of (values_of (codes "host") (fields_of fields.now)) }
+    requires visible { list_all is_visible host.now ≡ true }
+    requires method { length method.now ≤ head_limit }
+    requires target { length target.now ≤ head_limit }
+    ensures { IfOk result (λ answer.
+        IsTargeted method.now target.now minor (fields_of fields.now) (seen_answer answer)) }
+{
+    if begins_with(target, b'/') {
+        path_targeted(alloc, method, target, minor, fields, noted, host)
+    } else {
+        parts_targeted(alloc, method, target, minor, fields, noted, host)
+    }
 }
 
 /// What a gateway makes of a head of these parts.

@@ -52,7 +52,7 @@ pub fn is_visible(byte: u8) -> bool
 }
 
 /// Whether the first byte of a text is this, which is not 0.
-fn begins_with(text: &[u8], byte: u8) -> bool
+pub fn begins_with(text: &[u8], byte: u8) -> bool
     requires { 0 < byte }
     ensures { result ≡ (slice_index text.now 0 == byte) }
 {
@@ -123,26 +123,10 @@ fn has_plain_bytes(target: &[u8]) -> bool
 }
 
 /// Whether a target is of the origin form, with bytes that this profile takes.
-fn is_plain_origin(target: &[u8]) -> bool
+pub fn is_plain_origin(target: &[u8]) -> bool
     ensures { result ≡ is_plain_origin target.now }
 {
     target.len() <= TARGET_LIMIT && begins_with(target, b'/') && has_plain_bytes(target)
-}
-
-/// What a target gives that begins with `/`. It is read in place.
-fn path_target(alloc: Global, method: &[u8], target: &[u8]) -> Result<Option<Target>, OutOfMemory>
-    requires { slice_index target.now 0 ≡ slash }
-    ensures { IfOk result (λ parts. IsTargetOf method.now target.now (seen_target_option parts)) }
-{
-    if !is_plain_origin(target) {
-        return Ok(None);
-    }
-    Ok(Some(Target {
-        form: TargetForm::Origin,
-        scheme: Scheme::Http,
-        authority: None,
-        path: Octets::from_slice(alloc, target)?,
-    }))
 }
 
 /// A scheme that this profile takes.
@@ -267,9 +251,6 @@ fn parts_of(
 pub fn target_of(alloc: Global, method: &[u8], target: &[u8]) -> Result<Option<Target>, OutOfMemory>
     ensures { IfOk result (λ parts. IsTargetOf method.now target.now (seen_target_option parts)) }
 {
-    if begins_with(target, b'/') {
-        return path_target(alloc, method, target);
-    }
     match Uri::from_bytes(alloc, target) {
         Ok(uri) => parts_of(alloc, method, target, &uri),
         Err(UriError::Invalid(_)) => Ok(None),
