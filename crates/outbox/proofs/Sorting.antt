@@ -148,6 +148,27 @@ pub ends_last : (most : ℕ) (sent : List Sent) (at : ℕ) (member : Sent) → s
 ends_last most sent at member last is sorted low =
     record { within = omega arith; up_to = up_to_last most 0 sent at member last is sorted low; above = none_behind (most + 1) sent }
 
+-- where a member is of a rank up to this one, so are those before it
+pub up_to_through : (most least : ℕ) (sent : List Sent) (at : ℕ) (member : Sent) → at < length sent → member ≡ get_or sent at member → IsSortedFrom least sent → rank_of member ≤ most → AreUpTo most (take (suc at) sent)
+up_to_through most least [] at member below is sorted low = absurd (omega (arith, below))
+up_to_through most least (s ∷ sent) zero member below is sorted low = (let same = ap rank_of is in omega (arith, same, low), tt)
+up_to_through most least (s ∷ sent) (suc at) member below is sorted low =
+    (let more = least_at (rank_of s) sent at member (omega (arith, below)) is sorted.2 in omega (arith, more, low), up_to_through most (rank_of s) sent at member (omega (arith, below)) is sorted.2 low)
+
+-- where one is of a higher rank, so are those behind it
+above_at : (most least : ℕ) (sent : List Sent) (at : ℕ) (member : Sent) → at < length sent → member ≡ get_or sent at member → IsSortedFrom least sent → most < rank_of member → IsSortedFrom (most + 1) (drop at sent)
+above_at most least [] at member below is sorted high = absurd (omega (arith, below))
+above_at most least (s ∷ sent) zero member below is sorted high = (let same = ap rank_of is in omega (arith, same, high), sorted.1, sorted.2)
+above_at most least (s ∷ sent) (suc at) member below is sorted high = above_at most (rank_of s) sent at member (omega (arith, below)) is sorted.2 high
+
+-- so they end in front of it
+pub ends_at : (most : ℕ) (sent : List Sent) (at : ℕ) (member : Sent) → at < length sent → member ≡ get_or sent at member → IsSorted sent → AreUpTo most (take at sent) → most < rank_of member → IsEndOf most at sent
+ends_at most sent at member below is sorted up_to high = record { within = omega (arith, below); up_to = up_to; above = above_at most 0 sent at member below is sorted high }
+
+-- or with the last
+pub ends_all : (most : ℕ) (sent : List Sent) → AreUpTo most (take (length sent) sent) → IsEndOf most (length sent) sent
+ends_all most sent up_to = record { within = omega arith; up_to = up_to; above = none_behind (most + 1) sent }
+
 -- nothing waits where the last member up to the rank of a place is of a lower one
 pub none_at : (place : Place) (least : ℕ) (sent : List Sent) (at : ℕ) (member : Sent) → at < length sent → member ≡ get_or sent at member → IsSortedFrom least sent → rank_of member < rank place
     → IsSortedFrom (rank place + 1) (drop (suc at) sent) → marks_at place sent ≡ []

@@ -1,8 +1,8 @@
 // Members in the order of their places.
-ghost use Rattle.std.specs.Prelude.{◌≡◌, ◌≢◌, [], OnOk};
+ghost use Rattle.std.specs.Prelude.{◌≡◌, ◌≢◌, ◌≤◌, [], length, take, OnOk};
 ghost use Rattle.std.specs.Bool.{OnTrue, OnFalse};
 ghost use Rattle.outbox.specs.Places.{marks_at};
-ghost use Rattle.outbox.specs.Sorted.{rank, rank_of, IsSorted, IsEndOf, IsBehind};
+ghost use Rattle.outbox.specs.Sorted.{rank, rank_of, IsSorted, AreUpTo, IsEndOf, IsBehind};
 
 use crate::held::{Held, are_one, is_empty, join, rank_of};
 use crate::place::{Place, rank};
@@ -26,6 +26,48 @@ pub fn end_near_last(members: &[Held], most: u64) -> usize
         return count;
     }
     end_of(members, most)
+}
+
+/// Whether the members in front of a place are all of this rank or a lower one.
+fn are_up_to(members: &[Held], most: u64, at: usize) -> bool
+    requires { IsSorted members.now }
+    ensures within { OnTrue result (at ≤ length members.now) }
+    ensures up_to { OnTrue result (AreUpTo most (take at members.now)) }
+{
+    if at > members.len() {
+        return false;
+    }
+    if at == 0 {
+        return true;
+    }
+    rank_of(&members[at - 1]) <= most
+}
+
+/// How many of the members are of this rank or a lower one, where so many are.
+fn end_from(members: &[Held], most: u64, at: usize) -> usize
+    requires sorted { IsSorted members.now }
+    requires within { at ≤ length members.now }
+    requires up_to { AreUpTo most (take at members.now) }
+    ensures { IsEndOf most result members.now }
+{
+    for end in at..members.len() {
+        if rank_of(&members[end]) > most {
+            return end;
+        }
+    }
+    members.len()
+}
+
+/// The same, walked to from a place that is likely to be near, and no further behind. It is right wherever that is.
+pub fn end_near(members: &[Held], most: u64, at: usize) -> usize
+    requires { IsSorted members.now }
+    ensures { IsEndOf most result members.now }
+{
+    if are_up_to(members, most, at) {
+        end_from(members, most, at)
+    } else {
+        end_of(members, most)
+    }
 }
 
 /// Whether something waits for a place, where so many members are of its rank or a lower one.
