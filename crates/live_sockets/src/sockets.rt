@@ -54,6 +54,8 @@ pub struct Sockets<P> {
     pub room: Room,
     /// The place of the line that is heard next.
     next: usize,
+    /// The place behind the line to which bytes were offered last: what waits is offered to one line after the other.
+    behind: usize,
     /// How many events are given before the system is asked again.
     pub turns: u32,
     /// How many connections to servers lingered so far, modulo 2^32.
@@ -121,6 +123,26 @@ fn find<P>(lines: &[Line<P>], number: LineNo) -> Option<usize>
     place_of(lines, number)
 }
 
+/// Whether the line of this number stands at a place.
+fn stands_at<P>(lines: &[Line<P>], number: LineNo, at: usize) -> bool
+    ensures within { IsTrue result → at < length lines.now }
+    ensures found { IsTrue result → HoldsAt (λ line. line.number ≡ number) lines.now at }
+{
+    at < lines.len() && lines[at].number == number
+}
+
+/// The same as `find`, where it is likely to be this place.
+fn find_near<P>(lines: &[Line<P>], number: LineNo, near: usize) -> Option<usize>
+    ensures within { IfSome result (λ i. i < length lines.now) }
+    ensures found { IfSome result (HoldsAt (λ line. line.number ≡ number) lines.now) }
+    ensures none { IfNone result (position (λ line. line.number == number) lines.now ≡ None) }
+{
+    if stands_at(lines, number, near) {
+        return Some(near);
+    }
+    find(lines, number)
+}
+
 /// Offers bytes to a side of the line at a place.
 fn send_at<P: Duplex>(
     lines: &mut [Line<P>],
@@ -177,6 +199,7 @@ impl<P: Duplex> Sockets<P> {
             lingering: Vec::new(alloc),
             room,
             next: 0,
+            behind: 0,
             turns: 0,
             closed: 0,
             seen: 0,
@@ -492,9 +515,10 @@ impl<P: Duplex> Sockets<P> {
         ensures whole { side ≡ Side.Up → IfOk result (λ n. n ≡ length bytes.now) }
         ensures sent { IfOk result (λ n. SentIn P.gave P.took self.old.lines.items number side bytes.now n self.new.lines.items) }
     {
-        let Some(at) = find(&self.lines, number) else {
+        let Some(at) = find_near(&self.lines, number, self.behind) else {
             return Ok(bytes.len());
         };
+        self.behind = at + 1;
         send_at(&mut self.lines, alloc, at, side, bytes)
     }
 
