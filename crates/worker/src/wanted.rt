@@ -25,11 +25,11 @@ const ENOUGH: usize = 65_536;
 /// How often notices are looked for, in nanoseconds.
 const NOTICE_PERIOD: u64 = 50_000_000;
 
-/// Whether less than 65,536 bytes wait on a side of a line.
-fn has_room(outbox: &Outbox, side: Side, line: &Line) -> bool
+/// Whether less than 65,536 bytes wait on a side of a line, looked for near the place of the last one.
+fn has_room(outbox: &Outbox, side: Side, line: &Line, near: &mut usize) -> bool
     ensures { result ≡ has_room outbox.now side line.now }
 {
-    !outbox.is_full(line.number, side)
+    !outbox.is_full_near(line.number, side, near)
 }
 
 /// Whether less than 65,536 bytes of a text are unread.
@@ -58,13 +58,14 @@ fn reader_of(line: &Line, up: bool) -> Option<&MessageReader>
     }
 }
 
-/// Whether bytes of the sides of a line are taken, its client's and its server's.
-fn are_wanted(outbox: &Outbox, line: &Line) -> (bool, bool)
+/// Whether bytes of the sides of a line are taken, its client's and its server's. What waits for it is looked for near that of the last one.
+fn are_wanted(outbox: &Outbox, line: &Line, near: &mut usize) -> (bool, bool)
     ensures down { result.0 ≡ is_wanted Down outbox.now line.now }
     ensures up { result.1 ≡ is_wanted Up outbox.now line.now }
 {
-    let is_open = has_room(outbox, Side::Down, line);
-    let down = (is_open && has_room(outbox, Side::Up, line)) && reads_more(reader_of(line, false));
+    let is_open = has_room(outbox, Side::Down, line, near);
+    let down = (is_open && has_room(outbox, Side::Up, line, near))
+        && reads_more(reader_of(line, false));
     (down, is_open && reads_more(reader_of(line, true)))
 }
 
@@ -241,8 +242,10 @@ pub(crate) fn wants_on(
 {
     cut(&mut wants.down, 0);
     cut(&mut wants.up, 0);
+    // Lines come in the order of their numbers.
+    let mut near = 0;
     for line in lines {
-        let wanted = are_wanted(outbox, line);
+        let wanted = are_wanted(outbox, line, &mut near);
         if wanted.0 {
             wants.down.push(line.number)?;
         }
