@@ -184,10 +184,23 @@ fn deliver_up(alloc: Global, outbox: &mut Outbox, count: u64) -> Result<(), OutO
     outbox.deliver(alloc, &mut world, &What::Clock, sent)
 }
 
-/// Puts at the end which sides are full.
+/// Whether the client's side and the server's are full, looked for from a place on.
+fn full_near(outbox: &Outbox, at: usize) -> (bool, bool) {
+    let mut near = at;
+    let down = outbox.is_full_near(line(), Side::Down, &mut near);
+    let up = outbox.is_full_near(line(), Side::Up, &mut near);
+    (up, down)
+}
+
+/// Puts at the end which sides are full, or that the answer is another from the first place on, from the second, or from one behind all.
 fn push_full(told: &mut String, outbox: &Outbox) -> Result<(), OutOfMemory> {
     let up = outbox.is_full(line(), Side::Up);
     let down = outbox.is_full(line(), Side::Down);
+    for at in [0, 1, usize::MAX] {
+        if full_near(outbox, at) != (up, down) {
+            return push_told(told, "another");
+        }
+    }
     push_told(
         told,
         match (up, down) {
