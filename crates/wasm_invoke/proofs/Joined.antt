@@ -22,7 +22,7 @@ use Rattle.wasm_invoke.specs.declared.ends.Invoked.{Invoked}
 use Rattle.wasm_invoke.specs.declared.ends.Refusal.TheVariants as refusals
 use Rattle.wasm_invoke.specs.Arguments.{value_of, AllFit, values_of}
 use Rattle.wasm_invoke.specs.Ends.{of_linking}
-use Rattle.wasm_invoke.specs.Invoking.{nothing_offered, pages, Went, trapped, spent, Started, begins, started, called, Goes, Invokes}
+use Rattle.wasm_invoke.specs.Invoking.{nothing_offered, pages, Went, Started, begins, started, called, Goes, Invokes}
 use Rattle.wasm_invoke.specs.Readied.{IsLinkedModule, EndsAnyhow, IsReadied, AsksNobody, AreGiven, AreRefused, TakesNothing, StartsAs, WentAs}
 use Rattle.wasm_invoke.proofs.Lone.{asks_nobody, takes_nothing}
 

@@ -8,9 +8,17 @@ ghost use Rattle.wasm_syntax.specs.ReductionExamples.{call, sum_module, module_o
 ghost use Rattle.wasm_invoke.specs.Arguments.{Fits, AllFit, values_of};
 ghost use Rattle.wasm_invoke.specs.Exports.{exported};
 ghost use Rattle.wasm_invoke.specs.Invoking.{answered, trapped, spent, went_as, went, Invokes};
+ghost use Rattle.wasm_invoke.specs.Laws.{OneAnswer, OneWay, RefusedOrGoes};
 ghost use Rattle.wasm_invoke.specs.Examples.{memory_export, some_exports, set_body, starting, bytes_of_sums};
 ghost use Rattle.wasm_invoke.specs.declared.ends.End.TheVariants as ends;
 ghost use Rattle.wasm_invoke.specs.declared.ends.Refusal.TheVariants as refusals;
+
+/// A call has one answer, but that memory may run out at any time: bytes, a name and words are refused for one cause, or the call goes, in one way, and never both.
+pub fn one_answer()
+    ensures answer { OneAnswer }
+    ensures way { OneWay }
+    ensures apart { RefusedOrGoes }
+{}
 
 /// A word fits a type where it is decimal digits, zeros in front allowed, of a number below 2^32 or 2^64.
 pub fn worked_words()

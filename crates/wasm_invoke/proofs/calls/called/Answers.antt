@@ -2,8 +2,8 @@ use Rattle.std.proofs.Common.{sym, subst}
 use Rattle.std.proofs.lemmas.Result.{err_from_is_err_and}
 use Rattle.wasm_syntax.specs.Reduction.{Program}
 use Rattle.wasm_machine.specs.Machines.{program_at, config_at, Takes}
-use Rattle.wasm_invoke.specs.Invoking.{called, started}
-use Rattle.wasm_invoke.specs.Readied.{AsksNobody, WentAs}
+use Rattle.wasm_invoke.specs.Invoking.{started}
+use Rattle.wasm_invoke.specs.Readied.{AsksNobody}
 use Rattle.wasm_invoke.proofs.Joined.{ended_by, went_on}
 use Rattle.wasm_invoke.proofs.calls.called.Goals as goal
 
