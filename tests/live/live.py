@@ -840,8 +840,7 @@ def flooded(gateway, upstream):
         for n, s in enumerate(others):
             get(s, Reader(s), "/other/%d" % n, b"/other/%d" % n)
         # Once it goes on all has come: the lines, and the request, which is answered without the server.
-        gateway.process.send_signal(signal.SIGSTOP)
-        os.waitid(os.P_PID, gateway.process.pid, os.WSTOPPED)
+        gateway.stop()
         lines = [gateway.connect() for _ in range(FLOOD)]
         first.sendall(b"OPTIONS * HTTP/1.1\r\nHost:\r\n\r\n")
         order = order_of_answers(gateway, [first] + lines)
@@ -900,7 +899,11 @@ def noticed(gateway, upstream):
             # (Its worker starts its VMs at this, and so is the one that registered the queue last.)
             t.sendall(request("/a"))
             expect(select.select([t], [], [], 0.3)[0], [])
-            get(s, reader, "/b", b"/b")
+            # (Until then the first one is told. On a slow machine that may take more than one item.)
+            for _ in range(20):
+                get(s, reader, "/b", b"/b")
+                if select.select([t], [], [], 1)[0]:
+                    break
             waiting = Reader(t)
             first, fields = waiting.head()
             expect((status_of(first), waiting.body(fields)), ("200", b"/a"))
@@ -1270,7 +1273,7 @@ def few_linger(gateway, upstream):
 
 
 def slow_server(gateway, upstream):
-    """An upload to a server that takes less than comes takes no memory for what has gone up: of 48 million bytes some five wait in the gateway."""
+    """An upload to a server that takes less than comes takes no memory for what has gone up: some five million of 48 wait in the gateway for a while, a few at a time."""
     size = 48000000
     with gateway.connect() as s:
         reader = Reader(s)
@@ -1305,8 +1308,8 @@ def two_deadlines(gateway, upstream):
     """The deadline of a request is counted from when it came, also where another line's falls due before."""
     with gateway.connect() as s, gateway.connect() as t:
         s.sendall(request("/silent"))
-        time.sleep(0.7)
-        # It is answered half a second later: 0.2 seconds behind the deadline of the first, and 0.5 in front of its own.
+        time.sleep(1.7)
+        # It is answered half a second later: 0.2 seconds behind the deadline of the first, and 1.5 in front of its own.
         get(t, Reader(t), "/late", b"late")
         first, fields = Reader(s).head()
         expect(status_of(first), "504")
@@ -1439,7 +1442,7 @@ GROUPS = [
         [(metered, 3)],
     ),
     ("a queue", 2, WITH_A_QUEUE, AFTER_A_QUEUE, [(noticed, 2)], lambda err: err == b""),
-    ("two deadlines", 1, "deadline_ms = 1000", b"", [(two_deadlines, 2)]),
+    ("two deadlines", 1, "deadline_ms = 2000", b"", [(two_deadlines, 2)]),
     ("a deadline", 1, "deadline_ms = 300", b"", [(deadline, 1)], lambda err: err == b""),
     ("responses at their deadlines", 1, "deadline_ms = 40", b"", [(due_response, 240)], lambda err: err == b""),
     ("short lines", 3, "", b"", [(short_lines, 600)]),
