@@ -14,7 +14,7 @@ use Rattle.worker.specs.Wants.{due_in, due_of, due_on, looks, looks_one, ticks_u
 use Rattle.worker.specs.Wishes.{earlier}
 use Rattle.worker.specs.declared.room.Room.{Room}
 use Rattle.worker.specs.declared.types.Line.{Line}
-use Rattle.turn_laws.specs.Due.{DueExamples, DeadlineExamples, TickExamples, NoticeExamples, IsBy, DueIsEarliest}
+use Rattle.turn_laws.specs.Due.{DueExamples, DeadlineExamples, TickExamples, NoticeExamples, IsBy, NothingIsDueBefore}
 
 pub due_examples : DueExamples
 due_examples = record {
@@ -192,8 +192,8 @@ notices_have plan r due look =
 looks_where : (plan : Plan) (r : Room) (vm : ℕ) → is_dead vm r ≡ false → slice_get plan.registers vm ≡ Some true → looks_one plan r vm ≡ true
 looks_where plan r vm lives registers = λ i. registers_at (registers i) && not (lives i)
 
-pub due_is_earliest : DueIsEarliest
-due_is_earliest = record {
+pub nothing_is_due_before : NothingIsDueBefore
+nothing_is_due_before = record {
   ticks = λ plan r vm c t begun less lives there ticks.
       begun_by plan r t.due begun
       (notices_keep plan r (with_lines (ticks_up_to r (vms_in r)) r.lines) t.due

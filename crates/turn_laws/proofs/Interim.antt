@@ -8,6 +8,10 @@ interim_keeps_lines = record {
   contexts = λ plan r h new old. refl;
   jobs = λ plan r h new old. refl;
   agenda = λ plan r h new old. refl;
+  waits = λ plan r h new old. refl;
+  dead = λ plan r h new old. refl;
+  is_begun = λ plan r h new old. refl;
+  moment = λ plan r h new old. refl;
   goes_on = λ plan r h new old. refl;
 }
 

@@ -165,7 +165,7 @@ IsBy (Some due) n = due ≤ n
 
 -- of a worker that has begun: by the tick of each root of each VM that lives, by each response that is waited for, and where a VM that lives registers
 -- queues, by 50 milliseconds from its moment
-pub record DueIsEarliest : Type 0 where
+pub record NothingIsDueBefore : Type 0 where
   pub ticks : (plan : Plan) (r : Room) (vm : ℕ) (c : Context) (t : Tick) → r.is_begun ≡ true → vm < vms_in r → is_dead vm r ≡ false
       → Contains (vm_in r.hub.contexts vm).contexts c → c.tick ≡ Some t → IsBy (due_in plan r) t.due
   pub responses : (plan : Plan) (r : Room) (l : Line) (x : Exchange) (due : ℕ) → r.is_begun ≡ true → Contains r.lines l → l.exchange ≡ Some x → x.due ≡ Some due

@@ -1,4 +1,4 @@
--- AN INTERIM HEAD leaves an exchange as it was: the response is still waited for, by the same moment.
+-- AN INTERIM HEAD leaves an exchange as it was, but for its reader: the response is still waited for, by the same moment.
 use Rattle.std.specs.Prelude.{◌≡◌, true, List, [], ◌∷◌, ◌++◌, Some, codes}
 use Rattle.course.specs.Heard.{hands}
 use Rattle.exchange.specs.declared.types.Exchange.{Exchange}
@@ -27,6 +27,10 @@ pub record InterimKeepsLines : Type 0 where
   pub contexts : (plan : Plan) (r : Reads) (h : Head) (new : Reading) (old : Room) → (behind_interim plan r h new old).hub.contexts ≡ old.hub.contexts
   pub jobs : (plan : Plan) (r : Reads) (h : Head) (new : Reading) (old : Room) → (behind_interim plan r h new old).jobs ≡ old.jobs
   pub agenda : (plan : Plan) (r : Reads) (h : Head) (new : Reading) (old : Room) → (behind_interim plan r h new old).agenda ≡ old.agenda
+  pub waits : (plan : Plan) (r : Reads) (h : Head) (new : Reading) (old : Room) → (behind_interim plan r h new old).waits ≡ old.waits
+  pub dead : (plan : Plan) (r : Reads) (h : Head) (new : Reading) (old : Room) → (behind_interim plan r h new old).dead ≡ old.dead
+  pub is_begun : (plan : Plan) (r : Reads) (h : Head) (new : Reading) (old : Room) → (behind_interim plan r h new old).is_begun ≡ old.is_begun
+  pub moment : (plan : Plan) (r : Reads) (h : Head) (new : Reading) (old : Room) → (behind_interim plan r h new old).hub.moment ≡ old.hub.moment
   pub goes_on : (plan : Plan) (r : Reads) (h : Head) (new : Reading) (old : Room) → (behind_interim plan r h new old).reading ≡ Some r
 
 -- ---- worked: the response of line 1 is due at moment 9

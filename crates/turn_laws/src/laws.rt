@@ -16,7 +16,7 @@ ghost use Rattle.turn_laws.specs.Waiting.{WaitingExample};
 ghost use Rattle.turn_laws.specs.Starts.{OneVmExample, TwoVmsExample, RefusedExample};
 ghost use Rattle.turn_laws.specs.Leaving.{GoneExample, StopExample};
 ghost use Rattle.turn_laws.specs.Firsts.{EventsComeFirst, LateExample};
-ghost use Rattle.turn_laws.specs.Due.{DueIsEarliest, DueExamples, DeadlineExamples, TickExamples, NoticeExamples};
+ghost use Rattle.turn_laws.specs.Due.{NothingIsDueBefore, DueExamples, DeadlineExamples, TickExamples, NoticeExamples};
 ghost use Rattle.turn_laws.specs.Rules.{FilteringExamples, TargetExamples};
 ghost use Rattle.turn_laws.specs.Interim.{InterimKeepsLines, InterimExample};
 ghost use Rattle.turn_laws.specs.Deaths.{DeathLines};
@@ -162,19 +162,23 @@ pub fn backlog_is_bounded()
     ensures reader { ReaderIsBounded }
 {}
 
-/// What falls due. Whatever the room of a worker that has begun, it wants to be called not behind the tick of any root of a VM that lives, nor behind any
-/// response that it waits for, nor, where a VM that lives takes notices, behind 50 milliseconds. Worked are that it is just the earliest of these;
-/// from which moment on a response is due, and a tick, and when that is due again; and which VMs take notices.
+/// Whatever the room of a worker that has begun, it wants to be called not behind the tick of any root of a VM that lives, nor behind any
+/// response that it waits for, nor, where a VM that lives takes notices, behind 50 milliseconds.
+pub fn nothing_is_due_before()
+    ensures { NothingIsDueBefore }
+{}
+
+/// What falls due, worked: that a worker wants to be called at just the earliest of these moments; from which moment on a response is due, and a tick,
+/// and when that is due again; and of which VMs notices are taken, by whether they register queues.
 pub fn worked_due()
-    ensures earliest { DueIsEarliest }
     ensures wanted { DueExamples }
     ensures deadlines { DeadlineExamples }
     ensures ticks { TickExamples }
     ensures notices { NoticeExamples }
 {}
 
-/// Which bodies the filters of an exchange filter, worked over four plug-ins; and which bodies a plug-in filters, and which VMs take notices, by
-/// what their modules export.
+/// Which bodies the filters of an exchange filter, worked over four plug-ins; which bodies a plug-in filters, by what its VM's module exports; and which
+/// VMs take notices: those that a plug-in names and whose modules register queues.
 pub fn worked_filtering()
     ensures { FilteringExamples }
 {}
