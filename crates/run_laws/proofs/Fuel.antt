@@ -44,7 +44,7 @@ stands_as entries vm entry m has =
     ∙ (ap (machine_for vm) has.stands ∙ ap (option_map (λ (n : Module). first_vm vm n entry.pages entry.fuel)) has.code)
 
 first_bound : (vm : ℕ) (m : Module) (pages fuel : ℕ) → IsBound vm m pages fuel (first_vm vm m pages fuel)
-first_bound vm m pages fuel = record { program = refl; place = refl; functions = refl; start = refl; budget = refl }
+first_bound vm m pages fuel = record { program = refl; place = refl; targets = refl; functions = refl; start = refl; budget = refl }
 
 is_made : (entries : List VmEntry) (vm : ℕ) (entry : VmEntry) (m : Module) → HasEntry entries vm entry m → IsMade entries vm entry m
 is_made entries vm entry m has = record {
@@ -61,6 +61,7 @@ bound_since vm m pages fuel was None bound of = tt
 bound_since vm m pages fuel was (Some is) bound of = record {
   program = ap (λ f. f.0) of.guest ∙ bound.program;
   place = ap (λ d. d.place) of.calls ∙ bound.place;
+  targets = ap (λ d. d.targets) of.calls ∙ bound.targets;
   functions = of.functions ∙ bound.functions;
   start = of.start ∙ bound.start;
   budget = of.budget ∙ bound.budget;

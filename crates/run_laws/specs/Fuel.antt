@@ -16,6 +16,7 @@ use Rattle.vm_host.specs.Dispatching.{dispatching}
 use Rattle.vm_host.specs.HostStates.{HostState, host_state}
 use Rattle.vm_host.specs.RoleTypes.{functions_for, beginner_in, numbers_for}
 use Rattle.vm_host.specs.Slots.{slot_in, calling}
+use Rattle.vm_host.specs.Targets.{targets_of}
 use Rattle.vm_host.specs.Vms.{VmAt, Ran, ran, ran_as}
 use Rattle.vm_host.specs.declared.ended.Ended.TheVariants as ended
 use Rattle.vm_host.specs.declared.slots.Vms.{Vms}
@@ -37,10 +38,12 @@ use Rattle.run_laws.specs.Runs.{IsLive, AreAtHome, HasFunction, begins_with, com
 
 -- ---- a VM of an entry
 
--- its machine runs the program of the module with so many pages at most; it has the functions and the start function of the module, and so much fuel
+-- its machine runs the program of the module with so many pages at most; its imports stand for the host calls that the module names; it has the functions and
+-- the start function of the module, and so much fuel
 pub record IsBound (vm : ℕ) (m : Module) (pages fuel : ℕ) (live : VmAt) : Type 0 where
   pub program : live.guest.program ≡ program_of m pages
   pub place : live.calls.place ≡ vm
+  pub targets : live.calls.targets ≡ targets_of m.imports
   pub functions : live.functions ≡ functions_for m.exports
   pub start : live.start ≡ m.start
   pub budget : live.budget ≡ fuel

@@ -97,8 +97,8 @@ pub fn gone_end_next<H>()
     ensures worked { GoneExamples }
 {}
 
-/// A VM whose entry of the configuration holds the code of its module is made with the program of that module and with as many pages and as much fuel as the entry tells,
-/// and has these for its worker's whole life. Each callback of it, and its start function and then `_initialize` or else `_start` where it begins, is a run of one function with the whole
+/// A VM whose entry of the configuration holds the code of its module is made with the program of that module, whose imports stand for the host calls that it names, and with as many pages and as much fuel
+/// as the entry tells, and has these for its worker's whole life. Each callback of it, and its start function and then `_initialize` or else `_start` where it begins, is a run of one function with the whole
 /// of that fuel, of its own, and no more. Worked are modules whose start function or `_initialize` has too little, and one that asks for more pages than its entry tells.
 pub fn runs_have_their_fuel()
     ensures runs { RunsHaveTheirFuel }
