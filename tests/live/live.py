@@ -210,7 +210,7 @@ class Upstream:
             while piece and came < int(fields["content-length"]):
                 piece = s.recv(65536)
                 came += len(piece)
-                if came - rested > 262144:
+                if came - rested > 65536:
                     rested = came
                     time.sleep(0.001)
             self.told.put(came)
