@@ -10,7 +10,7 @@ ghost use Rattle.statuses.specs.declared.status.CallEnd.TheVariants as calls;
 ghost use Rattle.statuses.specs.declared.status.Status.TheVariants as statuses;
 ghost use Rattle.statuses.specs.Statuses.{status_line};
 
-/// The lines of statuses: of each that has no number in it, and each name of a cause at least once.
+/// The lines of statuses: each without a number, and each name of a cause at least once.
 pub fn worked_lines()
     ensures done { status_line statuses.Done ≡ [] }
     ensures configuration { status_line (statuses.Config 4 (codes "gateway.workers")) ≡ codes "wasmgate: config 4 gateway.workers\n" }
