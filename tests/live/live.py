@@ -196,6 +196,12 @@ class Upstream:
             time.sleep(0.2)
             self.told.put(len(reader.rest()))
             return
+        if path == "/early-stays":
+            # As "/early-unread", but it reads nothing more, and stays until it is told to go.
+            self.may.acquire(timeout=PATIENCE)
+            s.sendall(answer(b"early"))
+            self.may.acquire(timeout=PATIENCE)
+            return
         if path == "/early-counted":
             # Tells that the head came, answers once it may, tells so, and then how much of the body came.
             self.told.put("head")
@@ -524,6 +530,24 @@ def sent_on(gateway, upstream):
         came = upstream.told.get(timeout=PATIENCE)
         if not sent - left <= came <= sent:
             raise AssertionError("%d bytes came of %d that were read" % (came, sent - left))
+
+
+def server_stays(gateway, upstream):
+    """A server that has answered an upload early, and neither reads the rest nor closes, keeps a descriptor for a moment alone."""
+    with gateway.connect() as beside:
+        get(beside, Reader(beside), "/base", b"/base")
+        base = gateway.descriptors()
+        with gateway.connect() as s:
+            filled(gateway, s, "/early-stays")
+            upstream.may.release()
+            reader = Reader(s)
+            first, fields = reader.head()
+            expect(reader.body(fields), b"early")
+            expect(reader.rest(), b"")
+        try:
+            gateway.frees(base, 3.0)
+        finally:
+            upstream.may.release()
 
 
 def client_closes(gateway, upstream):
@@ -1413,6 +1437,7 @@ GROUPS = [
             (in_turn, 3),
             (both_sides_in_turn, 1),
             (sent_on_of_two, 2),
+            (server_stays, 2),
             (few_linger, 351),
             (address_taken, 1),
         ],
