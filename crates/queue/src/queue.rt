@@ -63,6 +63,28 @@ impl<M> Queue<M> {
         Ok(())
     }
 
+    /// Puts a member in front of the others. One that is refused is dropped.
+    pub fn push_first(&mut self, member: M) -> Result<(), OutOfMemory>
+    where
+        M: Drop,
+        ensures ok { OnOk result (self.new ≡ member ∷ self.old) }
+        ensures err { OnErr result (self.new ≡ self.old) }
+    {
+        self.items.insert(0, member)?;
+        Ok(())
+    }
+
+    /// A member stands in the place of all others, in the memory that they had.
+    pub fn restart(&mut self, member: M) -> Result<(), OutOfMemory>
+    where
+        M: Drop,
+        ensures { OnOk result (self.new ≡ member ∷ []) }
+    {
+        self.items.clear();
+        self.items.push(member)?;
+        Ok(())
+    }
+
     /// The members of another queue come behind. They are dropped where there is no room.
     pub fn append(&mut self, other: Queue<M>) -> Result<(), OutOfMemory>
     where

@@ -2,6 +2,7 @@ pub mod Heads
 pub mod Places
 pub mod Readings
 pub mod Dying
+pub mod Quiet
 pub mod Quietly
 pub mod Turns
 pub mod More

@@ -154,26 +154,6 @@ fn action_of(value: Option<u32>) -> u32
     }
 }
 
-/// The last calls of a context.
-fn last_jobs(alloc: Global, of: ContextAt) -> Result<Queue<Job>, OutOfMemory>
-    ensures { IfOk result (λ jobs. jobs ≡ last_jobs of) }
-{
-    let mut jobs = Queue::new(alloc);
-    jobs.push(Job::Log {
-        of: ContextAt {
-            vm: of.vm,
-            context: of.context,
-        },
-    })?;
-    jobs.push(Job::Delete {
-        of: ContextAt {
-            vm: of.vm,
-            context: of.context,
-        },
-    })?;
-    Ok(jobs)
-}
-
 /// The contexts of an exchange that are done with.
 fn done_jobs(alloc: Global, filters: &[Filter]) -> Result<Queue<Job>, OutOfMemory>
     ensures { IfOk result (λ jobs. jobs ≡ done_jobs filters.now) }
@@ -386,6 +366,35 @@ impl Room {
         std::mem::replace(&mut self.hub.contexts.effects, Members::new(alloc))
     }
 
+    /// Sends what a callback wrote into the log.
+    #[tactic(auto, using(crate::proofs::Quiet::nothing_sent))]
+    fn send_lines(&mut self, alloc: Global, lines: SentList) -> Result<(), OutOfMemory>
+        ensures { OnOk result (self.new ≡ sending lines self.old) }
+    {
+        if lines.is_empty() {
+            return Ok(());
+        }
+        self.hub.sent.append(queued(alloc, lines)?)
+    }
+
+    /// The effects of a callback are done, or its VM is dead.
+    #[tactic(auto, using(crate::proofs::Quiet::no_effects))]
+    fn do_effects(
+        &mut self,
+        alloc: Global,
+        vm: VmNo,
+        own: &Own,
+        end: CallEnd,
+    ) -> Result<(), OutOfMemory>
+        ensures { OnOk result (self.new ≡ behind vm own.now end self.old.hub.contexts.effects (without_effects self.old)) }
+    {
+        if self.hub.contexts.effects.is_empty() {
+            return self.go_behind(alloc, vm, own, end, Queue::new(alloc));
+        }
+        let effects = queued(alloc, self.take_effects(alloc))?;
+        self.go_behind(alloc, vm, own, end, effects)
+    }
+
     /// What a callback wrote into the log is sent, and then come its effects, or the VM's death.
     pub(crate) fn answer(
         &mut self,
@@ -397,9 +406,8 @@ impl Room {
     ) -> Result<(), OutOfMemory>
         ensures { OnOk result (self.new ≡ answered_with vm own.now end lines self.old.hub.contexts self.old) }
     {
-        self.hub.sent.append(queued(alloc, lines)?)?;
-        let effects = queued(alloc, self.take_effects(alloc))?;
-        self.go_behind(alloc, vm, own, end, effects)
+        self.send_lines(alloc, lines)?;
+        self.do_effects(alloc, vm, own, end)
     }
 
     /// These jobs come first.
@@ -462,22 +470,33 @@ impl Room {
         self.waits.push(of)
     }
 
+    /// The last calls of a context come first: its log, and then its deletion.
+    fn call_last(&mut self, of: ContextAt) -> Result<(), OutOfMemory>
+        ensures { OnOk result (self.new ≡ in_front (last_jobs of) self.old) }
+    {
+        let again = ContextAt {
+            vm: of.vm,
+            context: of.context,
+        };
+        self.jobs.push_first(Job::Delete { of: again })?;
+        self.jobs.push_first(Job::Log { of })
+    }
+
     /// A context is done with.
     pub(crate) fn done_with(
         &mut self,
-        alloc: Global,
         of: ContextAt,
         value: Option<Option<u32>>,
     ) -> Result<(), OutOfMemory>
         ensures { OnOk result (self.new ≡ done_with of value self.old) }
     {
         match value {
-            None => self.put_in_front(alloc, last_jobs(alloc, of)?),
+            None => self.call_last(of),
             Some(value) => {
                 if is_zero(value) {
                     return self.wait(of);
                 }
-                self.put_in_front(alloc, last_jobs(alloc, of)?)
+                self.call_last(of)
             }
         }
     }
@@ -584,29 +603,24 @@ impl Room {
     }
 
     /// A context that waits no more gets its last calls.
-    pub(crate) fn free(&mut self, alloc: Global, at: usize) -> Result<(), OutOfMemory>
+    pub(crate) fn free(&mut self, at: usize) -> Result<(), OutOfMemory>
         ensures { OnOk result (self.new ≡ frees at self.old) }
     {
         if at >= self.waits.len() {
             return Ok(());
         }
         let of = self.waits.remove(at);
-        self.put_in_front(alloc, last_jobs(alloc, of)?)
+        self.call_last(of)
     }
 
     /// The next part of the event.
-    pub(crate) fn begin_first(&mut self, alloc: Global) -> Result<(), OutOfMemory>
+    pub(crate) fn begin_first(&mut self) -> Result<(), OutOfMemory>
         ensures { OnOk result (self.new ≡ first_begun self.old.agenda self.old) }
     {
         self.lines.calm();
         match self.agenda.pop_first() {
             None => Ok(()),
-            Some(job) => {
-                let mut jobs = Queue::new(alloc);
-                jobs.push(job)?;
-                self.jobs = jobs;
-                Ok(())
-            }
+            Some(job) => self.jobs.restart(job),
         }
     }
 }

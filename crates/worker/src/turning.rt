@@ -166,7 +166,7 @@ fn finish<H: Host, S: Shared>(
         0,
         shared,
     )?;
-    room.done_with(alloc, of, value)
+    room.done_with(of, value)
 }
 
 /// A context is deleted.
@@ -486,9 +486,9 @@ fn step<H: Host, S: Shared>(
             None => Ok(()),
             Some(job) => work(alloc, host, rules, room, job, shared),
         },
-        Next::Free { at } => room.free(alloc, at),
+        Next::Free { at } => room.free(at),
         Next::End { place } => room.end_at(alloc, place),
-        Next::Begin => room.begin_first(alloc),
+        Next::Begin => room.begin_first(),
         Next::Rest => Ok(()),
     }
 }
