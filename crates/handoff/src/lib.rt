@@ -5,6 +5,6 @@ mod handoff;
 mod law;
 mod rule;
 
-pub use handoff::{Giver, Handoff, Taker};
-pub use law::{lines_are_taken_in_order, worked_relays};
+pub use handoff::{Giver, Handoff, Note, Taker};
+pub use law::{lines_are_taken_in_order, worked_handover, worked_relays, worked_room};
 pub use rule::{Hands, HasLine};
