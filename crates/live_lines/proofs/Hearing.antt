@@ -1,14 +1,14 @@
 -- What the connections of a line gave and took in two calls, one after the other.
-use Rattle.std.proofs.Common.{◌≡◌, inl, inr, ℕ, Bool, List, [], ◌++◌, Option, None, Some, refl, sym, ap, subst, ◌∙◌}
+use Rattle.std.proofs.Common.{◌≡◌, inl, inr, ℕ, Bool, true, List, [], ◌++◌, Option, None, Some, refl, sym, ap, subst, ◌∙◌}
 use Rattle.std.proofs.Common.{append_assoc}
 use Rattle.std.proofs.lemmas.List.{append-nil}
-use Rattle.std.specs.Prelude.{IsSomeAnd, IfSome}
+use Rattle.std.specs.Prelude.{IsSome, IsSomeAnd, IfSome}
 use Rattle.gate_io.specs.declared.event.Side.TheVariants.{Down, Up}
 use Rattle.gate_io.specs.declared.event.Side.{Side}
 use Rattle.gate_io.specs.declared.event.What.{What}
-use Rattle.gate_io.specs.declared.event.What.TheVariants.{Refused}
+use Rattle.gate_io.specs.declared.event.What.TheVariants.{Opened, Bytes, End, Gone, Joined, Refused, Room, Clock, Stop}
 use Rattle.gate_io.specs.Told.{gains_nothing, gains_more}
-use Rattle.live_lines.specs.Passing.{told_from, GainsAt, GainsUp, GoesOnUp, TellsLast, StaysUnless, RefusedUnless, HeardOn}
+use Rattle.live_lines.specs.Passing.{told_from, GainsAt, GainsUp, GoesOnUp, TellsLast, StaysUnless, RefusedUnless, HasSide, IsOfStanding, HeardOn}
 use Rattle.live_lines.specs.Told.{IsHeardFrom, IsLast}
 use Rattle.live_lines.specs.Waiting.{GoesOn}
 use Rattle.live_lines.specs.declared.line.Line.{Line}
@@ -70,6 +70,55 @@ refused_more n m a b told c same (inl first) (inl second) = inl (second ∙ firs
 refused_more n m a b told c same (inl first) (inr second) = inr (second.0, second.1 ∙ ap (λ k. Some (Refused k)) same)
 refused_more n m a b told c same (inr first) second = cc (first.1)
 
+-- a connection that is there behind a call was there before
+down_stood : {P : Type 0} (told : P → Option (List ℕ)) (a b : Option P) → GainsAt told a [] b → IsSome b → IsSome a
+down_stood told None b gains there = subst (λ x. IsSome x) gains.1 there
+down_stood told (Some p) b gains there = refl
+
+up_stood : {P : Type 0} (told : P → Option (List ℕ)) (a b : Option (Upstream P)) → GainsUp told a [] b → IsSome b → IsSome a
+up_stood told None b gains there = subst (λ x. IsSome x) gains.1 there
+up_stood told (Some p) b gains there = refl
+
+side_stood : {P : Type 0} (gave took : P → Option (List ℕ)) (a b : Line P) → HeardOn gave took a None b → (side : Side) → HasSide b side → HasSide a side
+side_stood gave took a b first Down there = down_stood gave a.down b.down first.down there
+side_stood gave took a b first Up there = up_stood gave a.up b.up first.up there
+
+refused_stood : (n : ℕ) (a b : Bool) → RefusedUnless n a None b → b ≡ true → a ≡ true
+refused_stood n a b (inl same) is = sym same ∙ is
+refused_stood n a b (inr none) is = let told = none.1 in cc
+
+standing_more : {P : Type 0} (gave took : P → Option (List ℕ)) (a b : Line P) → HeardOn gave took a None b → (told : Option What) → IfSome told (IsOfStanding b) → IfSome told (IsOfStanding a)
+standing_more gave took a b first None of = tt
+standing_more gave took a b first (Some (Bytes l side bytes)) of = side_stood gave took a b first side of
+standing_more gave took a b first (Some (End l side)) of = side_stood gave took a b first side of
+standing_more gave took a b first (Some (Gone l side)) of = side_stood gave took a b first side of
+standing_more gave took a b first (Some (Room l side)) of = side_stood gave took a b first side of
+standing_more gave took a b first (Some (Joined l)) of = side_stood gave took a b first Up of
+standing_more gave took a b first (Some (Refused l)) (inl there) = inl (side_stood gave took a b first Up there)
+standing_more gave took a b first (Some (Refused l)) (inr is) = inr (refused_stood a.number a.refused b.refused first.refused is)
+standing_more gave took a b first (Some (Opened l)) of = of
+standing_more gave took a b first (Some Clock) of = of
+standing_more gave took a b first (Some Stop) of = of
+
+-- an event of a connection that is there
+of_side_there : {P : Type 0} (line : Line P) (n : ℕ) (side : Side) (told : Option What) → HasSide line side → IfSome told (IsHeardFrom n side) → IfSome told (IsOfStanding line)
+of_side_there line n side None there from = tt
+of_side_there line n side (Some (Bytes l s bytes)) there from = subst (λ x. HasSide line x) (sym from.1) there
+of_side_there line n side (Some (End l s)) there from = subst (λ x. HasSide line x) (sym from.1) there
+of_side_there line n side (Some (Gone l s)) there from = subst (λ x. HasSide line x) (sym from.1) there
+of_side_there line n side (Some (Room l s)) there from = subst (λ x. HasSide line x) (sym from.1.0) there
+of_side_there line n side (Some (Joined l)) there from = subst (λ x. HasSide line x) from.1 there
+of_side_there line n side (Some (Refused l)) there from = inl (subst (λ x. HasSide line x) from.1 there)
+of_side_there line n side (Some (Opened l)) there from = from
+of_side_there line n side (Some Clock) there from = from
+of_side_there line n side (Some Stop) there from = from
+
+pub of_client : {P : Type 0} (line : Line P) (told : Option What) → IsSome line.down → IfSome told (IsHeardFrom line.number Down) → IfSome told (IsOfStanding line)
+of_client line told there from = of_side_there line line.number Down told there from
+
+pub of_server : {P : Type 0} (line : Line P) (told : Option What) → IsSome line.up → IfSome told (IsHeardFrom line.number Up) → IfSome told (IsOfStanding line)
+of_server line told there from = of_side_there line line.number Up told there from
+
 -- an event of a connection behind which it is let go
 pub tells_last : (line : ℕ) (side : Side) (told : Option What) → IsSomeAnd told IsLast → IfSome told (IsHeardFrom line side) → TellsLast line side told
 tells_last line side None last from = absurd last
@@ -86,6 +135,7 @@ heard_same gave took line = record {
   down_stays = stays_same _ line.down;
   up_stays = stays_same _ line.up;
   refused = inl refl;
+  standing = tt;
 }
 
 -- nothing is heard, and then this
@@ -99,4 +149,5 @@ heard_more gave took a b told c first second = record {
   down_stays = subst (λ n. StaysUnless (TellsLast n Down told) a.down c.down) first.number (stays_more (TellsLast b.number Down told) a.down b.down c.down first.down_stays second.down_stays);
   up_stays = subst (λ n. StaysUnless (TellsLast n Up told) a.up c.up) first.number (stays_more (TellsLast b.number Up told) a.up b.up c.up first.up_stays second.up_stays);
   refused = refused_more a.number b.number a.refused b.refused told c.refused first.number first.refused second.refused;
+  standing = standing_more gave took a b first told second.standing;
 }

@@ -1,5 +1,5 @@
 -- What the connections of a line give and take in a call.
-use Rattle.std.specs.Prelude.{◌≡◌, ◌⊎◌, ℕ, Bool, false, List, [], length, take, Option, None, Some, IsSomeAnd}
+use Rattle.std.specs.Prelude.{◌≡◌, ◌⊎◌, ℕ, Bool, true, false, List, [], length, take, Option, None, Some, IsSome, IsSomeAnd, IfSome}
 use Rattle.gate_io.specs.declared.event.Side.{Side}
 use Rattle.gate_io.specs.declared.event.Side.TheVariants.{Down, Up}
 use Rattle.gate_io.specs.declared.event.What.{What}
@@ -66,8 +66,26 @@ StaysUnless why (Some p) (Some q) = Unit {0}
 abbrev pub RefusedUnless : ℕ → Bool → Option What → Bool → Type 0
 RefusedUnless line old told new = (new ≡ old) ⊎ ((new ≡ false) × (told ≡ Some (Refused line)))
 
+-- the connection of this side of a line is there
+abbrev pub HasSide : {P : Type 0} → Line P → Side → Type 0
+HasSide line Down = IsSome line.down
+HasSide line Up = IsSome line.up
+
+-- an event may come of a line as it stands: of a connection that is there, or that a server was refused, where that is to be told
+abbrev pub IsOfStanding : {P : Type 0} → Line P → What → Type 0
+IsOfStanding line (Bytes l side bytes) = HasSide line side
+IsOfStanding line (End l side) = HasSide line side
+IsOfStanding line (Gone l side) = HasSide line side
+IsOfStanding line (Room l side) = HasSide line side
+IsOfStanding line (Joined l) = HasSide line Up
+IsOfStanding line (Refused l) = HasSide line Up ⊎ (line.refused ≡ true)
+IsOfStanding line (Opened l) = ⊥
+IsOfStanding line Clock = ⊥
+IsOfStanding line Stop = ⊥
+
 -- A line is heard: the bytes of the event are those that the connection of their side gave, no other bytes were given, and to the connections went
--- nothing but a front of what waits for the server. A connection is let go only with an event of it that says that it is gone or was refused.
+-- nothing but a front of what waits for the server. A connection is let go only with an event of it that says that it is gone or was refused, and
+-- an event of a connection comes only where that is there.
 pub record HeardOn {P : Type 0} (gave took : P → Option (List ℕ)) (old : Line P) (told : Option What) (new : Line P) : Type 0 where
   pub number : new.number ≡ old.number
   pub down : GainsAt gave old.down (told_from Down told) new.down
@@ -77,6 +95,7 @@ pub record HeardOn {P : Type 0} (gave took : P → Option (List ℕ)) (old : Lin
   pub down_stays : StaysUnless (TellsLast old.number Down told) old.down new.down
   pub up_stays : StaysUnless (TellsLast old.number Up told) old.up new.up
   pub refused : RefusedUnless old.number old.refused told new.refused
+  pub standing : IfSome told (IsOfStanding old)
 
 -- A client takes the first n bytes of a piece. One that is not there takes all of them, and nothing comes of it.
 abbrev pub TakesDown : {P : Type 0} → (P → Option (List ℕ)) → (P → Option (List ℕ)) → Option P → List ℕ → ℕ → Option P → Type 0

@@ -218,7 +218,7 @@ impl<P: Duplex> Line<P> {
     }
 
     /// What is heard from the client, where it is there; nothing is read from it where so much waits for the server. One that is gone is let go.
-    #[tactic(auto, using(crate::proofs::Hearing::tells_last))]
+    #[tactic(auto, using(crate::proofs::Hearing::tells_last, crate::proofs::Hearing::of_client))]
     fn heard_down(
         &mut self,
         alloc: Global,
@@ -245,7 +245,7 @@ impl<P: Duplex> Line<P> {
     }
 
     /// What is heard from the upstream server, where it is there. One that is gone is let go.
-    #[tactic(auto, using(crate::proofs::Hearing::tells_last))]
+    #[tactic(auto, using(crate::proofs::Hearing::tells_last, crate::proofs::Hearing::of_server))]
     fn heard_up(
         &mut self,
         alloc: Global,
