@@ -173,7 +173,7 @@ chained : (response : Bool) (t : List chain_stage.Stage) (x : Exchange) → ((wi
 chained false t x = (refl, refl, (λ s. s), refl)
 chained true t x = (refl, refl, (λ s. s), refl)
 
-asks_on : (n m : ℕ) (x : Exchange) (hub : Hub) → SendsOn m hub (asks_exchange m x hub).2
+pub asks_on : (n m : ℕ) (x : Exchange) (hub : Hub) → SendsOn m hub (asks_exchange m x hub).2
 asks_on n m x hub =
     let t = asked hub.contexts (chain_of (asks_response x) x) in
     let s : SendsOn m (with_held t.2 hub) (asks_exchange m x hub).2 = asks_as_on (asks_response x) m t.0 (with_chain (asks_response x) t.1 x) (with_held t.2 hub) in

@@ -36,3 +36,13 @@ pub mod Hosts
 pub mod Machines
 pub mod Readable
 pub mod Product
+pub mod Moments
+pub mod Untouched
+pub mod Spared
+pub mod Isolation
+pub mod OwnSteps
+pub mod OtherTurns
+pub mod IsolationExamples
+pub mod Depends
+pub mod AlikeRooms
+pub mod AlikeSteps

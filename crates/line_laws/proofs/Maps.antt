@@ -36,12 +36,12 @@ mark_map a b c q p h = view_map _ q p h (λ v. refl)
 
 -- ---- an exchange that was opened
 
-set_there : {A : Type 0} (xs : List A) (n : ℕ) (x d : A) → n < length xs → slice_index_or (slice_set xs n x) n d ≡ x
+pub set_there : {A : Type 0} (xs : List A) (n : ℕ) (x d : A) → n < length xs → slice_index_or (slice_set xs n x) n d ≡ x
 set_there [] n x d inside = let never : ⊥ = omega arith in absurd never
 set_there (y ∷ xs) zero x d inside = refl
 set_there (y ∷ xs) (suc n) x d inside = set_there xs n x d (omega arith)
 
-last_there : {A : Type 0} (xs : List A) (x d : A) → slice_index_or (xs ++ x ∷ []) (length xs) d ≡ x
+pub last_there : {A : Type 0} (xs : List A) (x d : A) → slice_index_or (xs ++ x ∷ []) (length xs) d ≡ x
 last_there [] x d = refl
 last_there (y ∷ xs) x d = last_there xs x d
 

@@ -6,3 +6,6 @@ pub mod Requests
 pub mod Turns
 pub mod Examples
 pub mod Laws
+pub mod Isolation
+pub mod IsolationExamples
+pub mod Alike

@@ -1,5 +1,8 @@
 // What holds of lines over turns. The functions have nothing to do: their contracts are the laws.
+ghost use Rattle.line_laws.specs.Alike.{StepsDependOnTheLine};
 ghost use Rattle.line_laws.specs.Examples.{LineExamples};
+ghost use Rattle.line_laws.specs.Isolation.{OthersLeaveTheLine, OwnStepsCallNothing, TurnsOfOthersLeaveTheLine};
+ghost use Rattle.line_laws.specs.IsolationExamples.{IsolationExample};
 ghost use Rattle.line_laws.specs.Laws.{ExchangesLive, RequestsGoUpOneByOne, RequestsOfTheProductGoUp, WorkersGoUpOneByOne};
 ghost use Rattle.line_laws.specs.Logs.{WriteLogs};
 ghost use Rattle.line_laws.specs.Turns.{WorkersBeginSo};
@@ -49,4 +52,28 @@ pub fn requests_of_the_product_go_up<S: Shared>()
 /// definitions of what goes up refuse.
 pub fn worked_lines()
     ensures { LineExamples }
+{}
+
+/// Isolation of lines without filters. A line is free where the exchange on it, if there is one, has neither filters nor stages. Whatever machines do but that
+/// they send nothing but logs, whatever stores reply and whatever is read, a step that is not of a free line (a callback of any VM, whether it answers, closes,
+/// goes on or dies, a tick, a notice, a start, the end of a context, and whatever happens on other lines) leaves the line as it was, sends nothing on it and puts
+/// nothing of it in hand. A step of the line calls no machine and no store, is the same whatever the machines are, and leaves it free where no request
+/// for a route with filters comes. And a whole turn at the event of another line, from a room at rest, sends nothing on a free line whose response is not due, and
+/// leaves that as it was.
+pub fn lines_without_filters_are_isolated<H>()
+    ensures others { OthersLeaveTheLine H }
+    ensures own { OwnStepsCallNothing H }
+    ensures turns { TurnsOfOthersLeaveTheLine H }
+{}
+
+/// What a step of a line without filters does on it depends on the line, the maps of its exchange, the moment and what is read: two workers that agree on these,
+/// whatever their other lines, their machines and what they send besides are, send the same by the same step and agree on the line afterwards, but for the place of
+/// the exchange's maps. Whether a line that is opened finds room is asked for besides; and of the job that answers late responses, which is of all lines, nothing is said.
+pub fn steps_depend_on_their_line<H, K>()
+    ensures { StepsDependOnTheLine H K }
+{}
+
+/// Two lines, of which the second is free: the filter of the first answers, or traps, which is sent on the first line alone.
+pub fn worked_free_lines()
+    ensures { IsolationExample }
 {}
