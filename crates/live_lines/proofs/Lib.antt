@@ -1,2 +1,3 @@
 pub mod Hearing
 pub mod Passing
+pub mod Turns

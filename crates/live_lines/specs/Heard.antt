@@ -10,6 +10,13 @@ IsHeard End = Unit {0}
 IsHeard Lost = Unit {0}
 IsHeard Nothing = Unit {0}
 
+-- this holds where the end was read
+abbrev pub OnEndHeard : Type 0 → Heard → Type 0
+OnEndHeard why End = why
+OnEndHeard why (Bytes n) = Unit {0}
+OnEndHeard why Lost = Unit {0}
+OnEndHeard why Nothing = Unit {0}
+
 -- the bytes that were read into the room
 abbrev pub bytes_heard : List ℕ → Heard → List ℕ
 bytes_heard room (Bytes n) = take n room

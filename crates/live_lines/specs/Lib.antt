@@ -3,4 +3,5 @@ pub mod Heard
 pub mod Lines
 pub mod Passing
 pub mod Told
+pub mod Turns
 pub mod Waiting

@@ -9,6 +9,7 @@ use Rattle.live_lines.specs.Passing.{HeardOn, SentOn}
 use Rattle.live_lines.specs.Told.{IsOf}
 use Rattle.live_lines.specs.Waiting.{is_full}
 use Rattle.live_lines.specs.declared.line.Line.{Line}
+use Rattle.live_lines.specs.declared.upstream.Upstream.{Upstream}
 
 -- so many lines a worker keeps at most, with those that wait to be closed
 abbrev pub most_lines : ℕ
@@ -89,6 +90,11 @@ ClosedAt old at Up new = ClosedUp old at new
 abbrev pub ClosedIn : {P : Type 0} → List (Line P) → ℕ → Side → List (Line P) → Type 0
 ClosedIn {P} old number side new =
     ((position (λ (line : Line P). line.number == number) old ≡ None) × (new ≡ old)) ⊎ ((at : ℕ) × (position (λ (line : Line P). line.number == number) old ≡ Some at) × ClosedAt old at side new)
+
+-- the connection to the server alone
+abbrev pub peer_of : {P : Type 0} → Option (Upstream P) → Option P
+peer_of None = None
+peer_of (Some up) = Some up.peer
 
 -- The line at a place gets a connection to the server for which nothing waits, or none, and that is to be told. The other lines are as before.
 pub record ConnectedAt {P : Type 0} (old : List (Line P)) (at : ℕ) (new : List (Line P)) : Type 0 where

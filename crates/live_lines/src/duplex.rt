@@ -1,7 +1,8 @@
 // A connection, from which bytes are read and to which they are written.
-ghost use Rattle.std.specs.Prelude.{◌≡◌, ◌≤◌, ℕ, List, Option, length, take};
+ghost use Rattle.std.specs.Prelude.{◌≡◌, ◌≤◌, ℕ, [], List, Bool, Option, length, take, IsTrue, IfOk, IfSome};
 ghost use Rattle.gate_io.specs.Told.{Gains};
 ghost use Rattle.live_lines.specs.Heard.{IsHeard, bytes_heard};
+ghost use Rattle.live_lines.specs.declared.duplex.Heard.{Heard};
 
 use crate::room::Room;
 use mio::event::Event as Readiness;
@@ -29,26 +30,31 @@ pub trait Duplex: Drop {
     /// All bytes that it took so far, in order, where told.
     ghost took: { Self → Option (List ℕ) };
 
+    /// Whether something may be there to read.
+    ghost ready: { Self → Bool };
+
+    /// What a read of it may give, and what it leaves of it.
+    ghost reads: { Self → Heard → Self → Type 0 };
+
     /// The connection over a stream, registered under a token. One that is `joining` was begun and is not known to stand.
-    fn over(
-        stream: TcpStream,
-        registry: &Registry,
-        token: Token,
-        joining: bool,
-    ) -> io::Result<Self>;
+    fn over(stream: TcpStream, registry: &Registry, token: Token, joining: bool) -> io::Result<Self>
+        ensures gave { IfOk result (λ peer. IfSome (gave peer) (λ bytes. bytes ≡ [])) }
+        ensures took { IfOk result (λ peer. IfSome (took peer) (λ bytes. bytes ≡ [])) };
 
     /// Reads what is there, at most 16,384 bytes.
     fn read(&mut self, room: &mut Room) -> Heard
         ensures heard { IsHeard result }
         ensures gave { Gains (gave self.old) (bytes_heard room.new.bytes.items result) (gave self.new) }
-        ensures kept { took self.new ≡ took self.old };
+        ensures kept { took self.new ≡ took self.old }
+        ensures reads { reads self.old result self.new };
 
     /// Takes bytes from the front, as many as there is room for: the answer is how many. Those for a connection that is gone count
-    /// as taken.
+    /// as taken. One that may have something to read still may.
     fn write(&mut self, bytes: &[u8]) -> usize
         ensures bound { result ≤ length bytes.now }
         ensures took { Gains (took self.old) (take result bytes.now) (took self.new) }
-        ensures kept { gave self.new ≡ gave self.old };
+        ensures kept { gave self.new ≡ gave self.old }
+        ensures ready { IsTrue (ready self.old) → IsTrue (ready self.new) };
 
     /// Keeps what the system told.
     fn note(&mut self, told: &Readiness)
@@ -62,7 +68,8 @@ pub trait Duplex: Drop {
     fn is_refused(&self) -> bool;
 
     /// Whether something may be there to read.
-    fn is_readable(&self) -> bool;
+    fn is_readable(&self) -> bool
+        ensures { result ≡ ready self.now };
 
     /// Whether the peer's end was read.
     fn is_ended(&self) -> bool;

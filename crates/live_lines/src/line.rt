@@ -1,9 +1,10 @@
 // A line, with its connections.
-ghost use Rattle.std.specs.Prelude.{◌≡◌, ◌≤◌, ◌↔◌, [], Bool, None, Some, length, IsTrue, IfOk, IfSome, IsSomeAnd, Contains};
+ghost use Rattle.std.specs.Prelude.{◌≡◌, ◌≤◌, ◌↔◌, [], Bool, true, false, None, Some, length, IsTrue, IfOk, IfSome, IfNone, IsSomeAnd, Contains};
 ghost use Rattle.gate_io.specs.Events.{wanted};
 ghost use Rattle.gate_io.specs.Told.{Gains};
 ghost use Rattle.live_lines.specs.Allowed.{IsAllowed, HoldsBack};
 ghost use Rattle.live_lines.specs.Told.{IsOf, IsReadOf, IsHeardFrom, IsLast, LiesIn, bytes_told};
+ghost use Rattle.live_lines.specs.Turns.{IsToldOf, IsSilent, OnEnd, WasRead};
 ghost use Rattle.gate_io.specs.declared.event.Side.TheVariants as sides;
 ghost use Rattle.gate_io.specs.declared.event.What.TheVariants as whats;
 ghost use Rattle.live_lines.specs.Heard.{IsHeard, bytes_heard};
@@ -54,6 +55,7 @@ fn told<P: Duplex>(
     ensures read { IfOk result (λ told. IfSome told (LiesIn room.new.bytes.items)) }
     ensures gave { IfOk result (λ told. Gains (P.gave peer.old) (bytes_told told) (P.gave peer.new)) }
     ensures kept { P.took peer.new ≡ P.took peer.old }
+    ensures told { IfOk result (IsToldOf (λ heard. P.reads peer.old heard peer.new)) }
 {
     let heard = peer.read(room);
     event_of(alloc, wants, line, side, heard, room)
@@ -77,6 +79,7 @@ fn event_of(
     ensures end { heard ≡ Heard.End → IfOk result (λ told. told ≡ Some (whats.End line side)) }
     ensures lost { heard ≡ Heard.Lost → IfOk result (λ told. told ≡ Some (whats.Gone line side)) }
     ensures nothing { heard ≡ Heard.Nothing → IfOk result (λ told. told ≡ None) }
+    ensures told { IfOk result (IsToldOf (λ given. heard ≡ given)) }
 {
     match heard {
         Heard::Bytes(n) => {
@@ -90,6 +93,7 @@ fn event_of(
 }
 
 /// What is heard from the client of a line. Nothing is read from it while so much waits for the server.
+#[tactic(auto, using(crate::proofs::Turns::told_silent, crate::proofs::Turns::told_end))]
 fn heard_down<P: Duplex>(
     alloc: Global,
     wants: &Wants,
@@ -105,6 +109,8 @@ fn heard_down<P: Duplex>(
     ensures held { IfOk result (λ told. IfSome told (HoldsBack is_full)) }
     ensures gave { IfOk result (λ told. Gains (P.gave peer.old) (bytes_told told) (P.gave peer.new)) }
     ensures kept { P.took peer.new ≡ P.took peer.old }
+    ensures silent { IfOk result (λ told. IfNone told (IsSilent P.ready P.reads ((is_full ≡ false) × Contains (wanted wants.now sides.Down) line) peer.old peer.new)) }
+    ensures ended { IfOk result (λ told. IfSome told (OnEnd (WasRead P.reads Heard.End peer.new))) }
 {
     let side = Side::Down;
     if peer.is_broken() {
@@ -120,6 +126,7 @@ fn heard_down<P: Duplex>(
 }
 
 /// What is heard from the upstream server of a line. A broken connection is read to its end first, where that is wanted.
+#[tactic(auto, using(crate::proofs::Turns::told_silent, crate::proofs::Turns::told_end))]
 fn heard_up<P: Duplex>(
     alloc: Global,
     wants: &Wants,
@@ -134,6 +141,8 @@ fn heard_up<P: Duplex>(
     ensures free { (full : Bool) → IfOk result (λ told. IfSome told (HoldsBack full)) }
     ensures gave { IfOk result (λ told. Gains (P.gave peer.old) (bytes_told told) (P.gave peer.new)) }
     ensures kept { P.took peer.new ≡ P.took peer.old }
+    ensures silent { IfOk result (λ told. IfNone told (IsSilent P.ready P.reads (Contains (wanted wants.now sides.Up) line) peer.old peer.new)) }
+    ensures ended { IfOk result (λ told. IfSome told (OnEnd (WasRead P.reads Heard.End peer.new))) }
 {
     let side = Side::Up;
     if peer.is_refused() {
@@ -163,6 +172,8 @@ fn heard_behind<P: Duplex>(
     ensures free { (full : Bool) → IfOk result (λ told. IfSome told (HoldsBack full)) }
     ensures gave { IfOk result (λ told. Gains (P.gave up.old.peer) (bytes_told told) (P.gave up.new.peer)) }
     ensures goes_on { GoesOn (P.took up.old.peer) up.old.waiting [] (P.took up.new.peer) up.new.waiting }
+    ensures silent { IfOk result (λ told. IfNone told (IsSilent P.ready P.reads (Contains (wanted wants.now sides.Up) line) up.old.peer up.new.peer)) }
+    ensures ended { IfOk result (λ told. IfSome told (OnEnd (WasRead P.reads Heard.End up.new.peer))) }
 {
     up.flush();
     heard_up(alloc, wants, line, &mut up.peer, room)
@@ -177,13 +188,14 @@ fn ends(told: &Option<What>) -> bool
 }
 
 impl<P: Duplex> Line<P> {
-    ghost use Rattle.std.specs.Prelude.{◌⊎◌, is_none, OnErr};
-    ghost use Rattle.live_lines.specs.Lines.{is_over};
+    ghost use Rattle.std.specs.Prelude.{◌⊎◌, ◌&&◌, not, is_none, OnErr};
+    ghost use Rattle.live_lines.specs.Lines.{is_over, peer_of};
     ghost use Rattle.live_lines.specs.Passing.{HeardOn, SentOn};
+    ghost use Rattle.live_lines.specs.Turns.{ClientIsSilent, ServerIsSilent, EndWasRead, is_told_from};
 
     /// What is heard on the line, of the server first where the client was heard last: one that sends without pause keeps nobody from hearing an
     /// early answer. Nothing is read from the client while 65,536 bytes wait for the server.
-    #[tactic(auto, using(crate::proofs::Hearing::heard_more, crate::proofs::Hearing::heard_same))]
+    #[tactic(auto, using(crate::proofs::Hearing::heard_more, crate::proofs::Hearing::heard_same, crate::proofs::Turns::from_own, crate::proofs::Turns::end_of_client, crate::proofs::Turns::end_of_server))]
     pub fn heard(
         &mut self,
         alloc: Global,
@@ -197,6 +209,13 @@ impl<P: Duplex> Line<P> {
         ensures side { IfOk result (λ told. IfSome told (λ what. IsHeardFrom self.old.number sides.Down what ⊎ IsHeardFrom self.old.number sides.Up what)) }
         ensures heard { IfOk result (λ told. HeardOn P.gave P.took self.old told self.new) }
         ensures number { self.new.number ≡ self.old.number }
+
+        // A refusal is told first, and no turn changes by it. Else the client's turn is behind each call, but for one in which the client was heard first and told something.
+        ensures refusal { self.old.refused ≡ true → IfOk result (λ told. (told ≡ Some (whats.Refused self.old.number)) × (self.new.server_first ≡ self.old.server_first)) }
+        ensures turn { self.old.refused ≡ false → IfOk result (λ told. self.new.server_first ≡ (not self.old.server_first && is_told_from sides.Down told)) }
+        ensures server { self.old.refused ≡ false → self.old.server_first ≡ true → IfOk result (λ told. is_told_from sides.Up told ≡ false → ServerIsSilent P.ready P.reads (Contains (wanted wants.now sides.Up) self.old.number) self.old.up self.new.up) }
+        ensures client { self.old.refused ≡ false → self.old.server_first ≡ false → IfOk result (λ told. is_told_from sides.Down told ≡ false → ClientIsSilent P.ready P.reads ((is_full self.old.up ≡ false) × Contains (wanted wants.now sides.Down) self.old.number) self.old.down self.new.down) }
+        ensures ended { IfOk result (λ told. IfSome told (EndWasRead P.reads self.new)) }
     {
         if self.refused {
             self.refused = false;
@@ -233,6 +252,10 @@ impl<P: Duplex> Line<P> {
         ensures held { IfOk result (λ told. IfSome told (HoldsBack is_full)) }
         ensures number { self.new.number ≡ self.old.number }
         ensures heard { IfOk result (λ told. HeardOn P.gave P.took self.old told self.new) }
+        ensures first { self.new.server_first ≡ self.old.server_first }
+        ensures up { self.new.up ≡ self.old.up }
+        ensures silent { IfOk result (λ told. IfNone told (ClientIsSilent P.ready P.reads ((is_full ≡ false) × Contains (wanted wants.now sides.Down) self.old.number) self.old.down self.new.down)) }
+        ensures ended { IfOk result (λ told. IfSome self.new.down (λ peer. IfSome told (OnEnd (WasRead P.reads Heard.End peer)))) }
     {
         let Some(peer) = &mut self.down else {
             return Ok(None);
@@ -259,6 +282,10 @@ impl<P: Duplex> Line<P> {
         ensures free { (full : Bool) → IfOk result (λ told. IfSome told (HoldsBack full)) }
         ensures number { self.new.number ≡ self.old.number }
         ensures heard { IfOk result (λ told. HeardOn P.gave P.took self.old told self.new) }
+        ensures first { self.new.server_first ≡ self.old.server_first }
+        ensures down { self.new.down ≡ self.old.down }
+        ensures silent { IfOk result (λ told. IfNone told (ServerIsSilent P.ready P.reads (Contains (wanted wants.now sides.Up) self.old.number) self.old.up self.new.up)) }
+        ensures ended { IfOk result (λ told. IfSome self.new.up (λ up. IfSome told (OnEnd (WasRead P.reads Heard.End up.peer)))) }
     {
         let Some(up) = &mut self.up else {
             return Ok(None);
@@ -276,6 +303,7 @@ impl<P: Duplex> Line<P> {
         ensures down { self.new.down ≡ self.old.down }
         ensures fresh { IfSome self.new.up (λ up. up.waiting ≡ []) }
         ensures refused { self.new.refused ≡ is_none self.new.up }
+        ensures peer { peer_of self.new.up ≡ peer }
     {
         self.refused = peer.is_none();
         self.up = match peer {

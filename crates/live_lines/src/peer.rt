@@ -1,5 +1,6 @@
 // A connection to a peer.
-ghost use Rattle.live_lines.specs.Heard.{IsHeard};
+ghost use Rattle.std.specs.Prelude.{◌≡◌, true};
+ghost use Rattle.live_lines.specs.Heard.{IsHeard, OnEndHeard};
 
 use crate::duplex::{Duplex, Heard};
 use crate::room::Room;
@@ -37,7 +38,8 @@ pub struct Peer {
 impl Peer {
     /// The peer's end was read.
     fn end(&mut self) -> Heard
-        ensures { IsHeard result }
+        ensures heard { IsHeard result }
+        ensures ended { OnEndHeard (self.new.ended ≡ true) result }
     {
         self.ended = true;
         if self.broken { Heard::Lost } else { Heard::End }
@@ -45,7 +47,8 @@ impl Peer {
 
     /// Nothing is there to read.
     fn blocked(&mut self) -> Heard
-        ensures { IsHeard result }
+        ensures heard { IsHeard result }
+        ensures ended { OnEndHeard (self.new.ended ≡ true) result }
     {
         self.readable = false;
         if self.broken {
@@ -56,13 +59,18 @@ impl Peer {
     }
 }
 
-// A socket tells nothing of what it gives and takes. What is written to a broken connection is dropped.
+// A socket tells nothing of what it gives and takes, and of a read that its end is kept. What is written to a broken connection is dropped.
 impl Duplex for Peer {
-    ghost use Rattle.std.specs.Prelude.{None};
+    ghost use Rattle.std.specs.Prelude.{◌≡◌, ◌&&◌, true, not, None};
+    ghost use Rattle.live_lines.specs.Heard.{OnEndHeard};
 
     ghost gave = { λ _. None };
 
     ghost took = { λ _. None };
+
+    ghost ready = { λ p. p.readable && not p.ended };
+
+    ghost reads = { λ old heard new. OnEndHeard (new.ended ≡ true) heard };
 
     fn over(
         stream: TcpStream,

@@ -1,5 +1,5 @@
 // A connection to the upstream server.
-ghost use Rattle.std.specs.Prelude.{◌≡◌, ◌≤◌, ◌⊎◌, [], length, take, nat_le, IfOk, OnOk, OnErr};
+ghost use Rattle.std.specs.Prelude.{◌≡◌, ◌≤◌, ◌⊎◌, [], length, take, nat_le, IsTrue, IfOk, OnOk, OnErr};
 ghost use Rattle.gate_io.specs.Told.{Gains, GainsFront};
 ghost use Rattle.live_lines.specs.Waiting.{GoesOn};
 
@@ -24,6 +24,7 @@ pub struct Upstream<P> {
 pub fn flush<P: Duplex>(peer: &mut P, waiting: &mut Waiting)
     ensures goes_on { GoesOn (P.took peer.old) waiting.old [] (P.took peer.new) waiting.new }
     ensures gave { P.gave peer.new ≡ P.gave peer.old }
+    ensures ready { IsTrue (P.ready peer.old) → IsTrue (P.ready peer.new) }
 {
     let n = peer.write(waiting.as_slice());
     waiting.take(n);
@@ -72,6 +73,7 @@ impl<P: Duplex> Upstream<P> {
     pub fn flush(&mut self)
         ensures goes_on { GoesOn (P.took self.old.peer) self.old.waiting [] (P.took self.new.peer) self.new.waiting }
         ensures gave { P.gave self.new.peer ≡ P.gave self.old.peer }
+        ensures ready { IsTrue (P.ready self.old.peer) → IsTrue (P.ready self.new.peer) }
     {
         if !self.waiting.is_empty() {
             flush(&mut self.peer, &mut self.waiting);
