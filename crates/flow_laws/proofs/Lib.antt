@@ -15,5 +15,7 @@ pub mod Turns
 pub mod DeadEntered
 pub mod DeadRooms
 pub mod DeadLives
+pub mod DyingRooms
+pub mod Dying
 pub mod Created
 pub mod TurnExamples

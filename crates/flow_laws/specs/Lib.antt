@@ -13,5 +13,6 @@ pub mod Stepping
 pub mod Turns
 pub mod Steps
 pub mod Dead
+pub mod Dying
 pub mod Created
 pub mod TurnExamples

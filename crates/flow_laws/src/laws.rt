@@ -4,6 +4,7 @@ ghost use Rattle.flow_laws.specs.Contexts.{CallsAreRuns, ContextsLeave};
 ghost use Rattle.flow_laws.specs.Created.{ContextsAreOfTheirVms, CreatedExample, FiltersTellTheirVms};
 ghost use Rattle.flow_laws.specs.Dead.{TheDeadAreCalledNoMore, UncalledExample, VmsDie};
 ghost use Rattle.flow_laws.specs.Deaths.{AllLinesLeave, DeathsEndMoves, DeathsGoOn, DeathsReach};
+ghost use Rattle.flow_laws.specs.Dying.{DeathsAreKillings, DeathsHaveCauses, DyingExample};
 ghost use Rattle.flow_laws.specs.Effects.{AskingElsewhereLeaves, CallbacksAreRuns, MildEffectsAreOthers};
 ghost use Rattle.flow_laws.specs.Elsewhere.{OtherDirectionMoves, OtherLinesMove};
 ghost use Rattle.flow_laws.specs.Events.{EventsLeave};
@@ -123,6 +124,17 @@ pub fn the_dead_are_called_no_more<H>()
     ensures uncalled { TheDeadAreCalledNoMore H }
     ensures causes { VmsDie }
     ensures worked { UncalledExample }
+{}
+
+/// Behind any step of a worker those are dead who were before it, and at most one VM more, which was killed in that step: the step's callback was of it and died, as by a trap or
+/// spent fuel; its start, or the configuration of a plug-in of it, answered 0; or the root of such a plug-in, or the context of a filter of it, was to be made, and no id was left.
+/// And a VM that is killed in a step is dead behind it. Which callback a step calls is told by what is next and the room; where there is none, the machines are as they were behind
+/// the step. So of any steps of any turns: a VM that is dead at their end and was not at their beginning was killed in one of them, before which it was not dead. Worked of a VM
+/// whose start answers 0. That the step's line in the log names this cause is not said.
+pub fn why_vms_die<H>()
+    ensures step { DeathsHaveCauses H }
+    ensures life { DeathsAreKillings H }
+    ensures worked { DyingExample }
 {}
 
 /// A context that is made for a filter of an exchange is of the VM that the filter tells, which lives and has a root of the number of the plug-in's root, and under the
