@@ -3,5 +3,5 @@ use Rattle.shared_seats.specs.Workers.{AreAll}
 use Rattle.metric_driver.proofs.row.play.Given as goal
 
 -- all seats are there
-abbrev pub invariant-loop-first : goal.invariant-loop-first
-invariant-loop-first g l = AreAll l.tables l.lists.items × (length l.lists.items ≡ length l.fn.lists.items)
+abbrev pub invariant-loop-who : goal.invariant-loop-who
+invariant-loop-who g l = AreAll l.tables l.lists.items × (length l.lists.items ≡ length l.fn.lists.items)
