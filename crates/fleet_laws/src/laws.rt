@@ -1,5 +1,6 @@
 // Functions without a body, whose clauses hold of each fleet.
 ghost use Rattle.fleet_laws.specs.Calls.{CallsExamples, EachCallStandsOnce};
+ghost use Rattle.fleet_laws.specs.Lives.{BeginsWithout, EarlyLivesTookEvents};
 
 use course::Host;
 use fleet::{all_lives_are_meant, each_vm_has_one_history, seats_go_on_by_lives};
@@ -22,4 +23,11 @@ pub fn each_call_of_a_fleet_stands_once<H: Host, W: World>()
 /// Whose calls are whose, and whose events.
 pub fn worked_calls<H: Host, W: World>()
     ensures { CallsExamples W.trace W.nature W.faults H.calling }
+{}
+
+/// Each life of a worker behind which another one began was given an event, since a life begins with none. So a worker that has no memory to take one does
+/// not begin again for ever.
+pub fn early_lives_took_events<H: Host>()
+    ensures took { EarlyLivesTookEvents H.calling }
+    ensures begins { BeginsWithout H.exported H.registering }
 {}

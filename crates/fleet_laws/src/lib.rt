@@ -1,6 +1,6 @@
-//! What the calls of all workers of a fleet come to, as one law.
+//! What the calls of all workers of a fleet come to, as one law; and a law of their lives.
 #![tactic(auto)]
 
 mod laws;
 
-pub use laws::{each_call_of_a_fleet_stands_once, worked_calls};
+pub use laws::{each_call_of_a_fleet_stands_once, early_lives_took_events, worked_calls};
