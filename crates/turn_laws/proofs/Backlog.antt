@@ -104,7 +104,7 @@ member_waits line side (to.Bytes l s bytes) = if_bytes (l == line && is_same_sid
 member_waits line side (to.Close l s) = if_none (l == line && is_same_side s side) closing refl
 member_waits line side (to.Log level text) = refl
 
-waits : (line : ℕ) (side : Side) (waiting : List Sent) → octets_in (marks_at (Peer line side) waiting) ≡ backlog line side waiting
+pub waits : (line : ℕ) (side : Side) (waiting : List Sent) → octets_in (marks_at (Peer line side) waiting) ≡ backlog line side waiting
 waits line side [] = refl
 waits line side (member ∷ waiting) =
     omega (arith, octets_in-append (marks_of (Peer line side) member) (marks_at (Peer line side) waiting), member_waits line side member, waits line side waiting)

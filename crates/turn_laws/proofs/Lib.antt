@@ -16,6 +16,7 @@ mod Starts
 mod Leaving
 mod Firsts
 pub mod Backlog
+mod BacklogTurns
 mod Ended
 mod Due
 mod Rules

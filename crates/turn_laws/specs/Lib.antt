@@ -17,6 +17,7 @@ pub mod Starts
 pub mod Leaving
 pub mod Firsts
 pub mod Backlog
+pub mod BacklogTurns
 pub mod Ended
 pub mod Due
 pub mod Rules

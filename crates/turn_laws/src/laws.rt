@@ -21,6 +21,9 @@ ghost use Rattle.turn_laws.specs.Rules.{FilteringExamples, TargetExamples};
 ghost use Rattle.turn_laws.specs.Interim.{InterimKeepsLines, InterimExample};
 ghost use Rattle.turn_laws.specs.Deaths.{DeathLines};
 ghost use Rattle.turn_laws.specs.Backlog.{RoomExamples, TextExamples, LineExamples, BacklogIsBounded, UnreadIsBounded, ReaderIsBounded};
+ghost use Rattle.turn_laws.specs.BacklogTurns.{BacklogIsKept, EventsFit};
+
+use store_model::Shared;
 
 /// Whatever the machines are, a turn is a function of what the shared stores reply.
 pub fn turn_is_function_over<H>()
@@ -160,6 +163,15 @@ pub fn backlog_is_bounded()
     ensures waiting { BacklogIsBounded }
     ensures unread { UnreadIsBounded }
     ensures reader { ReaderIsBounded }
+{}
+
+/// By turns that a worker's code takes over a world that gives what it is asked for: however a turn ended, bytes of a client come in it where fewer than 65,536 wait on each side of
+/// its line when the turn begins, and bytes of a server where fewer wait for its client. Behind a turn that ended well no more waits on a side of a line than did in front of it and
+/// the turn sends there; so behind any such turns from one on in which bytes came, fewer than 65,536 wait on those sides besides what was sent there since, by that turn too. How
+/// much a turn sends is not said: a filter may make more of a piece, and what waits at one time has no bound of its own.
+pub fn turns_keep_backlog<H, S: Shared>()
+    ensures events { EventsFit H }
+    ensures turns { BacklogIsKept H S S.performs }
 {}
 
 /// Whatever the room of a worker that has begun, it wants to be called not behind the tick of any root of a VM that lives, nor behind any
