@@ -20,7 +20,8 @@ enum Held {
     Call,
 }
 
-/// Counts the turns of each of workers 1 to 4 and the shared calls on the first VM and on others, and may hold a worker.
+/// Counts the turns of each of workers 1 to 4, the shared calls on the first VM and on others, and how many of these were made before each turn, all
+/// together; and may hold a worker.
 #[derive(Drop)]
 pub struct Watch {
     first: AtomicU64,
@@ -29,14 +30,16 @@ pub struct Watch {
     fourth: AtomicU64,
     calls: AtomicU64,
     others: AtomicU64,
+    seen: AtomicU64,
     given_up: AtomicU64,
     held: Held,
     tells_calls: bool,
+    tells_seen: bool,
 }
 
 impl Watch {
     /// A gate that nobody has passed. It holds a turn for the word `turn`, a call for `call`, and else nobody. For `load` it tells no calls: how
-    /// often workers ask a store for notices is left to their threads.
+    /// often workers ask a store for notices is left to their threads. For `seen` it tells how many calls were made before each turn, all together.
     pub fn new(word: &str) -> Self {
         Watch {
             first: AtomicU64::new(0),
@@ -45,6 +48,7 @@ impl Watch {
             fourth: AtomicU64::new(0),
             calls: AtomicU64::new(0),
             others: AtomicU64::new(0),
+            seen: AtomicU64::new(0),
             given_up: AtomicU64::new(0),
             held: match word {
                 "turn" => Held::Turn,
@@ -52,6 +56,7 @@ impl Watch {
                 _ => Held::Nobody,
             },
             tells_calls: !matches!(word, "load"),
+            tells_seen: matches!(word, "seen"),
         }
     }
 
@@ -63,6 +68,14 @@ impl Watch {
             }
         }
         self.given_up.store(1, Ordering::SeqCst);
+    }
+
+    /// Adds the calls that were made so far to those that were seen.
+    fn see(&self) {
+        self.seen
+            .fetch_add(self.calls.load(Ordering::SeqCst), Ordering::SeqCst);
+        self.seen
+            .fetch_add(self.others.load(Ordering::SeqCst), Ordering::SeqCst);
     }
 
     /// Notes a turn of a worker.
@@ -119,6 +132,12 @@ impl Watch {
         tell_number(alloc, told, self.others.load(Ordering::SeqCst))
     }
 
+    /// Puts how many calls were made before each turn, all together, at the end of a text.
+    fn tell_seen(&self, alloc: Global, told: &mut String) -> Result<(), OutOfMemory> {
+        told.push_str(", seen ")?;
+        tell_number(alloc, told, self.seen.load(Ordering::SeqCst))
+    }
+
     /// Puts how many turns and shared calls there were, and whether a worker that was held was not let go, at the end of a text.
     pub fn tell(&self, alloc: Global, told: &mut String) -> Result<(), OutOfMemory> {
         self.tell_turns(alloc, told)?;
@@ -126,14 +145,21 @@ impl Watch {
             self.tell_calls(alloc, told)?;
         }
         told.push_str(", given up ")?;
-        tell_number(alloc, told, self.given_up.load(Ordering::SeqCst))
+        tell_number(alloc, told, self.given_up.load(Ordering::SeqCst))?;
+        if self.tells_seen {
+            self.tell_seen(alloc, told)?;
+        }
+        Ok(())
     }
 }
 
 impl Gate for Watch {
     fn at(&self, worker: WorkerNo, point: Point) {
         match point {
-            Point::BeforeTurn => self.turn(worker),
+            Point::BeforeTurn => {
+                self.see();
+                self.turn(worker);
+            }
             Point::InsideTurn(vm) => self.call(vm),
         }
     }

@@ -104,9 +104,9 @@ impl Stage {
 }
 
 /// `serve GATE START WRITE WORD,WORD..`: runs the command of these words over what is laid out, where the site's starts and the output's writes
-/// of these numbers fail, 0 for none, and the gate holds a turn for the word `turn` and a call for `call`, and tells no calls for
-/// `load`. How it ended, what it wrote to standard error and to standard output, with what the site was started, what each world took that came
-/// back, and what passed the gate.
+/// of these numbers fail, 0 for none, and the gate holds a turn for the word `turn` and a call for `call`, tells no calls for `load`, and for
+/// `seen` tells how many were made before each turn. How it ended, what it wrote to standard error and to standard output, with what the site
+/// was started, what each world took that came back, and what passed the gate.
 pub fn served<R: Threads + Wait + Sync>(
     rt: &R,
     alloc: Global,
