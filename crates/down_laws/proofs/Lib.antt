@@ -13,3 +13,14 @@ pub mod Ending
 pub mod Stepping
 pub mod Turning
 pub mod Refusing
+pub mod Ordering
+pub mod Upwards
+pub mod Quietly
+pub mod Goings
+pub mod Cutting
+pub mod Gone
+pub mod Orderly
+pub mod Listening
+pub mod Facing
+pub mod Ordered
+pub mod Turnwise

@@ -151,7 +151,7 @@ module _ {H : Type 0} (calling : Calling H) (logs : WriteLogs calling) (plan : P
   abbrev pub Whole : Room → Type 0
   Whole room = (n : ℕ) → Known plan n past room × Under plan n past room
 
-  both_ends : (p : Course (Both H)) → ((n : ℕ) → AllEnds (λ (b : Both H). Known plan n past b.room) p) → ((n : ℕ) → Leaves n p) → AllEnds (λ (b : Both H). Whole b.room) p
+  pub both_ends : (p : Course (Both H)) → ((n : ℕ) → AllEnds (λ (b : Both H). Known plan n past b.room) p) → ((n : ℕ) → Leaves n p) → AllEnds (λ (b : Both H). Whole b.room) p
   both_ends (ends b) up down = λ n. (up n, down n)
   both_ends (asks vm call k) up down = λ r. both_ends (k r) (λ n. up n r) (λ n. down n r)
   both_ends (measures vm call k) up down = λ r. both_ends (k r) (λ n. up n r) (λ n. down n r)

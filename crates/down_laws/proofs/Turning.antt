@@ -43,7 +43,7 @@ use Rattle.down_laws.proofs.Stepping.{settling_whole}
 
 -- ---- a turn
 
-emptied_under : (plan : Plan) (n : ℕ) (past : List Sent) (room : Room) → Under plan n past room → Under plan n (past ++ joined room.hub.sent) (emptied room)
+pub emptied_under : (plan : Plan) (n : ℕ) (past : List Sent) (room : Room) → Under plan n past room → Under plan n (past ++ joined room.hub.sent) (emptied room)
 emptied_under plan n past room u = subst (λ (t : List Traffic). LineUnder plan n t room.reading room.jobs (held_on n room.lines)) (sym same) u
   where
     same : clients n ((past ++ joined room.hub.sent) ++ []) ≡ clients n (past ++ room.hub.sent)
@@ -76,7 +76,7 @@ module _ {H : Type 0} (calling : Calling H) (logs : WriteLogs calling) (plan : P
       subst (λ l. Known plan n l to.room × Under plan n l to.room) (append_assoc past t.end.sent (sent_in ts)) (turns_whole (past ++ t.end.sent) t.end.state ts to one turned.1 n)
 
 -- a new worker
-new_under : (plan : Plan) (contexts : Contexts) (n : ℕ) → Under plan n [] (new_room contexts)
+pub new_under : (plan : Plan) (contexts : Contexts) (n : ℕ) → Under plan n [] (new_room contexts)
 new_under plan contexts n = record { connections = []; are = tt; is = refl }
 
 -- ---- what went down

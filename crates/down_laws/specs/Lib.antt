@@ -1,3 +1,4 @@
 pub mod Downward
 pub mod Laws
+pub mod InOrder
 pub mod Examples

@@ -1,5 +1,6 @@
 // What goes down on lines over turns. The functions have nothing to do: their contracts are the laws.
-ghost use Rattle.down_laws.specs.Examples.{Refuses};
+ghost use Rattle.down_laws.specs.Examples.{OrderExamples, Refuses};
+ghost use Rattle.down_laws.specs.InOrder.{ConnectionsGoInOrder, ConnectionsOfTheProductGoInOrder, WorkersGoInOrder};
 ghost use Rattle.down_laws.specs.Laws.{ResponsesGoDownOneByOne, ResponsesOfTheProductGoDown, WorkersAnswerOneByOne};
 
 use store_model::Shared;
@@ -29,4 +30,32 @@ pub fn responses_of_the_product_go_down<S: Shared>()
 /// head for HTTP/1.0.
 pub fn what_is_refused()
     ensures { Refuses }
+{}
+
+/// Of both sides of a line together: what goes on them in a turn that begins and ends at rest is in order, whatever filters do and whatever servers send. What is sent
+/// falls into two parts, one before the turn's event and one behind it. In each of them a connection up is opened only where the client is connected and none is
+/// open; bytes go up only while one is open, and it is closed once; bytes go down only while the client is connected; and the client's connection is closed only
+/// while it is connected and nothing is open up: so behind that of its server, and once. No piece is empty. To a client that is gone nothing goes, and all that comes on
+/// its line is the close of its connection up. Between the two parts only a client that connects, or is gone, changes what may be sent. With what the line begins and
+/// ends is what its rooms say of it: whether its line is there, its client gone, and a reader of a response; and behind the turn no client is gone whose connection
+/// up is open. Of a turn that was cut off before it came to rest nothing is said, nor of the one behind it; nor where the two parts meet, but that there is such a
+/// place; nor which bytes go, nor that a close comes at all.
+pub fn connections_go_in_order<H>()
+    ensures { ConnectionsGoInOrder H }
+{}
+
+/// So it is of a worker that was made of a configuration, as `Worker::new` makes it, by the whole turns that its code takes, over shared stores.
+pub fn workers_go_in_order<H, S: Shared>()
+    ensures { WorkersGoInOrder H S S.performs }
+{}
+
+/// And of one with the machines of its VMs, whatever their modules do.
+pub fn connections_of_the_product_go_in_order<S: Shared>()
+    ensures { ConnectionsOfTheProductGoInOrder S S.performs }
+{}
+
+/// A client's connection, from its begin to its close, by hand; and what is out of order, such as a second close, or a close before that of the server's
+/// connection.
+pub fn what_is_in_order()
+    ensures { OrderExamples }
 {}
