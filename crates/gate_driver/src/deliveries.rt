@@ -192,11 +192,10 @@ fn full_near(outbox: &Outbox, at: usize) -> (bool, bool) {
     (up, down)
 }
 
-/// Puts at the end which sides are full, or that the answer is another from the first place on, from the second, or from one behind all.
+/// Puts at the end which sides are full, looked for from the first place on, or that the answer is another from the second, or from one behind all.
 fn push_full(told: &mut String, outbox: &Outbox) -> Result<(), OutOfMemory> {
-    let up = outbox.is_full(line(), Side::Up);
-    let down = outbox.is_full(line(), Side::Down);
-    for at in [0, 1, usize::MAX] {
+    let (up, down) = full_near(outbox, 0);
+    for at in [1, usize::MAX] {
         if full_near(outbox, at) != (up, down) {
             return push_told(told, "another");
         }

@@ -11,7 +11,7 @@ use crate::held::{Held, bytes_for, is_for, rank_of};
 use crate::joining::joined;
 use crate::offer::{offer_all, offer_sent, offer_waiting};
 use crate::place::{Place, ended_by, rank};
-use crate::sorted::{end_near, end_of};
+use crate::sorted::end_near;
 use gate_base::{LineNo, OutOfMemory};
 use gate_io::{Sent, Side, What, World};
 use std::alloc::Global;
@@ -132,23 +132,9 @@ impl Outbox {
         Ok(())
     }
 
-    /// Whether at least 65,536 bytes wait on a side of a line.
-    pub fn is_full(&self, line: LineNo, side: Side) -> bool
-        ensures { IsTrue result ↔ IsFull line side self.now }
-    {
-        if self.waiting.is_empty() {
-            return false;
-        }
-        let place = Place::Peer { line, side };
-        if !self.is_sorted {
-            return is_full_in(&self.waiting, &place, false);
-        }
-        let first = end_of(&self.waiting, rank(&place) - 1);
-        is_full_in(&self.waiting[first..], &place, true)
-    }
-
-    /// The same, of sides that are asked for one after the other: what waits is walked through from the place at which the last one was
-    /// looked for, so that sides by rising number of their lines, the client's first, cost no search. The answer is the same at any place.
+    /// Whether at least 65,536 bytes wait on a side of a line. Of sides that are asked for one after the other what waits is walked through from the
+    /// place at which the last one was looked for, so that sides by rising number of their lines, the client's first, cost no search. The answer is
+    /// the same at any place.
     pub fn is_full_near(&self, line: LineNo, side: Side, at: &mut usize) -> bool
         ensures { IsTrue result ↔ IsFull line side self.now }
     {
