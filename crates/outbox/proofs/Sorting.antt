@@ -165,10 +165,6 @@ above_at most least (s ∷ sent) (suc at) member below is sorted high = above_at
 pub ends_at : (most : ℕ) (sent : List Sent) (at : ℕ) (member : Sent) → at < length sent → member ≡ get_or sent at member → IsSorted sent → AreUpTo most (take at sent) → most < rank_of member → IsEndOf most at sent
 ends_at most sent at member below is sorted up_to high = record { within = omega (arith, below); up_to = up_to; above = above_at most 0 sent at member below is sorted high }
 
--- or with the last
-pub ends_all : (most : ℕ) (sent : List Sent) → AreUpTo most (take (length sent) sent) → IsEndOf most (length sent) sent
-ends_all most sent up_to = record { within = omega arith; up_to = up_to; above = none_behind (most + 1) sent }
-
 -- nothing waits where the last member up to the rank of a place is of a lower one
 pub none_at : (place : Place) (least : ℕ) (sent : List Sent) (at : ℕ) (member : Sent) → at < length sent → member ≡ get_or sent at member → IsSortedFrom least sent → rank_of member < rank place
     → IsSortedFrom (rank place + 1) (drop (suc at) sent) → marks_at place sent ≡ []

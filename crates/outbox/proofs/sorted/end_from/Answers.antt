@@ -1,6 +1,6 @@
 use Rattle.std.proofs.Common.{ℕ, suc, ◌+◌, ◌≡◌, take, subst, arith}
 use Rattle.outbox.specs.Sorted.{AreUpTo}
-use Rattle.outbox.proofs.Sorting.{up_to_through, ends_at, ends_all}
+use Rattle.outbox.proofs.Sorting.{up_to_through, ends_at}
 use Rattle.outbox.proofs.sorted.end_from.Goals as goal
 
 -- the first of a higher rank
