@@ -9,6 +9,7 @@ use Rattle.gate_io.specs.declared.event.Side.{Side}
 use Rattle.outbox.specs.Delivery.{IsFilled}
 use Rattle.outbox.specs.Joined.{are_one, as_one}
 use Rattle.outbox.specs.Places.{bytes_in, place_of, marks_in, marks_of, octets_in, octet, is_same_place}
+use Rattle.outbox.specs.Sorted.{rank, rank_of}
 use Rattle.outbox.specs.Taking.{rest_of, IsWithin}
 use Rattle.outbox.specs.declared.place.Place.{Place}
 
@@ -39,6 +40,13 @@ place_of_rest n (Connect line) = refl
 place_of_rest n (Bytes line side bytes) = refl
 place_of_rest n (Close line side) = refl
 place_of_rest n (Log level text) = refl
+
+pub rank_of_rest : (n : ℕ) (member : Sent) → rank_of (rest_of n member) ≡ rank_of member
+rank_of_rest n member = ap rank (place_of_rest n member)
+
+-- other bytes for a place are of the same rank
+pub rank_of_bytes : (line : ℕ) (side : Side) (bytes more : List ℕ) (member : Sent) → member ≡ Bytes line side bytes → rank_of (Bytes line side more) ≡ rank_of member
+rank_of_bytes line side bytes more member is = ap rank_of (sym is)
 
 -- and is joined to what the member is
 pub are_one_rest : (n m : ℕ) (first next : Sent) → are_one (rest_of n first) (rest_of m next) ≡ are_one first next
@@ -91,7 +99,7 @@ pub octets_in_map : (bytes : List ℕ) → octets_in (map octet bytes) ≡ lengt
 octets_in_map [] = refl
 octets_in_map (b ∷ bytes) = let more = octets_in_map bytes in omega (arith, more)
 
-octets_in_marks : (member : Sent) → octets_in (marks_in member) ≡ length (bytes_in member)
+pub octets_in_marks : (member : Sent) → octets_in (marks_in member) ≡ length (bytes_in member)
 octets_in_marks (Connect line) = refl
 octets_in_marks (Bytes line side bytes) = octets_in_map bytes
 octets_in_marks (Close line side) = refl

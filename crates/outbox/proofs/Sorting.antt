@@ -14,12 +14,13 @@ use Rattle.gate_io.specs.declared.event.Side.TheVariants.{Down, Up}
 use Rattle.outbox.specs.Cleared.{without}
 use Rattle.outbox.specs.Delivery.{IsFilled}
 use Rattle.outbox.specs.Joined.{are_one, as_one}
-use Rattle.outbox.specs.Places.{Mark, is_same_place, place_of, marks_in, marks_of, marks_at}
+use Rattle.outbox.specs.Places.{Mark, bytes_in, is_same_place, place_of, marks_in, marks_of, marks_at, octets_in}
 use Rattle.outbox.specs.Sorted.{rank, rank_of, IsSortedFrom, IsSorted, AreUpTo, IsEndOf}
 use Rattle.outbox.specs.Taking.{rest_of}
 use Rattle.outbox.specs.declared.place.Place.{Place}
 use Rattle.outbox.specs.declared.place.Place.TheVariants.{Peer, Journal}
-use Rattle.outbox.proofs.Marks.{cases_place, marks_here, marks_elsewhere, append_not_empty, append_empty}
+use Rattle.outbox.proofs.Marks.{cases_place, marks_here, marks_elsewhere, octets_in-drop, append_not_empty, append_empty}
+use Rattle.outbox.proofs.Holding.{octets_in_marks}
 use Rattle.outbox.proofs.Joins.{marks_of-as_one, IsFilled-as_one}
 
 -- no rank of a peer is the lowest
@@ -229,6 +230,16 @@ nothing_more place sent at member below is sorted over = go (rank place) sent at
     go least (s ∷ sent) zero below is sorted = nothing_above place (rank_of s) (s ∷ sent) (let same = ap rank_of is in omega (arith, same, over)) (omega arith, sorted.1, sorted.2)
     go least (s ∷ sent) (suc at) below is sorted = go (rank_of s) sent at (omega (arith, below)) is sorted.2
 
+-- one that is of no higher rank is for the place, and its bytes stand in front of the others
+pub octets_next : (place : Place) (sent : List Sent) (at : ℕ) (member : Sent) → at < length sent → member ≡ get_or sent at member → IsSortedFrom (rank place) sent → rank_of member ≤ rank place
+    → octets_in (marks_at place (drop at sent)) ≡ length (bytes_in member) + octets_in (marks_at place (drop (at + 1) sent))
+octets_next place sent at member below is sorted low =
+    let high = least_at (rank place) sent at member below is sorted in
+    let same : place_of member ≡ place = rank_apart (place_of member) place (omega (arith, high, low)) in
+    let here : octets_in (marks_of place member) ≡ length (bytes_in member) = ap octets_in (marks_here place member same) ∙ octets_in_marks member in
+    let more = octets_in-drop place sent at member below is in
+    omega (arith, more, here)
+
 -- what is below the rank of a place puts nothing there
 pub marks_at-from : (place : Place) (most : ℕ) (sent : List Sent) (end : ℕ) → most < rank place → AreUpTo most (take end sent) → marks_at place sent ≡ marks_at place (drop end sent)
 marks_at-from place most sent zero lower up_to = refl
@@ -256,13 +267,6 @@ pub together : (place : Place) (next : Sent) (rest : List Sent) → IsSortedFrom
 together place next rest sorted other =
     let over : rank place < rank_of next = omega (arith, sorted.0, λ (same : rank_of next ≡ rank place). other (rank_apart (place_of next) place same)) in
     nothing_above place (rank_of next) (next ∷ rest) over (omega arith, sorted.1, sorted.2)
-
--- what is left of a member is for its place
-pub rank_of-rest : (n : ℕ) (member : Sent) → rank_of (rest_of n member) ≡ rank_of member
-rank_of-rest n (Connect line) = refl
-rank_of-rest n (Bytes line side bytes) = refl
-rank_of-rest n (Close line side) = refl
-rank_of-rest n (Log level text) = refl
 
 -- a front of what is sorted is sorted
 pub sorted-take : (n least : ℕ) (sent : List Sent) → IsSortedFrom least sent → IsSortedFrom least (take n sent)

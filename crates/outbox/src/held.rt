@@ -1,5 +1,5 @@
 // A member that waits.
-ghost use Rattle.std.specs.Prelude.{◌≡◌, ◌≢◌, [], OnOk};
+ghost use Rattle.std.specs.Prelude.{◌≡◌, ◌≢◌, [], length, OnOk};
 ghost use Rattle.std.specs.Bool.{OnTrue, OnFalse};
 ghost use Rattle.outbox.specs.Delivery.{IsFilled};
 ghost use Rattle.outbox.specs.Joined.{are_one, as_one};
@@ -21,17 +21,21 @@ pub struct Held {
     /// So many of its bytes were taken. They stay in front of the others until they are more than those, so that no byte is moved once for
     /// each time at which some are taken.
     taken: usize,
+    /// The number by which it is sorted, which is asked for several times in each turn.
+    rank: u64,
 }
 
 impl Model for Held {
+    ghost use Rattle.std.specs.Prelude.{◌≡◌};
     ghost use Rattle.gate_io.specs.declared.event.Sent.{Sent};
+    ghost use Rattle.outbox.specs.Sorted.{rank_of};
     ghost use Rattle.outbox.specs.Taking.{rest_of, IsWithin};
 
     ghost Value = { Sent };
 
     ghost view = { λ h. rest_of h.taken h.member };
 
-    ghost invariant = { λ h. IsWithin h.taken h.member };
+    ghost invariant = { λ h. IsWithin h.taken h.member × (h.rank ≡ rank_of h.member) };
 }
 
 impl Held {
@@ -40,7 +44,12 @@ impl Held {
     pub(crate) fn new(member: Sent) -> Self
         ensures { result ≡ member }
     {
-        Held { member, taken: 0 }
+        let rank = rank(&place::place_of(&member));
+        Held {
+            member,
+            taken: 0,
+            rank,
+        }
     }
 
     /// The bytes that are left of a piece, and none of another member.
@@ -64,10 +73,11 @@ pub fn place_of(member: &Held) -> Place
 }
 
 /// The number by which a member is sorted.
+#[tactic(auto, using(crate::proofs::Holding::rank_of_rest))]
 pub fn rank_of(member: &Held) -> u64
     ensures { result ≡ rank_of member.now }
 {
-    rank(&place_of(member))
+    member.rank
 }
 
 /// Whether the member goes to the place.
@@ -85,13 +95,20 @@ pub fn is_empty(member: &Held) -> bool
     matches!(&member.member, Sent::Bytes { .. }) && member.rest().is_empty()
 }
 
+/// How many bytes are left of a piece, and none of another member.
+pub fn bytes_left(member: &Held) -> usize
+    ensures { result ≡ length (bytes_in member.now) }
+{
+    member.rest().len()
+}
+
 /// How many bytes of the member go to the place.
 #[tactic(auto, using(crate::proofs::Holding::octets_here, crate::proofs::Holding::octets_elsewhere))]
 pub fn bytes_for(member: &Held, place: &Place) -> usize
     ensures { result ≡ octets_in (marks_of place.now member.now) }
 {
     if is_for(member, place) {
-        member.rest().len()
+        bytes_left(member)
     } else {
         0
     }
@@ -106,7 +123,7 @@ pub fn are_one(first: &Held, next: &Held) -> bool
 }
 
 /// Puts the bytes of the next behind those of the first.
-#[tactic(auto, using(crate::proofs::Holding::within_bytes, crate::proofs::Holding::as_one_rest, crate::proofs::Holding::as_one_other))]
+#[tactic(auto, using(crate::proofs::Holding::within_bytes, crate::proofs::Holding::as_one_rest, crate::proofs::Holding::as_one_other, crate::proofs::Holding::rank_of_bytes))]
 pub fn join(first: &mut Held, next: &Held) -> Result<(), OutOfMemory>
     ensures { OnOk result (first.new ≡ as_one first.old next.now) }
 {
@@ -116,8 +133,9 @@ pub fn join(first: &mut Held, next: &Held) -> Result<(), OutOfMemory>
     Ok(())
 }
 
-/// Takes so many bytes off the front of a piece. Where that is none, it stays as it is.
-#[tactic(auto, using(crate::proofs::Holding::within_bytes, crate::proofs::Holding::filled_within, crate::proofs::Holding::rest_of_twice))]
+/// Takes so many bytes off the front of a piece. Where that is none, as of a side that reads nothing, it stays as it is.
+#[inline(always)]
+#[tactic(auto, using(crate::proofs::Holding::rest_of_none))]
 pub fn shorten(alloc: Global, member: &mut Held, n: usize) -> Result<(), OutOfMemory>
     requires { IsFilled (rest_of n member.old) }
     ensures { OnOk result (member.new ≡ rest_of n member.old) }
@@ -125,6 +143,15 @@ pub fn shorten(alloc: Global, member: &mut Held, n: usize) -> Result<(), OutOfMe
     if n == 0 {
         return Ok(());
     }
+    cut(alloc, member, n)
+}
+
+/// Takes so many bytes off the front of a piece.
+#[tactic(auto, using(crate::proofs::Holding::within_bytes, crate::proofs::Holding::filled_within, crate::proofs::Holding::rest_of_twice, crate::proofs::Holding::rank_of_bytes))]
+fn cut(alloc: Global, member: &mut Held, n: usize) -> Result<(), OutOfMemory>
+    requires { IsFilled (rest_of n member.old) }
+    ensures { OnOk result (member.new ≡ rest_of n member.old) }
+{
     if let Sent::Bytes { bytes, .. } = &mut member.member {
         let count = bytes.len();
         member.taken += n;

@@ -6,7 +6,7 @@ ghost use Rattle.outbox.specs.Places.{marks_at, place_of};
 ghost use Rattle.outbox.specs.Sorted.{rank_of, IsSorted, IsEndOf, IsBehind};
 ghost use Rattle.outbox.specs.Taking.{rest_of, none_left, WasOffered};
 
-use crate::held::{Held, place_of, rank_of, shorten};
+use crate::held::{Held, rank_of, shorten};
 use crate::sorted::{end_near_last, put_behind, waits_before};
 use gate_base::{LineNo, OutOfMemory};
 use gate_io::{Sent, Side, World};
@@ -121,8 +121,9 @@ pub fn offer<W: World>(
     ensures sorted { OnOk result (IsSorted left.new.items) }
 {
     // What waited is offered in the order of places, so that what is left of it goes to the end.
-    let end = end_near_last(left, rank_of(&member));
-    if waits_before(left, end, &place_of(&member)) {
+    let rank = rank_of(&member);
+    let end = end_near_last(left, rank);
+    if waits_before(left, end, rank) {
         put_behind(left, end, member)
     } else {
         offer_first(alloc, world, left, end, member)
@@ -147,7 +148,8 @@ fn offer_at<W: World>(
     ensures sorted { OnOk result (IsSorted members.new.items) }
 {
     let here = *at;
-    if waits_before(&members[..here], here, &place_of(&members[here])) {
+    let rank = rank_of(&members[here]);
+    if waits_before(&members[..here], here, rank) {
         *at = here + 1;
         return Ok(());
     }

@@ -7,7 +7,7 @@ ghost use Rattle.std.specs.Bool.{OnTrue};
 ghost use Rattle.outbox.specs.Places.{IsFull, octets_in, marks_at};
 ghost use Rattle.outbox.specs.Sorted.{rank, IsSorted, IsSortedFrom};
 
-use crate::held::{Held, bytes_for, is_for, rank_of};
+use crate::held::{Held, bytes_for, bytes_left, is_for, rank_of};
 use crate::joining::joined;
 use crate::offer::{offer_all, offer_sent, offer_waiting};
 use crate::place::{Place, ended_by, rank};
@@ -143,11 +143,13 @@ impl Outbox {
         }
         let place = Place::Peer { line, side };
         if !self.is_sorted {
-            return is_full_in(&self.waiting, &place, false);
+            return is_full_in(&self.waiting, &place);
         }
         let first = end_near(&self.waiting, rank(&place) - 1, *at);
-        *at = first;
-        is_full_in(&self.waiting[first..], &place, true)
+        let full = is_full_from(&self.waiting[first..], &place);
+        // Of a side that is full the first member is passed over, which is most often its last.
+        *at = if full { first + 1 } else { first };
+        full
     }
 }
 
@@ -183,17 +185,33 @@ fn offer_again<W: World>(
     offer_all(alloc, world, waiting, members)
 }
 
-/// Whether at least 65,536 bytes of these wait for a place. Sorted ones, of which none is before it, are read as far as they are for it.
-fn is_full_in(members: &[Held], place: &Place, is_sorted: bool) -> bool
-    requires { OnTrue is_sorted (IsSortedFrom (rank place.now) members.now) }
+/// Whether at least 65,536 bytes of these wait for a place.
+fn is_full_in(members: &[Held], place: &Place) -> bool
     ensures { IsTrue result ↔ (65536 ≤ octets_in (marks_at place.now members.now)) }
 {
     let mut room = FULL;
     for member in members {
-        if is_sorted && rank_of(member) > rank(place) {
+        let n = bytes_for(member, place);
+        if room <= n {
+            return true;
+        }
+        room -= n;
+    }
+    false
+}
+
+/// The same of sorted ones, of which none is in front of those for the place. They are read as far as they are for it.
+fn is_full_from(members: &[Held], place: &Place) -> bool
+    requires { IsSortedFrom (rank place.now) members.now }
+    ensures { IsTrue result ↔ (65536 ≤ octets_in (marks_at place.now members.now)) }
+{
+    let most = rank(place);
+    let mut room = FULL;
+    for member in members {
+        if rank_of(member) > most {
             return false;
         }
-        let n = bytes_for(member, place);
+        let n = bytes_left(member);
         if room <= n {
             return true;
         }

@@ -3,9 +3,9 @@ ghost use Rattle.std.specs.Prelude.{◌≡◌, ◌≢◌, ◌≤◌, [], length,
 ghost use Rattle.std.specs.Bool.{OnTrue, OnFalse};
 ghost use Rattle.outbox.specs.Places.{marks_at};
 ghost use Rattle.outbox.specs.Sorted.{rank, rank_of, IsSorted, AreUpTo, IsEndOf, IsBehind};
+ghost use Rattle.outbox.specs.declared.place.Place.{Place};
 
 use crate::held::{Held, are_one, is_empty, join, rank_of};
-use crate::place::{Place, rank};
 use gate_base::OutOfMemory;
 
 /// How many of the members are of this rank or a lower one.
@@ -70,14 +70,14 @@ pub fn end_near(members: &[Held], most: u64, at: usize) -> usize
     }
 }
 
-/// Whether something waits for a place, where so many members are of its rank or a lower one.
-pub fn waits_before(members: &[Held], end: usize, place: &Place) -> bool
+/// Whether something waits for the place of this rank, where so many members are of it or of a lower one.
+pub fn waits_before(members: &[Held], end: usize, most: u64) -> bool
     requires sorted { IsSorted members.now }
-    requires end { IsEndOf (rank place.now) end members.now }
-    ensures some { OnTrue result (marks_at place.now members.now ≢ []) }
-    ensures none { OnFalse result (marks_at place.now members.now ≡ []) }
+    requires end { IsEndOf most end members.now }
+    ensures some { OnTrue result ((place : Place) → rank place ≡ most → marks_at place members.now ≢ []) }
+    ensures none { OnFalse result ((place : Place) → rank place ≡ most → marks_at place members.now ≡ []) }
 {
-    end > 0 && rank_of(&members[end - 1]) == rank(place)
+    end > 0 && rank_of(&members[end - 1]) == most
 }
 
 /// Puts a member behind those of its place, where so many are of its rank or a lower one. Bytes behind bytes become one member.
