@@ -1,5 +1,5 @@
 -- Which side of a line is heard first, and what is known of one of which nothing is told.
-use Rattle.std.specs.Prelude.{Bool, true, false, Option, None, Some, IsTrue, IfSome}
+use Rattle.std.specs.Prelude.{◌≡◌, [], Bool, true, false, Option, None, Some, IsTrue, IfSome}
 use Rattle.gate_io.specs.declared.event.Side.{Side}
 use Rattle.gate_io.specs.declared.event.Side.TheVariants.{Down, Up}
 use Rattle.gate_io.specs.declared.event.What.{What}
@@ -90,3 +90,12 @@ abbrev pub ServerIsSilent : {P : Type 0} → (P → Bool) → (P → Heard → P
 ServerIsSilent ready reads asked None new = Unit {0}
 ServerIsSilent ready reads asked (Some p) None = Unit {0}
 ServerIsSilent ready reads asked (Some p) (Some q) = IsSilent ready reads asked p.peer q.peer
+
+-- nothing of a client could be there to read, where there is one
+abbrev pub ClientIsStill : {P : Type 0} → (P → Bool) → Option P → Type 0
+ClientIsStill ready client = IfSome client (λ peer. ready peer ≡ false)
+
+-- nothing waits for a server, and where something of it could be there to read, that is not asked for
+abbrev pub ServerIsStill : {P : Type 0} → (P → Bool) → Type 0 → Option (Upstream P) → Type 0
+ServerIsStill {P} ready asked None = Unit {0}
+ServerIsStill {P} ready asked (Some up) = (up.waiting ≡ []) × (IsTrue (ready up.peer) → asked → ⊥)

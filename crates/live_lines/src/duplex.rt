@@ -1,5 +1,5 @@
 // A connection, from which bytes are read and to which they are written.
-ghost use Rattle.std.specs.Prelude.{◌≡◌, ◌≤◌, ℕ, [], List, Bool, Option, length, take, IsTrue, IfOk, IfSome};
+ghost use Rattle.std.specs.Prelude.{◌≡◌, ◌≤◌, ℕ, [], List, Bool, false, Option, length, take, IsTrue, IfOk, IfSome};
 ghost use Rattle.gate_io.specs.Told.{Gains};
 ghost use Rattle.live_lines.specs.Heard.{IsHeard, bytes_heard};
 ghost use Rattle.live_lines.specs.declared.duplex.Heard.{Heard};
@@ -73,6 +73,11 @@ pub trait Duplex: Drop {
 
     /// Whether the peer's end was read.
     fn is_ended(&self) -> bool;
+
+    /// Whether nothing is to be told of it: no call on it failed, nothing may be there to read, and no write that took less than its piece has room
+    /// again.
+    fn is_quiet(&self) -> bool
+        ensures { IsTrue result → ready self.now ≡ false };
 
     /// Whether there is room again behind a write that took less than its piece. It is told once.
     fn has_room_again(&mut self) -> bool

@@ -4,7 +4,7 @@ ghost use Rattle.gate_io.specs.Events.{wanted};
 ghost use Rattle.gate_io.specs.Told.{Gains};
 ghost use Rattle.live_lines.specs.Allowed.{IsAllowed, HoldsBack};
 ghost use Rattle.live_lines.specs.Told.{IsOf, IsReadOf, IsHeardFrom, IsLast, LiesIn, bytes_told};
-ghost use Rattle.live_lines.specs.Turns.{IsToldOf, IsSilent, OnEnd, WasRead};
+ghost use Rattle.live_lines.specs.Turns.{IsToldOf, IsSilent, OnEnd, WasRead, ServerIsStill};
 ghost use Rattle.gate_io.specs.declared.event.Side.TheVariants as sides;
 ghost use Rattle.gate_io.specs.declared.event.What.TheVariants as whats;
 ghost use Rattle.live_lines.specs.Heard.{IsHeard, bytes_heard};
@@ -187,11 +187,20 @@ fn ends(told: &Option<What>) -> bool
     matches!(told, Some(What::Gone { .. } | What::Refused { .. }))
 }
 
+/// Whether nothing is to be told of a connection to a server: nothing waits for it, no call on it failed, and nothing is read of it.
+#[inline(always)]
+fn is_quiet_up<P: Duplex>(wants: &Wants, line: LineNo, up: &Upstream<P>) -> bool
+    ensures { IsTrue result → ServerIsStill P.ready (Contains (wanted wants.now sides.Up) line) (Some up.now) }
+{
+    up.waiting.is_empty()
+        && (up.peer.is_quiet() || (!up.peer.is_broken() && !is_wanted(wants, line, Side::Up)))
+}
+
 impl<P: Duplex> Line<P> {
     ghost use Rattle.std.specs.Prelude.{◌⊎◌, ◌&&◌, not, is_none, OnErr};
     ghost use Rattle.live_lines.specs.Lines.{is_over, peer_of};
     ghost use Rattle.live_lines.specs.Passing.{HeardOn, SentOn};
-    ghost use Rattle.live_lines.specs.Turns.{ClientIsSilent, ServerIsSilent, EndWasRead, is_told_from};
+    ghost use Rattle.live_lines.specs.Turns.{ClientIsSilent, ServerIsSilent, ClientIsStill, EndWasRead, is_told_from};
 
     /// What is heard on the line, of the server first where the client was heard last: one that sends without pause keeps nobody from hearing an
     /// early answer. Nothing is read from the client while 65,536 bytes wait for the server.
@@ -234,6 +243,27 @@ impl<P: Duplex> Line<P> {
             return Ok(Some(told));
         }
         self.heard_up(alloc, wants, room)
+    }
+
+    /// Whether nothing can be heard on the line, as of one whose client sends nothing and reads nothing, so that it need not be asked. Of a line that is
+    /// passed over so nothing is to be told that it was refused, nothing of its client could be there to read, nothing waits for its server, and
+    /// nothing of that could be there to read or none of it is wanted.
+    #[inline(always)]
+    pub fn is_quiet(&self, wants: &Wants) -> bool
+        ensures refused { IsTrue result → self.now.refused ≡ false }
+        ensures client { IsTrue result → ClientIsStill P.ready self.now.down }
+        ensures server { IsTrue result → ServerIsStill P.ready (Contains (wanted wants.now sides.Up) self.now.number) self.now.up }
+    {
+        let Some(down) = &self.down else {
+            return false;
+        };
+        if self.refused || !down.is_quiet() {
+            return false;
+        }
+        match &self.up {
+            None => true,
+            Some(up) => is_quiet_up(wants, self.number, up),
+        }
     }
 
     /// What is heard from the client, where it is there; nothing is read from it where so much waits for the server. One that is gone is let go.

@@ -1,5 +1,5 @@
 // A connection to a peer.
-ghost use Rattle.std.specs.Prelude.{◌≡◌, true};
+ghost use Rattle.std.specs.Prelude.{◌≡◌, ◌≤◌, ◌&&◌, true, not, length, IsTrue};
 ghost use Rattle.live_lines.specs.Heard.{IsHeard, OnEndHeard};
 
 use crate::duplex::{Duplex, Heard};
@@ -55,6 +55,40 @@ impl Peer {
             Heard::Lost
         } else {
             Heard::Nothing
+        }
+    }
+
+    /// Writes to a socket in which there may be room. It stands apart, so that it costs next to nothing to offer bytes to one in which there is none.
+    #[inline(never)]
+    fn write_on(&mut self, bytes: &[u8]) -> usize
+        ensures bound { result ≤ length bytes.now }
+        ensures ready { IsTrue (self.old.readable && not self.old.ended) → IsTrue (self.new.readable && not self.new.ended) }
+    {
+        match self.stream.write(bytes) {
+            Ok(n) => {
+                if n < bytes.len() {
+                    self.writable = false;
+                    self.short = true;
+                } else {
+                    self.joining = false;
+                    self.short = false;
+                }
+                n
+            }
+            Err(e) if e.kind() == ErrorKind::WouldBlock => {
+                self.writable = false;
+                self.short = true;
+                0
+            }
+            Err(e) if e.kind() == ErrorKind::Interrupted => {
+                self.short = true;
+                0
+            }
+            Err(_) => {
+                self.broken = true;
+                self.readable = true;
+                bytes.len()
+            }
         }
     }
 }
@@ -128,6 +162,12 @@ impl Duplex for Peer {
         self.ended
     }
 
+    #[inline(always)]
+    fn is_quiet(&self) -> bool {
+        let again = self.short && self.writable && !self.joining;
+        !self.broken && !self.is_readable() && !again
+    }
+
     fn has_room_again(&mut self) -> bool {
         let again = self.short && self.writable && !self.joining;
         if again {
@@ -161,6 +201,7 @@ impl Duplex for Peer {
         }
     }
 
+    #[inline(always)]
     fn write(&mut self, bytes: &[u8]) -> usize {
         if self.broken {
             return bytes.len();
@@ -169,31 +210,6 @@ impl Duplex for Peer {
             self.short = true;
             return 0;
         }
-        match self.stream.write(bytes) {
-            Ok(n) => {
-                if n < bytes.len() {
-                    self.writable = false;
-                    self.short = true;
-                } else {
-                    self.joining = false;
-                    self.short = false;
-                }
-                n
-            }
-            Err(e) if e.kind() == ErrorKind::WouldBlock => {
-                self.writable = false;
-                self.short = true;
-                0
-            }
-            Err(e) if e.kind() == ErrorKind::Interrupted => {
-                self.short = true;
-                0
-            }
-            Err(_) => {
-                self.broken = true;
-                self.readable = true;
-                bytes.len()
-            }
-        }
+        self.write_on(bytes)
     }
 }

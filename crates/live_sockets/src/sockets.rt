@@ -124,6 +124,7 @@ fn find<P>(lines: &[Line<P>], number: LineNo) -> Option<usize>
 }
 
 /// Whether the line of this number stands at a place.
+#[inline(always)]
 fn stands_at<P>(lines: &[Line<P>], number: LineNo, at: usize) -> bool
     ensures within { IsTrue result → at < length lines.now }
     ensures found { IsTrue result → HoldsAt (λ line. line.number ≡ number) lines.now at }
@@ -132,6 +133,7 @@ fn stands_at<P>(lines: &[Line<P>], number: LineNo, at: usize) -> bool
 }
 
 /// The same as `find`, where it is likely to be this place.
+#[inline(always)]
 fn find_near<P>(lines: &[Line<P>], number: LineNo, near: usize) -> Option<usize>
     ensures within { IfSome result (λ i. i < length lines.now) }
     ensures found { IfSome result (HoldsAt (λ line. line.number ≡ number) lines.now) }
@@ -144,6 +146,7 @@ fn find_near<P>(lines: &[Line<P>], number: LineNo, near: usize) -> Option<usize>
 }
 
 /// Offers bytes to a side of the line at a place.
+#[inline(always)]
 fn send_at<P: Duplex>(
     lines: &mut [Line<P>],
     alloc: Global,
@@ -398,6 +401,9 @@ impl<P: Duplex> Sockets<P> {
             return Ok(None);
         }
         self.next = at + 1;
+        if self.lines[at].is_quiet(wants) {
+            return Ok(None);
+        }
         self.heard_at(alloc, wants, at)
     }
 
