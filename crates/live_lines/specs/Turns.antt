@@ -91,11 +91,11 @@ ServerIsSilent ready reads asked None new = Unit {0}
 ServerIsSilent ready reads asked (Some p) None = Unit {0}
 ServerIsSilent ready reads asked (Some p) (Some q) = IsSilent ready reads asked p.peer q.peer
 
--- nothing of a client could be there to read, where there is one
-abbrev pub ClientIsStill : {P : Type 0} → (P → Bool) → Option P → Type 0
-ClientIsStill ready client = IfSome client (λ peer. ready peer ≡ false)
+-- nothing is to be told of a client: nothing of it could be there to read, no call on it failed, and no room came again for it
+abbrev pub ClientIsStill : {P : Type 0} → (P → Bool) → (P → Bool) → (P → Bool) → Option P → Type 0
+ClientIsStill ready broken again client = IfSome client (λ peer. (ready peer ≡ false) × (broken peer ≡ false) × (again peer ≡ false))
 
--- nothing waits for a server, and where something of it could be there to read, that is not asked for
-abbrev pub ServerIsStill : {P : Type 0} → (P → Bool) → Type 0 → Option (Upstream P) → Type 0
-ServerIsStill {P} ready asked None = Unit {0}
-ServerIsStill {P} ready asked (Some up) = (up.waiting ≡ []) × (IsTrue (ready up.peer) → asked → ⊥)
+-- nothing waits for a server, no call on its connection failed, and where something of it could be there to read, that is not asked for
+abbrev pub ServerIsStill : {P : Type 0} → (P → Bool) → (P → Bool) → Type 0 → Option (Upstream P) → Type 0
+ServerIsStill {P} ready broken asked None = Unit {0}
+ServerIsStill {P} ready broken asked (Some up) = (up.waiting ≡ []) × (broken up.peer ≡ false) × (IsTrue (ready up.peer) → asked → ⊥)

@@ -33,6 +33,12 @@ pub trait Duplex: Drop {
     /// Whether something may be there to read.
     ghost ready: { Self → Bool };
 
+    /// Whether a call on it failed, as far as is known.
+    ghost broken: { Self → Bool };
+
+    /// Whether there is room again behind a write that took less than its piece, which was not told.
+    ghost again: { Self → Bool };
+
     /// What a read of it may give, and what it leaves of it.
     ghost reads: { Self → Heard → Self → Type 0 };
 
@@ -62,7 +68,8 @@ pub trait Duplex: Drop {
         ensures took { took self.new ≡ took self.old };
 
     /// Whether a call on it failed.
-    fn is_broken(&self) -> bool;
+    fn is_broken(&self) -> bool
+        ensures { result ≡ broken self.now };
 
     /// Whether it was refused before it stood.
     fn is_refused(&self) -> bool;
@@ -77,10 +84,13 @@ pub trait Duplex: Drop {
     /// Whether nothing is to be told of it: no call on it failed, nothing may be there to read, and no write that took less than its piece has room
     /// again.
     fn is_quiet(&self) -> bool
-        ensures { IsTrue result → ready self.now ≡ false };
+        ensures ready { IsTrue result → ready self.now ≡ false }
+        ensures broken { IsTrue result → broken self.now ≡ false }
+        ensures again { IsTrue result → again self.now ≡ false };
 
     /// Whether there is room again behind a write that took less than its piece. It is told once.
     fn has_room_again(&mut self) -> bool
+        ensures told { result ≡ again self.old }
         ensures gave { gave self.new ≡ gave self.old }
         ensures took { took self.new ≡ took self.old };
 

@@ -190,14 +190,14 @@ fn ends(told: &Option<What>) -> bool
 /// Whether nothing is to be told of a connection to a server: nothing waits for it, no call on it failed, and nothing is read of it.
 #[inline(always)]
 fn is_quiet_up<P: Duplex>(wants: &Wants, line: LineNo, up: &Upstream<P>) -> bool
-    ensures { IsTrue result → ServerIsStill P.ready (Contains (wanted wants.now sides.Up) line) (Some up.now) }
+    ensures { IsTrue result → ServerIsStill P.ready P.broken (Contains (wanted wants.now sides.Up) line) (Some up.now) }
 {
     up.waiting.is_empty()
         && (up.peer.is_quiet() || (!up.peer.is_broken() && !is_wanted(wants, line, Side::Up)))
 }
 
 impl<P: Duplex> Line<P> {
-    ghost use Rattle.std.specs.Prelude.{◌⊎◌, ◌&&◌, not, is_none, OnErr};
+    ghost use Rattle.std.specs.Prelude.{◌⊎◌, ◌&&◌, not, is_none};
     ghost use Rattle.live_lines.specs.Lines.{is_over, peer_of};
     ghost use Rattle.live_lines.specs.Passing.{HeardOn, SentOn};
     ghost use Rattle.live_lines.specs.Turns.{ClientIsSilent, ServerIsSilent, ClientIsStill, EndWasRead, is_told_from};
@@ -245,14 +245,14 @@ impl<P: Duplex> Line<P> {
         self.heard_up(alloc, wants, room)
     }
 
-    /// Whether nothing can be heard on the line, as of one whose client sends nothing and reads nothing, so that it need not be asked. Of a line that is
-    /// passed over so nothing is to be told that it was refused, nothing of its client could be there to read, nothing waits for its server, and
-    /// nothing of that could be there to read or none of it is wanted.
+    /// Whether nothing can be heard on the line, as of one whose client sends nothing and reads nothing, so that it need not be asked. Such a line has no
+    /// refusal to tell; nothing of its client could be there to read, no call on that failed, and no room came again for it; nothing waits for its server, no
+    /// call on that failed, and nothing of it could be there to read or none of it is wanted.
     #[inline(always)]
     pub fn is_quiet(&self, wants: &Wants) -> bool
         ensures refused { IsTrue result → self.now.refused ≡ false }
-        ensures client { IsTrue result → ClientIsStill P.ready self.now.down }
-        ensures server { IsTrue result → ServerIsStill P.ready (Contains (wanted wants.now sides.Up) self.now.number) self.now.up }
+        ensures client { IsTrue result → ClientIsStill P.ready P.broken P.again self.now.down }
+        ensures server { IsTrue result → ServerIsStill P.ready P.broken (Contains (wanted wants.now sides.Up) self.now.number) self.now.up }
     {
         let Some(down) = &self.down else {
             return false;

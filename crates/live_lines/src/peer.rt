@@ -106,6 +106,10 @@ impl Duplex for Peer {
 
     ghost reads = { λ old heard new. OnEndHeard (new.ended ≡ true) heard };
 
+    ghost broken = { λ p. p.broken };
+
+    ghost again = { λ p. (p.short && p.writable) && not p.joining };
+
     fn over(
         stream: TcpStream,
         registry: &Registry,
