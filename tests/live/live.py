@@ -536,9 +536,10 @@ def server_stays(gateway, upstream):
     """A server that has answered an upload early, and neither reads the rest nor closes, keeps a descriptor for a moment alone."""
     with gateway.connect() as beside:
         get(beside, Reader(beside), "/base", b"/base")
-        base = gateway.descriptors()
         with gateway.connect() as s:
             filled(gateway, s, "/early-stays")
+            # Without this client and its server; what lingered of the cases before is gone by now.
+            base = gateway.descriptors() - 2
             upstream.may.release()
             reader = Reader(s)
             first, fields = reader.head()

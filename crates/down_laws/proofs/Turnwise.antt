@@ -29,7 +29,7 @@ use Rattle.worker.specs.declared.types.Reads.{Reads}
 use Rattle.worker.specs.Making.{contexts_of, new_worker}
 use Rattle.worker.specs.Plan.{Plan}
 use Rattle.worker.specs.Rooms as rooms
-use Rattle.worker.specs.Rooms.{next_of, moves, moves_or, frees_or, ends_or, begins_or_rests, is_any, is_released}
+use Rattle.worker.specs.Rooms.{moves, moves_or, frees_or, ends_or, begins_or_rests, is_any, is_released}
 use Rattle.worker.specs.Settling.{settling, rests}
 use Rattle.worker.specs.State.{Standing, rules_of}
 use Rattle.worker.specs.Steps.{Both, both}

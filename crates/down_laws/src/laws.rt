@@ -34,7 +34,7 @@ pub fn what_is_refused()
 
 /// Of both sides of a line together: what goes on them in a turn that begins and ends at rest is in order, whatever filters do and whatever servers send. What is sent
 /// falls into two parts, one before the turn's event and one behind it. In each of them a connection up is opened only where the client is connected and none is
-/// open; bytes go up only while one is open, and it is closed once; bytes go down only while the client is connected; and the client's connection is closed only
+/// open; bytes go up, and it is closed, only while one is open; bytes go down only while the client is connected; and the client's connection is closed only
 /// while it is connected and nothing is open up: so behind that of its server, and once. No piece is empty. To a client that is gone nothing goes, and all that comes on
 /// its line is the close of its connection up. Between the two parts only a client that connects, or is gone, changes what may be sent. With what the line begins and
 /// ends is what its rooms say of it: whether its line is there, its client gone, and a reader of a response; and behind the turn no client is gone whose connection

@@ -75,7 +75,7 @@ in_hand next.Work room = record room { jobs = drop 1 room.jobs }
 in_hand x room = room
 
 -- A STEP OF A FREE LINE DEPENDS ON NOTHING ELSE: where two rooms agree on the line, and both have room for one more line or neither has, and where what is read is
--- the same, the same step does the same in both, whatever the machines of either are.
+-- the same, and no head whose route has filters, the same step does the same in both, whatever the machines of either are.
 abbrev pub StepsDependOnTheLine : Type 0 → Type 0 → Type 0
 StepsDependOnTheLine H K =
     (calling : Calling H) (other : Calling K) (plan : Plan) (n : ℕ) (a c : Both H) (b d : Both K) (ms : List Met)

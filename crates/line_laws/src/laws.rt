@@ -66,8 +66,8 @@ pub fn lines_without_filters_are_isolated<H>()
     ensures turns { TurnsOfOthersLeaveTheLine H }
 {}
 
-/// What a step of a line without filters does on it depends on the line, the maps of its exchange, the moment and what is read: two workers that agree on these,
-/// whatever their other lines, their machines and what they send besides are, send the same by the same step and agree on the line afterwards, but for the place of
+/// What a step of a line without filters does on it depends on the line, the maps of its exchange, the moment and what is read: two workers of one
+/// configuration that agree on these, where no head is read whose route has filters, whatever their other lines, their machines and what they send besides are, send the same by the same step and agree on the line afterwards, but for the place of
 /// the exchange's maps. Whether a line that is opened finds room is asked for besides; and of the job that answers late responses, which is of all lines, nothing is said.
 pub fn steps_depend_on_their_line<H, K>()
     ensures { StepsDependOnTheLine H K }

@@ -53,7 +53,7 @@ pub record HeardIn {P : Type 0} (gave took : P → Option (List ℕ)) (old : Lis
   pub heard : HeardOn gave took line told behind
   pub lines : Forgets (set old at behind) at new
 
--- the line at the place that is heard next, where there are lines
+-- the line at the place that is heard next; or nothing was heard, and all is as before: there are no lines, or that one was passed over
 abbrev pub HeardNext : {P : Type 0} → (P → Option (List ℕ)) → (P → Option (List ℕ)) → List (Line P) → ℕ → Option What → List (Line P) → Type 0
 HeardNext gave took old next told new = ((told ≡ None) × (new ≡ old)) ⊎ HeardIn gave took old (next_place next (length old)) told new
 

@@ -44,7 +44,7 @@ fn number_of(who: Who) -> u8
 }
 
 /// Workers 1 and 2 define a counter, worker 2 a gauge of the same name, and both count. Then ids are asked for that nobody got, the gauge's words
-/// are more than 2^64 together, and so are the counter's, of which worker 1 has 2^64 - 1. In the end worker 8 counts too.
+/// are more than 2^64 together, and so are the counter's, of which worker 1 has 2^64 - 1. In the end worker 8 asks for the counter before it knows it, and then counts too.
 const ROW: [(Who, Ask); 27] = [
     (First, Define(MetricKind::Counter, b'n')),
     (Second, Define(MetricKind::Counter, b'n')),

@@ -165,7 +165,7 @@ pub fn backlog_is_bounded()
     ensures reader { ReaderIsBounded }
 {}
 
-/// By turns that a worker's code takes over a world that gives what it is asked for: however a turn ended, bytes of a client come in it where fewer than 65,536 wait on each side of
+/// Of the event of each turn that a worker's code takes over a world that gives what it is asked for (that it is so is `Worker::turn`, clause `heard`): however the turn ended, bytes of a client come in it where fewer than 65,536 wait on each side of
 /// its line when the turn begins, and bytes of a server where fewer wait for its client. Behind a turn that ended well no more waits on a side of a line than did in front of it and
 /// the turn sends there; so behind any such turns from one on in which bytes came, fewer than 65,536 wait on those sides besides what was sent there since, by that turn too. How
 /// much a turn sends is not said: a filter may make more of a piece, and what waits at one time has no bound of its own.
