@@ -69,7 +69,7 @@ impl<R: Net + Clock + Wait + Eprint, P: Duplex> World for LiveWorld<R, P> {
     ghost use Rattle.gate_io.specs.Events.{after_next};
     ghost use Rattle.gate_io.specs.Told.{Rose};
     ghost use Rattle.live_lines.specs.Allowed.{no_promise};
-    ghost use Rattle.gate_live.specs.Worlds.{last_in, nature_of, AcceptsNone, Gives, Sends, Connects, Closes};
+    ghost use Rattle.gate_live.specs.Worlds.{last_in, nature_of, AcceptsNone, Gives, Sends, Connects, Begins, Closes};
 
     ghost trace = { λ _. None };
 
@@ -122,6 +122,7 @@ impl<R: Net + Clock + Wait + Eprint, P: Duplex> World for LiveWorld<R, P> {
 
     fn connect(&mut self, alloc: Global, line: LineNo) -> Result<(), OutOfMemory>
         ensures connected { Connects self.old line self.new }
+        ensures begun { Begins P.gave P.took self.old line self.new }
         ensures last { last_in self.new ≡ last_in self.old }
         ensures nature { nature_of self.new ≡ nature_of self.old }
         ensures faults { self.new.faults ≡ self.old.faults }

@@ -107,7 +107,21 @@ pub record ConnectedAt {P : Type 0} (old : List (Line P)) (at : ℕ) (new : List
   pub refused : behind.refused ≡ is_none behind.up
   pub lines : new ≡ set old at behind
 
+-- a connection gave and took nothing so far, where it tells of that
+abbrev pub IsUnused : {P : Type 0} → (P → Option (List ℕ)) → (P → Option (List ℕ)) → P → Type 0
+IsUnused gave took peer = IfSome (gave peer) (λ bytes. bytes ≡ []) × IfSome (took peer) (λ bytes. bytes ≡ [])
+
+-- The line at a place is connected anew, by a connection that gave and took nothing so far, or by none.
+pub record BegunAt {P : Type 0} (gave took : P → Option (List ℕ)) (old : List (Line P)) (at : ℕ) (new : List (Line P)) : Type 0 where
+  pub connected : ConnectedAt old at new
+  pub unused : IfSome connected.behind.up (λ up. IsUnused gave took up.peer)
+
 -- a line of this number is connected anew, and where there is none, all are as before
 abbrev pub ConnectedIn : {P : Type 0} → List (Line P) → ℕ → List (Line P) → Type 0
 ConnectedIn {P} old number new =
     ((position (λ (line : Line P). line.number == number) old ≡ None) × (new ≡ old)) ⊎ ((at : ℕ) × HoldsAt (λ (line : Line P). line.number ≡ number) old at × ConnectedAt old at new)
+
+-- by such a connection or by none
+abbrev pub BegunIn : {P : Type 0} → (P → Option (List ℕ)) → (P → Option (List ℕ)) → List (Line P) → ℕ → List (Line P) → Type 0
+BegunIn {P} gave took old number new =
+    ((position (λ (line : Line P). line.number == number) old ≡ None) × (new ≡ old)) ⊎ ((at : ℕ) × HoldsAt (λ (line : Line P). line.number ≡ number) old at × BegunAt gave took old at new)

@@ -1,7 +1,9 @@
 -- Which side of a line is heard first, and what is known of one of which nothing is told.
-use Rattle.std.specs.Prelude.{◌≡◌, [], Bool, true, false, Option, None, Some, IsTrue, IfSome}
+use Rattle.std.specs.Prelude.{◌≡◌, [], Bool, true, false, Option, None, Some, IsTrue, IfSome, Contains}
+use Rattle.gate_io.specs.Events.{wanted}
 use Rattle.gate_io.specs.declared.event.Side.{Side}
 use Rattle.gate_io.specs.declared.event.Side.TheVariants.{Down, Up}
+use Rattle.gate_io.specs.declared.passed.Wants.{Wants}
 use Rattle.gate_io.specs.declared.event.What.{What}
 use Rattle.gate_io.specs.declared.event.What.TheVariants.{Opened, Bytes, End, Gone, Joined, Refused, Room, Clock, Stop}
 use Rattle.live_lines.specs.declared.duplex.Heard.{Heard}
@@ -99,3 +101,8 @@ ClientIsStill ready broken again client = IfSome client (λ peer. (ready peer �
 abbrev pub ServerIsStill : {P : Type 0} → (P → Bool) → (P → Bool) → Type 0 → Option (Upstream P) → Type 0
 ServerIsStill {P} ready broken asked None = Unit {0}
 ServerIsStill {P} ready broken asked (Some up) = (up.waiting ≡ []) × (broken up.peer ≡ false) × (IsTrue (ready up.peer) → asked → ⊥)
+
+-- nothing is to be told of a line: it has no refusal to tell, and its client and its server are still
+abbrev pub LineIsStill : {P : Type 0} → (ready broken again : P → Bool) → Wants → Line P → Type 0
+LineIsStill ready broken again wants line =
+    (line.refused ≡ false) × ClientIsStill ready broken again line.down × ServerIsStill ready broken (Contains (wanted wants Up) line.number) line.up

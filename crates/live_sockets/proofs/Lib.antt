@@ -1,3 +1,4 @@
+pub mod Begun
 pub mod Due
 pub mod Homes
 pub mod Kept

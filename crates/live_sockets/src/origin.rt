@@ -1,5 +1,5 @@
 // Where a worker's lines come from.
-ghost use Rattle.std.specs.Prelude.{◌≡◌, ℕ, ◌+◌, ◌<◌, ◌≤◌, [], nat_le, vec_len, IfOk, IfSome, IsSome, IsSomeAnd};
+ghost use Rattle.std.specs.Prelude.{◌≡◌, ℕ, ◌+◌, ◌<◌, ◌≤◌, ◌⊎◌, [], ◌∷◌, ◌++◌, length, nat_le, vec_len, IfOk, IfSome, IfNone, IsSome, IsSomeAnd};
 ghost use Rattle.std.specs.Arc.{arc_value};
 ghost use Rattle.live_sockets.specs.Numbers.{MayGain, home_of};
 
@@ -135,9 +135,10 @@ fn queue_of(alloc: Global) -> Result<Queue, OutOfMemory>
 }
 
 impl Neighbor {
-    /// Hands a line over. One that there is no room for is closed.
+    /// Hands a line over. One that there is no room for is closed, never before 128 were handed over.
     fn hand<R: Wait>(&mut self, rt: &R, guest: Guest)
-        ensures { MayGain self.old.giver.lines guest.number self.new.giver.lines }
+        ensures gains { MayGain self.old.giver.lines guest.number self.new.giver.lines }
+        ensures full { (self.new.giver.lines ≡ self.old.giver.lines ++ guest.number ∷ []) ⊎ (128 ≤ length self.old.giver.lines) }
     {
         if self.queue.offer(rt, &mut self.giver, guest).is_ok() {
             let _ = self.waker.wake();
@@ -149,6 +150,8 @@ impl Mailbox {
     /// A line that was handed over. None comes once as many came as may before an open line is heard.
     fn take<R: Wait>(&mut self, rt: &R) -> Option<Guest>
         ensures few { IfSome result (λ guest. self.new.left < self.old.left) }
+        ensures some { IfSome result (λ guest. self.new.taker.lines ≡ self.old.taker.lines ++ guest.number ∷ []) }
+        ensures none { IfNone result (self.new.taker.lines ≡ self.old.taker.lines) }
     {
         if !self.ready || self.left == 0 {
             return None;

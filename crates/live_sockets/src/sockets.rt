@@ -1,10 +1,11 @@
 // The sockets of one worker.
-ghost use Rattle.std.specs.Prelude.{◌≡◌, ◌==◌, ◌<◌, ◌≤◌, IsTrue, IsSomeAnd, None, length, vec_len, HoldsAt, remove, IfOk, IfSome, IfNone};
+ghost use Rattle.std.specs.Prelude.{◌≡◌, ◌==◌, ◌<◌, ◌≤◌, ◌⊎◌, IsTrue, IsSomeAnd, None, length, vec_len, HoldsAt, remove, slice_get, IfOk, IfSome, IfNone};
 ghost use Rattle.std.specs.List.{position};
 ghost use Rattle.live_lines.specs.Allowed.{IsAllowed};
 ghost use Rattle.live_sockets.specs.Keeping.{AreKept};
-ghost use Rattle.live_lines.specs.Lines.{most_lines, IsHeardAt, HeardIn, HeardNext, Forgets, SentTo, SentIn, ConnectedAt, ConnectedIn, ClosedIn, ClosedUp, next_place, place_after};
+ghost use Rattle.live_lines.specs.Lines.{most_lines, IsHeardAt, HeardIn, HeardNext, Forgets, SentTo, SentIn, ConnectedAt, ConnectedIn, BegunAt, BegunIn, IsUnused, ClosedIn, ClosedUp, next_place, place_after};
 ghost use Rattle.live_lines.specs.Told.{LiesIn};
+ghost use Rattle.live_lines.specs.Turns.{LineIsStill};
 
 use crate::moments::Moments;
 use crate::origin::{Guest, Origin};
@@ -385,13 +386,16 @@ impl<P: Duplex> Sockets<P> {
         Ok(None)
     }
 
-    /// What is heard of the next line.
+    /// What is heard of the next line. One of which nothing is to be told is passed over.
+    #[tactic(auto, using(crate::proofs::Begun::stands_at))]
     fn heard_next(&mut self, alloc: Global, wants: &Wants) -> Result<Option<What>, OutOfMemory>
         ensures allowed { IfOk result (λ told. IfSome told (IsAllowed wants.now)) }
         ensures of { IfOk result (λ told. IfSome told (IsHeardAt self.old.lines.items (next_place self.old.next (vec_len self.old.lines)))) }
         ensures read { IfOk result (λ told. IfSome told (LiesIn self.new.room.bytes.items)) }
         ensures heard { IfOk result (λ told. HeardNext P.gave P.took self.old.lines.items self.old.next told self.new.lines.items) }
         ensures turn { self.new.next ≡ place_after self.old.next (vec_len self.old.lines) }
+        ensures passed { IfOk result (λ told. HeardIn P.gave P.took self.old.lines.items (next_place self.old.next (vec_len self.old.lines)) told self.new.lines.items
+            ⊎ IfSome (slice_get self.old.lines.items (next_place self.old.next (vec_len self.old.lines))) (LineIsStill P.ready P.broken P.again wants.now)) }
     {
         if self.next >= self.lines.len() {
             self.next = 0;
@@ -491,7 +495,8 @@ impl<P: Duplex> Sockets<P> {
 
     /// Begins the upstream connection of a line.
     pub fn connect<R: Net>(&mut self, alloc: Global, rt: &R, number: LineNo)
-        ensures { ConnectedIn self.old.lines.items number self.new.lines.items }
+        ensures connected { ConnectedIn self.old.lines.items number self.new.lines.items }
+        ensures begun { BegunIn P.gave P.took self.old.lines.items number self.new.lines.items }
     {
         let Some(at) = find(&self.lines, number) else {
             return;
@@ -502,8 +507,9 @@ impl<P: Duplex> Sockets<P> {
 
     /// Goes on with this connection to the server of the line at a place, or with none.
     fn join_at(&mut self, alloc: Global, at: usize, peer: Option<P>)
-        requires { at < vec_len self.old.lines }
-        ensures { ConnectedAt self.old.lines.items at self.new.lines.items }
+        requires at { at < vec_len self.old.lines }
+        requires unused { IfSome peer (IsUnused P.gave P.took) }
+        ensures { BegunAt P.gave P.took self.old.lines.items at self.new.lines.items }
     {
         let line = &mut self.lines[at];
         line.join(alloc, peer);
@@ -755,7 +761,9 @@ fn connected<P: Duplex, R: Net>(
     registry: &Registry,
     upstream: SocketAddr,
     number: LineNo,
-) -> Option<P> {
+) -> Option<P>
+    ensures { IfSome result (IsUnused P.gave P.took) }
+{
     let stream = TcpStream::connect(rt, upstream).ok()?;
     P::over(stream, registry, token_of(number, Side::Up), true).ok()
 }

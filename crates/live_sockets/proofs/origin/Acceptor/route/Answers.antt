@@ -16,4 +16,4 @@ returns-clause-offered g c = λ last e h.
     let below : home_of number (length others) < length others + 1 = mod-lt (number - 1) (omega arith) in
     let inside : place - 1 < length others = omega arith in
     let home : home_of (last + 1) (length others) ≡ place - 1 + 1 = ap (λ k. home_of k (length others)) (sym e) ∙ (sym is ∙ sym one) in
-    home_offered last (place - 1) others n m inside (sym c.index_mut.ensures.value) home (subst (λ k. MayGain n.giver.lines k m.giver.lines) e c.hand.ensures) h
+    home_offered last (place - 1) others n m inside (sym c.index_mut.ensures.value) home (subst (λ k. MayGain n.giver.lines k m.giver.lines) e c.hand.ensures.gains) h

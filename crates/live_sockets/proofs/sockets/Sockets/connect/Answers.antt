@@ -8,10 +8,12 @@ pub returns-in_default : goal.returns-in_default
 returns-in_default g c =
     let P : Type 0 = g.row.P.Denot in
     let same : c.deref.result.now ≡ c.args.self.now.lines.items = (let h = c.deref.ensures.value in cc) in
-    inl (subst (λ (ls : List (Line P)). position (λ (line : Line P). line.number == c.args.number) ls ≡ None) same c.in_default.ensures.none, refl)
+    let none = subst (λ (ls : List (Line P)). position (λ (line : Line P). line.number == c.args.number) ls ≡ None) same c.in_default.ensures.none in
+    record { connected = inl (none, refl); begun = inl (none, refl) }
 
 pub returns : goal.returns
 returns g c =
     let P : Type 0 = g.row.P.Denot in
     let same : c.deref.result.now ≡ c.args.self.now.lines.items = (let h = c.deref.ensures.value in cc) in
-    inr (c.in-Some.at, subst (λ (ls : List (Line P)). HoldsAt (λ (line : Line P). line.number ≡ c.args.number) ls c.in-Some.at) same c.in-Some.ensures.found, c.join_at.ensures)
+    let found = subst (λ (ls : List (Line P)). HoldsAt (λ (line : Line P). line.number ≡ c.args.number) ls c.in-Some.at) same c.in-Some.ensures.found in
+    record { connected = inr (c.in-Some.at, found, c.join_at.ensures.connected); begun = inr (c.in-Some.at, found, c.join_at.ensures) }
