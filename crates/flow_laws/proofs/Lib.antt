@@ -8,6 +8,7 @@ pub mod Readings
 pub mod Elsewhere
 pub mod Jobs
 pub mod Deaths
+pub mod DeathsBeside
 pub mod Contexts
 pub mod Events
 pub mod Stepping

@@ -24,10 +24,11 @@ use Rattle.flow_laws.specs.Besides.{IsWhole}
 use Rattle.chain_laws.specs.Acts.{NotOf}
 use Rattle.flow_laws.specs.Elsewhere.{behind_effects}
 use Rattle.flow_laws.specs.Rooms.{IsOn, Leaves, leaves, Meanwhile, nothing, other}
-use Rattle.flow_laws.specs.Stepping.{in_hand, Tells, TellsThen, MayJob, begin, root, start, configure, tick, expire, happen, create, enter, put_across, put_elsewhere, refuse, done, log, delete, close, notice, ready, MayWork, no_job, first_job, MayBeside, reads, moves_across, moves_elsewhere, works as works_on, frees, ends_other, begins, stops, StepsBeside}
+use Rattle.flow_laws.specs.Stepping.{in_hand, Tells, TellsThen, MayJob, begin, root, start, configure, tick, expire, happen, create, enter, put_across, put_elsewhere, refuse, done, log, delete, close, notice, ready, dies_at_work, MayWork, no_job, first_job, MayBeside, reads, moves_across, moves_elsewhere, dies_elsewhere, works as works_on, frees, ends_other, begins, stops, StepsBeside}
 use Rattle.body_laws.proofs.Apart.{exchanges_pass_by}
 use Rattle.flow_laws.proofs.Besides.{stays, other_lines, other_direction, quiet_steps}
 use Rattle.flow_laws.proofs.Contexts.{contexts_leave, calls_are}
+use Rattle.flow_laws.proofs.DeathsBeside.{Comes, moved_died, job_died}
 use Rattle.flow_laws.proofs.Elsewhere.{other_lines_move, other_direction_moves}
 use Rattle.flow_laws.proofs.Events.{events_leave}
 use Rattle.flow_laws.proofs.Jobs.{jobs_leave, tells_are}
@@ -36,10 +37,6 @@ use Rattle.flow_laws.proofs.Readings.{reading_leaves}
 by_bool : {A : Type 0} (P : A → Type 0) (b : Bool) (a c : A) → (b ≡ true → P a) → (b ≡ false → P c) → P (if b then a else c)
 by_bool P true a c here there = here refl
 by_bool P false a c here there = there refl
-
--- what a step comes to
-abbrev Comes : Bool → ℕ → ℕ → Exchange → Room → Room → Type 0
-Comes response n count x room after = (y : Exchange) × Meanwhile response n count x room y after
 
 left_so : {response : Bool} {n count : ℕ} {x y : Exchange} {room after : Room} → Leaves response n x room y after → Meanwhile response n count x room y after
 left_so {response} {n} {count} {x} {y} {room} {after} l = other (leaves l) (nothing y after)
@@ -188,6 +185,8 @@ module _ {H : Type 0} (calling : Calling H) (plan : Plan) (response : Bool) (n c
       by_bool (λ (k : Course (Both H)). Reaches k ms (ends b) → Comes response n count x room b.room) (may_stream vm at room.hub.contexts)
       (tells calling vm callbacks.QueueReady at queue host room) (ends (both host room)) (λ e r. told x host room vm callbacks.QueueReady at queue b ms on may r)
       (λ e r. ended_as x x room room host b ms (stays response n x room on whole) r) reaches
+  job_comes x host room _ b ms on whole (dies_at_work job q is may) reaches =
+      job_died calling plan response n count x host room job q b ms on whole is (λ c y reached there. may c y reached there) reaches
 
   work_comes : (x : Exchange) (host : H) (room : Room) (todo : List Job) (b : Both H) (ms : List Met) → IsOn n room x → IsWhole response x room
       → MayWork calling response n count x host ms room todo → Reaches (works_first calling plan todo host room) ms (ends b) → Comes response n count x room b.room
@@ -205,6 +204,8 @@ module _ {H : Type 0} (calling : Calling H) (plan : Plan) (response : Bool) (n c
       other_direction_moves H calling plan response n count x b.room q b.host ms m alien whole (λ c reached. may c reached) reaches
   beside_comes x b m ms _ on whole (moves_elsewhere place there alien away may) reaches =
       other_lines_move H calling plan response n count place x b.room there b.host ms m alien whole away (λ a lines hub c is reached. may a lines hub c is reached) reaches
+  beside_comes x b m ms _ on whole (dies_elsewhere place there alien away may) reaches =
+      moved_died calling plan response n count place x b.room b.host m ms there alien whole away (λ a lines hub c is reached. may a lines hub c is reached) reaches
   beside_comes x b m ms _ on whole (works_on may) reaches = work_comes x b.host b.room b.room.jobs m ms on whole may reaches
   beside_comes x b m ms _ on whole (frees at) reaches =
       ended_as x x b.room (free_one at b.room) b.host m ms (quiet_steps.frees_one response n at x b.room on whole) reaches

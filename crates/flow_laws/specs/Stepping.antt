@@ -5,10 +5,12 @@ use Rattle.course.specs.Course.{ends, runs_then, Met, Reaches}
 use Rattle.course.specs.Heard.{Heard, Hears}
 use Rattle.course.specs.declared.host.Callback.{Callback}
 use Rattle.course.specs.declared.host.Callback.TheVariants as callbacks
+use Rattle.course.specs.declared.host.CallEnd.TheVariants as call_ends
+use Rattle.course.specs.declared.host.Death.{Death}
 use Rattle.exchange.specs.declared.types.Exchange.{Exchange}
 use Rattle.exchange.specs.declared.types.Filter.{Filter}
 use Rattle.exchange.specs.declared.types.Hub.{Hub}
-use Rattle.exchange.specs.Passing.{chain_of, expires}
+use Rattle.exchange.specs.Passing.{chain_of, expires, fails_closed}
 use Rattle.filter_chain.specs.declared.item.Item.{Item}
 use Rattle.gate_io.specs.declared.event.What.{What}
 use Rattle.http1_model.specs.Unread.{Reading}
@@ -29,8 +31,10 @@ use Rattle.worker.specs.Rooms.{place_in, with_lines}
 use Rattle.worker.specs.Steps.{Both, is_zero, vm_length, plugin_length, ticked, is_drawn_out, rooting, filter_at, creating, reading_on, step}
 use Rattle.body_laws.specs.Apart.{AreAliens}
 use Rattle.flow_laws.specs.Besides.{OthersAreAlien, IsWhole}
-use Rattle.chain_laws.specs.Acts.{NotOf}
+use Rattle.chain_laws.specs.Acts.{HoldSame, AreThere, NotOf}
 use Rattle.body_laws.specs.Deeds.{comes, AreDeeds}
+use Rattle.flow_laws.specs.Deaths.{NoneOf}
+use Rattle.flow_laws.specs.Dying.{Callee, job_callee, program_of}
 use Rattle.flow_laws.specs.Elsewhere.{IsBeside, behind_effects, asked_program, IsElsewhere, IsAcross}
 use Rattle.flow_laws.specs.Events.{LosesNone}
 use Rattle.flow_laws.specs.Readings.{HearsNone}
@@ -53,6 +57,18 @@ TellsThen calling response n count x host ms room vm name context first Holds =
     (c : Called _) → Reaches (runs_then (calling host vm name context first 0 room.hub.moment room.hub.contexts) ends) ms (ends c)
     → (e : IsBeside response n count vm owns.Nobody c x room)
     × ((z : Exchange) → IsOn n (behind_effects vm owns.Nobody c room) z → IsWhole response z (behind_effects vm owns.Nobody c room) × Holds e.value z (behind_effects vm owns.Nobody c room))
+
+-- A CALLBACK THAT DIED, as the exchange and the room are when it comes: the exchange has no stage of its VM, and no filter that fails closed by that; what the callback did
+-- before left what the direction's stages hold as it was; and the exchanges of all other lines have other stages.
+pub record DiesBeside {H : Type 0} (response : Bool) (n vm : ℕ) (c : Called H) (x : Exchange) (room : Room) : Type 0 where
+  pub death : Death
+  pub ended : c.end ≡ call_ends.Died death
+  pub holds : HoldSame room.hub.contexts c.contexts (chain_of response x)
+  pub there : AreThere c.contexts (chain_of response x)
+  pub alien : (on : IsOn n room x) → OthersAreAlien (chain_of response x) on.place room
+  pub opens : fails_closed vm x ≡ false
+  pub of_request : NoneOf vm x.request
+  pub of_response : NoneOf vm x.response
 
 -- A JOB that is none of the direction
 pub data MayJob {H : Type 0} (calling : Calling H) (response : Bool) (n count : ℕ) (x : Exchange) (host : H) (ms : List Met) (room : Room) : Job → Type 0 where
@@ -86,6 +102,10 @@ pub data MayJob {H : Type 0} (calling : Calling H) (response : Bool) (n count : 
   close : (number : ℕ) (stays : Bool) → (number ≡ n → ⊥) → MayJob calling response n count x host ms room (jobs.Close number stays)
   notice : (vm left : ℕ) → MayJob calling response n count x host ms room (jobs.Notice vm left)
   ready : (vm at queue : ℕ) → Tells calling response n count x host ms room vm callbacks.QueueReady at queue → MayJob calling response n count x host ms room (jobs.Ready vm at queue)
+  -- any one whose callback died
+  dies_at_work : (job : Job) (q : Callee) → job_callee job room ≡ Some q
+      → ((c : Called H) (y : Exchange) → Reaches (runs_then (program_of calling host q) ends) ms (ends c) → IsOn n q.room y → DiesBeside response n q.vm c y q.room)
+      → MayJob calling response n count x host ms room job
 
 pub data MayWork {H : Type 0} (calling : Calling H) (response : Bool) (n count : ℕ) (x : Exchange) (host : H) (ms : List Met) (room : Room) : List Job → Type 0 where
   no_job : MayWork calling response n count x host ms room []
@@ -104,6 +124,11 @@ pub data MayBeside {H : Type 0} (calling : Calling H) (response : Bool) (n count
       → ((a : Asked) (lines : List Line) (hub : Hub) (c : Called H) → asks_at place (slice_get b.room.lines place) b.room.lines b.room.hub ≡ (Some a, lines, hub)
       → Reaches (runs_then (asked_program calling b.host a (with_lines b.room (lines, hub))) ends) ms (ends c)
       → IsElsewhere response n count a c x (with_lines b.room (lines, hub)))
+      → MayBeside calling response n count x b ms (next.Move place)
+  -- of another line, where the callback died
+  dies_elsewhere : (place : ℕ) (on : IsOn n b.room x) → OthersAreAlien (chain_of response x) on.place b.room → (place ≡ on.place → ⊥)
+      → ((a : Asked) (lines : List Line) (hub : Hub) (c : Called H) → asks_at place (slice_get b.room.lines place) b.room.lines b.room.hub ≡ (Some a, lines, hub)
+      → Reaches (runs_then (asked_program calling b.host a (with_lines b.room (lines, hub))) ends) ms (ends c) → DiesBeside response n a.vm c x (with_lines b.room (lines, hub)))
       → MayBeside calling response n count x b ms (next.Move place)
   works : MayWork calling response n count x b.host ms b.room b.room.jobs → MayBeside calling response n count x b ms next.Work
   frees : (at : ℕ) → MayBeside calling response n count x b ms (next.Free at)

@@ -94,7 +94,8 @@ pub fn reading_leaves_directions<H>()
     ensures { ReadingLeaves H }
 {}
 
-/// A worker's step that is none of a direction resumes stages of it, or leaves it as it was.
+/// A worker's step that is none of a direction resumes stages of it, or leaves it as it was; be it a move of another line or a job whose callback dies, where the
+/// exchange has no stage of its VM and no filter that fails closed by it.
 pub fn steps_beside<H>()
     ensures { StepsBeside H }
 {}
@@ -104,8 +105,8 @@ pub fn steps_beside<H>()
 /// what is in the chain is the head, the pieces and the end or the trailers that were put, in order; once the end has left, all has. The deeds that
 /// tell this are those of the steps, and by each of its own the exchange, which had not ended, writes each item that leaves. What the body callback of a step left is one
 /// list of bytes, by what the step met (`one`). From any state between steps the same goes on (`goes_on`), with stages that were let through too. In each step
-/// every callback returns, those for bodies and trailers of the direction with Continue; the exchange is neither answered nor closed; no stage is in two
-/// chains, the contexts of the direction's stages are there, and callbacks of others leave what these hold as it was.
+/// the callbacks of the exchange's stages return, those for bodies and trailers of the direction with Continue, and so do others, but such as `steps_beside` lets die; the
+/// exchange is neither answered nor closed; no stage is in two chains, the contexts of the direction's stages are there, and callbacks of others leave what these hold as it was.
 pub fn turns_pass_bodies<H>()
     ensures turns { TurnsPassBodies H }
     ensures goes_on { TurnsGoOn H }
