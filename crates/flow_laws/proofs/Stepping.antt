@@ -24,10 +24,11 @@ use Rattle.flow_laws.specs.Besides.{IsWhole}
 use Rattle.chain_laws.specs.Acts.{NotOf}
 use Rattle.flow_laws.specs.Elsewhere.{behind_effects}
 use Rattle.flow_laws.specs.Rooms.{IsOn, Leaves, leaves, Meanwhile, nothing, other}
-use Rattle.flow_laws.specs.Stepping.{in_hand, Tells, TellsThen, MayJob, begin, root, start, configure, tick, expire, happen, create, enter, put_across, put_elsewhere, refuse, done, log, delete, close, notice, ready, dies_at_work, MayWork, no_job, first_job, MayBeside, reads, moves_across, moves_elsewhere, dies_elsewhere, works as works_on, frees, ends_other, begins, stops, StepsBeside}
+use Rattle.flow_laws.specs.Stepping.{in_hand, Tells, TellsThen, OutlivesBeside, TellsZero, MayJob, begin, root, start, configure, tick, expire, happen, create, enter, put_across, put_elsewhere, refuse, done, log, delete, close, notice, ready, dies_at_work, start_refused, configure_refused, MayWork, no_job, first_job, MayBeside, reads, moves_across, moves_elsewhere, dies_elsewhere, works as works_on, frees, ends_other, begins, stops, StepsBeside}
 use Rattle.body_laws.proofs.Apart.{exchanges_pass_by}
 use Rattle.flow_laws.proofs.Besides.{stays, other_lines, other_direction, quiet_steps}
 use Rattle.flow_laws.proofs.Contexts.{contexts_leave, calls_are}
+use Rattle.flow_laws.proofs.Deaths.{all_lines_leave}
 use Rattle.flow_laws.proofs.DeathsBeside.{Comes, moved_died, job_died}
 use Rattle.flow_laws.proofs.Elsewhere.{other_lines_move, other_direction_moves}
 use Rattle.flow_laws.proofs.Events.{events_leave}
@@ -74,6 +75,28 @@ module _ {H : Type 0} (calling : Calling H) (plan : Plan) (response : Bool) (n c
             let r : Room = behind_effects vm owns.Nobody c room in (
               z,
               subst (λ (q : Room). Leaves response n z r z q) (sym (not_zero vm death both_.0.value r (both_.1 z z_on).1)) (stays response n z r z_on (both_.1 z z_on).0),
+            ),
+      ))
+      reaches
+
+  -- and where that returned 0, its VM is dead
+  zero : (vm : ℕ) (death : _) (value : Option ℕ) (room : Room) → is_zero value ≡ true → unless_zero vm death (Some value) room ≡ died vm death room
+  zero vm death value room is = ap (λ (b : Bool). if b then died vm death room else room) is
+
+  refused : (x : Exchange) (host : H) (room : Room) (vm at size : ℕ) (name : Callback) (death : _) (b : Both H) (ms : List Met) → IsOn n room x → IsWhole response x room
+      → TellsZero calling response n count x host ms room vm name at size
+      → Reaches (starts calling vm name at size death host room) ms (ends b) → Comes response n count x room b.room
+  refused x host room vm at size name death b ms on whole may reaches =
+      calls_are H calling response n count vm name at size 0 (unless_zero vm death) x room on host ms b (x, stays response n x room on whole)
+      (λ c reached.
+      let both_ = may c reached in (
+        both_.0,
+        λ z z_on.
+            let r : Room = behind_effects vm owns.Nobody c room in
+            let o : OutlivesBeside response n vm z r z_on = both_.2 z z_on in (
+              z,
+              subst (λ (q : Room). Leaves response n z r z q) (sym (zero vm death both_.0.value r both_.1))
+                  (all_lines_leave.dying vm death response n z r z_on o.alien o.whole o.opens o.of_request o.of_response),
             ),
       ))
       reaches
@@ -187,6 +210,10 @@ module _ {H : Type 0} (calling : Calling H) (plan : Plan) (response : Bool) (n c
       (λ e r. ended_as x x room room host b ms (stays response n x room on whole) r) reaches
   job_comes x host room _ b ms on whole (dies_at_work job q is may) reaches =
       job_died calling plan response n count x host room job q b ms on whole is (λ c y reached there. may c y reached there) reaches
+  job_comes x host room _ b ms on whole (start_refused vm at may) reaches =
+      refused x host room vm at (vm_length vm room.hub.contexts) callbacks.VmStart deaths.Start b ms on whole may reaches
+  job_comes x host room _ b ms on whole (configure_refused vm at plugin may) reaches =
+      refused x host room vm at (plugin_length plugin room.hub.contexts) callbacks.Configure deaths.Configure b ms on whole may reaches
 
   work_comes : (x : Exchange) (host : H) (room : Room) (todo : List Job) (b : Both H) (ms : List Met) → IsOn n room x → IsWhole response x room
       → MayWork calling response n count x host ms room todo → Reaches (works_first calling plan todo host room) ms (ends b) → Comes response n count x room b.room

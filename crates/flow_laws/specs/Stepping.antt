@@ -1,5 +1,5 @@
 -- THE STEPS OF A WORKER, as a direction sees them.
-use Rattle.std.specs.Prelude.{◌≡◌, ℕ, Bool, false, not, List, [], ◌∷◌, map, Option, None, Some, slice_get}
+use Rattle.std.specs.Prelude.{◌≡◌, ℕ, Bool, true, false, not, List, [], ◌∷◌, map, Option, None, Some, slice_get}
 use Rattle.course.specs.Called.{Called, Calling}
 use Rattle.course.specs.Course.{ends, runs_then, Met, Reaches}
 use Rattle.course.specs.Heard.{Heard, Hears}
@@ -70,6 +70,23 @@ pub record DiesBeside {H : Type 0} (response : Bool) (n vm : ℕ) (c : Called H)
   pub of_request : NoneOf vm x.request
   pub of_response : NoneOf vm x.response
 
+-- WHERE A VM DIES BEHIND THE EFFECTS of its callback, as an exchange on the line and the room are then: the contexts of the direction's stages are there, the exchanges of all
+-- other lines have other stages, and the exchange has no stage of the VM, and no filter that fails closed by that.
+pub record OutlivesBeside (response : Bool) (n vm : ℕ) (z : Exchange) (room : Room) (on : IsOn n room z) : Type 0 where
+  pub whole : IsWhole response z room
+  pub alien : OthersAreAlien (chain_of response z) on.place room
+  pub opens : fails_closed vm z ≡ false
+  pub of_request : NoneOf vm z.request
+  pub of_response : NoneOf vm z.response
+
+-- every end of this callback of no stage is one that may be, and it returned 0, so that its VM dies behind its effects
+abbrev pub TellsZero : {H : Type 0} → Calling H → Bool → ℕ → ℕ → Exchange → H → List Met → Room → ℕ → Callback → ℕ → ℕ → Type 0
+TellsZero calling response n count x host ms room vm name context first =
+    (c : Called _) → Reaches (runs_then (calling host vm name context first 0 room.hub.moment room.hub.contexts) ends) ms (ends c)
+    → (e : IsBeside response n count vm owns.Nobody c x room)
+    × (is_zero e.value ≡ true)
+    × ((z : Exchange) (on : IsOn n (behind_effects vm owns.Nobody c room) z) → OutlivesBeside response n vm z (behind_effects vm owns.Nobody c room) on)
+
 -- A JOB that is none of the direction
 pub data MayJob {H : Type 0} (calling : Calling H) (response : Bool) (n count : ℕ) (x : Exchange) (host : H) (ms : List Met) (room : Room) : Job → Type 0 where
   begin : (vm : ℕ) → Tells calling response n count x host ms room vm callbacks.Begin 0 0 → MayJob calling response n count x host ms room (jobs.Begin vm)
@@ -106,6 +123,11 @@ pub data MayJob {H : Type 0} (calling : Calling H) (response : Bool) (n count : 
   dies_at_work : (job : Job) (q : Callee) → job_callee job room ≡ Some q
       → ((c : Called H) (y : Exchange) → Reaches (runs_then (program_of calling host q) ends) ms (ends c) → IsOn n q.room y → DiesBeside response n q.vm c y q.room)
       → MayJob calling response n count x host ms room job
+  -- a start or a configuration that returned 0, behind which the VM is dead
+  start_refused : (vm at : ℕ) → TellsZero calling response n count x host ms room vm callbacks.VmStart at (vm_length vm room.hub.contexts)
+      → MayJob calling response n count x host ms room (jobs.Start vm at)
+  configure_refused : (vm at plugin : ℕ) → TellsZero calling response n count x host ms room vm callbacks.Configure at (plugin_length plugin room.hub.contexts)
+      → MayJob calling response n count x host ms room (jobs.Configure vm at plugin)
 
 pub data MayWork {H : Type 0} (calling : Calling H) (response : Bool) (n count : ℕ) (x : Exchange) (host : H) (ms : List Met) (room : Room) : List Job → Type 0 where
   no_job : MayWork calling response n count x host ms room []

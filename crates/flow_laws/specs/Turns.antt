@@ -111,8 +111,8 @@ pub record HavePassed {H : Type 0} {calling : Calling H} {plan : Plan} {response
       → PassesThrough items (joined items) (left_by response n (run_deeds run) (running None x b.room)) (flow e.room.hub.contexts (chain_of response last)) (chain_of response last)
 
 -- BODIES PASS THROUGH TURNS, from an exchange whose stages were made and through which nothing passed yet. (Each callback of the
--- exchange's stages returns. One of another line or of no stage may die, where the exchange has no stage of its VM and no filter that fails closed by that; on other deaths the law is
--- silent.)
+-- exchange's stages returns. One of another line or of no stage may die, and a start or a configuration may answer 0, where the exchange has no stage of its VM and no filter that fails
+-- closed by that; on other deaths the law is silent.)
 abbrev pub TurnsPassBodies : Type 0 → Type 0
 TurnsPassBodies H = (calling : Calling H) (plan : Plan) (response : Bool) (n count : ℕ) (x : Exchange) (b e : Both H) (items : List Item) (steps : Steps calling plan response n count x b items e)
     → IsOn n b.room x → IsNew (standing response (running None x b.room)) → count ≤ length (chain_of response x) → IsInOrder items → HavePassed steps
