@@ -25,6 +25,11 @@ from both import fit, in_node, in_wasmgate  # noqa: E402
 TYPES = {0x7F: "i32", 0x7E: "i64", 0x7D: "f32", 0x7C: "f64"}
 CANONICAL = {"f32": 0x7FC00000, "f64": 0x7FF8000000000000}
 
+# Assertions that do not hold here for a reason that is not of tools/fit.
+KNOWN = {
+    ("call.wast", 304): "memory grows by 306 pages, and invoke allows 128",
+}
+
 
 def modern(text):
     """The suite's text with older forms of assertions in the form of today."""
@@ -54,7 +59,7 @@ def checked(value, result):
 class Suite:
     def __init__(self, gate, folder, temp):
         self.gate, self.folder, self.temp = gate, folder, temp
-        self.refusals, self.wrong = Counter(), []
+        self.refusals, self.wrong, self.made = Counter(), [], 0
 
     def commands(self, name):
         """The commands of a file as wast2json reads them, or None and why it does not."""
@@ -90,27 +95,45 @@ class Suite:
                 other = c["action"].get("module")
                 next((g for g in groups if other and g["name"] == other), current)["does"].append(c)
         self.counts, self.jobs, self.name = [0, 0, 0, 0], [], name
-        for number, g in enumerate(groups):
+        for g in groups:
             if any(c["type"] != "action" for c in g["does"]):
-                self.group(os.path.join(self.temp, g["file"]), g["does"], number)
-        for (entries, lines, out, call), own in zip(self.jobs, in_node([j[3] for j in self.jobs])):
-            ours, _ = in_wasmgate(self.gate, out, call[1], call[2])
-            if own != ("trap" if lines is None else "i64 0"):
-                self.counts[2] += entries
-                self.wrong.append("%s: node has %s of the module as it is (%s)" % (name, own, call[1]))
-            elif own == ours:
-                self.counts[0] += entries
-            elif lines is None or not ours.startswith("i64 "):
-                self.counts[3] += entries
-                self.wrong.append("%s: %s %s: %s" % (name, call[1], call[2], ours))
-            else:
-                differ, last = int(ours[4:]) >> 32, int(ours[4:]) & 0xFFFFFFFF
-                self.counts[0] += entries - differ
-                self.counts[3] += differ
-                self.wrong.append("%s: %d differ, the last at line %d" % (name, differ, last))
+                self.group(os.path.join(self.temp, g["file"]), g["does"])
+        while self.jobs:
+            jobs, self.jobs = self.jobs, []
+            for job, own in zip(jobs, in_node([j["call"] for j in jobs])):
+                self.judge(job, own)
         return self.counts, None
 
-    def group(self, path, does, number):
+    def judge(self, job, own):
+        """Counts what node and the program make of one call."""
+        ours, told = in_wasmgate(self.gate, job["out"], job["call"][1], job["call"][2])
+        entries, traps = job["entries"], job["traps"]
+        if own != ("trap" if traps else "i64 0"):
+            self.counts[2] += entries
+            self.wrong.append("%s: node has %s of the module as it is (%s)" % (self.name, own, job["call"][1]))
+        elif own == ours:
+            self.counts[0] += entries
+        elif not traps and told == "wasmgate: invoke fuel" and len(job["does"]) > 1:
+            half = len(job["does"]) // 2  # more than the units that invoke gives
+            for part in (job["does"][:half], job["does"][half:]):
+                self.group(job["path"], part)
+        elif traps or not ours.startswith("i64 "):
+            self.differ(entries, job["does"][0]["line"], "%s: %s, and not %s" % (job["call"][1], told if isinstance(told, str) else ours, own))
+        else:
+            differ, last = int(ours[4:]) >> 32, int(ours[4:]) & 0xFFFFFFFF
+            self.counts[0] += entries - differ
+            self.differ(differ, last, "%d results differ, the last of them here" % differ)
+
+    def differ(self, count, line, what):
+        """Counts what differs, unless the reason is known."""
+        known = KNOWN.get((self.name, line))
+        self.counts[2 if known and count == 1 else 3] += count
+        if known and count == 1:
+            self.refusals["%s: line %d: %s" % (self.name, line, known)] += 1
+        else:
+            self.wrong.append("%s: line %d: %s" % (self.name, line, what))
+
+    def group(self, path, does):
         """Makes the driver of one module, and the calls that are wanted."""
         data = open(path, "rb").read()
         try:
@@ -141,7 +164,8 @@ class Suite:
                     body += checked(value, TYPES[kind]) + code("local.get 2 i32.or local.set 2")
                 body += code("local.get 2 if - local.get 0 i32.const 1 i32.add local.set 0 i32.const %d local.set 1 end i32.const 0 local.set 2" % c["line"])
         body += code("local.get 0 i64.extend_i32_u i64.const 32 i64.shl local.get 1 i64.extend_i32_u i64.or")
-        driver, out = os.path.join(self.temp, "%s.%d.wasm" % (self.name, number)), os.path.join(self.temp, "%s.%d.out.wasm" % (self.name, number))
+        self.made += 1
+        driver, out = os.path.join(self.temp, "driver%d.wasm" % self.made), os.path.join(self.temp, "out%d.wasm" % self.made)
         made = with_function(data, len(m.functions), "run all", ["i64"], ["i32", "i32", "i32"], bytes(body))
         with open(driver, "wb") as file:
             file.write(made)
@@ -160,10 +184,12 @@ class Suite:
             return
         with open(out, "wb") as file:
             file.write(fitted)
+        job = {"path": path, "out": out, "does": [c for c in does if c["type"] != "assert_trap"], "entries": entries, "traps": False, "call": (driver, "run all", [])}
         if entries:
-            self.jobs.append((entries, True, out, (driver, "run all", [])))
+            self.jobs.append(job)
         for c in traps:
-            self.jobs.append((1, None, out, (driver, c["action"]["field"], [(v["type"], bits(v)) for v in c["action"]["args"]])))
+            call = (driver, c["action"]["field"], [(v["type"], bits(v)) for v in c["action"]["args"]])
+            self.jobs.append(dict(job, does=[c], entries=1, traps=True, call=call))
 
 
 def main():
