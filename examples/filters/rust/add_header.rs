@@ -1,8 +1,8 @@
 //! Adds a header to each request, and one to each response.
 #![no_std]
 
-mod proxy_wasm;
-use proxy_wasm::{add_header, Action, Map};
+mod bare;
+use bare::{add_header, Action, Map};
 
 #[no_mangle]
 pub extern "C" fn proxy_on_request_headers(_context: u32, _headers: u32, _end: u32) -> Action {

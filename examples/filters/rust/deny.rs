@@ -2,18 +2,15 @@
 //! configuration any key will do.
 #![no_std]
 
-mod proxy_wasm;
-use proxy_wasm::{buffer, header, send_local_response, Action, Buffer, Map};
+mod bare;
+use bare::{buffer, header, send_local_response, Action, Buffer, Map};
 
 /// Whether the request may pass.
 fn is_allowed() -> bool {
-    let Ok(key) = header(Map::RequestHeaders, b"x-key") else {
-        return false;
-    };
-    let Ok(wanted) = buffer(Buffer::PluginConfiguration, 0, 65_536) else {
-        return false;
-    };
-    wanted.is_empty() || key.as_slice() == wanted.as_slice()
+    match (header(Map::RequestHeaders, b"x-key"), buffer(Buffer::PluginConfiguration, 0, 65_536)) {
+        (Ok(key), Ok(wanted)) => wanted.is_empty() || key.as_slice() == wanted.as_slice(),
+        _ => false,
+    }
 }
 
 #[no_mangle]
