@@ -1,6 +1,6 @@
 """Copies of a WebAssembly module that tell what the module does, for `tools/talk calls`, `fuel` and `test`.
 
-    watched(module)               a copy that writes a record to the log for each host call and each callback
+    watched(module, vm)           a copy that writes a record to the log for each host call and each callback, with the VM's number, 0 to 15
     slowed(module, name, rounds)  a copy whose callback `name` uses more fuel, by `units_of(rounds, parameters)`
     record_of(text)               the record in a line of the log, or None
 
@@ -19,7 +19,8 @@ LOG_TYPE = (bytes([I32, I32, I32]), bytes([I32]))
 # A callback that is none of an exchange or of a root, whose host calls are answered 10.
 ALLOCATORS = ("malloc", "proxy_on_memory_allocate")
 
-Record = collections.namedtuple("Record", "kind index value")
+Record = collections.namedtuple("Record", "vm kind index value")
+Name = collections.namedtuple("Name", "text gives")
 
 
 class Malformed(Exception):
@@ -214,8 +215,8 @@ def written(module, types, imports, functions, exports, elements, codes, start):
     return b"\0asm\1\0\0\0" + b"".join(bytes([which]) + sized(sections[which]) for which in sorted(sections))
 
 
-def watched(data):
-    """A copy that records; and the names of the imports and callbacks by the numbers that its records have."""
+def watched(data, vm=0):
+    """A copy that records; and the imports and callbacks by the numbers that its records have: the name, and whether it gives a number."""
     module = Module(data)
     types, imports = list(module.types), list(module.imports)
     log_type = types.index(LOG_TYPE) if LOG_TYPE in types else len(types)
@@ -233,7 +234,7 @@ def watched(data):
 
     def record(kind, index, value, saved):
         """Writes a record, whose value is the local `value` or none, with the local `saved` for what stands at place 0."""
-        base = int.from_bytes(MAGIC + bytes([kind]) + index.to_bytes(2, "little") + b"\0\0", "little")
+        base = int.from_bytes(MAGIC + bytes([vm << 4 | kind]) + index.to_bytes(2, "little") + b"\0\0", "little")
         code = b"\x41\0\x29\0\0\x21" + number(saved) + b"\x41\0\x42" + signed(base)
         if value is not None:
             code += b"\x20" + number(value) + b"\xad\x42" + signed(0xFFFF) + b"\x83\x42\x30\x86\x84"
@@ -277,7 +278,8 @@ def watched(data):
     elif Reader(module.sections[5][2:]).number() == 0:
         raise Malformed("the memory begins without a page")
     copy = written(module, types, imports, functions, exports, elements, codes, start)
-    return copy, [name.decode() for _, name, _, _ in module.imports], [name for name, _ in names]
+    calls = [Name(name[1].decode(), bool(module.type_of(at)[1])) for at, name in enumerate(module.imports)]
+    return copy, calls, [Name(name, bool(module.type_of(index)[1])) for name, index in names]
 
 
 def slowed(data, callback, rounds):
@@ -309,4 +311,4 @@ def record_of(text):
     """The record in the bytes of a line of the log, or None."""
     if len(text) != 8 or not text.startswith(MAGIC):
         return None
-    return Record(text[3], int.from_bytes(text[4:6], "little"), int.from_bytes(text[6:8], "little"))
+    return Record(text[3] >> 4, text[3] & 15, int.from_bytes(text[4:6], "little"), int.from_bytes(text[6:8], "little"))
