@@ -209,7 +209,8 @@ class Maker:
             elif choice == 8 and self.index:
                 callee = r.randrange(self.index)
                 params, results = self.functions[callee]
-                out += self.values(params, 1) + const("i32", callee if r.random() < 0.9 else r.randrange(self.index)) + b"\x11" + u(self.type_index(params, results)) + b"\0" + self.settle(results)
+                place = 1 - callee if callee < 2 <= self.index and r.random() < 0.3 else callee if r.random() < 0.95 else r.randrange(self.index)
+                out += self.values(params, 1) + const("i32", place) + b"\x11" + u(self.type_index(params, results)) + b"\0" + self.settle(results)
         return out
 
     def function(self, index):
@@ -221,13 +222,30 @@ class Maker:
         self.scratch, self.counter = more, len(self.locals) + 2
         self.labels = [(self.results, False)]
         body = code("i32.const 5 local.set %d" % self.counter)
-        body += self.statements(self.r.randint(2, 5), DEPTH) + self.end_with(self.results, DEPTH)
+        body += self.statements(self.r.randint(2, 5), DEPTH)
+        if self.is_called(index):
+            body += self.mixed(self.results[0])
+        else:
+            body += self.end_with(self.results, DEPTH)
         return runs_of(own + ["f32", "f64", "i32"]) + body + b"\x0b"
+
+    def is_called(self, index):
+        """Whether a function is exported and called: one that gives one integer."""
+        return len(self.functions[index][1]) == 1 and self.functions[index][1][0][0] == "i"
+
+    def mixed(self, kind):
+        """Code that makes of all locals and globals one value."""
+        out = code("i64.const 0")
+        to = {"i32": "i64.extend_i32_u", "i64": "", "f32": "i32.reinterpret_f32 i64.extend_i32_u", "f64": "i64.reinterpret_f64"}
+        for name, kinds in (("local", self.locals), ("global", self.globals)):
+            for at, k in enumerate(kinds):
+                out += code("i64.const 9 i64.rotl %s.get %d %s i64.xor i64.const 31 i64.mul" % (name, at, to[k]))
+        return out + (code("i32.wrap_i64") if kind == "i32" else b"")
 
     def module(self):
         bodies = [self.function(i) for i in range(len(self.functions))]
         indices = [self.type_index(*f) for f in self.functions]
-        exports = [u(1) + chr(97 + i).encode() + b"\0" + u(i) for i, (p, r_) in enumerate(self.functions) if len(r_) == 1 and r_[0][0] == "i"]
+        exports = [u(1) + chr(97 + i).encode() + b"\0" + u(i) for i in range(len(self.functions)) if self.is_called(i)]
         parts = [(1, vector([function_type(*t) for t in self.types])), (3, vector([u(i) for i in indices])), (4, b"\1\x70\0" + u(len(bodies) + 2)), (5, b"\1\0\1"),
                  (6, vector([bytes([CODES[k], 1]) + const(k, self.r.choice(NUMBERS[k])) + b"\x0b" for k in self.globals])), (7, vector(exports)),
                  (9, b"\1\0\x41\0\x0b" + vector([u(i) for i in range(len(bodies))])), (10, vector([sized(b) for b in bodies]))]
@@ -235,7 +253,7 @@ class Maker:
 
     def calls(self):
         for i, (params, results) in enumerate(self.functions):
-            if len(results) == 1 and results[0][0] == "i":
+            if self.is_called(i):
                 for _ in range(2):
                     yield chr(97 + i), [(k, self.r.choice(NUMBERS[k])) for k in params]
 

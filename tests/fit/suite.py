@@ -26,9 +26,8 @@ TYPES = {0x7F: "i32", 0x7E: "i64", 0x7D: "f32", 0x7C: "f64"}
 CANONICAL = {"f32": 0x7FC00000, "f64": 0x7FF8000000000000}
 
 # Assertions that do not hold here for a reason that is not of tools/fit.
-KNOWN = {
-    ("call.wast", 304): "memory grows by 306 pages, and invoke allows 128",
-}
+PAGES = "memory grows past the 128 pages that invoke allows"
+KNOWN = {("call.wast", 304, 1): PAGES, ("call_indirect.wast", 574, 1): PAGES, ("memory_grow.wast", 48, 2): PAGES, ("resizing.wast", 45, 1): PAGES}
 
 
 def modern(text):
@@ -95,6 +94,7 @@ class Suite:
                 other = c["action"].get("module")
                 next((g for g in groups if other and g["name"] == other), current)["does"].append(c)
         self.counts, self.jobs, self.name = [0, 0, 0, 0], [], name
+        self.linked = any(c["type"] == "register" for c in commands)  # its modules use one another
         for g in groups:
             if any(c["type"] != "action" for c in g["does"]):
                 self.group(os.path.join(self.temp, g["file"]), g["does"])
@@ -110,7 +110,10 @@ class Suite:
         entries, traps = job["entries"], job["traps"]
         if own != ("trap" if traps else "i64 0"):
             self.counts[2] += entries
-            self.wrong.append("%s: node has %s of the module as it is (%s)" % (self.name, own, job["call"][1]))
+            if self.linked:
+                self.refusals["%s: node finds other results where a module is by itself" % self.name] += entries
+            else:
+                self.wrong.append("%s: node has %s of the module as it is (%s)" % (self.name, own, job["call"][1]))
         elif own == ours:
             self.counts[0] += entries
         elif not traps and told == "wasmgate: invoke fuel" and len(job["does"]) > 1:
@@ -126,10 +129,10 @@ class Suite:
 
     def differ(self, count, line, what):
         """Counts what differs, unless the reason is known."""
-        known = KNOWN.get((self.name, line))
-        self.counts[2 if known and count == 1 else 3] += count
-        if known and count == 1:
-            self.refusals["%s: line %d: %s" % (self.name, line, known)] += 1
+        known = KNOWN.get((self.name, line, count))
+        self.counts[2 if known else 3] += count
+        if known:
+            self.refusals["%s: up to line %d: %s" % (self.name, line, known)] += count
         else:
             self.wrong.append("%s: line %d: %s" % (self.name, line, what))
 
