@@ -533,5 +533,5 @@ class Module:
             functions = [i for i in self.imports if i[3] == 0]
             if index < len(functions):
                 return "%d (import `%s.%s`)" % (index, functions[index][1], functions[index][2])
-            return "%d (no name: build without stripping to see it)" % index
+            return "%d" % index
         return "%d `%s`" % (index, name)
