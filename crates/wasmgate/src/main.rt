@@ -4,27 +4,42 @@
 use commands::run;
 use gate_io::{HostFiles, HostSink, NoGate};
 use gate_live::LiveSite;
+use standard_streams::hold_standard;
+use statuses::Status;
 use std::alloc::{AllocError, Global};
 use std::process::ExitCode;
 use std::{env, io};
 
-/// Runs the command that the words after the program's name give, over the files and streams of the system.
+/// Runs the command that the words after the program's name give, over the files and streams of the system. Before anything is opened the numbers of the
+/// standard streams are held.
 fn main(rt: HostRuntime) -> ExitCode {
-    let Ok(words) = words_of(&rt) else {
-        return ExitCode::from(8);
-    };
     let stderr = rt.stderr();
-    let status = run(
-        &rt,
-        rt.alloc(),
-        words.as_slice(),
-        &mut HostFiles::new(&rt),
-        &mut LiveSite::new(rt.alloc(), rt),
-        &mut HostSink::new(&rt, io::writer(&rt)),
-        &mut HostSink::new(&rt, io::writer(&stderr)),
-        &NoGate,
-    );
+    let mut err = HostSink::new(&rt, io::writer(&stderr));
+    let status = match begin(&rt) {
+        Ok(words) => run(
+            &rt,
+            rt.alloc(),
+            words.as_slice(),
+            &mut HostFiles::new(&rt),
+            &mut LiveSite::new(rt.alloc(), rt),
+            &mut HostSink::new(&rt, io::writer(&rt)),
+            &mut err,
+            &NoGate,
+        ),
+        Err(status) => {
+            let _ = status.report(&mut err);
+            status
+        }
+    };
     ExitCode::from(status.number())
+}
+
+/// Holds the numbers of the standard streams, and gives the words after the program's name; or the status with which the process ends.
+fn begin(rt: &HostRuntime) -> Result<Vec<String>, Status> {
+    if hold_standard(rt).is_err() {
+        return Err(Status::SiteFault);
+    }
+    words_of(rt).map_err(|_| Status::OutOfMemory)
 }
 
 /// The words after the program's name. Words that are no text are none, and so of no form.
