@@ -52,7 +52,7 @@ def const(kind, bits):
 
 
 def code(text):
-    """The bytes of instructions, in words: `local.get 0 i32.const 5 i32.add`. Blocks have `-` or a type behind them."""
+    """The bytes of instructions, in words: `local.get 0 i32.const 5 i32.add`. After a block comes `-` or a type."""
     words, out = iter(text.split()), bytearray()
     for word in words:
         if word in NAMES:
@@ -121,7 +121,7 @@ def sections(data):
 
 
 def counted(content):
-    """The count of a vector, and what stands behind it."""
+    """The count of a vector, and what comes after it."""
     value = shift = at = 0
     while True:
         b, at = content[at], at + 1

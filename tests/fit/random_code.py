@@ -137,7 +137,7 @@ class Maker:
         return before + {"block": b"\2", "loop": b"\3", "if": b"\4"}[kind] + shape + inner + b"\x0b"
 
     def end_with(self, results, depth):
-        """The last values of a block: given, or left out behind a jump."""
+        """The last values of a block: given, or left out after a jump."""
         r = self.r
         if r.random() < 0.15:
             jump = self.jump(depth, False)

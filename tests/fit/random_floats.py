@@ -6,7 +6,7 @@ One module has a function for each instruction: it makes COUNT operands (any bit
 powers of two that conversions end at), runs the instruction on them, and gives a hash of all results, where each NaN is the positive canonical one. node runs it on the module as it
 is, `wasmgate invoke` on what fit makes of it. A conversion that would trap is passed over, by a comparison with its bounds.
 
-Prints how many instructions agree, and the units of fuel that one takes, operands and hash left out, as `--fuel` behind the other words asks. Ends with 1 where one differs.
+Prints how many instructions agree, and the units of fuel that one turn takes, its operands and hash included, where `--fuel` is the last word. Ends with 1 where one differs.
 """
 import os
 import struct

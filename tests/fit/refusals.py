@@ -32,7 +32,7 @@ def h(text):
 
 CASES = [
     ("vectors", body(h("fd 0c" + " 00" * 16 + " 1a")), ["function 0 `mine`, offset 23 (0x17): v128.const", "128-bit vectors (SIMD)", "-mno-simd128"]),
-    ("vectors behind a nop", body(h("01 fd 0e 1a")), ["function 0 `mine`, offset 24 (0x18): i8x16.swizzle", "-mno-simd128"]),
+    ("vectors after a nop", body(h("01 fd 0e 1a")), ["function 0 `mine`, offset 24 (0x18): i8x16.swizzle", "-mno-simd128"]),
     ("atomics", body(h("fe 03 00")), ["function 0 `mine`, offset 23 (0x17): atomic.fence", "(threads)", "-mno-atomics"]),
     ("atomic addition", body(h("00 fe 1e 02 00 1a")), ["function 0 `mine`, offset 24 (0x18): i32.atomic.rmw.add", "(threads)"]),
     ("exceptions", body(h("06 40 0b")), ["function 0 `mine`, offset 23 (0x17): try", "-fno-exceptions"]),
@@ -74,10 +74,10 @@ def main():
                 file.write(data)
             done = subprocess.run([FIT, path, out], capture_output=True, text=True)
             lines = [line.strip() for line in done.stderr.strip().split("\n")]
-            told = lines[1] if len(lines) > 1 else ""
+            first = lines[1] if len(lines) > 1 else ""
             ok = done.returncode == 1 and not os.path.exists(out) and done.stdout == "" and lines[0] == "fit: %s is refused:" % path
             # The first line is what is wrong and where; the others the remedy.
-            ok = ok and (told == wanted[0] or (name in ("no module", "a component") and wanted[0] in told)) and all(any(w in line for line in lines[1:]) for w in wanted)
+            ok = ok and (first == wanted[0] or (name in ("no module", "a component") and wanted[0] in first)) and all(any(w in line for line in lines[1:]) for w in wanted)
             if ok:
                 right += 1
             else:

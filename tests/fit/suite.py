@@ -106,7 +106,7 @@ class Suite:
 
     def judge(self, job, own):
         """Counts what node and the program make of one call."""
-        ours, told = in_wasmgate(self.gate, job["out"], job["call"][1], job["call"][2])
+        ours, more = in_wasmgate(self.gate, job["out"], job["call"][1], job["call"][2])
         entries, traps = job["entries"], job["traps"]
         if own != ("trap" if traps else "i64 0"):
             self.counts[2] += entries
@@ -116,12 +116,12 @@ class Suite:
                 self.wrong.append("%s: node has %s of the module as it is (%s)" % (self.name, own, job["call"][1]))
         elif own == ours:
             self.counts[0] += entries
-        elif not traps and told == "wasmgate: invoke fuel" and len(job["does"]) > 1:
+        elif not traps and more == "wasmgate: invoke fuel" and len(job["does"]) > 1:
             half = len(job["does"]) // 2  # more than the units that invoke gives
             for part in (job["does"][:half], job["does"][half:]):
                 self.group(job["path"], part)
         elif traps or not ours.startswith("i64 "):
-            self.differ(entries, job["does"][0]["line"], "%s: %s, and not %s" % (job["call"][1], told if isinstance(told, str) else ours, own))
+            self.differ(entries, job["does"][0]["line"], "%s: %s, and not %s" % (job["call"][1], more if isinstance(more, str) else ours, own))
         else:
             differ, last = int(ours[4:]) >> 32, int(ours[4:]) & 0xFFFFFFFF
             self.counts[0] += entries - differ

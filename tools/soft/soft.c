@@ -1,6 +1,6 @@
 /* The float instructions of WebAssembly Core over integers: an f32 is its 32 bits, an f64 its 64 bits.
  *
- * Each exported function has the name of the instruction that it stands for, with `_` for the dot: `f64_add` for `f64.add`. It gives
+ * Each exported function has the name of the instruction whose result it gives, with `_` for the dot: `f64_add` for `f64.add`. It gives
  * what the instruction gives: rounding to nearest, ties to even, subnormal numbers kept, a trap where the instruction traps. Where
  * Core leaves the bits of a NaN open, the answer is the positive canonical NaN (7fc00000, 7ff8000000000000), as the deterministic
  * profile of Core 3.0 has it.
@@ -46,7 +46,7 @@ INLINE u64 rounded(u64 s, s32 e, u64 m, int W) {
     return s | (((u64)(e - 1) << FRACTION) + r);         /* a carry goes into the exponent, at the last one to infinity */
 }
 
-/* The same where the highest bit of m stands anywhere; m is not 0. */
+/* The same where the highest bit of m is at any place; m is not 0. */
 INLINE u64 normal(u64 s, s32 e, u64 m, int W) {
     if (m >> 63) {
         m = m >> 1 | (m & 1);
