@@ -80,6 +80,6 @@ int main(int argc, char **argv) {
         { u32 a = case32(), b = 0; IS("promote", f64_promote_f32(a), bd((double)f(a))); }
         { u64 a = case64(), b = 0; IS("demote", f32_demote_f64(a), bf((float)d(a))); }
     }
-    printf("native: %llu results, %llu differ\n", done, bad);
+    printf("native: %llu results, %llu differ from the processor's\n", done, bad);
     return bad != 0;
 }

@@ -286,7 +286,7 @@ def main():
             else:
                 found["differ"] += 1
                 wrong.append("seed %d: %s %s: node %s, here %s %s" % (at, name, args, own, ours, more))
-    print("random code: %d modules, %s" % (count, ", ".join("%s %d" % pair for pair in sorted(found.items()))))
+    print("random code: %d passed, %d failed, calls of %d modules: %s" % (found["equal"] + found["trapped"], len(wrong), count, ", ".join("%s %d" % pair for pair in sorted(found.items()))))
     for line in wrong[:20]:
         print("FAIL " + line)
     return 1 if wrong else 0

@@ -154,7 +154,7 @@ def main():
             used[name] = fuel
             if own != ours or not own.startswith("i64 "):
                 wrong.append("%s: node %s, here %s %s" % (name, own, ours, fuel))
-    print("random floats: %d instructions on %d operands each, %d agree" % (len(names), count, len(names) - len(wrong)))
+    print("random floats: %d passed, %d failed, instructions on %d operands each" % (len(names) - len(wrong), len(wrong), count))
     if "--fuel" in sys.argv:
         print("  units for each turn, operands and hash included: " + ", ".join("%s %d" % (n, f // count) for n, f in used.items() if isinstance(f, int)))
     for line in wrong:

@@ -2,7 +2,7 @@
 
     refusals.py
 
-Prints how many are as wanted. Ends with 1 where one is not.
+Prints how many are so. Ends with 1 where one is not.
 """
 import os
 import subprocess
@@ -88,7 +88,7 @@ def main():
                 right += 1
             else:
                 wrong.append("words %s: status %d" % (words, done.returncode))
-    print("refusals: %d as wanted, %d not" % (right, len(wrong)))
+    print("refusals: %d passed, %d failed" % (right, len(wrong)))
     for line in wrong:
         print("FAIL " + line)
     return 1 if wrong else 0

@@ -213,6 +213,7 @@ def main():
         print("%-24s %7d %8d %8d %7d" % (("all",) + tuple(totals)))
         for reason, count in sorted(suite.refusals.items()):
             print("refused or not run: %s (%d)" % (reason, count))
+        print("suite: %d passed, %d failed, assertions" % (totals[0], max(totals[3], len(suite.wrong))))
         for line in suite.wrong:
             print("FAIL " + line)
     return 1 if suite.wrong else 0

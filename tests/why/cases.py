@@ -3,7 +3,7 @@
     cases.py WASMGATE
 
 Also asks the program, by `check`, of each import that tools/why says works, whether it is known with that type and with no other, and of each callback.
-Prints how many are as wanted. Ends with 1 where one is not.
+Prints how many are so. Ends with 1 where one is not.
 """
 import importlib.machinery
 import importlib.util
@@ -314,9 +314,9 @@ def main():
         else:
             wrong.append("no program: " + done.stderr)
         count, other = probed(gate, temp)
-    print("why: %d texts as wanted, %d not; %d imports and callbacks as the program has them, %d not" % (right, len(wrong), count, len(other)))
     for line in wrong + other:
         print("FAIL " + line)
+    print("why: %d passed, %d failed: texts, and imports and callbacks as the program has them" % (right + count, len(wrong) + len(other)))
     return 1 if wrong or other else 0
 
 
