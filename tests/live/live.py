@@ -1,6 +1,7 @@
 """The program over sockets, on loopback alone: clients and a server of this file's own around `serve`.
 
 python3 live.py PROGRAM WORD.. runs every case, with a gateway for each group of them, and ends with status 0 where all passed.
+With ONLY=TEXT in the environment it runs the groups alone of whose names that is a part.
 Each group tells how many lines it opens, and the gateway is to stop by itself after so many.
 """
 
@@ -31,6 +32,10 @@ METER = os.path.join(HERE, "..", "..", "examples", "filters", "meter.wasm")
 SHOUT = os.path.join(HERE, "..", "..", "examples", "filters", "shout.wasm")
 # A filter that gives random bytes, writes lines of the log, ticks and dies, as the last byte of a path asks: teller.c.
 TELLER = os.path.join(HERE, "teller.wasm")
+# A filter that takes long for each piece of a request's body: busy.c.
+BUSY = os.path.join(HERE, "busy.wasm")
+# Filters of an operator: a line of the log for each exchange, an answer of a route's own, and counts of responses.
+OPERATORS = [os.path.join(HERE, "..", "..", "examples", "filters", name + ".wasm") for name in ("exchange_log", "healthz", "metrics")]
 # Filters of the cases of `tests/run`: one holds a request until a notice comes, and one puts the request's path into the first one's queue.
 WAITS = os.path.join(HERE, "..", "modules", "waits_for_notice.wasm")
 ENQUEUES = os.path.join(HERE, "..", "modules", "enqueues_path.wasm")
@@ -1184,6 +1189,21 @@ def more_than_is_read(gateway, upstream):
         expect(reader.rest(), b"")
 
 
+def goes_on_sending(gateway, upstream):
+    """A client that goes on sending for some seconds behind the answer with which its line was closed is not reset, and reads it; it is let go once it is silent."""
+    with gateway.connect() as s:
+        base = gateway.descriptors()
+        s.sendall(b"GET /\x00 HTTP/1.1\r\n\r\n")
+        for _ in range(15):
+            time.sleep(0.2)
+            s.sendall(b"y" * 1000)
+        reader = Reader(s)
+        first, fields = reader.head()
+        expect((status_of(first), reader.body(fields)), ("400", b""))
+        expect(reader.rest(), b"")
+        gateway.frees(base - 1, 5.0)
+
+
 def closes_at_once(gateway, upstream):
     """The end of a line that is closed comes right behind its answer."""
     took = []
@@ -1297,6 +1317,36 @@ def few_linger(gateway, upstream):
             t.close()
 
 
+# Pieces of 16 kB of an upload, for each of which a filter takes some milliseconds.
+PIECES = 192
+
+
+def beside_work(gateway, upstream):
+    """While a filter works on an upload, piece by piece, requests on another line are answered between the pieces, one after the other."""
+    with gateway.connect() as busy, gateway.connect() as beside:
+        beside.sendall(UNROUTED)
+        is_unrouted(beside)
+        answer = []
+
+        def upload():
+            busy.sendall(request("/busy/upload", b"u" * (PIECES * 16384)))
+            first, fields = Reader(busy).head()
+            answer.append(status_of(first))
+
+        sender = threading.Thread(target=upload)
+        sender.start()
+        count = 0
+        while sender.is_alive():
+            beside.sendall(UNROUTED)
+            is_unrouted(beside)
+            count += 1
+        sender.join()
+        expect(answer, ["200"])
+        # Where 64 pieces come before another line is heard there are three or four.
+        if count < PIECES // 8:
+            raise AssertionError("%d answers beside an upload of %d pieces" % (count, PIECES))
+
+
 def slow_server(gateway, upstream):
     """An upload to a server that takes less than comes takes no memory for what has gone up: some five million of 48 wait in the gateway for a while, a few at a time."""
     size = 48000000
@@ -1353,6 +1403,27 @@ def nothing(gateway, upstream):
     gateway.connect().close()
 
 
+def operated(gateway, upstream):
+    """Exchanges on two workers' lines are logged, an operator's routes are answered without the server, and the counts are those of both workers,
+    in which such an answer comes in once it is given."""
+    with gateway.connect() as s, gateway.connect() as t:
+        for line, path in ((s, "/first"), (t, "/second")):
+            get(line, Reader(line), path, path.encode())
+        for line, count in ((s, 2), (t, 3)):
+            reader = Reader(line)
+            get(line, reader, "/healthz", b"ok\n")
+            line.sendall(request("/metrics"))
+            first, fields = reader.head()
+            expect((status_of(first), fields["content-type"]), ("200", "text/plain; version=0.0.4"))
+            counts = reader.body(fields).decode().split("\n")
+            expect([row for row in counts if "2xx" in row], ['wasmgate_responses_total{class="2xx"} %d' % count])
+        expect([path for path in ("/healthz", "/metrics") if path in upstream.seen], [])
+
+
+# Two lines of the log, of which the times differ.
+OPERATED = re.compile(rb"info GET /first 200 6 [0-9]+\ninfo GET /second 200 7 [0-9]+\n")
+
+
 # A module of a memory and an ABI marker: `proxy_abi_version_0_2_1` is its one function, which does nothing.
 MARKED = (
     b"\0asm\1\0\0\0"
@@ -1388,6 +1459,21 @@ WITH_SHOUT = (
     '[[vm]]\nname = "shout"\nmodule = "shout.wasm"\n'
     '[[plugin]]\nname = "shout"\nvm = "shout"\n'
     '[[route]]\npath = "/shouted/{*rest}"\nfilters = ["shout"]\n'
+)
+
+WITH_AN_OPERATOR = "".join('[[vm]]\nname = "%s"\nmodule = "%s.wasm"\n' % (name, name) for name in ("exchange_log", "healthz", "metrics"))
+WITH_AN_OPERATOR += "".join('[[plugin]]\nname = "%s"\nvm = "%s"\n' % (name, name) for name in ("exchange_log", "healthz", "metrics"))
+WITH_AN_OPERATOR += '[[route]]\npath = "/healthz"\nfilters = ["healthz"]\n[[route]]\npath = "/metrics"\nfilters = ["metrics"]\n'
+WITH_AN_OPERATOR += '[[route]]\npath = "/first"\nfilters = ["exchange_log", "metrics"]\n[[route]]\npath = "/second"\nfilters = ["exchange_log", "metrics"]\n'
+AFTER_AN_OPERATOR = re.compile(
+    rb"(store [a-z_]+ calls 0 keys 0 items 0\n){3}"
+    rb"metric metrics counter 726573706f6e7365735f317878 0\nmetric metrics counter 726573706f6e7365735f327878 [0-9]+\n(metric metrics counter 726573706f6e7365735f3[345]7878 0\n){3}"
+)
+
+WITH_A_BUSY_FILTER = (
+    '[[vm]]\nname = "busy"\nmodule = "busy.wasm"\n'
+    '[[plugin]]\nname = "busy"\nvm = "busy"\n'
+    '[[route]]\npath = "/busy/{*rest}"\nfilters = ["busy"]\n'
 )
 
 WITH_A_TELLER = (
@@ -1434,6 +1520,7 @@ GROUPS = [
         b"",
         [
             (more_than_is_read, 1),
+            (goes_on_sending, 1),
             (closes_at_once, 5),
             (in_turn, 3),
             (both_sides_in_turn, 1),
@@ -1445,6 +1532,7 @@ GROUPS = [
     ),
     ("that rests", 2, "", b"", [(rests, 11)], lambda err: err == b""),
     ("silent lines", 2, "", b"", [(silent_lines, 101)]),
+    ("beside a filter that works", 1, WITH_A_BUSY_FILTER, b"store busy calls 0 keys 0 items 0\n", [(beside_work, 2)]),
     ("a slow server", 1, "", b"", [(slow_server, 1)]),
     ("a crowd", 1, "", b"", [(crowd, 200)]),
     ("a flood", 1, "", b"", [(flooded, 128 + FLOOD)]),
@@ -1467,6 +1555,7 @@ GROUPS = [
         b"store meter calls 0 keys 0 items 0\nmetric meter counter 7265717565737473 6\n",
         [(metered, 3)],
     ),
+    ("an operator's filters", 2, WITH_AN_OPERATOR, AFTER_AN_OPERATOR, [(operated, 2)], lambda err: OPERATED.fullmatch(err) is not None),
     ("a queue", 2, WITH_A_QUEUE, AFTER_A_QUEUE, [(noticed, 2)], lambda err: err == b""),
     ("two deadlines", 1, "deadline_ms = 2000", b"", [(two_deadlines, 2)]),
     ("a deadline", 1, "deadline_ms = 300", b"", [(deadline, 1)], lambda err: err == b""),
@@ -1524,9 +1613,11 @@ def main():
     with tempfile.TemporaryDirectory() as folder:
         with open(os.path.join(folder, "marked.wasm"), "wb") as f:
             f.write(MARKED)
-        for module in (METER, SHOUT, TELLER, WAITS, ENQUEUES):
+        for module in (METER, SHOUT, TELLER, BUSY, WAITS, ENQUEUES, *OPERATORS):
             shutil.copy(module, folder)
         for group in GROUPS:
+            if os.environ.get("ONLY", "") not in group[0]:
+                continue
             p, f = run_group(program, folder, upstream, group)
             passed += p
             failed += f
