@@ -5,6 +5,7 @@ use Rattle.gate_io.specs.declared.event.What.{What}
 use Rattle.gate_io.specs.Events.{Last}
 use Rattle.gate_io.specs.Nature.{Nature}
 use Rattle.live_sockets.specs.Keeping.{WasHeard}
+use Rattle.live_sockets.specs.Looks.{AsksFirst}
 use Rattle.live_lines.specs.Lines.{SentIn, ConnectedIn, BegunIn, ClosedIn}
 use Rattle.live_sockets.specs.Origins.{HasEnded}
 use Rattle.live_lines.specs.Told.{LiesIn}
@@ -22,6 +23,10 @@ nature_of w = record { seed = w.seed; script = λ _. None; obeys = true; takes_w
 pub record Gives {R P : Type 0} (gave took : P → Option (List ℕ)) (old : LiveWorld R P) (what : What) (new : LiveWorld R P) : Type 0 where
   pub heard : WasHeard gave took old.sockets.lines.items what new.sockets.lines.items
   pub read : LiesIn new.sockets.room.bytes.items what
+
+-- An event of a line is given less than half a millisecond behind the last question to the system what is ready, by the clock as the call read it, and at most 64 are given behind one.
+abbrev pub Asks : {R P : Type 0} → LiveWorld R P → What → LiveWorld R P → Type 0
+Asks old what new = AsksFirst what old.sockets.looks new.sockets.looks
 
 -- the first n bytes of a piece go to a side of the line of this number, and nothing else of the lines of a world changes
 abbrev pub Sends : {R P : Type 0} → (P → Option (List ℕ)) → (P → Option (List ℕ)) → LiveWorld R P → ℕ → Side → List ℕ → ℕ → LiveWorld R P → Type 0

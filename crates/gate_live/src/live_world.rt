@@ -58,7 +58,7 @@ impl<R, P> LiveWorld<R, P> {
         ensures lines { self.new.sockets.lines ≡ self.old.sockets.lines }
     {
         // The system is asked in front of what is heard next, as in `Sockets::wait`.
-        self.sockets.turns = 0;
+        self.sockets.looks.ask_next();
         self.now = now;
         self.told = true;
     }
@@ -69,7 +69,7 @@ impl<R: Net + Clock + Wait + Eprint, P: Duplex> World for LiveWorld<R, P> {
     ghost use Rattle.gate_io.specs.Events.{after_next};
     ghost use Rattle.gate_io.specs.Told.{Rose};
     ghost use Rattle.live_lines.specs.Allowed.{no_promise};
-    ghost use Rattle.gate_live.specs.Worlds.{last_in, nature_of, AcceptsNone, Gives, Sends, Connects, Begins, Closes};
+    ghost use Rattle.gate_live.specs.Worlds.{last_in, nature_of, AcceptsNone, Asks, Gives, Sends, Connects, Begins, Closes};
 
     ghost trace = { λ _. None };
 
@@ -85,9 +85,10 @@ impl<R: Net + Clock + Wait + Eprint, P: Duplex> World for LiveWorld<R, P> {
 
     ghost keeps_to_script = { λ w. tt };
 
-    // The first clause of each method tells of the lines, and `ended` of what a failure leaves. The others repeat those of the trait.
+    // The first clause of each method tells of the lines, `asked` of when the system was asked, and `ended` of what a failure leaves. The others repeat those of the trait.
     fn next(&mut self, alloc: Global, wants: &Wants) -> Result<Event, WorldEnd>
         ensures heard { IfOk result (λ event. Gives P.gave P.took self.old event.what self.new) }
+        ensures asked { IfOk result (λ event. Asks self.old event.what self.new) }
         ensures event { IfOk result (Follows (last_in self.old)) }
         ensures last { last_in self.new ≡ after_next (last_in self.old) result }
         ensures obeys { IfOk result (λ event. Obeys wants.now event.what) }
@@ -160,7 +161,7 @@ impl<R: Net + Clock + Wait + Eprint, P: Duplex> World for LiveWorld<R, P> {
 impl<R: Net + Clock + Wait, P: Duplex> LiveWorld<R, P> {
     ghost use Rattle.std.specs.Prelude.{false};
     ghost use Rattle.live_sockets.specs.Spent.{IsDue, IsEarly};
-    ghost use Rattle.gate_live.specs.Worlds.{Gives};
+    ghost use Rattle.gate_live.specs.Worlds.{Asks, Gives};
 
     /// The next event, at the clock's moment, or that of the last one where the clock went back. What has fallen due comes by a Clock of its own, in
     /// front of what happens to lines or behind one event more: that event has a moment before it, whatever the clock says. A turn does what is due in
@@ -176,6 +177,7 @@ impl<R: Net + Clock + Wait, P: Duplex> LiveWorld<R, P> {
         ensures due { self.old.stopped ≡ false → IfOk result (λ event. IsDue event.what wants.now.due event.now self.new.sockets) }
         ensures early { self.old.stopped ≡ false → IfOk result (λ event. IsEarly event.what wants.now.due event.now) }
         ensures heard { IfOk result (λ event. Gives P.gave P.took self.old event.what self.new) }
+        ensures asked { IfOk result (λ event. Asks self.old event.what self.new) }
     {
         if self.stopped {
             return Ok(Event {
@@ -209,10 +211,10 @@ impl<R: Net + Clock + Wait, P: Duplex> LiveWorld<R, P> {
         ensures due { IfOk result (λ event. IsDue event.what wants.now.due event.now self.new.sockets) }
         ensures early { IfOk result (λ event. IsEarly event.what wants.now.due event.now) }
         ensures heard { IfOk result (λ event. Gives P.gave P.took self.old event.what self.new) }
+        ensures asked { IfOk result (λ event. Asks self.old event.what self.new) }
     {
         let what = self.sockets.wait(alloc, &self.rt, wants)?;
-        let seen = self.now.max(self.sockets.seen());
-        let moment = self.sockets.moments.now(&self.rt)?.max(seen);
+        let moment = self.now.max(self.sockets.seen());
         let now = moment_of(&what, wants.due, self.now, moment);
         self.now = now;
         self.told = is_clock(&what);

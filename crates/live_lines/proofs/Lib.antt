@@ -1,3 +1,4 @@
 pub mod Hearing
+pub mod Lasting
 pub mod Passing
 pub mod Turns

@@ -1,5 +1,6 @@
 pub mod Allowed
 pub mod Heard
+pub mod Lasting
 pub mod Lines
 pub mod Passing
 pub mod Told

@@ -2,6 +2,7 @@
 #![tactic(auto)]
 
 mod duplex;
+mod laws;
 mod line;
 mod lingering;
 mod peer;
@@ -10,8 +11,9 @@ mod upstream;
 mod waiting;
 
 pub use duplex::{Duplex, Heard};
+pub use laws::worked_lasting;
 pub use line::Line;
-pub use lingering::{LINGER, Lingering, MOST_LEFT, MOST_LINGERING};
+pub use lingering::{LINGER, LINGER_MOST, Lingering, MOST_LEFT, MOST_LINGERING};
 pub use peer::Peer;
 pub use room::Room;
 pub use upstream::Upstream;

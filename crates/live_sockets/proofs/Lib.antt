@@ -1,3 +1,4 @@
+pub mod Asking
 pub mod Begun
 pub mod Due
 pub mod Homes

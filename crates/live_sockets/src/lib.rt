@@ -1,10 +1,14 @@
 //! The sockets of one worker: the lines that come to it, what is heard of each in turn, and what goes to them.
 #![tactic(auto)]
 
+mod laws;
+mod looks;
 mod moments;
 mod origin;
 mod sockets;
 
+pub use laws::worked_moments;
+pub use looks::Looks;
 pub use moments::Moments;
 pub use origin::{Acceptor, Guest, Mailbox, Neighbor, Origin, join_queue};
 pub use sockets::{Buffers, ORIGIN, Sockets};

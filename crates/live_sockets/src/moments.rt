@@ -1,16 +1,20 @@
 // The moments of events.
 ghost use Rattle.std.specs.Prelude.{◌≡◌, ◌≤◌, IfOk};
+ghost use Rattle.live_sockets.specs.Moments.{GoesOn};
 
 use gate_io::WorldEnd;
 use std::io;
 use std::time::{Clock, Duration};
 
-/// The clock of events: that of the system. Where that is set back, this one goes on at half the pace of the time that passes until the system's
-/// has caught up, so that what is due comes later by at most as much again.
+/// Nanoseconds of an hour.
+const HOUR: u64 = 3_600_000_000_000;
+
+/// The clock of events: that of the system, but no step of it is taken at once that is shorter than an hour or goes back. This one goes on at half or at
+/// twice the pace of the time that passes, by the system's clock that never steps, until it is right again: so what is due comes at most so much earlier or later.
 #[derive(Drop)]
 pub struct Moments {
     /// The last moment, in nanoseconds since 1970.
-    last: u64,
+    pub last: u64,
     /// How much time the system had counted then, in nanoseconds.
     passed: u64,
 }
@@ -20,6 +24,19 @@ fn nanos(time: io::Result<Duration>) -> Result<u64, WorldEnd> {
     match time {
         Ok(time) => Ok(u64::try_from(time.as_nanos()).unwrap_or(u64::MAX)),
         Err(_) => Err(WorldEnd::Failed),
+    }
+}
+
+/// The moment behind the last one, where so much time has passed and the system's clock tells this.
+fn moment_behind(last: u64, went: u64, since: u64) -> u64
+    ensures { GoesOn last went since result }
+{
+    let low = last.saturating_add(went / 2);
+    let high = last.saturating_add(went).saturating_add(went);
+    if since > high.saturating_add(HOUR) {
+        since
+    } else {
+        since.min(high).max(low)
     }
 }
 
@@ -36,10 +53,7 @@ impl Moments {
     {
         let since = nanos(rt.since_1970())?;
         let passed = nanos(rt.monotonic())?;
-        let slow = self
-            .last
-            .saturating_add(passed.saturating_sub(self.passed) / 2);
-        self.last = since.max(slow);
+        self.last = moment_behind(self.last, passed.saturating_sub(self.passed), since);
         self.passed = passed;
         Ok(self.last)
     }

@@ -1,5 +1,5 @@
 // The sockets of one worker.
-ghost use Rattle.std.specs.Prelude.{◌≡◌, ◌==◌, ◌<◌, ◌≤◌, ◌⊎◌, IsTrue, IsSomeAnd, None, length, vec_len, HoldsAt, remove, slice_get, IfOk, IfSome, IfNone};
+ghost use Rattle.std.specs.Prelude.{◌≡◌, ◌==◌, ◌+◌, ◌<◌, ◌≤◌, ◌⊎◌, false, IsTrue, IsSomeAnd, None, length, vec_len, HoldsAt, remove, slice_get, IfOk, IfSome, IfNone};
 ghost use Rattle.std.specs.List.{position};
 ghost use Rattle.live_lines.specs.Allowed.{IsAllowed};
 ghost use Rattle.live_sockets.specs.Keeping.{AreKept};
@@ -7,12 +7,14 @@ ghost use Rattle.live_lines.specs.Lines.{most_lines, IsHeardAt, HeardIn, HeardNe
 ghost use Rattle.live_lines.specs.Told.{LiesIn};
 ghost use Rattle.live_lines.specs.Turns.{LineIsStill};
 
+use crate::looks::Looks;
 use crate::moments::Moments;
 use crate::origin::{Guest, Origin};
 use gate_base::{LineNo, OutOfMemory};
 use gate_io::{Side, Wants, What, WorldEnd};
 use live_lines::{
-    Duplex, LINGER, Line, Lingering, MOST_LEFT, MOST_LINGERING, Room, Upstream, Waiting,
+    Duplex, LINGER, LINGER_MOST, Line, Lingering, MOST_LEFT, MOST_LINGERING, Room, Upstream,
+    Waiting,
 };
 use mio::event::Event as Readiness;
 use mio::net::TcpStream;
@@ -27,9 +29,6 @@ pub const ORIGIN: Token = Token(0);
 
 /// The tokens of closed connections to servers begin here, above those of all lines.
 const CLOSED: usize = 1_099_511_627_776;
-
-/// So many events are given before the system is asked what else there is.
-const TURNS: u32 = 64;
 
 /// So many lines are kept: twice as many as a worker has open, so that as many more may wait to be closed behind what their clients have not
 /// read. A further one is closed at once, or else a client that opens lines and reads nothing would take descriptors and memory without end.
@@ -57,12 +56,10 @@ pub struct Sockets<P> {
     next: usize,
     /// The place behind the line to which bytes were offered last: what waits is offered to one line after the other.
     behind: usize,
-    /// How many events are given before the system is asked again.
-    pub turns: u32,
+    /// When the system was asked what is ready, and how much was heard since.
+    pub looks: Looks,
     /// How many connections to servers lingered so far, modulo 2^32.
     closed: u32,
-    /// The last moment, in nanoseconds since 1970, at which the moment that was asked for was looked at.
-    pub seen: u64,
     /// The clock of events.
     pub moments: Moments,
 }
@@ -176,8 +173,9 @@ fn note_at<P: Duplex>(lines: &mut Vec<Line<P>>, at: usize, side: Side, event: &R
 }
 
 impl<P: Duplex> Sockets<P> {
-    ghost use Rattle.std.specs.Prelude.{[], All};
+    ghost use Rattle.std.specs.Prelude.{[], All, MatchOption};
     ghost use Rattle.live_sockets.specs.Keeping.{Arrives, Begins, Heard, WasHeard};
+    ghost use Rattle.live_sockets.specs.Looks.{AsksFirst, JustAsked, MayHear};
     ghost use Rattle.live_sockets.specs.Origins.{HasEnded};
     ghost use Rattle.live_sockets.specs.Spent.{IsDue, IsOfLine, IsSpent};
 
@@ -204,15 +202,15 @@ impl<P: Duplex> Sockets<P> {
             room,
             next: 0,
             behind: 0,
-            turns: 0,
+            looks: Looks::new(),
             closed: 0,
-            seen: 0,
             moments: Moments::new(),
         }
     }
 
-    /// Waits until something happens that the worker wants or has to know.
-    #[tactic(auto, using(crate::proofs::Due::due_of_line, crate::proofs::Kept::kept_same, crate::proofs::Kept::kept_more, crate::proofs::Kept::was_heard))]
+    /// Waits until something happens that the worker wants or has to know. The system is asked first where enough was heard since it was asked last, or
+    /// enough time went: however long the worker takes for an event, it is asked what else there is before the next one.
+    #[tactic(auto, using(crate::proofs::Due::due_of_line, crate::proofs::Kept::kept_same, crate::proofs::Kept::kept_more, crate::proofs::Kept::was_heard, crate::proofs::Asking::asks_first))]
     pub fn wait<R: Clock + Wait>(
         &mut self,
         alloc: Global,
@@ -221,16 +219,15 @@ impl<P: Duplex> Sockets<P> {
     ) -> Result<What, WorldEnd>
         ensures allowed { IfOk result (IsAllowed wants.now) }
         ensures read { IfOk result (LiesIn self.new.room.bytes.items) }
-        ensures due { IfOk result (λ what. IsDue what wants.now.due self.new.seen self.new) }
+        ensures due { IfOk result (λ what. IsDue what wants.now.due self.new.looks.seen self.new) }
         ensures heard { IfOk result (λ what. WasHeard P.gave P.took self.old.lines.items what self.new.lines.items) }
+        ensures asked { IfOk result (λ what. AsksFirst what self.old.looks self.new.looks) }
     {
-        if self.turns == 0 {
-            self.look(rt, Some(Duration::ZERO))?;
-        }
+        self.look_first(rt)?;
         // No run waits so often.
         for _ in 0..u64::MAX {
             if let Some(what) = self.heard(alloc, rt, wants)? {
-                self.turns = self.turns.saturating_sub(1);
+                self.looks.take_turn();
                 return Ok(what);
             }
             if self.is_done() {
@@ -238,11 +235,25 @@ impl<P: Duplex> Sockets<P> {
             }
             if self.look_until(rt, wants.due)? {
                 // The system is asked in front of what is heard next: ticks that are always late would keep it from being asked.
-                self.turns = 0;
+                self.looks.ask_next();
                 return Ok(What::Clock);
             }
         }
         Err(WorldEnd::Failed)
+    }
+
+    /// Asks the system what else is ready, where it is time to.
+    #[tactic(auto, using(crate::proofs::Kept::kept_same, crate::proofs::Asking::may_hear))]
+    fn look_first<R: Clock>(&mut self, rt: &R) -> Result<(), WorldEnd>
+        ensures kept { AreKept P.gave P.took self.old.lines.items self.new.lines.items }
+        ensures asked { IfOk result (λ _. MayHear self.old.looks self.new.looks) }
+    {
+        let now = self.moments.now(rt)?;
+        self.looks.see(now);
+        if self.looks.is_overdue() {
+            self.look(rt, Some(Duration::ZERO))?;
+        }
+        Ok(())
     }
 
     /// Whether nothing more comes.
@@ -255,8 +266,9 @@ impl<P: Duplex> Sockets<P> {
     /// Waits for the system, at most until this moment. True where it has come.
     #[tactic(auto, using(crate::proofs::Kept::kept_same))]
     fn look_until<R: Clock>(&mut self, rt: &R, due: Option<u64>) -> Result<bool, WorldEnd>
-        ensures due { IfOk result (λ came. IsTrue came → IsSomeAnd due (λ moment. moment ≤ self.new.seen)) }
+        ensures due { IfOk result (λ came. IsTrue came → IsSomeAnd due (λ moment. moment ≤ self.new.looks.seen)) }
         ensures kept { AreKept P.gave P.took self.old.lines.items self.new.lines.items }
+        ensures asked { IfOk result (λ came. came ≡ false → JustAsked self.new.looks.seen self.new.looks) }
     {
         match first_of(due, self.first_over()) {
             Some(first) => self.look_before(rt, due, first),
@@ -268,11 +280,10 @@ impl<P: Duplex> Sockets<P> {
     }
 
     /// The moment at which the first of those that linger is over.
-    fn first_over(&self) -> Option<u64> {
-        match self.lingering.first() {
-            Some(closed) => Some(closed.until),
-            None => None,
-        }
+    fn first_over(&self) -> Option<u64>
+        ensures { MatchOption result (self.now.lingering.items ≡ []) (λ first. All (λ closed. first ≤ closed.until) self.now.lingering.items) }
+    {
+        self.lingering.iter().map(|closed| closed.until).min()
     }
 
     /// Waits for the system, at most until the second moment. True where the first has come.
@@ -283,11 +294,12 @@ impl<P: Duplex> Sockets<P> {
         due: Option<u64>,
         first: u64,
     ) -> Result<bool, WorldEnd>
-        ensures due { IfOk result (λ came. IsTrue came → IsSomeAnd due (λ moment. moment ≤ self.new.seen)) }
+        ensures due { IfOk result (λ came. IsTrue came → IsSomeAnd due (λ moment. moment ≤ self.new.looks.seen)) }
         ensures kept { AreKept P.gave P.took self.old.lines.items self.new.lines.items }
+        ensures asked { IfOk result (λ came. came ≡ false → JustAsked self.new.looks.seen self.new.looks) }
     {
         let now = self.moments.now(rt)?;
-        self.seen = now;
+        self.looks.see(now);
         if has_come(due, now) {
             return Ok(true);
         }
@@ -295,22 +307,10 @@ impl<P: Duplex> Sockets<P> {
         Ok(false)
     }
 
-    /// Lets those go that lingered for long enough.
-    fn drop_lingering<R: Clock>(&mut self, rt: &R) -> Result<(), WorldEnd>
-        ensures lines { self.new.lines ≡ self.old.lines }
-        ensures over { IfOk result (λ _. All (λ closed. self.new.moments.last < closed.until) self.new.lingering.items) }
-    {
-        if !self.lingering.is_empty() {
-            let now = self.moments.now(rt)?;
-            self.lingering.retain(|client| now < client.until);
-        }
-        Ok(())
-    }
-
-    /// How long the system is waited for, at most. It is not where lines may be there of which it tells nothing more, and not for long where it
-    /// refused one: nothing is told when another connection, of whatever worker, gives its descriptor back.
+    /// How long the system is waited for, at most. It is not where something may be there of which it tells nothing more, and not for long where it
+    /// refused a line: nothing is told when another connection, of whatever worker, gives its descriptor back.
     fn timeout(&self, wanted: Option<Duration>) -> Option<Duration> {
-        if self.origin.is_waiting() {
+        if self.origin.is_waiting() || self.lingering.iter().any(|closed| closed.is_waiting()) {
             return Some(Duration::ZERO);
         }
         if self.origin.is_refused() {
@@ -324,14 +324,17 @@ impl<P: Duplex> Sockets<P> {
     #[tactic(auto, using(crate::proofs::Kept::kept_same))]
     fn look<R: Clock>(&mut self, rt: &R, timeout: Option<Duration>) -> Result<(), WorldEnd>
         ensures kept { AreKept P.gave P.took self.old.lines.items self.new.lines.items }
+        ensures asked { IfOk result (λ _. JustAsked self.new.looks.seen self.new.looks) }
+        ensures over { IfOk result (λ _. All (λ closed. self.new.looks.seen < closed.until) self.new.lingering.items) }
     {
-        self.turns = TURNS;
-        self.drop_lingering(rt)?;
         let timeout = self.timeout(timeout);
         if self.poll.poll(&mut self.events, timeout).is_err() {
             return Err(WorldEnd::Failed);
         }
+        let now = self.moments.now(rt)?;
         self.note_told();
+        self.drain(now);
+        self.looks.note(now);
         Ok(())
     }
 
@@ -348,15 +351,17 @@ impl<P: Duplex> Sockets<P> {
             &mut self.lines,
             &mut self.lingering,
         );
-        self.drain();
     }
 
-    /// Goes on with what lingers, and lets that go which is over.
-    fn drain(&mut self)
+    /// Goes on with what lingers, as of this moment, and lets those go that are over or lingered for long enough.
+    fn drain(&mut self, now: u64)
         ensures lines { self.new.lines ≡ self.old.lines }
+        ensures over { All (λ closed. now < closed.until) self.new.lingering.items }
     {
         let room = &mut self.room;
-        self.lingering.retain_mut(|closed| closed.goes_on(room));
+        self.lingering
+            .retain_mut(|closed| closed.goes_on(room, now));
+        self.lingering.retain(|closed| now < closed.until);
     }
 
     /// What is heard next: of a line that comes, where one may come in front of what is heard of open ones, or of one of these after the other.
@@ -371,6 +376,7 @@ impl<P: Duplex> Sockets<P> {
         ensures read { IfOk result (λ told. IfSome told (LiesIn self.new.room.bytes.items)) }
         ensures line { IfOk result (λ told. IfSome told IsOfLine) }
         ensures heard { IfOk result (λ told. Heard P.gave P.took self.old.lines.items told self.new.lines.items) }
+        ensures looks { self.new.looks ≡ self.old.looks }
     {
         if let Some(line) = self.arrive(rt) {
             return Ok(Some(What::Opened { line }));
@@ -393,7 +399,8 @@ impl<P: Duplex> Sockets<P> {
         ensures of { IfOk result (λ told. IfSome told (IsHeardAt self.old.lines.items (next_place self.old.next (vec_len self.old.lines)))) }
         ensures read { IfOk result (λ told. IfSome told (LiesIn self.new.room.bytes.items)) }
         ensures heard { IfOk result (λ told. HeardNext P.gave P.took self.old.lines.items self.old.next told self.new.lines.items) }
-        ensures turn { self.new.next ≡ place_after self.old.next (vec_len self.old.lines) }
+        ensures turn { self.new.next + vec_len self.old.lines ≡ place_after self.old.next (vec_len self.old.lines) + vec_len self.new.lines }
+        ensures looks { self.new.looks ≡ self.old.looks }
         ensures passed { IfOk result (λ told. HeardIn P.gave P.took self.old.lines.items (next_place self.old.next (vec_len self.old.lines)) told self.new.lines.items
             ⊎ IfSome (slice_get self.old.lines.items (next_place self.old.next (vec_len self.old.lines))) (LineIsStill P.ready P.broken P.again wants.now)) }
     {
@@ -423,7 +430,8 @@ impl<P: Duplex> Sockets<P> {
         ensures of { IfOk result (λ told. IfSome told (IsHeardAt self.old.lines.items at)) }
         ensures read { IfOk result (λ told. IfSome told (LiesIn self.new.room.bytes.items)) }
         ensures heard { IfOk result (λ told. HeardIn P.gave P.took self.old.lines.items at told self.new.lines.items) }
-        ensures next { self.new.next ≡ self.old.next }
+        ensures next { at < self.old.next → self.new.next + vec_len self.old.lines ≡ self.old.next + vec_len self.new.lines }
+        ensures looks { self.new.looks ≡ self.old.looks }
     {
         let told = self.lines[at].heard(alloc, wants, &mut self.room)?;
         self.forget(at);
@@ -434,6 +442,7 @@ impl<P: Duplex> Sockets<P> {
     fn arrive<R: Wait>(&mut self, rt: &R) -> Option<LineNo>
         ensures line { Arrives self.old.lines.items result self.new.lines.items }
         ensures few { vec_len self.old.lines ≤ most_lines → vec_len self.new.lines ≤ most_lines }
+        ensures looks { self.new.looks ≡ self.old.looks }
     {
         for _ in 0..u32::MAX {
             let Guest { number, stream } = self.origin.next(rt)?;
@@ -448,6 +457,7 @@ impl<P: Duplex> Sockets<P> {
     fn begin(&mut self, number: LineNo, stream: TcpStream) -> bool
         ensures line { Begins self.old.lines.items number result self.new.lines.items }
         ensures few { vec_len self.old.lines ≤ most_lines → vec_len self.new.lines ≤ most_lines }
+        ensures looks { self.new.looks ≡ self.old.looks }
     {
         if !self.may_keep(number) {
             return false;
@@ -479,6 +489,7 @@ impl<P: Duplex> Sockets<P> {
         requires few { vec_len self.old.lines < most_lines }
         ensures line { Begins self.old.lines.items number result self.new.lines.items }
         ensures few { vec_len self.new.lines ≤ most_lines }
+        ensures looks { self.new.looks ≡ self.old.looks }
     {
         let line = Line {
             number,
@@ -534,17 +545,32 @@ impl<P: Duplex> Sockets<P> {
         send_at(&mut self.lines, alloc, at, side, bytes)
     }
 
-    /// Lets a line go of which no connection is left: one whose client is gone is not closed by the worker.
+    /// Lets a line go of which no connection is left: one whose client is gone is not closed by the worker. Where the line that is heard next comes behind
+    /// it, that one stays the next.
     fn forget(&mut self, at: usize)
         ensures room { self.new.room ≡ self.old.room }
-        ensures next { self.new.next ≡ self.old.next }
         ensures lines { Forgets self.old.lines.items at self.new.lines.items }
+        ensures next { at < self.old.next → self.new.next + vec_len self.old.lines ≡ self.old.next + vec_len self.new.lines }
+        ensures before { self.old.next ≤ at → self.new.next ≡ self.old.next }
+        ensures looks { self.new.looks ≡ self.old.looks }
     {
         if at < self.lines.len() && self.lines[at].is_over() {
             let line = self.lines.remove(at);
             drop(line);
+            self.step_back(at);
             // A descriptor came free.
             self.origin.note_free();
+        }
+    }
+
+    /// The line at a place is gone: where the one that is heard next comes behind it, it stays the next.
+    fn step_back(&mut self, at: usize)
+        ensures next { at < self.old.next → self.new.next + 1 ≡ self.old.next }
+        ensures before { self.old.next ≤ at → self.new.next ≡ self.old.next }
+        ensures rest { self.new ≡ record self.old { next = self.new.next } }
+    {
+        if at < self.next {
+            self.next -= 1;
         }
     }
 
@@ -567,7 +593,9 @@ impl<P: Duplex> Sockets<P> {
         ensures { self.new.lines.items ≡ remove self.old.lines.items at }
     {
         let number = self.lines[at].number;
-        if let Some(peer) = client_of(self.lines.remove(at)) {
+        let client = client_of(self.lines.remove(at));
+        self.step_back(at);
+        if let Some(peer) = client {
             self.finish(alloc, rt, number, peer);
         }
         // A descriptor came free.
@@ -580,7 +608,8 @@ impl<P: Duplex> Sockets<P> {
     {
         if !peer.is_ended() && !peer.is_broken() {
             peer.finish();
-            self.linger(rt, token_of(number, Side::Down), peer, Waiting::new(alloc));
+            let token = token_of(number, Side::Down);
+            self.linger(rt, token, peer, Waiting::new(alloc), LINGER_MOST);
         }
     }
 
@@ -615,31 +644,34 @@ impl<P: Duplex> Sockets<P> {
         self.closed = self.closed.wrapping_add(1);
         let mut peer = peer;
         if peer.move_to(self.poll.registry(), token) {
-            self.linger(rt, token, peer, waiting);
+            self.linger(rt, token, peer, waiting, LINGER);
         }
     }
 
-    /// Lets a connection linger. Where too many do, the first of them is dropped.
-    fn linger<R: Clock>(&mut self, rt: &R, token: Token, peer: P, waiting: Waiting)
+    /// Lets a connection linger until nothing came of it for a second, for so long at most. Where too many do, the first of them is dropped.
+    fn linger<R: Clock>(&mut self, rt: &R, token: Token, peer: P, waiting: Waiting, most: u64)
         ensures { self.new.lines ≡ self.old.lines }
     {
         if let Ok(now) = self.moments.now(rt) {
             let until = now.saturating_add(LINGER);
-            self.go_on(Lingering {
+            let last = now.saturating_add(most);
+            let closed = Lingering {
                 token,
                 peer,
                 waiting,
                 until,
-            });
+                last,
+            };
+            self.go_on(closed, now);
         }
     }
 
-    /// Goes on with a connection that was closed, and keeps it where it is not over.
-    fn go_on(&mut self, closed: Lingering<P>)
+    /// Goes on with a connection that was closed, as of this moment, and keeps it where it is not over.
+    fn go_on(&mut self, closed: Lingering<P>, now: u64)
         ensures { self.new.lines ≡ self.old.lines }
     {
         let mut closed = closed;
-        if closed.goes_on(&mut self.room) {
+        if closed.goes_on(&mut self.room, now) {
             self.drop_first();
             let _ = self.lingering.push(closed);
         }
@@ -655,11 +687,11 @@ impl<P: Duplex> Sockets<P> {
         }
     }
 
-    /// The last moment at which the moment that was asked for was looked at.
+    /// The last moment at which the clock was read.
     pub fn seen(&self) -> u64
-        ensures { result ≡ self.now.seen }
+        ensures { result ≡ self.now.looks.seen }
     {
-        self.seen
+        self.looks.seen
     }
 
     /// No line comes any more, and the other workers are told so.

@@ -8,4 +8,5 @@ invariant-loop g l =
     record {
       same : l.self.lines.items ≡ l.fn.self.lines.items;
       few : vec_len l.fn.self.lines ≤ most_lines → vec_len l.self.lines ≤ most_lines;
+      looks : l.self.looks ≡ l.fn.self.looks;
     }

@@ -18,4 +18,4 @@ returns-in-Some-2-clause-heard g c =
     let of : IsHeardAt lines (next_place next (length lines)) what =
     subst (λ (n : ℕ). IsHeardAt lines (next_place next n) what) counted (subst (λ (told : Option What). IfSome told (IsHeardAt lines (next_place next (vec_len c.loop.self.lines)))) c.in-Some-2.is c.in_ok-what.ensures.of) in
     let heard : HeardNext gave took lines next (Some what) new = subst (λ (told : Option What). HeardNext gave took lines next told new) c.in-Some-2.is c.in_ok-what.ensures.heard in
-    next_heard gave took first lines next what new c.loop.invariant of heard
+    next_heard gave took first lines next what new c.loop.invariant.kept of heard
