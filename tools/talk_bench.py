@@ -154,7 +154,7 @@ class Play:
             with open(vm["module"], "rb") as file:
                 self.modules.append(file.read())
         self.outcome = self.played({})
-        self.callbacks_ = None
+        self.callbacks_, self.units_ = None, {}
 
     def played(self, changes):
         """The outcome with other keys of VMs, by their places."""
@@ -218,19 +218,27 @@ class Play:
                 low = middle
         return high
 
-    def fuels(self, at):
-        """The least fuel of a VM with the same outcome, and that of the dearest call of each callback that was made; or None where it is spent."""
-        name = self.config["vm"][at]["name"]
-        if any(line == "critical: vm %s died: fuel" % name for line in self.outcome.log):
-            return None
-        least = self.least(at, {}, 0, self.fuel(at))
-        found = {}
-        for callback in dict.fromkeys(it.name for it in self.callbacks() if it.vm == name):
-            # The loop alone takes as much as every other callback.
-            copy, units = copies.slowed(self.modules[at], callback, least // 6 + 1)
-            changes = {"module": self.copy("slowed.wasm", copy)}
-            found[callback] = self.least(at, changes, units, min(MOST_FUEL, units + least)) - units
-        return least, found
+    def is_spent(self, at):
+        """Whether a VM died since its fuel was spent."""
+        return any(line == "critical: vm %s died: fuel" % self.config["vm"][at]["name"] for line in self.outcome.log)
+
+    def names(self, at):
+        """The callbacks of a VM that were made, each once."""
+        return list(dict.fromkeys(it.name for it in self.callbacks() if it.vm == self.config["vm"][at]["name"]))
+
+    def units(self, at, callback=None):
+        """The least fuel of a VM with the same outcome, or what the dearest call of a callback that was made takes."""
+        if (at, callback) not in self.units_:
+            if callback is None:
+                found = self.least(at, {}, 0, self.fuel(at))
+            else:
+                least = self.units(at)
+                # The loop alone takes as much as every other callback.
+                copy, units = copies.slowed(self.modules[at], callback, least // 6 + 1)
+                changes = {"module": self.copy("slowed.wasm", copy)}
+                found = self.least(at, changes, units, min(MOST_FUEL, units + least)) - units
+            self.units_[at, callback] = found
+        return self.units_[at, callback]
 
 
 def shown_calls(play):
@@ -247,13 +255,12 @@ def with_answer(name, answer):
 
 def shown_fuel(play):
     for at, vm in enumerate(play.config.get("vm", [])):
-        found = play.fuels(at)
-        if found is None:
+        if play.is_spent(at):
             yield "%s spends its fuel, %d units" % (vm["name"], play.fuel(at))
             continue
-        yield "%s least fuel %d" % (vm["name"], found[0])
-        for name, units in sorted(found[1].items(), key=lambda it: -it[1]):
-            yield "    %s %d" % (name, units)
+        yield "%s least fuel %d" % (vm["name"], play.units(at))
+        for name in sorted(play.names(at), key=lambda name: -play.units(at, name)):
+            yield "    %s %d" % (name, play.units(at, name))
 
 
 def show(what, script, words):
@@ -383,10 +390,10 @@ def fault_of(want, play, places):
         return None if got == wanted else ["the whole outcome is"] + got
     if want.stream == "fuel":
         for at, vm in enumerate(play.config["vm"]):
-            found = play.fuels(at)
-            units = MOST_FUEL + 1 if found is None else found[0] if not want.callback else found[1].get(want.callback, 0)
-            if units > want.most:
-                return ["%s takes %s units" % (vm["name"], "more than its" if found is None else units)]
+            if play.is_spent(at):
+                return ["%s spends its fuel, %d units" % (vm["name"], play.fuel(at))]
+            if want.callback in [None] + play.names(at) and play.units(at, want.callback) > want.most:
+                return ["%s takes %d units" % (vm["name"], play.units(at, want.callback))]
         return None
     if want.stream == "callback":
         lines = [with_answer(it.name, it.answer) for it in play.callbacks()]
