@@ -38,7 +38,6 @@ REMEDY = {
     "memories": "More than one memory is outside the profile. Merge them with: wasm-opt --enable-multimemory --multi-memory-lowering.",
     "pages": "A memory with pages of another size is outside the profile. Build without custom page sizes.",
     "tables": "Tables that change as the module runs, and more than one table, are outside the profile. They come of externref and wasm-bindgen, or of a table that grows: build without them (rustc -C target-feature=-reference-types).",
-    "passive": "A passive data segment can only be put into memory by memory.init, which is outside the profile. Build without threads or bulk memory: clang -mno-bulk-memory, rustc -C target-cpu=mvp, wasm-opt --disable-bulk-memory.",
     "gc": "Types of the garbage collection and typed function references proposals are outside the profile. Build from a language that manages its own memory.",
     "wide": "128-bit arithmetic (wide-arithmetic) is outside the profile. Build without it: rustc -C target-feature=-wide-arithmetic.",
     "unknown": "This is no instruction of Core 2.0 or of a proposal known here. Build for an older target: clang -mcpu=mvp, rustc -C target-cpu=mvp.",

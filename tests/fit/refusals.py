@@ -46,7 +46,8 @@ CASES = [
     ("addresses of 64 bits", HEADER + TYPE + FUNCTION + h("05 03 01 04 01"), ["offset 21 (0x15): a memory with 64-bit addresses", "wasm32"]),
     ("shared memory", HEADER + TYPE + FUNCTION + h("05 04 01 03 01 01"), ["offset 21 (0x15): a shared memory", "(threads)"]),
     ("two memories", body(b"", h("05 05 02 00 01 00 01")), ["offset 23 (0x17): memory 1", "multi-memory-lowering"]),
-    ("passive data", body(h("41 00 41 00 41 00 fc 08 00 00"), h("05 03 01 00 01 0c 01 01")), ["function 0 `mine`, offset 37 (0x25): memory.init", "-mno-bulk-memory"]),
+    ("a callback with floats", HEADER + h("01 05 01 60 01 7d 00 03 02 01 00 07 11 01 0d") + b"proxy_on_tick" + h("00 00 0a 04 01 02 00 0b"),
+     ["function 0 (exported as `proxy_on_tick`), offset 22 (0x16): export `proxy_on_tick` of type (f32) -> nothing", "takes and gives no floats"]),
     ("a table that changes", body(h("41 00 d0 70 26 00"), h("04 04 01 70 00 01")), ["function 0 `mine`, offset 33 (0x21): table.set", "-reference-types"]),
     ("a table of externref", body(b"", h("04 04 01 6f 00 01")), ["offset 21 (0x15): a table of externref"]),
     # A type (f32) -> f32 in place of the other, and an import of it at place 17: 15 the section, 16 its size, then the count.
