@@ -13,7 +13,7 @@ use Rattle.wasm_syntax.specs.Typing.{Is}
 use Rattle.wasm_syntax.specs.Numeric.{type_of}
 use Rattle.wasm_machine.specs.Machines.{Takes, results_in, results_of, CanAnswer, asking, begun}
 use Rattle.wasm_machine.specs.declared.machine.Pending.{Pending}
-use Rattle.wasm_machine.specs.Sound.{IsAnswer}
+use Rattle.wasm_flat.specs.Sound.{IsAnswer}
 use Rattle.abi_types.specs.declared.guest.Closing.{Closing}
 use Rattle.vm_host.specs.Seeing.{AreClosings, Answers}
 use Rattle.vm_host.specs.Numbers.{IsNumber}

@@ -6,7 +6,7 @@ use Rattle.gate_base.specs.declared.cause.Cause.{Cause}
 use Rattle.gate_io.specs.declared.event.Sent.{Sent}
 use Rattle.wasm_syntax.specs.declared.types.Value.{Value}
 use Rattle.wasm_syntax.specs.declared.types.Value.TheVariants.{I32}
-use Rattle.wasm_machine.specs.Holds.{types_of}
+use Rattle.wasm_flat.specs.Holds.{types_of}
 use Rattle.store_model.specs.Made.{Made}
 use Rattle.store_model.specs.Program.{Program, done, bind, Runs}
 use Rattle.store_model.specs.Runs.{runs_as, runs_bind}

@@ -18,7 +18,7 @@ use Rattle.wasm_store.specs.declared.links.Judged.TheVariants as judged
 use Rattle.wasm_store.specs.declared.instance.LinkEnd.TheVariants as end
 use Rattle.wasm_store.specs.Linking.{judged_as, judged_kind, judgement, link_fault}
 use Rattle.wasm_store.proofs.Causes.{none_is_clear}
-use Rattle.wasm_machine.proofs.Splits.{same_some, no_some}
+use Rattle.wasm_flat.proofs.Splits.{same_some, no_some}
 use Rattle.proxy_links.specs.declared.target.Target.{Target}
 use Rattle.proxy_links.specs.declared.target.Target.TheVariants as target
 use Rattle.abi_model.specs.declared.table.WasiCall.TheVariants as wasi

@@ -14,10 +14,10 @@ use Rattle.wasm_syntax.specs.Validity.{IsValid, IsGood, IsStart, starts, functio
 use Rattle.wasm_syntax.specs.Reduction.{Program}
 use Rattle.wasm_syntax.specs.ReductionPrograms.{program_of}
 use Rattle.wasm_store.specs.Linking.{link_fault}
-use Rattle.wasm_machine.specs.Holds.{HasType, types_of}
+use Rattle.wasm_flat.specs.Holds.{HasType, types_of}
 use Rattle.wasm_machine.specs.Machines.{Takes, results_in, results_of}
-use Rattle.wasm_machine.proofs.Splits.{same_some, no_some}
-use Rattle.wasm_machine.proofs.Valid.{program_fits}
+use Rattle.wasm_flat.proofs.Splits.{same_some, no_some}
+use Rattle.wasm_flat.proofs.Valid.{program_fits}
 use Rattle.proxy_links.specs.Judging.{types_in, judged_of}
 use Rattle.proxy_links.specs.Short.{has_types}
 use Rattle.vm_host.specs.declared.fitting.FitEnd.TheVariants as ends

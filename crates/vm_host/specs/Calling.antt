@@ -4,7 +4,7 @@ use Rattle.gate_base.specs.declared.cause.Cause.{Cause}
 use Rattle.wasm_syntax.specs.declared.types.Value.{Value}
 use Rattle.wasm_syntax.specs.ReductionSteps.{Config, answered_config}
 use Rattle.wasm_syntax.specs.ReductionRuns.{Stopped, has_finished, has_asked, has_trapped, has_spent, goes_on, is_stuck, run, enough}
-use Rattle.wasm_machine.specs.Sound.{IsAnswer}
+use Rattle.wasm_flat.specs.Sound.{IsAnswer}
 use Rattle.wasm_syntax.specs.declared.types.ValueType.{ValueType}
 use Rattle.store_model.specs.Made.{Made}
 use Rattle.store_model.specs.Program.{Program, done, bind, Runs}

@@ -6,7 +6,7 @@ use Rattle.wasm_syntax.specs.declared.types.Value.TheVariants.{I32}
 use Rattle.wasm_syntax.specs.declared.types.FunctionType.{FunctionType}
 use Rattle.wasm_syntax.specs.declared.module.Export.{Export}
 use Rattle.wasm_syntax.specs.Reduction.{Program}
-use Rattle.wasm_machine.specs.Holds.{HasType}
+use Rattle.wasm_flat.specs.Holds.{HasType}
 use Rattle.wasm_machine.specs.Machines.{Takes}
 use Rattle.proxy_links.specs.Judging.{types_in}
 use Rattle.vm_host.specs.declared.roles.Role.{Role}

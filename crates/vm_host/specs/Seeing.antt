@@ -7,7 +7,7 @@ use Rattle.wasm_syntax.specs.declared.types.FunctionType.{FunctionType}
 use Rattle.wasm_syntax.specs.Typing.{Is}
 use Rattle.wasm_syntax.specs.Reduction.{imported, Program}
 use Rattle.wasm_machine.specs.Machines.{program_at, config_at, results_of, Takes, View}
-use Rattle.wasm_machine.specs.Sound.{IsAnswer}
+use Rattle.wasm_flat.specs.Sound.{IsAnswer}
 use Rattle.wasm_machine.specs.declared.machine.Pending.{Pending}
 use Rattle.wasm_machine.specs.declared.machine.Mode.TheVariants as mode
 use Rattle.abi_types.specs.GuestAt.{GuestAt, Waiting}

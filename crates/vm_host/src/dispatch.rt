@@ -3,7 +3,7 @@
 ghost use Rattle.std.specs.Prelude.{◌≡◌, ◌≤◌, ◌<◌, [], ◌∷◌, length, map, Some, slice_get};
 ghost use Rattle.wasm_syntax.specs.declared.types.Value.TheVariants.{I32};
 ghost use Rattle.wasm_syntax.specs.declared.types.ValueType.TheVariants as type;
-ghost use Rattle.wasm_machine.specs.Holds.{types_of};
+ghost use Rattle.wasm_flat.specs.Holds.{types_of};
 ghost use Rattle.contexts.specs.Reached.{seen};
 ghost use Rattle.abi_types.specs.GuestAt.{StillWaits, Keeps};
 ghost use Rattle.abi_model.specs.Table.{row_of, wasi_row_of};

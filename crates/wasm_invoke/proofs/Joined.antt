@@ -14,7 +14,7 @@ use Rattle.wasm_store.specs.declared.instance.Instance.{Instance}
 use Rattle.wasm_store.specs.declared.instance.LinkEnd.{LinkEnd}
 use Rattle.wasm_store.specs.declared.instance.LinkEnd.TheVariants as linking
 use Rattle.wasm_store.specs.Linking.{link_fault, IsLinked, Links}
-use Rattle.wasm_machine.specs.Holds.{types_of, HasType}
+use Rattle.wasm_flat.specs.Holds.{types_of, HasType}
 use Rattle.wasm_machine.specs.Machines.{View, program_at, config_at, Takes}
 use Rattle.wasm_invoke.specs.declared.ends.End.{End}
 use Rattle.wasm_invoke.specs.declared.ends.End.TheVariants as ends

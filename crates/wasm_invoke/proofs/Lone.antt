@@ -18,8 +18,8 @@ use Rattle.wasm_syntax.specs.ReductionPrograms.{host_functions, own_functions, p
 use Rattle.wasm_store.specs.declared.instance.LinkEnd.{LinkEnd}
 use Rattle.wasm_store.specs.declared.instance.LinkEnd.TheVariants.{UnknownImport}
 use Rattle.wasm_store.specs.Linking.{judged_as, judged_kind, judgement, is_unknown, link_fault}
-use Rattle.wasm_machine.proofs.Splits.{same_some, no_some}
-use Rattle.wasm_machine.proofs.Valid.{program_fits}
+use Rattle.wasm_flat.proofs.Splits.{same_some, no_some}
+use Rattle.wasm_flat.proofs.Valid.{program_fits}
 use Rattle.wasm_invoke.specs.Invoking.{nothing_offered, pages}
 use Rattle.wasm_invoke.specs.Readied.{AsksNobody, TakesNothing}
 

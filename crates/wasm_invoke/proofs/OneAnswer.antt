@@ -11,8 +11,8 @@ use Rattle.wasm_syntax.specs.ReductionPrograms.{program_of}
 use Rattle.wasm_syntax.proofs.ModuleLaws.{one_module, not_both, one_fault}
 use Rattle.wasm_store.specs.declared.instance.LinkEnd.{LinkEnd}
 use Rattle.wasm_store.specs.Linking.{link_fault}
-use Rattle.wasm_machine.specs.Holds.{HasType}
-use Rattle.wasm_machine.proofs.Splits.{same_some, no_some}
+use Rattle.wasm_flat.specs.Holds.{HasType}
+use Rattle.wasm_flat.proofs.Splits.{same_some, no_some}
 use Rattle.wasm_invoke.specs.declared.ends.Refusal.{Refusal}
 use Rattle.wasm_invoke.specs.declared.ends.Refusal.TheVariants as refusals
 use Rattle.wasm_invoke.specs.declared.ends.End.TheVariants as ends

@@ -23,7 +23,7 @@ use Rattle.wasm_syntax.specs.ReductionPrograms.{program_of}
 use Rattle.wasm_syntax.proofs.ModuleLaws.{read_is_spelled}
 use Rattle.wasm_syntax.proofs.TypingLaws.{same_some}
 use Rattle.wasm_syntax.proofs.WorkedBodies.{step}
-use Rattle.wasm_machine.specs.Holds.{HasType}
+use Rattle.wasm_flat.specs.Holds.{HasType}
 use Rattle.wasm_invoke.specs.Arguments.{Fits, AllFit}
 use Rattle.wasm_invoke.specs.Invoking.{pages, IsModule, Invokes}
 use Rattle.wasm_invoke.specs.declared.ends.End.TheVariants as ends

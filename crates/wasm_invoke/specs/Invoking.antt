@@ -12,7 +12,7 @@ use Rattle.wasm_syntax.specs.ReductionRuns.{Stopped, has_finished, has_asked, ha
 use Rattle.wasm_syntax.specs.ReductionPrograms.{program_of, first_config}
 use Rattle.wasm_store.specs.declared.links.Judged.TheVariants.{Unknown}
 use Rattle.wasm_store.specs.Linking.{Host, link_fault}
-use Rattle.wasm_machine.specs.Holds.{HasType}
+use Rattle.wasm_flat.specs.Holds.{HasType}
 use Rattle.wasm_invoke.specs.declared.ends.Refusal.{Refusal}
 use Rattle.wasm_invoke.specs.declared.ends.Refusal.TheVariants as refusals
 use Rattle.wasm_invoke.specs.declared.ends.End.{End}

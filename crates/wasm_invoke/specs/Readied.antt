@@ -10,7 +10,7 @@ use Rattle.wasm_syntax.specs.ReductionPrograms.{program_of, first_config}
 use Rattle.wasm_store.specs.Instances.{Instantiated}
 use Rattle.wasm_store.specs.Linking.{IsLinked}
 use Rattle.wasm_machine.specs.declared.machine.Mode.TheVariants.{Resting}
-use Rattle.wasm_machine.specs.Holds.{HasType}
+use Rattle.wasm_flat.specs.Holds.{HasType}
 use Rattle.wasm_machine.specs.Machines.{View, program_at, config_at, Takes}
 use Rattle.wasm_invoke.specs.declared.ends.End.{End}
 use Rattle.wasm_invoke.specs.declared.ends.End.TheVariants as ends

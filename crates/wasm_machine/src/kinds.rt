@@ -5,23 +5,15 @@ ghost use Rattle.std.specs.Vec.{vec_len, vec_capacity};
 ghost use Rattle.std.specs.Arc.{arc_value};
 ghost use Rattle.wasm_syntax.specs.declared.types.ValueType.{ValueType as ValueTypes};
 ghost use Rattle.wasm_syntax.specs.declared.types.ValueType.TheVariants.{I32};
-ghost use Rattle.wasm_machine.specs.Homes.{locals_of};
+ghost use Rattle.wasm_flat.specs.Homes.{locals_of};
 ghost use Rattle.wasm_machine.specs.Kinds.{kind_in, kind_by, IsKindOf};
 
-use crate::program::code_at;
 use gate_base::OutOfMemory;
 use std::alloc::Global;
 use std::marker::Model;
 use std::sync::Arc;
+use wasm_flat::{Home, code_at};
 use wasm_syntax::{LocalList, Module, ValidModule, ValueType};
-
-/// Where the types of a function's locals are: in a code of a module that frames have in common.
-#[derive(Clone, Copy)]
-pub(crate) struct Home<'a> {
-    pub(crate) module: &'a Arc<ValidModule>,
-    /// The place of the code among those of the module.
-    pub(crate) code: usize,
-}
 
 /// The types of neighbours.
 #[derive(Drop)]

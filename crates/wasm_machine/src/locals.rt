@@ -7,13 +7,14 @@ ghost use Rattle.std.specs.Vec.{vec_len, vec_capacity};
 ghost use Rattle.wasm_syntax.specs.Numeric.{zero_of};
 ghost use Rattle.wasm_syntax.specs.Reduction.{zeros};
 ghost use Rattle.wasm_machine.specs.Held.{held};
-ghost use Rattle.wasm_machine.specs.Homes.{locals_of};
+ghost use Rattle.wasm_flat.specs.Homes.{locals_of};
 
-use crate::kinds::{Home, Kinds, listed};
+use crate::kinds::{Kinds, listed};
 use crate::stack::Stack;
 use gate_base::OutOfMemory;
 use std::alloc::Global;
 use std::marker::Model;
+use wasm_flat::Home;
 use wasm_syntax::{LocalList, Value, ValueType};
 
 /// The locals of all frames, those of the innermost last, with room for so many. Clauses see them in their

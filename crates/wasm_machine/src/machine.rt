@@ -9,13 +9,13 @@ ghost use Rattle.wasm_syntax.specs.ReductionPrograms.{program_of, called_config}
 ghost use Rattle.wasm_store.specs.Linking.{IsLinked};
 ghost use Rattle.wasm_machine.specs.Machines.{asking, pending_after, mode_after, program_with, Takes, StopsAs};
 
-use crate::program::Program;
 use crate::run::{Stop, run};
 use crate::stack::Stack;
 use crate::state::State;
 use gate_base::OutOfMemory;
 use std::alloc::Global;
 use std::marker::Model;
+use wasm_flat::Program;
 use wasm_store::{Instance, Memory};
 use wasm_syntax::{FunctionType, Value};
 
@@ -103,7 +103,7 @@ impl Machine {
     ghost use Rattle.wasm_syntax.specs.ReductionSteps.{answered_config, invoked_config, idle_config};
     ghost use Rattle.wasm_syntax.specs.ReductionRuns.{enough};
     ghost use Rattle.wasm_machine.specs.Acted.{stores};
-    ghost use Rattle.wasm_machine.specs.Holds.{HasType};
+    ghost use Rattle.wasm_flat.specs.Holds.{HasType};
     ghost use Rattle.wasm_machine.specs.Machines.{program_at, config_at, CanAnswer, begun, asked_of, pending_after, mode_after, with_memory, stopped_as, StandsBefore, Tells, Lowers};
     ghost use Rattle.wasm_machine.specs.declared.machine.Mode.TheVariants as mode;
 

@@ -1,7 +1,7 @@
 //! Stacks that are reserved at the start.
 
 ghost use Rattle.std.specs.Prelude.{◌≡◌, ◌<◌, ◌≤◌, ◌+◌, [], ◌∷◌, ◌++◌, length, take, drop, slice_get, IfOk, MatchOption};
-ghost use Rattle.wasm_machine.specs.Parts.{lowest};
+ghost use Rattle.wasm_flat.specs.Parts.{lowest};
 ghost use Rattle.wasm_machine.specs.Held.{held};
 
 use gate_base::OutOfMemory;

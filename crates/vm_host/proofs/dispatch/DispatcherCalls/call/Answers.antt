@@ -5,7 +5,7 @@ use Rattle.wasm_syntax.specs.declared.types.FunctionType.{FunctionType}
 use Rattle.wasm_syntax.specs.Typing.{Is}
 use Rattle.wasm_syntax.specs.Reduction.{imported, Program as Code}
 use Rattle.wasm_machine.specs.Machines.{results_in}
-use Rattle.wasm_machine.proofs.Splits.{same_some}
+use Rattle.wasm_flat.proofs.Splits.{same_some}
 use Rattle.proxy_links.specs.declared.target.Target.{Target}
 use Rattle.proxy_links.specs.Judging.{fits_target}
 use Rattle.vm_host.specs.HostStates.{host_state}

@@ -1,8 +1,8 @@
 use Rattle.std.proofs.Common.{◌∙◌, ap, sym}
 use Rattle.wasm_syntax.specs.Stores.{Stores}
-use Rattle.wasm_machine.specs.Live.{flat}
+use Rattle.wasm_flat.specs.Live.{flat}
 use Rattle.wasm_machine.specs.Machines.{View, config_at}
-use Rattle.wasm_machine.proofs.Sees.{seen_store}
+use Rattle.wasm_flat.proofs.Sees.{seen_store}
 use Rattle.wasm_machine.proofs.machine.Machine.memory.Goals as goal
 
 pub returns-clause-bytes : goal.returns-clause-bytes

@@ -4,9 +4,10 @@ use Rattle.wasm_machine.specs.declared.machine.Mode.TheVariants as mode
 use Rattle.wasm_machine.specs.declared.machine.Pending.{Pending}
 use Rattle.wasm_machine.specs.Acted.{stores}
 use Rattle.wasm_machine.specs.Held.{Held}
-use Rattle.wasm_machine.specs.Live.{Fixed, Live, fixed_of, idle_live, flat}
-use Rattle.wasm_machine.specs.Room.{IsSmall}
-use Rattle.wasm_machine.specs.Seen.{seen}
+use Rattle.wasm_flat.specs.Live.{Fixed, Live, fixed_of, flat}
+use Rattle.wasm_machine.specs.Told.{idle_live}
+use Rattle.wasm_flat.specs.Room.{IsSmall}
+use Rattle.wasm_flat.specs.Seen.{seen}
 use Rattle.wasm_machine.specs.Kept.{nested}
 use Rattle.wasm_machine.proofs.Machined.{KeptWith, first, first_fits, first_room, first_seen, nested_with, linked_program, linked_config}
 use Rattle.wasm_machine.proofs.machine.Machine.new.Goals as goal

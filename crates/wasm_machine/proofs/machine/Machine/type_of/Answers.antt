@@ -1,9 +1,9 @@
 use Rattle.std.proofs.Common.{◌≡◌, List, Some, None, ap, subst}
 use Rattle.std.specs.Prelude.{slice_get, IfSome, IfNone}
-use Rattle.wasm_machine.specs.Flat.{FlatFunction}
+use Rattle.wasm_flat.specs.Flat.{FlatFunction}
 use Rattle.wasm_machine.specs.Machines.{View}
-use Rattle.wasm_machine.specs.Programs.{type_in}
-use Rattle.wasm_machine.proofs.TypesAt.{found_type, found_none}
+use Rattle.wasm_flat.specs.Programs.{type_in}
+use Rattle.wasm_flat.proofs.TypesAt.{found_type, found_none}
 use Rattle.wasm_machine.proofs.machine.Machine.type_of.Goals as goal
 
 pub returns-clause-some : goal.returns-clause-some

@@ -1,8 +1,8 @@
 use Rattle.std.proofs.Common.{◌≡◌, ◌+◌, ◌<◌, ◌≤◌, ◌∙◌, IfSome, IfNone, length, sym, ap, subst}
 use Rattle.wasm_syntax.specs.Memory.{written}
 use Rattle.wasm_machine.specs.declared.machine.Mode.TheVariants as mode
-use Rattle.wasm_machine.specs.Live.{flat}
-use Rattle.wasm_machine.specs.Seen.{seen}
+use Rattle.wasm_flat.specs.Live.{flat}
+use Rattle.wasm_flat.specs.Seen.{seen}
 use Rattle.wasm_machine.specs.Machines.{View, config_at, with_memory}
 use Rattle.wasm_machine.proofs.Machined.{in_mode, rests_written, some_written, none_written}
 use Rattle.wasm_machine.proofs.machine.Machine.write.Goals as goal

@@ -2,7 +2,7 @@ use Rattle.std.proofs.Common.{◌≡◌, ◌≤◌, ◌+◌, ◌-◌, ◌++◌, 
 use Rattle.std.specs.Prelude.{reverse}
 use Rattle.std.proofs.lemmas.List.{length-reverse}
 use Rattle.std.proofs.Math.Seq.{paste}
-use Rattle.wasm_machine.specs.Parts.{lowest}
+use Rattle.wasm_flat.specs.Parts.{lowest}
 use Rattle.wasm_machine.specs.Held.{held}
 use Rattle.wasm_machine.proofs.Reversed.{cut_to}
 use Rattle.wasm_machine.proofs.stack.Stack.cut.Goals as goal

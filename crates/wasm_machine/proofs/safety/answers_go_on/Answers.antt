@@ -1,5 +1,0 @@
-use Rattle.wasm_machine.proofs.Made.{answered_runs, none_changes_nothing}
-use Rattle.wasm_machine.proofs.safety.answers_go_on.Goals as goal
-
-pub returns : goal.returns
-returns c = record { runs = answered_runs; none = none_changes_nothing }

@@ -1,5 +1,0 @@
-use Rattle.wasm_machine.proofs.Unstuck.{flat_steps_follow_typed, flat_runs_follow_typed}
-use Rattle.wasm_machine.proofs.safety.flat_runs_follow_typed.Goals as goal
-
-pub returns : goal.returns
-returns c = record { step = flat_steps_follow_typed; run = flat_runs_follow_typed }

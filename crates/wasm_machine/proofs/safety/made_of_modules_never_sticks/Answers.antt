@@ -1,5 +1,0 @@
-use Rattle.wasm_machine.proofs.Made.{made_is_sound, made_has_step, made_is_never_stuck, flat_follows_made}
-use Rattle.wasm_machine.proofs.safety.made_of_modules_never_sticks.Goals as goal
-
-pub returns : goal.returns
-returns c = record { sound = made_is_sound; step = made_has_step; run = made_is_never_stuck; flat = flat_follows_made }
