@@ -3,9 +3,9 @@ use Rattle.std.proofs.Common.{◌≡◌, ◌<◌, ℕ, zero, suc, ◌+◌, Bool,
 use Rattle.std.specs.Prelude.{◌≢◌, ◌==◌, slice_get, Option, Some}
 use Rattle.std.proofs.lemmas.Bool.{eqb-true, eqb-false}
 use Rattle.std.proofs.lemmas.List.{length-append}
-use Rattle.worker.specs.declared.types.Job.{Job}
-use Rattle.worker.specs.declared.types.Job.TheVariants as jobs
-use Rattle.worker.specs.Steps.{begins_exchange, creates, puts_items, refuses}
+use Rattle.worker_model.specs.declared.types.Job.{Job}
+use Rattle.worker_model.specs.declared.types.Job.TheVariants as jobs
+use Rattle.worker_model.specs.Steps.{begins_exchange, creates, puts_items, refuses}
 use Rattle.asked_laws.specs.Begins.{ExchangesBeginInOrder}
 
 in_front : (a b : List Job) (k : ℕ) → k < length a → slice_get (a ++ b) k ≡ slice_get a k

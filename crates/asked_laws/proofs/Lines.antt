@@ -18,10 +18,10 @@ use Rattle.filter_chain.specs.Chains.{put, asked, continued, let_through}
 use Rattle.filter_chain.specs.Flow.{left_in}
 use Rattle.filter_chain.specs.declared.item.Ask.{Ask}
 use Rattle.filter_chain.specs.declared.item.Item.{Item}
-use Rattle.worker.specs.declared.room.Room.{Room}
-use Rattle.worker.specs.declared.types.Own.{Own}
-use Rattle.worker.specs.Rooms.{does}
-use Rattle.worker.specs.Steps.{action_of}
+use Rattle.worker_model.specs.Room.{Room}
+use Rattle.worker_model.specs.declared.types.Own.{Own}
+use Rattle.worker_model.specs.Rooms.{does}
+use Rattle.worker_model.specs.Steps.{action_of}
 use Rattle.chain_laws.specs.Acts.{Act, Standing, stands_after, IsLeft, IsAnswer, AreActs, gone_on, returned, unless_at}
 use Rattle.chain_laws.specs.Acts as at_chain
 use Rattle.chain_laws.specs.PassThrough.{bare_all}

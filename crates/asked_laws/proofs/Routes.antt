@@ -8,7 +8,7 @@ use Rattle.exchange.specs.declared.types.Filter.{Filter}
 use Rattle.filter_chain.specs.declared.stage.Stage.{Stage}
 use Rattle.gate_config.specs.declared.entries.PluginEntry.{PluginEntry}
 use Rattle.gate_config.specs.declared.entries.RouteEntry.{RouteEntry}
-use Rattle.worker.specs.Steps.{entered, filters_of, filters_by, filter_at_plugin, filter_of, plugins_of, is_gone, is_blocking, is_live, new_stage}
+use Rattle.worker_model.specs.Steps.{entered, filters_of, filters_by, filter_at_plugin, filter_of, plugins_of, is_gone, is_blocking, is_live, new_stage}
 use Rattle.asked_laws.specs.Asked.{AreUnused}
 use Rattle.asked_laws.specs.Filters.{is_among, Chosen, no_filter, takes, filter_dead, unknown, ExchangesHaveTheirFilters, Staged, no_stage, stands, stage_dead, has_none, ExchangesHaveTheirStages}
 

@@ -1,10 +1,10 @@
 -- WHAT IS TO BE DONE behind the head of a request.
 use Rattle.std.specs.Prelude.{◌≡◌, ◌<◌, ℕ, List, [], ◌∷◌, length, slice_get, Option, None, Some}
 use Rattle.exchange.specs.declared.types.Exchange.{Exchange}
-use Rattle.worker.specs.declared.types.Job.{Job}
-use Rattle.worker.specs.declared.types.Job.TheVariants as jobs
-use Rattle.worker.specs.declared.types.Reads.{Reads}
-use Rattle.worker.specs.Steps.{begins_exchange}
+use Rattle.worker_model.specs.declared.types.Job.{Job}
+use Rattle.worker_model.specs.declared.types.Job.TheVariants as jobs
+use Rattle.worker_model.specs.declared.types.Reads.{Reads}
+use Rattle.worker_model.specs.Steps.{begins_exchange}
 
 abbrev pub jobs_behind : Reads → Option ℕ → Exchange → List Job
 jobs_behind r status x = begins_exchange r status x x.refusal

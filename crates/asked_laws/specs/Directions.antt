@@ -6,8 +6,8 @@ use Rattle.exchange.specs.Passing.{chain_of, stage_of}
 use Rattle.filter_chain.specs.declared.item.Ask.{Ask}
 use Rattle.filter_chain.specs.Chains.{put, continued, let_through}
 use Rattle.filter_chain.specs.declared.item.Item.{Item}
-use Rattle.worker.specs.Plan.{Plan}
-use Rattle.worker.specs.Steps.{Both}
+use Rattle.worker_model.specs.Plan.{Plan}
+use Rattle.worker_model.specs.Steps.{Both}
 use Rattle.chain_laws.specs.Acts.{Act, Standing, IsLeft, returned}
 use Rattle.chain_laws.specs.Acts as at_chain
 use Rattle.chain_laws.specs.PassThrough.{bare_all}

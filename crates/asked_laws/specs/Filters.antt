@@ -7,8 +7,8 @@ use Rattle.filter_chain.specs.declared.stage.Stage.{Stage}
 use Rattle.gate_config.specs.declared.entries.PluginEntry.{PluginEntry}
 use Rattle.gate_config.specs.declared.entries.RouteEntry.{RouteEntry}
 use Rattle.http1_model.specs.Head.{Head}
-use Rattle.worker.specs.Plan.{Plan}
-use Rattle.worker.specs.Steps.{exchange_for, entered}
+use Rattle.worker_model.specs.Plan.{Plan}
+use Rattle.worker_model.specs.Steps.{exchange_for, entered}
 use Rattle.asked_laws.specs.Asked.{IsUnused, AreUnused}
 
 abbrev pub is_among : List ℕ → ℕ → Bool

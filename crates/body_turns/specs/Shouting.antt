@@ -15,9 +15,9 @@ use Rattle.gate_io.specs.declared.event.Side.TheVariants.{Down, Up}
 use Rattle.gate_io.specs.declared.event.What.{What}
 use Rattle.gate_io.specs.declared.event.What.TheVariants as whats
 use Rattle.store_model.specs.Program.{Program, done}
-use Rattle.worker.specs.Plan.{Plan}
-use Rattle.worker.specs.Steps.{Both}
-use Rattle.worker.specs.Turn.{Outcome, turn}
+use Rattle.worker_model.specs.Plan.{Plan}
+use Rattle.worker_model.specs.Steps.{Both}
+use Rattle.worker_model.specs.Turn.{Outcome, turn}
 use Rattle.turn_laws.specs.Scenes.{line_of, plugin, rooted, line, state, event, plan_of, up_start, up_end}
 use Rattle.turn_laws.specs.Tables.{Call, call, call_of, usual, called_of, Comes}
 use Rattle.turn_laws.specs.Texts.{posted_text}

@@ -9,14 +9,14 @@ use Rattle.exchange_laws.specs.Lives.{Deed, comes, responds, acts, resumes, clos
 use Rattle.exchange_laws.specs.Own.{SendsOn}
 use Rattle.exchange_laws.specs.Traffic.{Traffic}
 use Rattle.gate_io.specs.declared.event.Sent.{Sent}
-use Rattle.worker.specs.declared.room.Room.{Room}
-use Rattle.worker.specs.declared.types.Job.{Job}
-use Rattle.worker.specs.declared.types.Job.TheVariants as jobs
-use Rattle.worker.specs.declared.types.Line.{Line}
-use Rattle.worker.specs.declared.types.Reads.{Reads}
-use Rattle.worker.specs.Plan.{Plan}
-use Rattle.worker.specs.Rooms.{Changes, at_place, place_in, on_number}
-use Rattle.worker.specs.Steps.{exchange_of_line}
+use Rattle.worker_model.specs.Room.{Room}
+use Rattle.worker_model.specs.declared.types.Job.{Job}
+use Rattle.worker_model.specs.declared.types.Job.TheVariants as jobs
+use Rattle.worker_model.specs.declared.types.Line.{Line}
+use Rattle.worker_model.specs.declared.types.Reads.{Reads}
+use Rattle.worker_model.specs.Plan.{Plan}
+use Rattle.worker_model.specs.Rooms.{Changes, at_place, place_in, on_number}
+use Rattle.worker_model.specs.Steps.{exchange_of_line}
 use Rattle.line_laws.specs.Clients.{clients}
 use Rattle.line_laws.proofs.Finding.{IsOnce}
 use Rattle.line_laws.proofs.Looks.{is_n, look, Went, goes_aside, does_so, is_asked, has_too_much, has_filter, goes_then, BringsNone, Quietly, Exs, Looks}

@@ -33,7 +33,7 @@ use Rattle.http1_model.specs.Fields.{Pair}
 use Rattle.http1_model.specs.Framing.{head_wire, piece_wire, trailer_wire}
 use Rattle.http1_model.specs.Messages.{head}
 use Rattle.http1_model.specs.Unread.{Reading}
-use Rattle.worker.specs.Steps.{is_live, new_stage, entered}
+use Rattle.worker_model.specs.Steps.{is_live, new_stage, entered}
 use Rattle.line_laws.specs.Clients.{clients}
 use Rattle.line_laws.specs.Examples.{openings}
 use Rattle.line_laws.proofs.Kept.{by_bool, Fits, FitsIn}

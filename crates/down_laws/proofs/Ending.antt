@@ -11,15 +11,15 @@ use Rattle.exchange_laws.specs.Responses.{IsOneResponse}
 use Rattle.exchange_laws.specs.Traffic.{Traffic, byte}
 use Rattle.gate_io.specs.declared.event.Sent.{Sent}
 use Rattle.http1_model.specs.Unread.{Reading}
-use Rattle.worker.specs.declared.room.Room.{Room}
-use Rattle.worker.specs.declared.types.Job.{Job}
-use Rattle.worker.specs.declared.types.Job.TheVariants as jobs
-use Rattle.worker.specs.declared.types.Line.{Line}
-use Rattle.worker.specs.declared.types.Reads.{Reads}
-use Rattle.worker.specs.Plan.{Plan}
-use Rattle.worker.specs.Moves.{ended_at, ended_back, ended_in}
-use Rattle.worker.specs.Rooms as rooms
-use Rattle.worker.specs.Steps.{close_up, done_jobs, ends_with, ends_at}
+use Rattle.worker_model.specs.Room.{Room}
+use Rattle.worker_model.specs.declared.types.Job.{Job}
+use Rattle.worker_model.specs.declared.types.Job.TheVariants as jobs
+use Rattle.worker_model.specs.declared.types.Line.{Line}
+use Rattle.worker_model.specs.declared.types.Reads.{Reads}
+use Rattle.worker_model.specs.Plan.{Plan}
+use Rattle.worker_model.specs.Moves.{ended_at, ended_back, ended_in}
+use Rattle.worker_model.specs.Rooms as rooms
+use Rattle.worker_model.specs.Steps.{close_up, done_jobs, ends_with, ends_at}
 use Rattle.line_laws.specs.Clients.{clients}
 use Rattle.line_laws.proofs.Ending.{done_free}
 use Rattle.line_laws.proofs.Finding.{Seeks, missing, first, seeks, IsOnce, set_other, only_found, set_once, set_there}

@@ -10,13 +10,13 @@ use Rattle.gate_io.specs.declared.event.Sent.TheVariants as to
 use Rattle.gate_io.specs.declared.event.Side.TheVariants.{Down, Up}
 use Rattle.gate_io.specs.declared.event.What.{What}
 use Rattle.gate_io.specs.declared.event.What.TheVariants as whats
-use Rattle.worker.specs.declared.room.Room.{Room}
-use Rattle.worker.specs.declared.types.Job.{Job}
-use Rattle.worker.specs.declared.types.Job.TheVariants as jobs
-use Rattle.worker.specs.declared.types.Line.{Line}
-use Rattle.worker.specs.Rooms as rooms
-use Rattle.worker.specs.Rooms.{place_in, on_number, sending}
-use Rattle.worker.specs.Steps.{change_exchange, on_lines, exchange_of_line, exchange_on, line_in, line_reading, drops_line, reads_side, most_lines, new_line, place_for, opens, further_on, with_further, is_open, is_answered_in, is_read_in, comes, lost as loses, lost_exchange, loses_down, is_missed, loses_up, happens}
+use Rattle.worker_model.specs.Room.{Room}
+use Rattle.worker_model.specs.declared.types.Job.{Job}
+use Rattle.worker_model.specs.declared.types.Job.TheVariants as jobs
+use Rattle.worker_model.specs.declared.types.Line.{Line}
+use Rattle.worker_model.specs.Rooms as rooms
+use Rattle.worker_model.specs.Rooms.{place_in, on_number, sending}
+use Rattle.worker_model.specs.Steps.{change_exchange, on_lines, exchange_of_line, exchange_on, line_in, line_reading, drops_line, reads_side, most_lines, new_line, place_for, opens, further_on, with_further, is_open, is_answered_in, is_read_in, comes, lost as loses, lost_exchange, loses_down, is_missed, loses_up, happens}
 use Rattle.line_laws.proofs.Closing.{drop_other, drop_same}
 use Rattle.line_laws.proofs.Finding.{Seeks, missing, first as stands_first, seeks, IsOnce, insert_other, insert_found}
 use Rattle.line_laws.proofs.Happening.{found_fails, numbered_further, numbered_lost}

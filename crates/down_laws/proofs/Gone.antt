@@ -12,10 +12,10 @@ use Rattle.exchange_laws.proofs.Ends.{nothing_follows_end}
 use Rattle.exchange_laws.proofs.Traffic.{ups_join}
 use Rattle.gate_io.specs.declared.event.Sent.{Sent}
 use Rattle.gate_io.specs.declared.event.What.{What}
-use Rattle.worker.specs.declared.room.Room.{Room}
-use Rattle.worker.specs.declared.types.Job.{Job}
-use Rattle.worker.specs.declared.types.Line.{Line}
-use Rattle.worker.specs.Plan.{Plan}
+use Rattle.worker_model.specs.Room.{Room}
+use Rattle.worker_model.specs.declared.types.Job.{Job}
+use Rattle.worker_model.specs.declared.types.Line.{Line}
+use Rattle.worker_model.specs.Plan.{Plan}
 use Rattle.line_laws.specs.Clients.{clients, client_of}
 use Rattle.line_laws.proofs.Looks.{look, Beside, beside_itself, beside_then, BringsNone, Went, goes_aside, does_so, is_asked, has_too_much, has_filter, goes_then, Looks, Exs}
 use Rattle.line_laws.proofs.Rooms.{Calm, same_sent}

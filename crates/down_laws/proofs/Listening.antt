@@ -19,13 +19,13 @@ use Rattle.gate_io.specs.declared.event.Side.TheVariants.{Down}
 use Rattle.header_maps.specs.Operations.{no_headers}
 use Rattle.http1_model.specs.Messages.{Stop, rest, over as text_over, refusal}
 use Rattle.http1_model.specs.Unread.{Part as ReadPart, head_part, interim_part, piece, trailer_part, Reading}
-use Rattle.worker.specs.declared.room.Room.{Room}
-use Rattle.worker.specs.declared.types.Job.{Job}
-use Rattle.worker.specs.declared.types.Job.TheVariants as jobs
-use Rattle.worker.specs.declared.types.Line.{Line}
-use Rattle.worker.specs.declared.types.Reads.{Reads}
-use Rattle.worker.specs.Plan.{Plan}
-use Rattle.worker.specs.Steps.{Both, change_line, on_lines, exchange_on, exchange_for, free_place, with_exchange, begun, line_in, line_reading, reading_on, read_on, with_reader, noted, is_last, in_front, jobs_of, reading_ends, with_item, joins, takes, keeps_response, in_contexts, head_item, interim_of, put_trailers, hands_part, stops, after_heard, reads_in, reads_next}
+use Rattle.worker_model.specs.Room.{Room}
+use Rattle.worker_model.specs.declared.types.Job.{Job}
+use Rattle.worker_model.specs.declared.types.Job.TheVariants as jobs
+use Rattle.worker_model.specs.declared.types.Line.{Line}
+use Rattle.worker_model.specs.declared.types.Reads.{Reads}
+use Rattle.worker_model.specs.Plan.{Plan}
+use Rattle.worker_model.specs.Steps.{Both, change_line, on_lines, exchange_on, exchange_for, free_place, with_exchange, begun, line_in, line_reading, reading_on, read_on, with_reader, noted, is_last, in_front, jobs_of, reading_ends, with_item, joins, takes, keeps_response, in_contexts, head_item, interim_of, put_trailers, hands_part, stops, after_heard, reads_in, reads_next}
 use Rattle.line_laws.specs.Clients.{clients}
 use Rattle.line_laws.proofs.Kept.{by_bool}
 use Rattle.line_laws.proofs.Looks.{look, line_in_is, equal_by, Beside, beside_itself, sends_beside}

@@ -15,13 +15,13 @@ use Rattle.exchange_laws.proofs.Own.{own_line}
 use Rattle.gate_io.specs.declared.event.Sent.{Sent}
 use Rattle.gate_io.specs.declared.event.Sent.TheVariants as to
 use Rattle.gate_io.specs.declared.event.Side.TheVariants.{Down}
-use Rattle.worker.specs.declared.room.Room.{Room}
-use Rattle.worker.specs.declared.types.Job.{Job}
-use Rattle.worker.specs.declared.types.Job.TheVariants as jobs
-use Rattle.worker.specs.declared.types.Line.{Line}
-use Rattle.worker.specs.Plan.{Plan}
-use Rattle.worker.specs.Rooms.{Changes, at_place, on_number, place_in, sending}
-use Rattle.worker.specs.Steps.{entering, line_in, drops_at, drops_line, closes_line, reads_side, line_ends, refusal_sent, fixed_answer, refuses_in, refuses_line}
+use Rattle.worker_model.specs.Room.{Room}
+use Rattle.worker_model.specs.declared.types.Job.{Job}
+use Rattle.worker_model.specs.declared.types.Job.TheVariants as jobs
+use Rattle.worker_model.specs.declared.types.Line.{Line}
+use Rattle.worker_model.specs.Plan.{Plan}
+use Rattle.worker_model.specs.Rooms.{Changes, at_place, on_number, place_in, sending}
+use Rattle.worker_model.specs.Steps.{entering, line_in, drops_at, drops_line, closes_line, reads_side, line_ends, refusal_sent, fixed_answer, refuses_in, refuses_line}
 use Rattle.line_laws.proofs.Closing.{drop_other, drop_same}
 use Rattle.line_laws.proofs.Finding.{IsOnce}
 use Rattle.line_laws.proofs.Kept.{by_bool}

@@ -11,11 +11,11 @@ use Rattle.filter_chain.specs.declared.item.Item.{Item}
 use Rattle.gate_io.specs.declared.event.Sent.{Sent}
 use Rattle.http1_model.specs.Messages.{Due, head as head_due}
 use Rattle.http1_model.specs.Unread.{Part as ReadPart, part, Reading, Hands, IsNext}
-use Rattle.worker.specs.declared.room.Room.{Room}
-use Rattle.worker.specs.declared.types.Line.{Line}
-use Rattle.worker.specs.declared.types.Reads.{Reads}
-use Rattle.worker.specs.Plan.{Plan}
-use Rattle.worker.specs.Steps.{Both, exchange_of_line, exchange_reading, line_in, line_reading, reading_on, after_heard, reads_in, reads_next}
+use Rattle.worker_model.specs.Room.{Room}
+use Rattle.worker_model.specs.declared.types.Line.{Line}
+use Rattle.worker_model.specs.declared.types.Reads.{Reads}
+use Rattle.worker_model.specs.Plan.{Plan}
+use Rattle.worker_model.specs.Steps.{Both, exchange_of_line, exchange_reading, line_in, line_reading, reading_on, after_heard, reads_in, reads_next}
 use Rattle.line_laws.specs.Clients.{clients}
 use Rattle.line_laws.proofs.Looks.{look, line_in_is, equal_by}
 use Rattle.line_laws.proofs.Reader.{InBody, HeadNext, head_next, BodyNext, body_next}

@@ -5,7 +5,7 @@ use Rattle.std.specs.List.{flat_map}
 use Rattle.std.specs.Prelude.{Option, None, Some}
 use Rattle.exchange_laws.specs.Traffic.{Traffic, opens, byte, closes}
 use Rattle.header_maps.specs.Headers.{Headers}
-use Rattle.worker.specs.Plan.{Plan}
+use Rattle.worker_model.specs.Plan.{Plan}
 use Rattle.line_laws.proofs.Refusing.{unclosed, unclosed_bytes, none_there, closes_last}
 use Rattle.down_laws.specs.Downward.{Begun, Part, IsPartOf, last_wire, wire_of, close_of}
 use Rattle.down_laws.specs.Examples.{Refuses}

@@ -24,14 +24,14 @@ use Rattle.http1_model.specs.Head.{Head, SpellsStep, SpellsResponse, found}
 use Rattle.http1_model.specs.Length.{BodyLength, nothing as no_length, exactly, chunked, until_end}
 use Rattle.http1_model.specs.Messages.{Stop, rest, over as text_over, refusal, Due, head as head_due, body, done, due_behind, counted, coded, unbounded}
 use Rattle.http1_model.specs.Unread.{Part as ReadPart, head_part, interim_part, piece, trailer_part, part, Reading, Hands, Halts, IsNext, due_at}
-use Rattle.worker.specs.declared.room.Room.{Room}
-use Rattle.worker.specs.declared.types.Job.{Job}
-use Rattle.worker.specs.declared.types.Job.TheVariants as jobs
-use Rattle.worker.specs.declared.types.Line.{Line}
-use Rattle.worker.specs.declared.types.Reads.{Reads}
-use Rattle.worker.specs.Plan.{Plan}
-use Rattle.worker.specs.Rooms.{sending}
-use Rattle.worker.specs.Steps.{change_line, change_exchange, on_line, on_lines, exchange_of_line, exchange_on, exchange_for, free_place, with_exchange, begun, read_on, with_reader, noted, is_last, creates, jobs_of, puts_items, refuses, begins_for, begins_exchange, begins_with_head, reading_ends, with_item, joins, takes, keeps_response, in_contexts, head_item, interim_of, put_trailers, hands_part, stops, after_heard, in_front}
+use Rattle.worker_model.specs.Room.{Room}
+use Rattle.worker_model.specs.declared.types.Job.{Job}
+use Rattle.worker_model.specs.declared.types.Job.TheVariants as jobs
+use Rattle.worker_model.specs.declared.types.Line.{Line}
+use Rattle.worker_model.specs.declared.types.Reads.{Reads}
+use Rattle.worker_model.specs.Plan.{Plan}
+use Rattle.worker_model.specs.Rooms.{sending}
+use Rattle.worker_model.specs.Steps.{change_line, change_exchange, on_line, on_lines, exchange_of_line, exchange_on, exchange_for, free_place, with_exchange, begun, read_on, with_reader, noted, is_last, creates, jobs_of, puts_items, refuses, begins_for, begins_exchange, begins_with_head, reading_ends, with_item, joins, takes, keeps_response, in_contexts, head_item, interim_of, put_trailers, hands_part, stops, after_heard, in_front}
 use Rattle.line_laws.specs.Clients.{clients}
 use Rattle.line_laws.proofs.Finding.{IsOnce}
 use Rattle.line_laws.proofs.Kept.{by_bool, FitsIn}

@@ -16,14 +16,14 @@ use Rattle.outbox.specs.Joined.{joined}
 use Rattle.store_model.specs.Made.{Made}
 use Rattle.vm_host.specs.Slots as slots
 use Rattle.vm_host.specs.declared.slots.Vms.{Vms}
-use Rattle.worker.specs.declared.room.Room.{Room}
-use Rattle.worker.specs.declared.types.Line.{Line}
-use Rattle.worker.specs.Making.{contexts_of, new_worker}
-use Rattle.worker.specs.Plan.{Plan}
-use Rattle.worker.specs.Settling.{settling}
-use Rattle.worker.specs.State.{Standing, rules_of}
-use Rattle.worker.specs.Steps.{Both, both, line_in}
-use Rattle.worker.specs.Turn.{Outcome, turn, turn_by, facing, most_steps, comes_to, emptied}
+use Rattle.worker_model.specs.Room.{Room}
+use Rattle.worker_model.specs.declared.types.Line.{Line}
+use Rattle.worker_model.specs.Making.{contexts_of, new_worker}
+use Rattle.worker_model.specs.Plan.{Plan}
+use Rattle.worker_model.specs.Settling.{settling}
+use Rattle.worker_model.specs.State.{Standing, rules_of}
+use Rattle.worker_model.specs.Steps.{Both, both, line_in}
+use Rattle.worker_model.specs.Turn.{Outcome, turn, turn_by, facing, most_steps, comes_to, emptied}
 use Rattle.line_laws.specs.Clients.{clients}
 use Rattle.line_laws.specs.Logs.{WriteLogs}
 use Rattle.line_laws.specs.Turns.{Done, Turns, new_room, sent_in}

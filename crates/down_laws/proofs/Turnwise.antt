@@ -20,20 +20,20 @@ use Rattle.outbox.specs.Joined.{joined}
 use Rattle.store_model.specs.Made.{Made}
 use Rattle.vm_host.specs.Slots as slots
 use Rattle.vm_host.specs.declared.slots.Vms.{Vms}
-use Rattle.worker.specs.declared.room.Room.{Room}
-use Rattle.worker.specs.declared.types.Job.{Job}
-use Rattle.worker.specs.declared.types.Job.TheVariants as jobs
-use Rattle.worker.specs.declared.types.Line.{Line}
-use Rattle.worker.specs.declared.types.Next.TheVariants as next
-use Rattle.worker.specs.declared.types.Reads.{Reads}
-use Rattle.worker.specs.Making.{contexts_of, new_worker}
-use Rattle.worker.specs.Plan.{Plan}
-use Rattle.worker.specs.Rooms as rooms
-use Rattle.worker.specs.Rooms.{moves, moves_or, frees_or, ends_or, begins_or_rests, is_any, is_released}
-use Rattle.worker.specs.Settling.{settling, rests}
-use Rattle.worker.specs.State.{Standing, rules_of}
-use Rattle.worker.specs.Steps.{Both, both}
-use Rattle.worker.specs.Turn.{Outcome, outcome, turn, turn_by, facing, agenda_of, starts, starts_of, start_of, roots_from, vms_in, is_of, ticks_in, ticks_of, ticks_due, deadlines, notice_of, notices_of, is_due_now, registers_at, at_moment, most_steps, comes_to, emptied}
+use Rattle.worker_model.specs.Room.{Room}
+use Rattle.worker_model.specs.declared.types.Job.{Job}
+use Rattle.worker_model.specs.declared.types.Job.TheVariants as jobs
+use Rattle.worker_model.specs.declared.types.Line.{Line}
+use Rattle.worker_model.specs.declared.types.Next.TheVariants as next
+use Rattle.worker_model.specs.declared.types.Reads.{Reads}
+use Rattle.worker_model.specs.Making.{contexts_of, new_worker}
+use Rattle.worker_model.specs.Plan.{Plan}
+use Rattle.worker_model.specs.Rooms as rooms
+use Rattle.worker_model.specs.Rooms.{moves, moves_or, frees_or, ends_or, begins_or_rests, is_any, is_released}
+use Rattle.worker_model.specs.Settling.{settling, rests}
+use Rattle.worker_model.specs.State.{Standing, rules_of}
+use Rattle.worker_model.specs.Steps.{Both, both}
+use Rattle.worker_model.specs.Turn.{Outcome, outcome, turn, turn_by, facing, agenda_of, starts, starts_of, start_of, roots_from, vms_in, is_of, ticks_in, ticks_of, ticks_due, deadlines, notice_of, notices_of, is_due_now, registers_at, at_moment, most_steps, comes_to, emptied}
 use Rattle.line_laws.specs.Logs.{WriteLogs}
 use Rattle.line_laws.specs.Turns.{Done, Turns, new_room, sent_in}
 use Rattle.line_laws.proofs.Happening.{found_fails}

@@ -17,12 +17,12 @@ use Rattle.http1_model.specs.Framing as out
 use Rattle.http1_model.specs.Head as heads
 use Rattle.http1_model.specs.Messages.{Due, head as head_due, body, done}
 use Rattle.http1_model.specs.Unread.{Reading}
-use Rattle.worker.specs.declared.room.Room.{Room}
-use Rattle.worker.specs.declared.types.Job.{Job}
-use Rattle.worker.specs.declared.types.Job.TheVariants as jobs
-use Rattle.worker.specs.declared.types.Line.{Line}
-use Rattle.worker.specs.declared.types.Reads.{Reads}
-use Rattle.worker.specs.Plan.{Plan}
+use Rattle.worker_model.specs.Room.{Room}
+use Rattle.worker_model.specs.declared.types.Job.{Job}
+use Rattle.worker_model.specs.declared.types.Job.TheVariants as jobs
+use Rattle.worker_model.specs.declared.types.Line.{Line}
+use Rattle.worker_model.specs.declared.types.Reads.{Reads}
+use Rattle.worker_model.specs.Plan.{Plan}
 use Rattle.line_laws.specs.Clients.{clients}
 use Rattle.line_laws.specs.Examples.{openings}
 use Rattle.line_laws.specs.Requests.{IsBegun, IsAskedAs}

@@ -12,11 +12,11 @@ use Rattle.http1_model.specs.Framing as out
 use Rattle.http1_model.specs.Head.{Head}
 use Rattle.http1_model.specs.Messages.{Due}
 use Rattle.http1_model.specs.Unread.{Reading}
-use Rattle.worker.specs.declared.room.Room.{Room}
-use Rattle.worker.specs.declared.types.Job.{Job}
-use Rattle.worker.specs.declared.types.Line.{Line}
-use Rattle.worker.specs.declared.types.Reads.{Reads}
-use Rattle.worker.specs.Plan.{Plan}
+use Rattle.worker_model.specs.Room.{Room}
+use Rattle.worker_model.specs.declared.types.Job.{Job}
+use Rattle.worker_model.specs.declared.types.Line.{Line}
+use Rattle.worker_model.specs.declared.types.Reads.{Reads}
+use Rattle.worker_model.specs.Plan.{Plan}
 use Rattle.line_laws.specs.Requests.{GoesUp, sends_nothing, sends_request, Part, AreParts, OneByOne, close_behind, traffic_of}
 use Rattle.line_laws.proofs.Looks.{look}
 use Rattle.line_laws.proofs.Parts.{goes_of, closes_so}

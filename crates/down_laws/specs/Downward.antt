@@ -9,8 +9,8 @@ use Rattle.header_maps.specs.Headers.{Headers}
 use Rattle.http1_model.specs.Framing.{no_body, head_wire}
 use Rattle.http1_model.specs.Head.{Head, SpellsResponse, found}
 use Rattle.http1_model.specs.Messages.{is_interim}
-use Rattle.worker.specs.Plan.{Plan}
-use Rattle.worker.specs.declared.types.Line.{Line}
+use Rattle.worker_model.specs.Plan.{Plan}
+use Rattle.worker_model.specs.declared.types.Line.{Line}
 use Rattle.line_laws.specs.Requests.{IsBegun, IsAskedAs}
 
 -- ---- interim heads

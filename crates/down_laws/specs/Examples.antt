@@ -7,7 +7,7 @@ use Rattle.gate_io.specs.declared.event.Sent.TheVariants as to
 use Rattle.gate_io.specs.declared.event.Side.TheVariants.{Down, Up}
 use Rattle.gate_io.specs.declared.event.What.TheVariants as whats
 use Rattle.header_maps.specs.Headers.{Headers}
-use Rattle.worker.specs.Plan.{Plan}
+use Rattle.worker_model.specs.Plan.{Plan}
 use Rattle.down_laws.specs.Downward.{Begun, Part, IsPart, IsResponseTo, Connection, traffic_of}
 use Rattle.down_laws.specs.InOrder.{shut, stands, lost, runs, On, faced}
 

@@ -19,16 +19,16 @@ use Rattle.line_laws.specs.Turns.{Done, Turns, Worked, new_room}
 use Rattle.store_model.specs.Made.{Made}
 use Rattle.vm_host.specs.Slots as slots
 use Rattle.vm_host.specs.declared.slots.Vms.{Vms}
-use Rattle.worker.specs.declared.room.Room.{Room}
-use Rattle.worker.specs.declared.types.Line.{Line}
-use Rattle.worker.specs.Making.{new_worker}
-use Rattle.worker.specs.Plan.{Plan}
-use Rattle.worker.specs.Rooms.{next_of}
-use Rattle.worker.specs.Settling.{rests}
-use Rattle.worker.specs.State.{Standing}
-use Rattle.worker.specs.Steps.{Both, both, line_in}
-use Rattle.worker.specs.Turn.{Outcome, turn}
-use Rattle.worker.specs.Turned.{Whole}
+use Rattle.worker_model.specs.Room.{Room}
+use Rattle.worker_model.specs.declared.types.Line.{Line}
+use Rattle.worker_model.specs.Making.{new_worker}
+use Rattle.worker_model.specs.Plan.{Plan}
+use Rattle.worker_model.specs.Rooms.{next_of}
+use Rattle.worker_model.specs.Settling.{rests}
+use Rattle.worker_model.specs.State.{Standing}
+use Rattle.worker_model.specs.Steps.{Both, both, line_in}
+use Rattle.worker_model.specs.Turn.{Outcome, turn}
+use Rattle.worker_model.specs.Turned.{Whole}
 
 -- ---- a line, as its peers see it
 

@@ -5,10 +5,10 @@ use Rattle.fleet.specs.Lives.{Turns, Life, OneLife, Cut, Early, Last, Lives}
 use Rattle.fleet.specs.Made.{made_in_turn, made_in_turns, made_in_life, made_in_one, made_in_early, made_in_last, made_in}
 use Rattle.gate_io.specs.declared.passed.Passed.{Passed}
 use Rattle.store_model.specs.Made.{Made}
-use Rattle.worker.specs.State.{Standing}
-use Rattle.worker.specs.Turned.{Turned}
-use Rattle.worker.specs.declared.worker.Turn.{Turn}
-use Rattle.worker.specs.declared.worker.Turn.TheVariants.{Went, Stopped, WorldFault, OutOfMemory}
+use Rattle.worker_model.specs.State.{Standing}
+use Rattle.worker_model.specs.Turned.{Turned}
+use Rattle.worker_model.specs.declared.types.Turn.{Turn}
+use Rattle.worker_model.specs.declared.types.Turn.TheVariants.{Went, Stopped, WorldFault, OutOfMemory}
 
 module _ {H S : Type 0} (calling : Calling H) (performs : S → List Made → S → Type 0) (nothing : (s : S) → performs s [] s) (joined : (s t u : S) (a b : List Made) → performs s a t → performs t b u → performs s (a ++ b) u) where
   still : (s t : S) → t ≡ s → performs s [] t

@@ -5,9 +5,9 @@ use Rattle.std.specs.List.{list_any}
 use Rattle.gate_io.specs.Nature.{Nature}
 use Rattle.gate_io.specs.declared.passed.Passed.{Passed}
 use Rattle.store_model.specs.Made.{Made}
-use Rattle.worker.specs.State.{Standing}
-use Rattle.worker.specs.declared.worker.Turn.{Turn}
-use Rattle.worker.specs.declared.worker.Turn.TheVariants.{Went, Stopped, WorldFault, OutOfMemory}
+use Rattle.worker_model.specs.State.{Standing}
+use Rattle.worker_model.specs.declared.types.Turn.{Turn}
+use Rattle.worker_model.specs.declared.types.Turn.TheVariants.{Went, Stopped, WorldFault, OutOfMemory}
 use Rattle.fleet.specs.Fleet.{Each, HasWorked}
 use Rattle.fleet.specs.Lives.{Cut, Last, OneLife, is_memory}
 use Rattle.fleet.specs.Run.{EndExamples, end_of, has_failed, is_clean, is_fault, is_stopped, ran_short}

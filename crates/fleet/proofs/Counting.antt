@@ -10,7 +10,7 @@ use Rattle.gate_io.specs.Nature.{Nature}
 use Rattle.gate_io.specs.declared.passed.Passed.{Passed}
 use Rattle.shared_seats.specs.Closed.{ClosedOf}
 use Rattle.shared_store.specs.Moving.{there}
-use Rattle.worker.specs.State.{Standing}
+use Rattle.worker_model.specs.State.{Standing}
 
 module _ {W H : Type 0} (trace_of : W → Option (List Passed)) (nature_of : W → Nature) (faults_of : W → ℕ) (calling : Calling H) (first : ℕ → List ℕ → Standing H) (config : Config) (old new : List W) (closed : ClosedOf) where
   stores_len : Ended trace_of nature_of faults_of calling first config old new closed → length closed.stores ≡ length config.vms

@@ -17,9 +17,9 @@ use Rattle.meaning.specs.Meaning.{Run, meaning}
 use Rattle.shared_seats.specs.Moving.{SeatsGoOn, seats_nothing}
 use Rattle.shared_seats.specs.Seats.{SeatsOf}
 use Rattle.store_model.specs.Made.{Made}
-use Rattle.worker.specs.State.{Standing}
-use Rattle.worker.specs.declared.worker.Turn.{Turn}
-use Rattle.worker.specs.declared.worker.Turn.TheVariants.{OutOfMemory}
+use Rattle.worker_model.specs.State.{Standing}
+use Rattle.worker_model.specs.declared.types.Turn.{Turn}
+use Rattle.worker_model.specs.declared.types.Turn.TheVariants.{OutOfMemory}
 use Rattle.fleet.proofs.Meant.{lives_are_meant}
 
 no_event : (steps : List Passed) → AreCloses steps → happened steps ≡ []

@@ -5,9 +5,9 @@ use Rattle.fleet.specs.Closing.{Closes, ClosesAll}
 use Rattle.fleet.specs.Lives.{Early, Lived, Lives, OneLife, is_memory}
 use Rattle.gate_io.specs.declared.passed.Passed.{Passed}
 use Rattle.store_model.specs.Made.{Made}
-use Rattle.worker.specs.State.{Standing}
-use Rattle.worker.specs.declared.worker.Turn.{Turn}
-use Rattle.worker.specs.declared.worker.Turn.TheVariants.{Went, Stopped, WorldFault, OutOfMemory}
+use Rattle.worker_model.specs.State.{Standing}
+use Rattle.worker_model.specs.declared.types.Turn.{Turn}
+use Rattle.worker_model.specs.declared.types.Turn.TheVariants.{Went, Stopped, WorldFault, OutOfMemory}
 
 memory_is : (end : Turn) → is_memory end ≡ true → end ≡ OutOfMemory
 memory_is Went h = absurd (cc h)

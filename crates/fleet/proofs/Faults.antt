@@ -6,10 +6,10 @@ use Rattle.std.proofs.lemmas.Grind.{reverse_onto}
 use Rattle.gate_io.specs.Nature.{Nature}
 use Rattle.gate_io.specs.Told.{Rose}
 use Rattle.gate_io.specs.declared.passed.Passed.{Passed}
-use Rattle.worker.specs.declared.worker.Turn.{Turn}
-use Rattle.worker.specs.declared.worker.Turn.TheVariants.{Went, Stopped, WorldFault, OutOfMemory}
+use Rattle.worker_model.specs.declared.types.Turn.{Turn}
+use Rattle.worker_model.specs.declared.types.Turn.TheVariants.{Went, Stopped, WorldFault, OutOfMemory}
 use Rattle.fleet.specs.Fleet.{Each, HasWorked}
-use Rattle.worker.specs.State.{Standing}
+use Rattle.worker_model.specs.State.{Standing}
 use Rattle.fleet.specs.Moves.{world_in}
 use Rattle.fleet.specs.Run.{AnyRose, is_fault}
 use Rattle.fleet.specs.declared.post.Post.{Post}

@@ -20,11 +20,11 @@ use Rattle.outbox.specs.Turns.{OneTurn, events_of}
 use Rattle.shared_seats.specs.Moving.{SeatsGoOn, seats_nothing, seats_joined}
 use Rattle.store_model.specs.Made as store
 use Rattle.store_model.specs.Made.{Made}
-use Rattle.worker.specs.State.{Setting, Standing, rules_of}
-use Rattle.worker.specs.Turn.{Outcome, outcome, turn}
-use Rattle.worker.specs.Turned.{NoEvent, Turned, Whole, one_turn, wanted}
-use Rattle.worker.specs.declared.worker.Turn.{Turn}
-use Rattle.worker.specs.declared.worker.Turn.TheVariants.{Went, Stopped, WorldFault, OutOfMemory}
+use Rattle.worker_model.specs.State.{Setting, Standing, rules_of}
+use Rattle.worker_model.specs.Turn.{Outcome, outcome, turn}
+use Rattle.worker_model.specs.Turned.{NoEvent, Turned, Whole, one_turn, wanted}
+use Rattle.worker_model.specs.declared.types.Turn.{Turn}
+use Rattle.worker_model.specs.declared.types.Turn.TheVariants.{Went, Stopped, WorldFault, OutOfMemory}
 
 calls_join : (ms ns : List Met) → calls_in (ms ++ ns) ≡ calls_in ms ++ calls_in ns
 calls_join [] ns = refl

@@ -6,9 +6,9 @@ use Rattle.fleet.specs.Made.{events_in_last, events_in_life, events_in_one, even
 use Rattle.gate_io.specs.declared.event.Event.{Event}
 use Rattle.gate_io.specs.declared.passed.Passed.{Passed}
 use Rattle.store_model.specs.Made.{Made}
-use Rattle.worker.specs.State.{Standing}
-use Rattle.worker.specs.declared.worker.Turn.{Turn}
-use Rattle.worker.specs.declared.worker.Turn.TheVariants.{OutOfMemory, Stopped}
+use Rattle.worker_model.specs.State.{Standing}
+use Rattle.worker_model.specs.declared.types.Turn.{Turn}
+use Rattle.worker_model.specs.declared.types.Turn.TheVariants.{OutOfMemory, Stopped}
 
 not_both : (end : Turn) → end ≡ Stopped → end ≡ OutOfMemory → ⊥
 not_both end stopped short = let e : Stopped ≡ OutOfMemory = sym stopped ∙ short in cc e

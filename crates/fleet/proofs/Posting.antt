@@ -12,7 +12,7 @@ use Rattle.shared_seats.specs.Workers.{AreShut, ListsGoOn, WentOn}
 use Rattle.shared_store.specs.Tables.{table_of}
 use Rattle.turn_table.specs.Seats.{TurnTableId}
 use Rattle.fleet.specs.Fleet.{Each, HasWorked, IsReady}
-use Rattle.worker.specs.State.{Standing}
+use Rattle.worker_model.specs.State.{Standing}
 use Rattle.fleet.specs.Made.{made_in}
 use Rattle.fleet.specs.Moves.{seats_in, world_in}
 use Rattle.fleet.specs.Run.{Worked, Ran, end_of}

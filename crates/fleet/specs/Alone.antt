@@ -19,8 +19,8 @@ use Rattle.store_model.specs.declared.call.Call.TheVariants.{Dequeue}
 use Rattle.store_model.specs.declared.call.Reply.TheVariants.{Absent, Empty}
 use Rattle.store_model.specs.declared.metric.MetricAsk.TheVariants.{Sum}
 use Rattle.store_model.specs.declared.metric.MetricReply.TheVariants.{Unknown}
-use Rattle.worker.specs.State.{Standing}
-use Rattle.worker.specs.declared.worker.Turn.TheVariants.{Stopped}
+use Rattle.worker_model.specs.State.{Standing}
+use Rattle.worker_model.specs.declared.types.Turn.TheVariants.{Stopped}
 use Rattle.fleet.specs.Fleet.{HasWorked}
 use Rattle.fleet.specs.Made.{events_of_each, made_in, standing_at_end}
 use Rattle.fleet.specs.Run.{Ended}

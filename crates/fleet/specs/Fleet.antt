@@ -7,8 +7,8 @@ use Rattle.gate_io.specs.Told.{Rose}
 use Rattle.gate_io.specs.declared.passed.Passed.{Passed}
 use Rattle.shared_seats.specs.Moving.{SeatsGoOn}
 use Rattle.shared_seats.specs.Seats.{AreAt, TablesOf}
-use Rattle.worker.specs.State.{Standing}
-use Rattle.worker.specs.declared.worker.Turn.TheVariants.{WorldFault}
+use Rattle.worker_model.specs.State.{Standing}
+use Rattle.worker_model.specs.declared.types.Turn.TheVariants.{WorldFault}
 use Rattle.fleet.specs.Lives.{Lives}
 use Rattle.fleet.specs.declared.post.Post.{Post}
 

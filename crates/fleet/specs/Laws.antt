@@ -24,9 +24,9 @@ use Rattle.shared_seats.specs.Seats.{SeatsOf}
 use Rattle.shared_seats.specs.Workers.{HasMetrics, HasOneHistory}
 use Rattle.store_model.specs.Made.{Made}
 use Rattle.shared_store.specs.declared.closed.ClosedStore.{ClosedStore}
-use Rattle.worker.specs.State.{Standing}
-use Rattle.worker.specs.declared.worker.Turn.{Turn}
-use Rattle.worker.specs.declared.worker.Turn.TheVariants.{OutOfMemory, Stopped}
+use Rattle.worker_model.specs.State.{Standing}
+use Rattle.worker_model.specs.declared.types.Turn.{Turn}
+use Rattle.worker_model.specs.declared.types.Turn.TheVariants.{OutOfMemory, Stopped}
 
 -- SEATS GO ON BY THE CALLS AND ASKS OF THEIR WORKER: those that its turns made, one after the other, and no others.
 abbrev pub SeatsGoOnByLives : {H : Type 0} → Calling H → Type 0

@@ -6,11 +6,11 @@ use Rattle.fleet.specs.Closing.{Closes, ClosesAll}
 use Rattle.gate_config.specs.declared.config.Config.{Config}
 use Rattle.gate_io.specs.declared.passed.Passed.{Passed}
 use Rattle.store_model.specs.Made.{Made}
-use Rattle.worker.specs.Making.{new_worker}
-use Rattle.worker.specs.State.{Standing}
-use Rattle.worker.specs.Turned.{Turned}
-use Rattle.worker.specs.declared.worker.Turn.{Turn}
-use Rattle.worker.specs.declared.worker.Turn.TheVariants.{Went, Stopped, WorldFault, OutOfMemory}
+use Rattle.worker_model.specs.Making.{new_worker}
+use Rattle.worker_model.specs.State.{Standing}
+use Rattle.worker_model.specs.Turned.{Turned}
+use Rattle.worker_model.specs.declared.types.Turn.{Turn}
+use Rattle.worker_model.specs.declared.types.Turn.TheVariants.{Went, Stopped, WorldFault, OutOfMemory}
 
 abbrev pub is_memory : Turn → Bool
 is_memory Went = false

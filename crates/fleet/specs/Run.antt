@@ -9,9 +9,9 @@ use Rattle.gate_io.specs.declared.passed.Passed.{Passed}
 use Rattle.shared_seats.specs.Closed.{ClosedOf}
 use Rattle.shared_seats.specs.Seats.{SeatsOf, TablesOf}
 use Rattle.shared_seats.specs.Workers.{AreNew, AreNumbered, AreShut}
-use Rattle.worker.specs.State.{Standing}
-use Rattle.worker.specs.declared.worker.Turn.{Turn}
-use Rattle.worker.specs.declared.worker.Turn.TheVariants.{Went, Stopped, WorldFault, OutOfMemory}
+use Rattle.worker_model.specs.State.{Standing}
+use Rattle.worker_model.specs.declared.types.Turn.{Turn}
+use Rattle.worker_model.specs.declared.types.Turn.TheVariants.{Went, Stopped, WorldFault, OutOfMemory}
 use Rattle.fleet.specs.Fleet.{Each, HasWorked}
 use Rattle.fleet.specs.Lives.{is_memory}
 use Rattle.fleet.specs.Moves.{AreFrom, seats_in, world_in}

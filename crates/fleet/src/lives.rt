@@ -2,7 +2,7 @@
 ghost use Rattle.std.specs.Prelude.{◌≡◌, ◌≤◌, ◌&&◌, IfOk, length};
 ghost use Rattle.fleet.specs.Lives.{Life, OneLife, Lives, first_of, is_memory};
 ghost use Rattle.gate_io.specs.Told.{Rose};
-ghost use Rattle.worker.specs.Making.{new_worker};
+ghost use Rattle.worker_model.specs.Making.{new_worker};
 
 use crate::watched::Watched;
 use course::Host;

@@ -25,7 +25,7 @@ use Rattle.shared_store.specs.declared.closed.ClosedStore.{ClosedStore}
 use Rattle.store_model.specs.History.{own}
 use Rattle.store_model.specs.Made.{Made, entries_on}
 use Rattle.store_model.specs.declared.entry.Entry.{Entry}
-use Rattle.worker.specs.State.{Standing}
+use Rattle.worker_model.specs.State.{Standing}
 use Rattle.fleet_laws.specs.Calls.{CallsExamples, EachCallStandsOnce, HasAll, IsOfAWorker, events_by, made_by}
 
 -- what stands at a place of a list with one member more: a member of the list, or that one

@@ -8,9 +8,9 @@ use Rattle.gate_io.specs.declared.event.Event.{Event}
 use Rattle.gate_io.specs.declared.passed.Passed.{Passed}
 use Rattle.shared_seats.specs.Moving.{SeatsGoOn}
 use Rattle.shared_seats.specs.Seats.{SeatsOf}
-use Rattle.worker.specs.State.{Standing}
-use Rattle.worker.specs.Turned.{Turned}
-use Rattle.worker.specs.declared.worker.Turn.TheVariants.{OutOfMemory}
+use Rattle.worker_model.specs.State.{Standing}
+use Rattle.worker_model.specs.Turned.{Turned}
+use Rattle.worker_model.specs.declared.types.Turn.TheVariants.{OutOfMemory}
 use Rattle.fleet_laws.specs.Lives.{EarlyLivesTookEvents, HasEvent}
 
 in_front : (xs ys : List Event) → HasEvent xs → HasEvent (xs ++ ys)

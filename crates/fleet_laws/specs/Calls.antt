@@ -20,7 +20,7 @@ use Rattle.shared_seats.specs.Moving.{SeatsGoOn}
 use Rattle.store_model.specs.History.{own}
 use Rattle.store_model.specs.Made.{Made, entries_on}
 use Rattle.store_model.specs.declared.entry.Entry.{Entry}
-use Rattle.worker.specs.State.{Standing}
+use Rattle.worker_model.specs.State.{Standing}
 
 -- of one of so many workers
 abbrev pub IsOfAWorker : ℕ → Entry → Type 0

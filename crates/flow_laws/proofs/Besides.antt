@@ -15,12 +15,12 @@ use Rattle.filter_chain.specs.declared.item.Item.TheVariants.{Head, Piece, Trail
 use Rattle.filter_chain.specs.declared.item.Passed.{Passed}
 use Rattle.filter_chain.specs.Chains.{put, continued}
 use Rattle.filter_chain.specs.Flow.{left_in, NoneIs}
-use Rattle.worker.specs.declared.room.Room.{Room}
-use Rattle.worker.specs.declared.types.ContextAt.{ContextAt}
-use Rattle.worker.specs.declared.types.Job.{Job}
-use Rattle.worker.specs.declared.types.Line.{Line}
-use Rattle.worker.specs.Rooms.{marking, in_exchange, put_back, at_some, at_place, with_lines, place_in, place_of, on_number, on_context}
-use Rattle.worker.specs.Steps.{first_begun, frees_at}
+use Rattle.worker_model.specs.Room.{Room}
+use Rattle.worker_model.specs.declared.types.ContextAt.{ContextAt}
+use Rattle.worker_model.specs.declared.types.Job.{Job}
+use Rattle.worker_model.specs.declared.types.Line.{Line}
+use Rattle.worker_model.specs.Rooms.{marking, in_exchange, put_back, at_some, at_place, with_lines, place_in, place_of, on_number, on_context}
+use Rattle.worker_model.specs.Steps.{first_begun, frees_at}
 use Rattle.chain_laws.specs.Acts.{IsLeft}
 use Rattle.body_laws.specs.Apart.{AreAliens, PassesBy, Does, PassesAliens}
 use Rattle.flow_laws.specs.Besides.{OthersAreAlien, IsWhole, OtherLinesLeave, OtherDirectionLeaves, QuietStepsLeave}

@@ -14,13 +14,13 @@ use Rattle.exchange.specs.declared.types.Exchange.{Exchange}
 use Rattle.exchange.specs.declared.types.Filter.{Filter}
 use Rattle.exchange.specs.Passing.{chain_of}
 use Rattle.store_model.specs.Program.{Program}
-use Rattle.worker.specs.declared.room.Room.{Room}
-use Rattle.worker.specs.declared.types.ContextAt.{ContextAt}
-use Rattle.worker.specs.declared.types.Line.{Line}
-use Rattle.worker.specs.declared.types.NewContext.{NewContext}
-use Rattle.worker.specs.declared.types.Own.TheVariants as owns
-use Rattle.worker.specs.Rooms.{place_in, with_contexts, is_dead, died, answered_with, valued}
-use Rattle.worker.specs.Steps.{Both, both, Answered, answered, goes_on_with, called_in, has_vm, in_front, waits, deletes, is_drawn_out, may_root, root_jobs, new_one, rooting, with_filter, change_line, line_at_place, may_stream, with_stream, streaming, creating_filter, filter_at, creating}
+use Rattle.worker_model.specs.Room.{Room}
+use Rattle.worker_model.specs.declared.types.ContextAt.{ContextAt}
+use Rattle.worker_model.specs.declared.types.Line.{Line}
+use Rattle.worker_model.specs.declared.types.NewContext.{NewContext}
+use Rattle.worker_model.specs.declared.types.Own.TheVariants as owns
+use Rattle.worker_model.specs.Rooms.{place_in, with_contexts, is_dead, died, answered_with, valued}
+use Rattle.worker_model.specs.Steps.{Both, both, Answered, answered, goes_on_with, called_in, has_vm, in_front, waits, deletes, is_drawn_out, may_root, root_jobs, new_one, rooting, with_filter, change_line, line_at_place, may_stream, with_stream, streaming, creating_filter, filter_at, creating}
 use Rattle.flow_laws.specs.Besides.{IsWhole}
 use Rattle.chain_laws.specs.Acts.{NotOf}
 use Rattle.flow_laws.specs.Contexts.{ContextsLeave, CallsAreRuns}

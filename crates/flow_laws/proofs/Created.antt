@@ -5,10 +5,10 @@ use Rattle.contexts.specs.Creating.{next_id, plugin_in}
 use Rattle.course.specs.declared.host.Death.TheVariants as deaths
 use Rattle.exchange.specs.declared.types.Filter.{Filter}
 use Rattle.gate_config.specs.declared.entries.PluginEntry.{PluginEntry}
-use Rattle.worker.specs.declared.room.Room.{Room}
-use Rattle.worker.specs.declared.types.NewContext.{NewContext}
-use Rattle.worker.specs.Rooms.{is_dead, died}
-use Rattle.worker.specs.Steps.{filter_at, is_drawn_out, may_stream, new_one, with_stream, streaming, creating_filter, filter_of, filters_by, filters_of, is_gone, plugins_at}
+use Rattle.worker_model.specs.Room.{Room}
+use Rattle.worker_model.specs.declared.types.NewContext.{NewContext}
+use Rattle.worker_model.specs.Rooms.{is_dead, died}
+use Rattle.worker_model.specs.Steps.{filter_at, is_drawn_out, may_stream, new_one, with_stream, streaming, creating_filter, filter_of, filters_by, filters_of, is_gone, plugins_at}
 use Rattle.body_laws.proofs.Spent.{of_if, neither}
 use Rattle.flow_laws.specs.Created.{IsOfItsVm, ContextsAreOfTheirVms, TellTheirVms, FiltersTellTheirVms, CreatedExample}
 

@@ -6,7 +6,7 @@ use Rattle.std.specs.Prelude.{Some, filter, map, reverse}
 use Rattle.exchange.specs.declared.types.Exchange.{Exchange}
 use Rattle.exchange.specs.declared.types.Filter.{Filter}
 use Rattle.filter_chain.specs.declared.stage.Stage.{Stage}
-use Rattle.worker.specs.Steps.{is_live, new_stage, entered}
+use Rattle.worker_model.specs.Steps.{is_live, new_stage, entered}
 use Rattle.body_laws.specs.Spent.{Spent, IsIn, Spares}
 use Rattle.body_laws.proofs.Spent.{of_if, neither, not_both, same_some}
 

@@ -11,22 +11,22 @@ use Rattle.course.specs.declared.host.Death.TheVariants as deaths
 use Rattle.exchange.specs.declared.types.Hub.{Hub}
 use Rattle.http1_model.specs.Unread.{Reading}
 use Rattle.store_model.specs.Program.{Program, done, ask, measure}
-use Rattle.worker.specs.declared.room.Room.{Room}
-use Rattle.worker.specs.declared.types.Asked.{Asked}
-use Rattle.worker.specs.declared.types.Job.{Job}
-use Rattle.worker.specs.declared.types.Job.TheVariants as jobs
-use Rattle.worker.specs.declared.types.Line.{Line}
-use Rattle.worker.specs.declared.types.NewContext.{NewContext}
-use Rattle.worker.specs.declared.types.Next.{Next}
-use Rattle.worker.specs.declared.types.Next.TheVariants as next
-use Rattle.worker.specs.declared.types.Own.{Own}
-use Rattle.worker.specs.declared.types.Own.TheVariants as owns
-use Rattle.worker.specs.declared.types.Reads.{Reads}
-use Rattle.worker.specs.Moves.{asks_at}
-use Rattle.worker.specs.Plan.{Plan}
-use Rattle.worker.specs.Rooms.{is_dead, next_of, with_lines, with_contexts, sending, without_effects, died, answered_with, valued}
-use Rattle.worker.specs.Steps.{Both, both, Answered, answered, Then, goes_on_with, called_in, called_live, calls_live, acts_on, moved, moved_with, tells, made_with, ticks_with, tells_ready, notices, works, works_first, reads_in, reads_next, reading_on, nothing_more, unless_zero, done_with, deletes, rooting, creating, ticked, may_stream, callback_of, number_of, vm_length, plugin_length, step, is_zero, is_drawn_out, may_root}
-use Rattle.worker.specs.Turn.{emptied, facing}
+use Rattle.worker_model.specs.Room.{Room}
+use Rattle.worker_model.specs.declared.types.Asked.{Asked}
+use Rattle.worker_model.specs.declared.types.Job.{Job}
+use Rattle.worker_model.specs.declared.types.Job.TheVariants as jobs
+use Rattle.worker_model.specs.declared.types.Line.{Line}
+use Rattle.worker_model.specs.declared.types.NewContext.{NewContext}
+use Rattle.worker_model.specs.declared.types.Next.{Next}
+use Rattle.worker_model.specs.declared.types.Next.TheVariants as next
+use Rattle.worker_model.specs.declared.types.Own.{Own}
+use Rattle.worker_model.specs.declared.types.Own.TheVariants as owns
+use Rattle.worker_model.specs.declared.types.Reads.{Reads}
+use Rattle.worker_model.specs.Moves.{asks_at}
+use Rattle.worker_model.specs.Plan.{Plan}
+use Rattle.worker_model.specs.Rooms.{is_dead, next_of, with_lines, with_contexts, sending, without_effects, died, answered_with, valued}
+use Rattle.worker_model.specs.Steps.{Both, both, Answered, answered, Then, goes_on_with, called_in, called_live, calls_live, acts_on, moved, moved_with, tells, made_with, ticks_with, tells_ready, notices, works, works_first, reads_in, reads_next, reading_on, nothing_more, unless_zero, done_with, deletes, rooting, creating, ticked, may_stream, callback_of, number_of, vm_length, plugin_length, step, is_zero, is_drawn_out, may_root}
+use Rattle.worker_model.specs.Turn.{emptied, facing}
 use Rattle.body_laws.proofs.Spent.{of_if, not_both}
 use Rattle.flow_laws.proofs.DeadRooms.{AllGood, RoomGood, Kept, kept_then, here_kept, answered_kept, zero_kept, done_kept, deletes_kept, acts_kept, rooting_kept, creating_kept, ticked_kept, noticed_kept, quietly_kept, begins_kept, frees_kept, ends_kept, heard_kept, AsksSo, asks_so, died_dead}
 use Rattle.flow_laws.specs.Dead.{Watched, watching, noted_by, watched, Runs, no_step, one_step, next_turn, NoneIs, CalledOthers, TheDeadAreCalledNoMore, VmsDie, UncalledExample, begins, started, passed_by}

@@ -42,23 +42,23 @@ use Rattle.http1_model.specs.Messages.{Stop, rest, over, refusal}
 use Rattle.http1_model.specs.Unread.{Part, head_part, interim_part, piece, trailer_part, Reading}
 use Rattle.store_model.specs.declared.call.Reply.{Reply}
 use Rattle.store_model.specs.declared.call.Reply.TheVariants as replies
-use Rattle.worker.specs.Changes.{changed}
-use Rattle.worker.specs.declared.room.Room.{Room}
-use Rattle.worker.specs.declared.types.Asked.{Asked}
-use Rattle.worker.specs.declared.types.Change.TheVariants as changes
-use Rattle.worker.specs.declared.types.ContextAt.{ContextAt}
-use Rattle.worker.specs.declared.types.Job.{Job}
-use Rattle.worker.specs.declared.types.Job.TheVariants as jobs
-use Rattle.worker.specs.declared.types.Line.{Line}
-use Rattle.worker.specs.declared.types.NewContext.{NewContext}
-use Rattle.worker.specs.declared.types.Own.{Own}
-use Rattle.worker.specs.declared.types.Reads.{Reads}
-use Rattle.worker.specs.Moves.{asks_stage, asks_chain, asks_exchange, asks_response, asks_in, asks_back, asks_at, count_of, ended_in, ended_back, ended_at}
-use Rattle.worker.specs.Plan.{Plan}
-use Rattle.worker.specs.declared.types.Next.{Next}
-use Rattle.worker.specs.declared.types.Next.TheVariants as next
-use Rattle.worker.specs.Rooms.{exchange_moves, moves, is_over, is_any, begins_or_rests, ends_or, frees_or, moves_or, is_released, next_part, next_of, Changes, in_exchange, in_line, at_some, at_place, all_lines, place_in, place_of, on_number, on_context, with_contexts, sending, is_own, does, effects_of, without_effects, is_dead, death_text, died, answered_with}
-use Rattle.worker.specs.Steps.{is_zero, unless_zero, has_vm, waits, done_with, deletes, acts_on, action_of, is_drawn_out, may_root, rooting, with_filter, change_exchange, change_line, line_at, line_at_place, line_in, exchange_on, exchange_of_line, may_stream, streaming, creating_filter, filter_at, creating, entering, with_exchange, exchange_for, free_place, begun, line_reading, with_reader, read_on, is_last, noted, on_lines, takes, keeps_response, in_contexts, head_item, put_trailers, hands_part, stops, after_heard, drops_at, drops_line, closes_line, line_ends, refusal_sent, refuses_in, refuses_line, most_lines, new_line, place_for, opens, with_further, further_on, is_open, is_answered_in, is_read_in, comes_on, lost_exchange, lost, loses_down, is_missed, loses_up, happens, ends_with, ends_at, is_due_tick, ticked_at, ticked, is_late, expires_all, noticed, quietly, first_begun, frees_at, frees}
+use Rattle.worker_model.specs.Changes.{changed}
+use Rattle.worker_model.specs.Room.{Room}
+use Rattle.worker_model.specs.declared.types.Asked.{Asked}
+use Rattle.worker_model.specs.declared.types.Change.TheVariants as changes
+use Rattle.worker_model.specs.declared.types.ContextAt.{ContextAt}
+use Rattle.worker_model.specs.declared.types.Job.{Job}
+use Rattle.worker_model.specs.declared.types.Job.TheVariants as jobs
+use Rattle.worker_model.specs.declared.types.Line.{Line}
+use Rattle.worker_model.specs.declared.types.NewContext.{NewContext}
+use Rattle.worker_model.specs.declared.types.Own.{Own}
+use Rattle.worker_model.specs.declared.types.Reads.{Reads}
+use Rattle.worker_model.specs.Moves.{asks_stage, asks_chain, asks_exchange, asks_response, asks_in, asks_back, asks_at, count_of, ended_in, ended_back, ended_at}
+use Rattle.worker_model.specs.Plan.{Plan}
+use Rattle.worker_model.specs.declared.types.Next.{Next}
+use Rattle.worker_model.specs.declared.types.Next.TheVariants as next
+use Rattle.worker_model.specs.Rooms.{exchange_moves, moves, is_over, is_any, begins_or_rests, ends_or, frees_or, moves_or, is_released, next_part, next_of, Changes, in_exchange, in_line, at_some, at_place, all_lines, place_in, place_of, on_number, on_context, with_contexts, sending, is_own, does, effects_of, without_effects, is_dead, death_text, died, answered_with}
+use Rattle.worker_model.specs.Steps.{is_zero, unless_zero, has_vm, waits, done_with, deletes, acts_on, action_of, is_drawn_out, may_root, rooting, with_filter, change_exchange, change_line, line_at, line_at_place, line_in, exchange_on, exchange_of_line, may_stream, streaming, creating_filter, filter_at, creating, entering, with_exchange, exchange_for, free_place, begun, line_reading, with_reader, read_on, is_last, noted, on_lines, takes, keeps_response, in_contexts, head_item, put_trailers, hands_part, stops, after_heard, drops_at, drops_line, closes_line, line_ends, refusal_sent, refuses_in, refuses_line, most_lines, new_line, place_for, opens, with_further, further_on, is_open, is_answered_in, is_read_in, comes_on, lost_exchange, lost, loses_down, is_missed, loses_up, happens, ends_with, ends_at, is_due_tick, ticked_at, ticked, is_late, expires_all, noticed, quietly, first_begun, frees_at, frees}
 use Rattle.body_laws.specs.Spent.{OrAnswered, IsIn, Spares, AsksOther}
 use Rattle.body_laws.proofs.Spent.{of_if, none_spent}
 use Rattle.flow_laws.proofs.DeadEntered.{entered_spares}

@@ -11,9 +11,9 @@ use Rattle.filter_chain.specs.declared.stage.Stage.{Stage}
 use Rattle.gate_base.specs.declared.level.Level.TheVariants.{Critical}
 use Rattle.gate_io.specs.declared.event.Sent.{Sent}
 use Rattle.gate_io.specs.declared.event.Sent.TheVariants.{Log}
-use Rattle.worker.specs.declared.room.Room.{Room}
-use Rattle.worker.specs.declared.types.Line.{Line}
-use Rattle.worker.specs.Rooms.{marking, with_result, in_exchange, in_line, all_lines, with_lines, sending, death_text}
+use Rattle.worker_model.specs.Room.{Room}
+use Rattle.worker_model.specs.declared.types.Line.{Line}
+use Rattle.worker_model.specs.Rooms.{marking, with_result, in_exchange, in_line, all_lines, with_lines, sending, death_text}
 use Rattle.contexts.specs.Reached.{vm_in}
 use Rattle.body_laws.specs.Apart.{AreAliens, IsAlien, PassesBy, Does, PassesAliens}
 use Rattle.flow_laws.specs.Besides.{OthersAreAlien, IsWhole}

@@ -15,18 +15,18 @@ use Rattle.exchange.specs.declared.types.Filter.{Filter}
 use Rattle.exchange.specs.declared.types.Hub.{Hub}
 use Rattle.exchange.specs.Passing.{chain_of}
 use Rattle.filter_chain.specs.declared.stage.Stage.{Stage}
-use Rattle.worker.specs.declared.room.Room.{Room}
-use Rattle.worker.specs.declared.types.Asked.{Asked}
-use Rattle.worker.specs.declared.types.Job.{Job}
-use Rattle.worker.specs.declared.types.Job.TheVariants as jobs
-use Rattle.worker.specs.declared.types.Line.{Line}
-use Rattle.worker.specs.declared.types.NewContext.{NewContext}
-use Rattle.worker.specs.declared.types.Next.TheVariants as next
-use Rattle.worker.specs.declared.types.Own.TheVariants as owns
-use Rattle.worker.specs.Moves.{asks_at}
-use Rattle.worker.specs.Plan.{Plan}
-use Rattle.worker.specs.Rooms.{place_in, answered_with, died, is_dead, valued, with_lines}
-use Rattle.worker.specs.Steps.{Answered, Both, Then, answered, both, called_in, calls_live, creating, creating_filter, deletes, done_with, filter_at, goes_on_with, in_front, is_drawn_out, last_jobs, made_with, may_root, may_stream, nothing_more, plugin_length, rooting, step, streaming, tells, ticked, ticks_with, unless_zero, vm_length, with_stream, works}
+use Rattle.worker_model.specs.Room.{Room}
+use Rattle.worker_model.specs.declared.types.Asked.{Asked}
+use Rattle.worker_model.specs.declared.types.Job.{Job}
+use Rattle.worker_model.specs.declared.types.Job.TheVariants as jobs
+use Rattle.worker_model.specs.declared.types.Line.{Line}
+use Rattle.worker_model.specs.declared.types.NewContext.{NewContext}
+use Rattle.worker_model.specs.declared.types.Next.TheVariants as next
+use Rattle.worker_model.specs.declared.types.Own.TheVariants as owns
+use Rattle.worker_model.specs.Moves.{asks_at}
+use Rattle.worker_model.specs.Plan.{Plan}
+use Rattle.worker_model.specs.Rooms.{place_in, answered_with, died, is_dead, valued, with_lines}
+use Rattle.worker_model.specs.Steps.{Answered, Both, Then, answered, both, called_in, calls_live, creating, creating_filter, deletes, done_with, filter_at, goes_on_with, in_front, is_drawn_out, last_jobs, made_with, may_root, may_stream, nothing_more, plugin_length, rooting, step, streaming, tells, ticked, ticks_with, unless_zero, vm_length, with_stream, works}
 use Rattle.chain_laws.specs.Acts.{HoldSame, AreThere, NotOf}
 use Rattle.flow_laws.specs.Besides.{OthersAreAlien, IsWhole}
 use Rattle.flow_laws.specs.Deaths.{NoneOf}

@@ -16,22 +16,22 @@ use Rattle.course.specs.declared.host.Death.TheVariants as deaths
 use Rattle.exchange.specs.declared.types.Filter.{Filter}
 use Rattle.exchange.specs.declared.types.Hub.{Hub}
 use Rattle.http1_model.specs.Unread.{Reading}
-use Rattle.worker.specs.declared.room.Room.{Room}
-use Rattle.worker.specs.declared.types.Asked.{Asked}
-use Rattle.worker.specs.declared.types.Job.{Job}
-use Rattle.worker.specs.declared.types.Job.TheVariants as jobs
-use Rattle.worker.specs.declared.types.Line.{Line}
-use Rattle.worker.specs.declared.types.NewContext.{NewContext}
-use Rattle.worker.specs.declared.types.Next.{Next}
-use Rattle.worker.specs.declared.types.Next.TheVariants as next
-use Rattle.worker.specs.declared.types.Own.{Own}
-use Rattle.worker.specs.declared.types.Own.TheVariants as owns
-use Rattle.worker.specs.declared.types.Reads.{Reads}
-use Rattle.worker.specs.Moves.{asks_at}
-use Rattle.worker.specs.Plan.{Plan}
-use Rattle.worker.specs.Rooms.{answered_with, died, is_dead, next_of, sending, valued, with_contexts, with_lines, without_effects}
-use Rattle.worker.specs.Steps.{Answered, Both, Then, acts_on, answered, both, called_in, callback_of, calls_live, creating, creating_filter, deletes, done_with, filter_at, goes_on_with, in_front, is_drawn_out, is_zero, made_with, may_root, may_stream, moved_with, nothing_more, notices, number_of, plugin_length, reading_on, reads_in, reads_next, root_jobs, rooting, step, streaming, tells, tells_ready, ticked, ticks_with, unless_zero, vm_length, with_stream, works, works_first}
-use Rattle.worker.specs.Turn.{emptied, facing}
+use Rattle.worker_model.specs.Room.{Room}
+use Rattle.worker_model.specs.declared.types.Asked.{Asked}
+use Rattle.worker_model.specs.declared.types.Job.{Job}
+use Rattle.worker_model.specs.declared.types.Job.TheVariants as jobs
+use Rattle.worker_model.specs.declared.types.Line.{Line}
+use Rattle.worker_model.specs.declared.types.NewContext.{NewContext}
+use Rattle.worker_model.specs.declared.types.Next.{Next}
+use Rattle.worker_model.specs.declared.types.Next.TheVariants as next
+use Rattle.worker_model.specs.declared.types.Own.{Own}
+use Rattle.worker_model.specs.declared.types.Own.TheVariants as owns
+use Rattle.worker_model.specs.declared.types.Reads.{Reads}
+use Rattle.worker_model.specs.Moves.{asks_at}
+use Rattle.worker_model.specs.Plan.{Plan}
+use Rattle.worker_model.specs.Rooms.{answered_with, died, is_dead, next_of, sending, valued, with_contexts, with_lines, without_effects}
+use Rattle.worker_model.specs.Steps.{Answered, Both, Then, acts_on, answered, both, called_in, callback_of, calls_live, creating, creating_filter, deletes, done_with, filter_at, goes_on_with, in_front, is_drawn_out, is_zero, made_with, may_root, may_stream, moved_with, nothing_more, notices, number_of, plugin_length, reading_on, reads_in, reads_next, root_jobs, rooting, step, streaming, tells, tells_ready, ticked, ticks_with, unless_zero, vm_length, with_stream, works, works_first}
+use Rattle.worker_model.specs.Turn.{emptied, facing}
 use Rattle.body_laws.proofs.Spent.{of_if, not_both}
 use Rattle.flow_laws.proofs.DeadLives.{vms_die}
 use Rattle.flow_laws.proofs.DeadRooms.{died_dead}

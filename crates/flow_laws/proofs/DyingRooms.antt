@@ -22,17 +22,17 @@ use Rattle.http1_model.specs.Messages.{Stop, rest, over, refusal}
 use Rattle.http1_model.specs.Unread.{Part, head_part, interim_part, piece, trailer_part}
 use Rattle.store_model.specs.declared.call.Reply.{Reply}
 use Rattle.store_model.specs.declared.call.Reply.TheVariants as replies
-use Rattle.worker.specs.declared.room.Room.{Room}
-use Rattle.worker.specs.declared.types.ContextAt.{ContextAt}
-use Rattle.worker.specs.declared.types.Job.{Job}
-use Rattle.worker.specs.declared.types.Job.TheVariants as jobs
-use Rattle.worker.specs.declared.types.Line.{Line}
-use Rattle.worker.specs.declared.types.Own.{Own}
-use Rattle.worker.specs.declared.types.Reads.{Reads}
-use Rattle.worker.specs.Moves.{ended_at}
-use Rattle.worker.specs.Plan.{Plan}
-use Rattle.worker.specs.Rooms.{does, effects_of, is_own, place_in}
-use Rattle.worker.specs.Steps.{after_heard, begun, comes_on, deletes, done_with, ends_at, ends_with, exchange_of_line, exchange_on, expires_all, first_begun, frees, frees_at, hands_part, happens, has_vm, head_item, in_contexts, is_answered_in, is_due_tick, is_last, is_late, is_missed, is_open, is_read_in, is_zero, keeps_response, change_line, line_ends, line_in, line_reading, loses_down, loses_up, most_lines, noticed, on_lines, opens, put_trailers, quietly, read_on, refusal_sent, refuses_in, refuses_line, stops, takes, ticked, ticked_at, waits}
+use Rattle.worker_model.specs.Room.{Room}
+use Rattle.worker_model.specs.declared.types.ContextAt.{ContextAt}
+use Rattle.worker_model.specs.declared.types.Job.{Job}
+use Rattle.worker_model.specs.declared.types.Job.TheVariants as jobs
+use Rattle.worker_model.specs.declared.types.Line.{Line}
+use Rattle.worker_model.specs.declared.types.Own.{Own}
+use Rattle.worker_model.specs.declared.types.Reads.{Reads}
+use Rattle.worker_model.specs.Moves.{ended_at}
+use Rattle.worker_model.specs.Plan.{Plan}
+use Rattle.worker_model.specs.Rooms.{does, effects_of, is_own, place_in}
+use Rattle.worker_model.specs.Steps.{after_heard, begun, comes_on, deletes, done_with, ends_at, ends_with, exchange_of_line, exchange_on, expires_all, first_begun, frees, frees_at, hands_part, happens, has_vm, head_item, in_contexts, is_answered_in, is_due_tick, is_last, is_late, is_missed, is_open, is_read_in, is_zero, keeps_response, change_line, line_ends, line_in, line_reading, loses_down, loses_up, most_lines, noticed, on_lines, opens, put_trailers, quietly, read_on, refusal_sent, refuses_in, refuses_line, stops, takes, ticked, ticked_at, waits}
 use Rattle.body_laws.proofs.Spent.{of_if}
 
 abbrev pub Same : Room → Room → Type 0

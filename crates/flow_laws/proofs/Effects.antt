@@ -22,14 +22,14 @@ use Rattle.filter_chain.specs.declared.item.Item.TheVariants.{Head, Piece, Trail
 use Rattle.filter_chain.specs.declared.item.Passed.TheVariants as passed
 use Rattle.filter_chain.specs.Chains.{limit, bytes_at, ready, asked, asked_at, ask_stage, ask_item, with_stage}
 use Rattle.filter_chain.specs.Flow.{NoneIs}
-use Rattle.worker.specs.declared.room.Room.{Room}
-use Rattle.worker.specs.declared.types.Asked.{Asked}
-use Rattle.worker.specs.declared.types.Change.TheVariants as changes
-use Rattle.worker.specs.declared.types.Line.{Line}
-use Rattle.worker.specs.declared.types.Own.{Own}
-use Rattle.worker.specs.Changes.{changed}
-use Rattle.worker.specs.Moves.{asks_chain, asks_response, asks_exchange, asks_in, asks_back, asks_at}
-use Rattle.worker.specs.Rooms.{place_of, with_lines, on_context, does, effects_of, is_own, marking}
+use Rattle.worker_model.specs.Room.{Room}
+use Rattle.worker_model.specs.declared.types.Asked.{Asked}
+use Rattle.worker_model.specs.declared.types.Change.TheVariants as changes
+use Rattle.worker_model.specs.declared.types.Line.{Line}
+use Rattle.worker_model.specs.declared.types.Own.{Own}
+use Rattle.worker_model.specs.Changes.{changed}
+use Rattle.worker_model.specs.Moves.{asks_chain, asks_response, asks_exchange, asks_in, asks_back, asks_at}
+use Rattle.worker_model.specs.Rooms.{place_of, with_lines, on_context, does, effects_of, is_own, marking}
 use Rattle.chain_laws.specs.Acts.{HoldSame, AreThere}
 use Rattle.body_laws.specs.Apart.{AreAliens, IsAlien, PassesBy}
 use Rattle.flow_laws.specs.Effects.{MayResume, IsMild, MildEffectsAreOthers, CallbacksAreRuns, AskingElsewhereLeaves}

@@ -8,14 +8,14 @@ use Rattle.exchange.specs.declared.types.Exchange.{Exchange}
 use Rattle.exchange.specs.declared.types.Hub.{Hub}
 use Rattle.exchange.specs.Answering.{with_held}
 use Rattle.exchange.specs.Passing.{acts}
-use Rattle.worker.specs.declared.room.Room.{Room}
-use Rattle.worker.specs.declared.types.Asked.{Asked}
-use Rattle.worker.specs.declared.types.Line.{Line}
-use Rattle.worker.specs.declared.types.Own.{Own}
-use Rattle.worker.specs.declared.types.Own.TheVariants as owns
-use Rattle.worker.specs.Moves.{asks_at}
-use Rattle.worker.specs.Rooms.{with_lines, on_number, answered_with, valued}
-use Rattle.worker.specs.Steps.{Both, both, action_of, acts_on, moved_with}
+use Rattle.worker_model.specs.Room.{Room}
+use Rattle.worker_model.specs.declared.types.Asked.{Asked}
+use Rattle.worker_model.specs.declared.types.Line.{Line}
+use Rattle.worker_model.specs.declared.types.Own.{Own}
+use Rattle.worker_model.specs.declared.types.Own.TheVariants as owns
+use Rattle.worker_model.specs.Moves.{asks_at}
+use Rattle.worker_model.specs.Rooms.{with_lines, on_number, answered_with, valued}
+use Rattle.worker_model.specs.Steps.{Both, both, action_of, acts_on, moved_with}
 use Rattle.flow_laws.specs.Elsewhere.{IsBeside, behind_effects, asked_program, IsElsewhere, OtherLinesMove, IsAcross, OtherDirectionMoves}
 use Rattle.flow_laws.specs.Rooms.{IsOn, Leaves, Others, leaves, asked_exchange, question, stage_own, quiet_room, Meanwhile, nothing, other}
 use Rattle.flow_laws.specs.Steps.{callback_program}

@@ -11,10 +11,10 @@ use Rattle.exchange.specs.Passing.{chain_of, refused, expires}
 use Rattle.gate_io.specs.declared.event.Side.TheVariants.{Down, Up}
 use Rattle.gate_io.specs.declared.event.What.{What}
 use Rattle.gate_io.specs.declared.event.What.TheVariants as whats
-use Rattle.worker.specs.declared.room.Room.{Room}
-use Rattle.worker.specs.declared.types.Line.{Line}
-use Rattle.worker.specs.Rooms.{marking, in_exchange, put_back, at_some, at_place, with_lines, all_lines, place_in, on_number}
-use Rattle.worker.specs.Steps.{entering, in_place, line_in, exchange_of_line, exchange_on, change_line, on_lines, drops_at, drops_line, closes_line, reads_side, line_ends, refusal_sent, refuses_in, refuses_line, most_lines, new_line, place_for, opens, further_on, with_further, line_reading, is_open, is_answered_in, is_read_in, comes, lost_exchange, lost, loses_down, is_missed, loses_up, happens, is_late}
+use Rattle.worker_model.specs.Room.{Room}
+use Rattle.worker_model.specs.declared.types.Line.{Line}
+use Rattle.worker_model.specs.Rooms.{marking, in_exchange, put_back, at_some, at_place, with_lines, all_lines, place_in, on_number}
+use Rattle.worker_model.specs.Steps.{entering, in_place, line_in, exchange_of_line, exchange_on, change_line, on_lines, drops_at, drops_line, closes_line, reads_side, line_ends, refusal_sent, refuses_in, refuses_line, most_lines, new_line, place_for, opens, further_on, with_further, line_reading, is_open, is_answered_in, is_read_in, comes, lost_exchange, lost, loses_down, is_missed, loses_up, happens, is_late}
 use Rattle.flow_laws.specs.Besides.{OthersAreAlien, IsWhole}
 use Rattle.flow_laws.specs.Events.{LosesNone, EventsLeave}
 use Rattle.flow_laws.specs.Rooms.{IsOn, Leaves}

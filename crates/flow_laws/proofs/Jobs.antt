@@ -16,13 +16,13 @@ use Rattle.filter_chain.specs.declared.stage.Stage.{Stage}
 use Rattle.store_model.specs.Program.{Program}
 use Rattle.store_model.specs.declared.call.Reply.{Reply}
 use Rattle.store_model.specs.declared.call.Reply.TheVariants as replies
-use Rattle.worker.specs.declared.room.Room.{Room}
-use Rattle.worker.specs.declared.types.Line.{Line}
-use Rattle.worker.specs.declared.types.Own.TheVariants as owns
-use Rattle.worker.specs.Moves.{ended_in, ended_back, ended_at}
-use Rattle.worker.specs.Rooms.{place_in, with_contexts, is_dead, answered_with, valued}
-use Rattle.worker.specs.Steps.{Both, both, Answered, answered, goes_on_with, nothing_more, called_in, noticed, ends_with, ends_at, is_due_tick, next_tick, has_vm, with_tick, ticked_at}
-use Rattle.worker.specs.Turn.{emptied, facing}
+use Rattle.worker_model.specs.Room.{Room}
+use Rattle.worker_model.specs.declared.types.Line.{Line}
+use Rattle.worker_model.specs.declared.types.Own.TheVariants as owns
+use Rattle.worker_model.specs.Moves.{ended_in, ended_back, ended_at}
+use Rattle.worker_model.specs.Rooms.{place_in, with_contexts, is_dead, answered_with, valued}
+use Rattle.worker_model.specs.Steps.{Both, both, Answered, answered, goes_on_with, nothing_more, called_in, noticed, ends_with, ends_at, is_due_tick, next_tick, has_vm, with_tick, ticked_at}
+use Rattle.worker_model.specs.Turn.{emptied, facing}
 use Rattle.flow_laws.specs.Besides.{OthersAreAlien, IsWhole}
 use Rattle.flow_laws.specs.Elsewhere.{IsBeside, behind_effects}
 use Rattle.flow_laws.specs.Jobs.{EndsDrop, JobsLeave, TellsAreRuns}

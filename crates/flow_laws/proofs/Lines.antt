@@ -9,9 +9,9 @@ use Rattle.contexts.specs.Reached.{view_at}
 use Rattle.exchange.specs.declared.types.Exchange.{Exchange}
 use Rattle.exchange.specs.declared.types.Hub.{Hub}
 use Rattle.exchange.specs.Maps.{in_view, marked, mark}
-use Rattle.worker.specs.declared.room.Room.{Room}
-use Rattle.worker.specs.declared.types.Line.{Line}
-use Rattle.worker.specs.Rooms.{Changes, marking, with_result, in_exchange, put_back, at_some, at_place, with_lines, place_in, on_number, on_context, place_of}
+use Rattle.worker_model.specs.Room.{Room}
+use Rattle.worker_model.specs.declared.types.Line.{Line}
+use Rattle.worker_model.specs.Rooms.{Changes, marking, with_result, in_exchange, put_back, at_some, at_place, with_lines, place_in, on_number, on_context, place_of}
 use Rattle.flow_laws.specs.Rooms.{IsOn}
 
 -- ---- lists

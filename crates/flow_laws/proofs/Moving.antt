@@ -13,14 +13,14 @@ use Rattle.filter_chain.specs.declared.stage.Stage.{Stage}
 use Rattle.filter_chain.specs.declared.item.Asking.{Asking}
 use Rattle.filter_chain.specs.Chains.{asked}
 use Rattle.store_model.specs.Program.{Program, done, ask, measure}
-use Rattle.worker.specs.declared.room.Room.{Room}
-use Rattle.worker.specs.declared.types.Asked.{Asked}
-use Rattle.worker.specs.declared.types.Job.{Job}
-use Rattle.worker.specs.declared.types.Line.{Line}
-use Rattle.worker.specs.declared.types.Own.TheVariants as owns
-use Rattle.worker.specs.Moves.{asks_stage, asks_chain, asks_with, asks_in, asks_back, asks_at}
-use Rattle.worker.specs.Rooms.{with_lines, answered_with, valued}
-use Rattle.worker.specs.Steps.{Both, both, Answered, answered, acts_on, goes_on_with, moved_with, move_at, works_first}
+use Rattle.worker_model.specs.Room.{Room}
+use Rattle.worker_model.specs.declared.types.Asked.{Asked}
+use Rattle.worker_model.specs.declared.types.Job.{Job}
+use Rattle.worker_model.specs.declared.types.Line.{Line}
+use Rattle.worker_model.specs.declared.types.Own.TheVariants as owns
+use Rattle.worker_model.specs.Moves.{asks_stage, asks_chain, asks_with, asks_in, asks_back, asks_at}
+use Rattle.worker_model.specs.Rooms.{with_lines, answered_with, valued}
+use Rattle.worker_model.specs.Steps.{Both, both, Answered, answered, acts_on, goes_on_with, moved_with, move_at, works_first}
 use Rattle.flow_laws.specs.Deaths.{DeathsEndMoves}
 use Rattle.flow_laws.specs.Elsewhere.{asked_program}
 use Rattle.flow_laws.specs.Rooms.{IsAsked, asked_exchange, question}

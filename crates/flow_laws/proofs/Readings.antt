@@ -19,13 +19,13 @@ use Rattle.header_maps.specs.Operations.{no_headers}
 use Rattle.http1_model.specs.Head.{Head}
 use Rattle.http1_model.specs.Messages.{Stop, rest, over, refusal}
 use Rattle.http1_model.specs.Unread.{Part, head_part, interim_part, piece, trailer_part, Reading}
-use Rattle.worker.specs.declared.room.Room.{Room}
-use Rattle.worker.specs.declared.types.Job.TheVariants as jobs
-use Rattle.worker.specs.declared.types.Line.{Line}
-use Rattle.worker.specs.declared.types.Reads.{Reads}
-use Rattle.worker.specs.Plan.{Plan}
-use Rattle.worker.specs.Rooms.{place_in, with_contexts}
-use Rattle.worker.specs.Steps.{Both, both, change_exchange, change_line, line_at, line_at_place, on_lines, with_exchange, exchange_for, free_place, begun, with_reader, read_on, noted, is_last, in_front, reading_ends, with_item, joins, takes, keeps_response, in_contexts, head_item, put_trailers, interim_heard, hands_part, stops, after_heard, reading_on, reads_in, reads_next, exchange_on}
+use Rattle.worker_model.specs.Room.{Room}
+use Rattle.worker_model.specs.declared.types.Job.TheVariants as jobs
+use Rattle.worker_model.specs.declared.types.Line.{Line}
+use Rattle.worker_model.specs.declared.types.Reads.{Reads}
+use Rattle.worker_model.specs.Plan.{Plan}
+use Rattle.worker_model.specs.Rooms.{place_in, with_contexts}
+use Rattle.worker_model.specs.Steps.{Both, both, change_exchange, change_line, line_at, line_at_place, on_lines, with_exchange, exchange_for, free_place, begun, with_reader, read_on, noted, is_last, in_front, reading_ends, with_item, joins, takes, keeps_response, in_contexts, head_item, put_trailers, interim_heard, hands_part, stops, after_heard, reading_on, reads_in, reads_next, exchange_on}
 use Rattle.flow_laws.specs.Besides.{IsWhole}
 use Rattle.flow_laws.specs.Readings.{BeginsNone, HearsNone, ReadingLeaves}
 use Rattle.flow_laws.specs.Rooms.{IsOn, Leaves}

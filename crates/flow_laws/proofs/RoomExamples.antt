@@ -10,8 +10,8 @@ use Rattle.exchange.specs.Passing.{put_in}
 use Rattle.filter_chain.specs.declared.item.Item.{Item}
 use Rattle.filter_chain.specs.declared.item.Item.TheVariants.{Head, Piece}
 use Rattle.filter_chain.specs.Chains.{asked}
-use Rattle.worker.specs.declared.room.Room.{Room}
-use Rattle.worker.specs.Rooms.{on_number}
+use Rattle.worker_model.specs.Room.{Room}
+use Rattle.worker_model.specs.Rooms.{on_number}
 use Rattle.chain_laws.specs.Examples.{asked_with}
 use Rattle.body_laws.specs.Examples.{upload_start}
 use Rattle.flow_laws.specs.RoomExamples.{upload_room, RoomExample}

@@ -17,10 +17,10 @@ use Rattle.filter_chain.specs.declared.item.Item.{Item}
 use Rattle.filter_chain.specs.Chains.{asked}
 use Rattle.filter_chain.specs.Flow.{flow}
 use Rattle.filter_chain.specs.Items.{joined}
-use Rattle.worker.specs.declared.room.Room.{Room}
-use Rattle.worker.specs.declared.types.Own.{Own}
-use Rattle.worker.specs.Rooms.{Changes, marking, on_number, does, effects_of}
-use Rattle.worker.specs.Steps.{action_of}
+use Rattle.worker_model.specs.Room.{Room}
+use Rattle.worker_model.specs.declared.types.Own.{Own}
+use Rattle.worker_model.specs.Rooms.{Changes, marking, on_number, does, effects_of}
+use Rattle.worker_model.specs.Steps.{action_of}
 use Rattle.chain_laws.specs.Acts.{pending, behind, AreThere, IsCall, is_body, where_one, buffer_in, buffer_at, buffer_called}
 use Rattle.chain_laws.specs.Acts as at_chain
 use Rattle.body_laws.specs.Deeds.{Deed, comes, calls, answers, resumes, lets, turns, Running, standing, done, called, resumed, done_by, done_all, acts_of, left_by, came, buffers_by, AreDeeds}

@@ -9,16 +9,16 @@ use Rattle.course.specs.declared.host.Death.TheVariants as deaths
 use Rattle.exchange.specs.declared.types.Exchange.{Exchange}
 use Rattle.exchange.specs.declared.types.Hub.{Hub}
 use Rattle.exchange.specs.Passing.{chain_of, put_in}
-use Rattle.worker.specs.declared.room.Room.{Room}
-use Rattle.worker.specs.declared.types.ContextAt.{ContextAt}
-use Rattle.worker.specs.declared.types.Job.{Job}
-use Rattle.worker.specs.declared.types.Job.TheVariants as jobs
-use Rattle.worker.specs.declared.types.NewContext.{NewContext}
-use Rattle.worker.specs.declared.types.Next.{Next}
-use Rattle.worker.specs.declared.types.Own.TheVariants as owns
-use Rattle.worker.specs.Plan.{Plan}
-use Rattle.worker.specs.Rooms.{place_in, on_number, died, is_dead}
-use Rattle.worker.specs.Steps.{Both, both, starts, finishes, forgets, ends_at, first_begun, frees as free_one, is_zero, in_front, unless_zero, last_jobs, waits, done_with, deletes, vm_length, plugin_length, ticked, may_stream, rooting, creating, quietly, noticed, takes_notice, made_one, tells, works, works_first, step}
+use Rattle.worker_model.specs.Room.{Room}
+use Rattle.worker_model.specs.declared.types.ContextAt.{ContextAt}
+use Rattle.worker_model.specs.declared.types.Job.{Job}
+use Rattle.worker_model.specs.declared.types.Job.TheVariants as jobs
+use Rattle.worker_model.specs.declared.types.NewContext.{NewContext}
+use Rattle.worker_model.specs.declared.types.Next.{Next}
+use Rattle.worker_model.specs.declared.types.Own.TheVariants as owns
+use Rattle.worker_model.specs.Plan.{Plan}
+use Rattle.worker_model.specs.Rooms.{place_in, on_number, died, is_dead}
+use Rattle.worker_model.specs.Steps.{Both, both, starts, finishes, forgets, ends_at, first_begun, frees as free_one, is_zero, in_front, unless_zero, last_jobs, waits, done_with, deletes, vm_length, plugin_length, ticked, may_stream, rooting, creating, quietly, noticed, takes_notice, made_one, tells, works, works_first, step}
 use Rattle.chain_laws.specs.Acts.{AreThere, HoldSame}
 use Rattle.flow_laws.specs.Besides.{IsWhole}
 use Rattle.chain_laws.specs.Acts.{NotOf}

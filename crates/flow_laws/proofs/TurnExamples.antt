@@ -11,11 +11,11 @@ use Rattle.exchange.specs.Passing.{chain_of}
 use Rattle.filter_chain.specs.declared.item.Item.{Item}
 use Rattle.filter_chain.specs.declared.stage.Stage.{Stage}
 use Rattle.filter_chain.specs.Flow.{flow}
-use Rattle.worker.specs.declared.room.Room.{Room}
-use Rattle.worker.specs.declared.types.Line.{Line}
-use Rattle.worker.specs.declared.types.Next.TheVariants as next
-use Rattle.worker.specs.Rooms.{next_of}
-use Rattle.worker.specs.Steps.{Both, step}
+use Rattle.worker_model.specs.Room.{Room}
+use Rattle.worker_model.specs.declared.types.Line.{Line}
+use Rattle.worker_model.specs.declared.types.Next.TheVariants as next
+use Rattle.worker_model.specs.Rooms.{next_of}
+use Rattle.worker_model.specs.Steps.{Both, step}
 use Rattle.body_laws.specs.Deeds.{standing}
 use Rattle.chain_laws.specs.PassThrough.{IsNew, IsInOrder}
 use Rattle.flow_laws.specs.Besides.{OthersAreAlien, IsWhole}

@@ -5,10 +5,10 @@ use Rattle.exchange.specs.Passing.{chain_of, put_in, acts, resumes, stage_of, pa
 use Rattle.filter_chain.specs.declared.stage.Stage.{Stage}
 use Rattle.filter_chain.specs.declared.item.Item.{Item}
 use Rattle.filter_chain.specs.Chains.{continued}
-use Rattle.worker.specs.declared.room.Room.{Room}
-use Rattle.worker.specs.declared.types.Line.{Line}
-use Rattle.worker.specs.Rooms.{place_in, place_of, on_number, on_context}
-use Rattle.worker.specs.Steps.{first_begun, frees}
+use Rattle.worker_model.specs.Room.{Room}
+use Rattle.worker_model.specs.declared.types.Line.{Line}
+use Rattle.worker_model.specs.Rooms.{place_in, place_of, on_number, on_context}
+use Rattle.worker_model.specs.Steps.{first_begun, frees}
 use Rattle.chain_laws.specs.Acts.{AreThere, IsLeft}
 use Rattle.body_laws.specs.Apart.{AreAliens, IsAlien, Does, PassesAliens}
 use Rattle.body_laws.specs.Deeds.{comes, AreDeeds}

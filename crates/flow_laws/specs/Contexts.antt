@@ -6,10 +6,10 @@ use Rattle.course.specs.declared.host.Callback.{Callback}
 use Rattle.exchange.specs.declared.types.Exchange.{Exchange}
 use Rattle.exchange.specs.declared.types.Filter.{Filter}
 use Rattle.exchange.specs.Passing.{chain_of}
-use Rattle.worker.specs.declared.room.Room.{Room}
-use Rattle.worker.specs.declared.types.ContextAt.{ContextAt}
-use Rattle.worker.specs.declared.types.Own.TheVariants as owns
-use Rattle.worker.specs.Steps.{Both, Then, waits, deletes, is_drawn_out, rooting, filter_at, creating, calls_live}
+use Rattle.worker_model.specs.Room.{Room}
+use Rattle.worker_model.specs.declared.types.ContextAt.{ContextAt}
+use Rattle.worker_model.specs.declared.types.Own.TheVariants as owns
+use Rattle.worker_model.specs.Steps.{Both, Then, waits, deletes, is_drawn_out, rooting, filter_at, creating, calls_live}
 use Rattle.chain_laws.specs.Acts.{NotOf}
 use Rattle.flow_laws.specs.Besides.{IsWhole}
 use Rattle.flow_laws.specs.Elsewhere.{IsBeside, behind_effects}

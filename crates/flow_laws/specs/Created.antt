@@ -8,11 +8,11 @@ use Rattle.filter_chain.specs.declared.item.Held.TheVariants as held
 use Rattle.gate_config.specs.declared.entries.PluginEntry.{PluginEntry}
 use Rattle.http1_model.specs.Head.{Head}
 use Rattle.http1_model.specs.Unread.{new_reading}
-use Rattle.worker.specs.Plan.{Plan}
-use Rattle.worker.specs.declared.room.Room.{Room}
-use Rattle.worker.specs.declared.types.NewContext.{NewContext}
-use Rattle.worker.specs.Rooms.{is_dead}
-use Rattle.worker.specs.Steps.{filter_at, filters_of, exchange_for, may_stream, new_one, creating}
+use Rattle.worker_model.specs.Plan.{Plan}
+use Rattle.worker_model.specs.Room.{Room}
+use Rattle.worker_model.specs.declared.types.NewContext.{NewContext}
+use Rattle.worker_model.specs.Rooms.{is_dead}
+use Rattle.worker_model.specs.Steps.{filter_at, filters_of, exchange_for, may_stream, new_one, creating}
 
 -- It is of the VM that the filter at that place tells, which is not dead, under the id that is next there, with the number of the root of the filter's plug-in; and that
 -- VM has a root of this number.

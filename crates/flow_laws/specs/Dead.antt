@@ -10,13 +10,13 @@ use Rattle.exchange.specs.Examples as exchanges
 use Rattle.gate_io.specs.declared.event.Event.{Event}
 use Rattle.gate_io.specs.declared.event.Sent.{Sent}
 use Rattle.store_model.specs.Program.{Program, done, ask, measure}
-use Rattle.worker.specs.declared.room.Room.{Room}
-use Rattle.worker.specs.declared.types.Job.TheVariants as jobs
-use Rattle.worker.specs.declared.types.Own.{Own}
-use Rattle.worker.specs.Plan.{Plan}
-use Rattle.worker.specs.Rooms.{next_of, is_dead, answered_with}
-use Rattle.worker.specs.Steps.{Both, both, is_zero, unless_zero, is_drawn_out, may_root, rooting, may_stream, streaming, step}
-use Rattle.worker.specs.Turn.{emptied, facing}
+use Rattle.worker_model.specs.Room.{Room}
+use Rattle.worker_model.specs.declared.types.Job.TheVariants as jobs
+use Rattle.worker_model.specs.declared.types.Own.{Own}
+use Rattle.worker_model.specs.Plan.{Plan}
+use Rattle.worker_model.specs.Rooms.{next_of, is_dead, answered_with}
+use Rattle.worker_model.specs.Steps.{Both, both, is_zero, unless_zero, is_drawn_out, may_root, rooting, may_stream, streaming, step}
+use Rattle.worker_model.specs.Turn.{emptied, facing}
 
 -- ---- machines that are watched
 

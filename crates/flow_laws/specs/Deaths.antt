@@ -9,14 +9,14 @@ use Rattle.exchange.specs.declared.types.Hub.{Hub}
 use Rattle.exchange.specs.Passing.{chain_of, fails_closed, dies}
 use Rattle.filter_chain.specs.declared.stage.Stage.{Stage}
 use Rattle.gate_io.specs.declared.event.Sent.{Sent}
-use Rattle.worker.specs.declared.room.Room.{Room}
-use Rattle.worker.specs.declared.types.Asked.{Asked}
-use Rattle.worker.specs.declared.types.Line.{Line}
-use Rattle.worker.specs.declared.types.Next.TheVariants as next
-use Rattle.worker.specs.Moves.{asks_at}
-use Rattle.worker.specs.Plan.{Plan}
-use Rattle.worker.specs.Steps.{Both, both, step}
-use Rattle.worker.specs.Rooms.{all_lines, with_lines, died}
+use Rattle.worker_model.specs.Room.{Room}
+use Rattle.worker_model.specs.declared.types.Asked.{Asked}
+use Rattle.worker_model.specs.declared.types.Line.{Line}
+use Rattle.worker_model.specs.declared.types.Next.TheVariants as next
+use Rattle.worker_model.specs.Moves.{asks_at}
+use Rattle.worker_model.specs.Plan.{Plan}
+use Rattle.worker_model.specs.Steps.{Both, both, step}
+use Rattle.worker_model.specs.Rooms.{all_lines, with_lines, died}
 use Rattle.chain_laws.specs.Acts.{HoldSame, AreThere}
 use Rattle.chain_laws.specs.Sound.{IsSound}
 use Rattle.body_laws.specs.Apart.{AreAliens, Does, PassesAliens}

@@ -12,19 +12,19 @@ use Rattle.exchange.specs.declared.types.Filter.{Filter}
 use Rattle.exchange.specs.declared.types.Hub.{Hub}
 use Rattle.gate_io.specs.declared.event.Event.{Event}
 use Rattle.store_model.specs.Program.{Program}
-use Rattle.worker.specs.declared.room.Room.{Room}
-use Rattle.worker.specs.declared.types.Asked.{Asked}
-use Rattle.worker.specs.declared.types.Job.{Job}
-use Rattle.worker.specs.declared.types.Job.TheVariants as jobs
-use Rattle.worker.specs.declared.types.Line.{Line}
-use Rattle.worker.specs.declared.types.NewContext.{NewContext}
-use Rattle.worker.specs.declared.types.Next.{Next}
-use Rattle.worker.specs.declared.types.Next.TheVariants as next
-use Rattle.worker.specs.Moves.{asks_at}
-use Rattle.worker.specs.Plan.{Plan}
-use Rattle.worker.specs.Rooms.{is_dead, next_of, with_lines}
-use Rattle.worker.specs.Steps.{Both, both, callback_of, number_of, creating, filter_at, is_drawn_out, is_zero, may_root, may_stream, plugin_length, rooting, step, ticked, vm_length}
-use Rattle.worker.specs.Turn.{emptied, facing}
+use Rattle.worker_model.specs.Room.{Room}
+use Rattle.worker_model.specs.declared.types.Asked.{Asked}
+use Rattle.worker_model.specs.declared.types.Job.{Job}
+use Rattle.worker_model.specs.declared.types.Job.TheVariants as jobs
+use Rattle.worker_model.specs.declared.types.Line.{Line}
+use Rattle.worker_model.specs.declared.types.NewContext.{NewContext}
+use Rattle.worker_model.specs.declared.types.Next.{Next}
+use Rattle.worker_model.specs.declared.types.Next.TheVariants as next
+use Rattle.worker_model.specs.Moves.{asks_at}
+use Rattle.worker_model.specs.Plan.{Plan}
+use Rattle.worker_model.specs.Rooms.{is_dead, next_of, with_lines}
+use Rattle.worker_model.specs.Steps.{Both, both, callback_of, number_of, creating, filter_at, is_drawn_out, is_zero, may_root, may_stream, plugin_length, rooting, step, ticked, vm_length}
+use Rattle.worker_model.specs.Turn.{emptied, facing}
 use Rattle.flow_laws.specs.Dead.{Runs, one_step, next_turn, watched, refusing, one_vm, begins, started, passed_by}
 
 -- ---- the callback of a step

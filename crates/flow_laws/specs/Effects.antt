@@ -9,10 +9,10 @@ use Rattle.exchange.specs.declared.types.Exchange.{Exchange}
 use Rattle.exchange.specs.Passing.{chain_of, stage_of}
 use Rattle.filter_chain.specs.declared.item.Ask.{Ask}
 use Rattle.filter_chain.specs.Chains.{continued}
-use Rattle.worker.specs.declared.room.Room.{Room}
-use Rattle.worker.specs.declared.types.Own.{Own}
-use Rattle.worker.specs.Moves.{asks_at}
-use Rattle.worker.specs.Rooms.{place_of, with_lines, does, answered_with}
+use Rattle.worker_model.specs.Room.{Room}
+use Rattle.worker_model.specs.declared.types.Own.{Own}
+use Rattle.worker_model.specs.Moves.{asks_at}
+use Rattle.worker_model.specs.Rooms.{place_of, with_lines, does, answered_with}
 use Rattle.chain_laws.specs.Acts.{HoldSame, AreThere, IsLeft}
 use Rattle.body_laws.specs.Apart.{AreAliens}
 use Rattle.flow_laws.specs.Besides.{OthersAreAlien, IsWhole}

@@ -6,9 +6,9 @@ use Rattle.exchange.specs.Passing.{chain_of, expires}
 use Rattle.gate_io.specs.declared.event.Side.TheVariants.{Down, Up}
 use Rattle.gate_io.specs.declared.event.What.{What}
 use Rattle.gate_io.specs.declared.event.What.TheVariants as whats
-use Rattle.worker.specs.declared.room.Room.{Room}
-use Rattle.worker.specs.Rooms.{place_in, on_number}
-use Rattle.worker.specs.Steps.{entering, line_in, is_missed, exchange_on, happens, line_ends, refuses_line, expires_all}
+use Rattle.worker_model.specs.Room.{Room}
+use Rattle.worker_model.specs.Rooms.{place_in, on_number}
+use Rattle.worker_model.specs.Steps.{entering, line_in, is_missed, exchange_on, happens, line_ends, refuses_line, expires_all}
 use Rattle.flow_laws.specs.Besides.{OthersAreAlien, IsWhole}
 use Rattle.flow_laws.specs.Rooms.{IsOn, Leaves}
 

@@ -6,12 +6,12 @@ use Rattle.course.specs.declared.host.Callback.{Callback}
 use Rattle.exchange.specs.declared.types.Exchange.{Exchange}
 use Rattle.gate_io.specs.declared.event.Event.{Event}
 use Rattle.store_model.specs.declared.call.Reply.{Reply}
-use Rattle.worker.specs.declared.room.Room.{Room}
-use Rattle.worker.specs.declared.types.Job.{Job}
-use Rattle.worker.specs.declared.types.Own.TheVariants as owns
-use Rattle.worker.specs.Plan.{Plan}
-use Rattle.worker.specs.Steps.{Both, noticed, ends_at, ticked, tells}
-use Rattle.worker.specs.Turn.{emptied, facing}
+use Rattle.worker_model.specs.Room.{Room}
+use Rattle.worker_model.specs.declared.types.Job.{Job}
+use Rattle.worker_model.specs.declared.types.Own.TheVariants as owns
+use Rattle.worker_model.specs.Plan.{Plan}
+use Rattle.worker_model.specs.Steps.{Both, noticed, ends_at, ticked, tells}
+use Rattle.worker_model.specs.Turn.{emptied, facing}
 use Rattle.exchange.specs.Passing.{chain_of}
 use Rattle.chain_laws.specs.Acts.{AreThere}
 use Rattle.body_laws.specs.Deaths.{AreDropped}

@@ -5,12 +5,12 @@ use Rattle.course.specs.Course.{ends, Met, Reaches}
 use Rattle.course.specs.Heard.{Heard, hands, halts, Hears}
 use Rattle.exchange.specs.declared.types.Exchange.{Exchange}
 use Rattle.http1_model.specs.Unread.{Part, head_part, interim_part, piece, trailer_part, Reading}
-use Rattle.worker.specs.declared.room.Room.{Room}
-use Rattle.worker.specs.declared.types.Next.TheVariants as next
-use Rattle.worker.specs.declared.types.Reads.{Reads}
-use Rattle.worker.specs.Plan.{Plan}
-use Rattle.worker.specs.Rooms.{place_in}
-use Rattle.worker.specs.Steps.{Both, reading_on, step}
+use Rattle.worker_model.specs.Room.{Room}
+use Rattle.worker_model.specs.declared.types.Next.TheVariants as next
+use Rattle.worker_model.specs.declared.types.Reads.{Reads}
+use Rattle.worker_model.specs.Plan.{Plan}
+use Rattle.worker_model.specs.Rooms.{place_in}
+use Rattle.worker_model.specs.Steps.{Both, reading_on, step}
 use Rattle.flow_laws.specs.Besides.{IsWhole}
 use Rattle.flow_laws.specs.Rooms.{IsOn, Leaves}
 

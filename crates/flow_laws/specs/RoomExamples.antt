@@ -4,7 +4,7 @@ use Rattle.exchange.specs.declared.types.Exchange.{Exchange}
 use Rattle.filter_chain.specs.declared.item.Item.TheVariants.{Head, Piece}
 use Rattle.filter_chain.specs.Items.{joined}
 use Rattle.http1_model.specs.Unread.{new_reading}
-use Rattle.worker.specs.declared.room.Room.{Room}
+use Rattle.worker_model.specs.Room.{Room}
 use Rattle.body_laws.specs.Deeds.{standing, left_by}
 use Rattle.body_laws.specs.Examples.{upload_start}
 use Rattle.chain_laws.specs.PassThrough.{IsNew, has_end}

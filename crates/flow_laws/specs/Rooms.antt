@@ -13,13 +13,13 @@ use Rattle.filter_chain.specs.declared.item.Ask.{Ask}
 use Rattle.filter_chain.specs.declared.item.Asking.TheVariants.{Asks}
 use Rattle.filter_chain.specs.declared.item.Item.{Item}
 use Rattle.filter_chain.specs.Chains.{asked}
-use Rattle.worker.specs.declared.room.Room.{Room}
-use Rattle.worker.specs.declared.types.Line.{Line}
-use Rattle.worker.specs.declared.types.Own.{Own}
-use Rattle.worker.specs.declared.types.Own.TheVariants as owns
-use Rattle.worker.specs.Moves.{asks_response}
-use Rattle.worker.specs.Rooms.{place_in, place_of, with_lines, with_contexts, sending, on_number, on_context, does, effects_of, without_effects}
-use Rattle.worker.specs.Steps.{action_of}
+use Rattle.worker_model.specs.Room.{Room}
+use Rattle.worker_model.specs.declared.types.Line.{Line}
+use Rattle.worker_model.specs.declared.types.Own.{Own}
+use Rattle.worker_model.specs.declared.types.Own.TheVariants as owns
+use Rattle.worker_model.specs.Moves.{asks_response}
+use Rattle.worker_model.specs.Rooms.{place_in, place_of, with_lines, with_contexts, sending, on_number, on_context, does, effects_of, without_effects}
+use Rattle.worker_model.specs.Steps.{action_of}
 use Rattle.chain_laws.specs.Acts.{HoldSame, AreThere, IsCall, buffer_called}
 use Rattle.body_laws.specs.Deeds.{Deed, comes, calls, answers, resumes, turns, Running, IsDeed, AreDeeds}
 

@@ -7,14 +7,14 @@ use Rattle.exchange.specs.Answering.{with_held}
 use Rattle.exchange.specs.Passing.{put_in}
 use Rattle.filter_chain.specs.declared.item.Item.{Item}
 use Rattle.store_model.specs.Program.{Program}
-use Rattle.worker.specs.declared.room.Room.{Room}
-use Rattle.worker.specs.declared.types.Job.{Job}
-use Rattle.worker.specs.declared.types.Job.TheVariants as jobs
-use Rattle.worker.specs.declared.types.Next.TheVariants as next
-use Rattle.worker.specs.Moves.{count_of}
-use Rattle.worker.specs.Plan.{Plan}
-use Rattle.worker.specs.Rooms.{on_number}
-use Rattle.worker.specs.Steps.{Both, both, callback_of, number_of, step}
+use Rattle.worker_model.specs.Room.{Room}
+use Rattle.worker_model.specs.declared.types.Job.{Job}
+use Rattle.worker_model.specs.declared.types.Job.TheVariants as jobs
+use Rattle.worker_model.specs.declared.types.Next.TheVariants as next
+use Rattle.worker_model.specs.Moves.{count_of}
+use Rattle.worker_model.specs.Plan.{Plan}
+use Rattle.worker_model.specs.Rooms.{on_number}
+use Rattle.worker_model.specs.Steps.{Both, both, callback_of, number_of, step}
 use Rattle.flow_laws.specs.Rooms.{IsAsked, asked_exchange, IsMove, moved_room}
 
 -- how many pairs or bytes the callback is told of

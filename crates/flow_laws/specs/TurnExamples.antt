@@ -21,10 +21,10 @@ use Rattle.filter_chain.specs.Items.{joined}
 use Rattle.http1_model.specs.Messages.{body, counted}
 use Rattle.http1_model.specs.Unread.{Reading}
 use Rattle.store_model.specs.Program.{done}
-use Rattle.worker.specs.declared.types.Job.TheVariants as jobs
-use Rattle.worker.specs.Plan.{Plan}
-use Rattle.worker.specs.Rooms.{next_of}
-use Rattle.worker.specs.Steps.{Both, both, step}
+use Rattle.worker_model.specs.declared.types.Job.TheVariants as jobs
+use Rattle.worker_model.specs.Plan.{Plan}
+use Rattle.worker_model.specs.Rooms.{next_of}
+use Rattle.worker_model.specs.Steps.{Both, both, step}
 use Rattle.body_laws.specs.Deeds.{standing, left_by}
 use Rattle.chain_laws.specs.PassThrough.{IsNew}
 use Rattle.flow_laws.specs.Rooms.{running, run_deeds}

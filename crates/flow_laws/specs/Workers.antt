@@ -8,9 +8,9 @@ use Rattle.filter_chain.specs.declared.item.Ask.{Ask}
 use Rattle.filter_chain.specs.declared.item.Item.{Item}
 use Rattle.filter_chain.specs.Flow.{flow}
 use Rattle.filter_chain.specs.Items.{joined}
-use Rattle.worker.specs.declared.room.Room.{Room}
-use Rattle.worker.specs.Rooms.{on_number}
-use Rattle.worker.specs.Steps.{action_of}
+use Rattle.worker_model.specs.Room.{Room}
+use Rattle.worker_model.specs.Rooms.{on_number}
+use Rattle.worker_model.specs.Steps.{action_of}
 use Rattle.body_laws.specs.Deeds.{Deed, comes, calls, answers, resumes, lets, turns, standing, left_by, AreDeeds, AreWritten, done_all}
 use Rattle.chain_laws.specs.PassThrough.{bare_all, bare_in, Thinner, IsInOrder, IsNew, PassesThrough}
 use Rattle.chain_laws.specs.Sound.{IsSound}

@@ -11,7 +11,7 @@ use Rattle.gate_config.specs.declared.config.Config.{Config}
 use Rattle.gate_io.specs.MemoryWorld.{MemoryWorld, nature_of, no_fault_counted}
 use Rattle.gate_io.specs.Nature.{Nature}
 use Rattle.gate_io.specs.declared.passed.Passed.{Passed}
-use Rattle.worker.specs.State.{Standing}
+use Rattle.worker_model.specs.State.{Standing}
 use Rattle.generating.specs.Setting.{worlds_of}
 
 abbrev pub faults_of : MemoryWorld → ℕ

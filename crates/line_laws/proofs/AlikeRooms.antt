@@ -8,12 +8,12 @@ use Rattle.contexts.specs.Reached.{view_at}
 use Rattle.exchange.specs.declared.types.Exchange.{Exchange}
 use Rattle.exchange.specs.declared.types.Hub.{Hub}
 use Rattle.gate_io.specs.declared.event.Sent.{Sent}
-use Rattle.worker.specs.declared.room.Room.{Room}
-use Rattle.worker.specs.declared.types.Job.{Job}
-use Rattle.worker.specs.declared.types.Line.{Line}
-use Rattle.worker.specs.declared.types.Reads.{Reads}
-use Rattle.worker.specs.Rooms.{Changes, marking, with_result, in_exchange, put_back, at_some, at_place, place_in, with_lines, on_number, with_contexts, sending}
-use Rattle.worker.specs.Steps.{change_exchange, change_line, line_at, line_at_place, on_lines, exchange_of_line, exchange_on, line_in, in_contexts, drops_at, drops_line, in_front, new_line, place_for}
+use Rattle.worker_model.specs.Room.{Room}
+use Rattle.worker_model.specs.declared.types.Job.{Job}
+use Rattle.worker_model.specs.declared.types.Line.{Line}
+use Rattle.worker_model.specs.declared.types.Reads.{Reads}
+use Rattle.worker_model.specs.Rooms.{Changes, marking, with_result, in_exchange, put_back, at_some, at_place, place_in, with_lines, on_number, with_contexts, sending}
+use Rattle.worker_model.specs.Steps.{change_exchange, change_line, line_at, line_at_place, on_lines, exchange_of_line, exchange_on, line_in, in_contexts, drops_at, drops_line, in_front, new_line, place_for}
 use Rattle.line_laws.specs.Alike.{IsAlike, AreAlike, LooksAlike, IsLone}
 use Rattle.line_laws.specs.Isolation.{IsUnfiltered}
 use Rattle.line_laws.proofs.Depends.{placed, Meet, Same, marked_same}

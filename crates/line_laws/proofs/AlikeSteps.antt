@@ -30,17 +30,17 @@ use Rattle.header_maps.specs.Operations.{no_headers}
 use Rattle.http1_model.specs.Head.{Head}
 use Rattle.http1_model.specs.Messages.{Stop, rest, over, refusal}
 use Rattle.http1_model.specs.Unread.{Part, head_part, interim_part, piece, trailer_part, Reading}
-use Rattle.worker.specs.declared.room.Room.{Room}
-use Rattle.worker.specs.declared.types.Job.{Job}
-use Rattle.worker.specs.declared.types.Job.TheVariants as jobs
-use Rattle.worker.specs.declared.types.Line.{Line}
-use Rattle.worker.specs.declared.types.Next.{Next}
-use Rattle.worker.specs.declared.types.Next.TheVariants as next
-use Rattle.worker.specs.declared.types.Reads.{Reads}
-use Rattle.worker.specs.Moves.{ended_in, ended_back, ended_at}
-use Rattle.worker.specs.Plan.{Plan}
-use Rattle.worker.specs.Rooms.{place_in, with_contexts, sending, on_number, next_of}
-use Rattle.worker.specs.Steps.{Both, both, in_front, change_line, exchange_of_line, exchange_on, line_in, line_at, line_at_place, open_filter, filter_at, creating_filter, made_with, entering, filters_of, plugins_at, is_gone, refusal_of, new_exchange, with_exchange, exchange_for, free_place, begun, line_reading, reading_on, read_on, with_reader, is_last, noted, on_lines, begins_for, begins_exchange, begins_with_head, jobs_of, puts_items, refuses, reading_ends, with_item, takes, keeps_response, in_contexts, head_item, interim_of, put_trailers, hands_part, stops, after_heard, drops_line, closes_line, reads_side, line_ends, fixed_answer, refusal_sent, refuses_in, refuses_line, most_lines, opens, with_further, further_on, is_open, is_answered_in, is_read_in, comes_on, lost_exchange, lost, loses_down, is_missed, loses_up, happens, done_jobs, close_up, ends_exchange, ends_with, ends_at, quietly, reads_in, reads_next, works, works_first, step}
+use Rattle.worker_model.specs.Room.{Room}
+use Rattle.worker_model.specs.declared.types.Job.{Job}
+use Rattle.worker_model.specs.declared.types.Job.TheVariants as jobs
+use Rattle.worker_model.specs.declared.types.Line.{Line}
+use Rattle.worker_model.specs.declared.types.Next.{Next}
+use Rattle.worker_model.specs.declared.types.Next.TheVariants as next
+use Rattle.worker_model.specs.declared.types.Reads.{Reads}
+use Rattle.worker_model.specs.Moves.{ended_in, ended_back, ended_at}
+use Rattle.worker_model.specs.Plan.{Plan}
+use Rattle.worker_model.specs.Rooms.{place_in, with_contexts, sending, on_number, next_of}
+use Rattle.worker_model.specs.Steps.{Both, both, in_front, change_line, exchange_of_line, exchange_on, line_in, line_at, line_at_place, open_filter, filter_at, creating_filter, made_with, entering, filters_of, plugins_at, is_gone, refusal_of, new_exchange, with_exchange, exchange_for, free_place, begun, line_reading, reading_on, read_on, with_reader, is_last, noted, on_lines, begins_for, begins_exchange, begins_with_head, jobs_of, puts_items, refuses, reading_ends, with_item, takes, keeps_response, in_contexts, head_item, interim_of, put_trailers, hands_part, stops, after_heard, drops_line, closes_line, reads_side, line_ends, fixed_answer, refusal_sent, refuses_in, refuses_line, most_lines, opens, with_further, further_on, is_open, is_answered_in, is_read_in, comes_on, lost_exchange, lost, loses_down, is_missed, loses_up, happens, done_jobs, close_up, ends_exchange, ends_with, ends_at, quietly, reads_in, reads_next, works, works_first, step}
 use Rattle.line_laws.specs.Alike.{LooksAlike, Agree, IsSameStep, in_hand, StepsDependOnTheLine}
 use Rattle.line_laws.specs.Isolation.{is_event_of, is_job_of, TakesNoFilters}
 use Rattle.line_laws.proofs.AlikeRooms.{Sits, sits, absent, to_once, from_once, Match, Pair, none, bare, full, pair, put_look, looks_none, looks_bare, looks_full, test_same, Did, did_itself, did_then, did_if, did_sends, did_front, did_read, did_number, NotesAlike, notes_exchange, did_line, did_drop, PutsThere, did_contexts, did_insert}

@@ -23,13 +23,13 @@ use Rattle.header_maps.specs.Operations.{no_headers}
 use Rattle.http1_model.specs.Head.{Head}
 use Rattle.http1_model.specs.Messages.{Stop, rest, over, refusal}
 use Rattle.http1_model.specs.Unread.{Part, head_part, interim_part, piece, trailer_part, Reading}
-use Rattle.worker.specs.declared.room.Room.{Room}
-use Rattle.worker.specs.declared.types.Job.TheVariants as jobs
-use Rattle.worker.specs.declared.types.Line.{Line}
-use Rattle.worker.specs.declared.types.Reads.{Reads}
-use Rattle.worker.specs.Plan.{Plan}
-use Rattle.worker.specs.Rooms.{moves, sending, with_contexts}
-use Rattle.worker.specs.Steps.{change_line, change_exchange, on_line, on_lines, exchange_of_line, exchange_on, exchange_for, free_place, with_exchange, begun, read_on, with_reader, noted, is_last, jobs_of, puts_items, refuses, begins_for, begins_with_head, reading_ends, with_item, joins, takes, keeps_response, in_contexts, head_item, interim_of, put_trailers, hands_part, stops, after_heard, in_front}
+use Rattle.worker_model.specs.Room.{Room}
+use Rattle.worker_model.specs.declared.types.Job.TheVariants as jobs
+use Rattle.worker_model.specs.declared.types.Line.{Line}
+use Rattle.worker_model.specs.declared.types.Reads.{Reads}
+use Rattle.worker_model.specs.Plan.{Plan}
+use Rattle.worker_model.specs.Rooms.{moves, sending, with_contexts}
+use Rattle.worker_model.specs.Steps.{change_line, change_exchange, on_line, on_lines, exchange_of_line, exchange_on, exchange_for, free_place, with_exchange, begun, read_on, with_reader, noted, is_last, jobs_of, puts_items, refuses, begins_for, begins_with_head, reading_ends, with_item, joins, takes, keeps_response, in_contexts, head_item, interim_of, put_trailers, hands_part, stops, after_heard, in_front}
 use Rattle.line_laws.specs.Living.{request_in}
 use Rattle.line_laws.proofs.Finding.{IsOnce}
 use Rattle.line_laws.proofs.Kept.{Staid, by_bool}

@@ -37,18 +37,18 @@ use Rattle.gate_io.specs.declared.event.Side.TheVariants.{Down}
 use Rattle.http1_model.specs.Fields.{Pair}
 use Rattle.store_model.specs.declared.call.Reply.{Reply}
 use Rattle.store_model.specs.declared.call.Reply.TheVariants as replies
-use Rattle.worker.specs.declared.room.Room.{Room}
-use Rattle.worker.specs.declared.types.Asked.{Asked}
-use Rattle.worker.specs.declared.types.Job.{Job}
-use Rattle.worker.specs.declared.types.Job.TheVariants as jobs
-use Rattle.worker.specs.declared.types.Line.{Line}
-use Rattle.worker.specs.declared.types.NewContext.{NewContext}
-use Rattle.worker.specs.declared.types.Own.{Own}
-use Rattle.worker.specs.declared.types.Own.TheVariants.{Nobody, Stage}
-use Rattle.worker.specs.Moves.{asks_at, asks_line, asks_in, asks_exchange, asks_chain, asks_as, asks_response}
-use Rattle.worker.specs.Plan.{Plan}
-use Rattle.worker.specs.Rooms.{exchange_moves, moves, marking, all_lines, with_lines, place_in, with_contexts, died, is_dead}
-use Rattle.worker.specs.Steps.{Both, both, Answered, answered, Then, goes_on_with, nothing_more, called_in, called_live, calls_live, in_front, unless_zero, has_vm, done_with, deletes, acts_on, is_drawn_out, may_root, root_jobs, rooting, with_filter, may_stream, with_stream, streaming, creating_filter, filter_at, creating, is_live, new_stage, entered, ticked_at, ticked, is_due_tick, is_late, expires_all, noticed, moved, move_at, tells, made_one, made_with, roots, streams, ticks, tells_ready, takes_notice, notices, works, callback_of, number_of, vm_length, plugin_length}
+use Rattle.worker_model.specs.Room.{Room}
+use Rattle.worker_model.specs.declared.types.Asked.{Asked}
+use Rattle.worker_model.specs.declared.types.Job.{Job}
+use Rattle.worker_model.specs.declared.types.Job.TheVariants as jobs
+use Rattle.worker_model.specs.declared.types.Line.{Line}
+use Rattle.worker_model.specs.declared.types.NewContext.{NewContext}
+use Rattle.worker_model.specs.declared.types.Own.{Own}
+use Rattle.worker_model.specs.declared.types.Own.TheVariants.{Nobody, Stage}
+use Rattle.worker_model.specs.Moves.{asks_at, asks_line, asks_in, asks_exchange, asks_chain, asks_as, asks_response}
+use Rattle.worker_model.specs.Plan.{Plan}
+use Rattle.worker_model.specs.Rooms.{exchange_moves, moves, marking, all_lines, with_lines, place_in, with_contexts, died, is_dead}
+use Rattle.worker_model.specs.Steps.{Both, both, Answered, answered, Then, goes_on_with, nothing_more, called_in, called_live, calls_live, in_front, unless_zero, has_vm, done_with, deletes, acts_on, is_drawn_out, may_root, root_jobs, rooting, with_filter, may_stream, with_stream, streaming, creating_filter, filter_at, creating, is_live, new_stage, entered, ticked_at, ticked, is_due_tick, is_late, expires_all, noticed, moved, move_at, tells, made_one, made_with, roots, streams, ticks, tells_ready, takes_notice, notices, works, callback_of, number_of, vm_length, plugin_length}
 use Rattle.line_laws.specs.Logs.{WriteLogs}
 use Rattle.line_laws.proofs.Finding.{IsOnce}
 use Rattle.line_laws.proofs.Kept.{Kept, Staid, over_told, by_bool, kept_itself, passed_on_kept}

@@ -21,14 +21,14 @@ use Rattle.http1_model.specs.Head.{Head, SpellsStep, found}
 use Rattle.http1_model.specs.Length.{BodyLength, nothing, exactly, chunked, until_end}
 use Rattle.http1_model.specs.Messages.{head, Stop, rest, over, refusal, due_after, due_behind}
 use Rattle.http1_model.specs.Unread.{Part, head_part, interim_part, piece, trailer_part, Reading, Hands, Halts, due_at, IsNext, part}
-use Rattle.worker.specs.declared.room.Room.{Room}
-use Rattle.worker.specs.declared.types.Job.{Job}
-use Rattle.worker.specs.declared.types.Job.TheVariants as jobs
-use Rattle.worker.specs.declared.types.Line.{Line}
-use Rattle.worker.specs.declared.types.Reads.{Reads}
-use Rattle.worker.specs.Plan.{Plan}
-use Rattle.worker.specs.Rooms.{with_contexts}
-use Rattle.worker.specs.Steps.{change_line, change_exchange, on_lines, exchange_on, exchange_of_line, exchange_for, free_place, with_exchange, begun, read_on, noted, is_last, jobs_of, puts_items, refuses, creates, begins_for, begins_exchange, begins_with_head, reading_ends, with_item, joins, takes, in_contexts, head_item, put_trailers, hands_part, stops, in_front}
+use Rattle.worker_model.specs.Room.{Room}
+use Rattle.worker_model.specs.declared.types.Job.{Job}
+use Rattle.worker_model.specs.declared.types.Job.TheVariants as jobs
+use Rattle.worker_model.specs.declared.types.Line.{Line}
+use Rattle.worker_model.specs.declared.types.Reads.{Reads}
+use Rattle.worker_model.specs.Plan.{Plan}
+use Rattle.worker_model.specs.Rooms.{with_contexts}
+use Rattle.worker_model.specs.Steps.{change_line, change_exchange, on_lines, exchange_on, exchange_of_line, exchange_for, free_place, with_exchange, begun, read_on, noted, is_last, jobs_of, puts_items, refuses, creates, begins_for, begins_exchange, begins_with_head, reading_ends, with_item, joins, takes, in_contexts, head_item, put_trailers, hands_part, stops, in_front}
 use Rattle.line_laws.specs.Living.{requests_in}
 use Rattle.line_laws.specs.Heard.{items_of}
 use Rattle.line_laws.specs.Requests.{IsBegun}

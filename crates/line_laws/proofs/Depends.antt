@@ -26,8 +26,8 @@ use Rattle.http1_model.specs.Fields.{Pair}
 use Rattle.http1_model.specs.Framing.{head_wire, piece_wire, trailer_wire}
 use Rattle.http1_model.specs.LocalReply.{local_reply_of}
 use Rattle.http1_model.specs.Unread.{new_reading}
-use Rattle.worker.specs.Rooms.{marking}
-use Rattle.worker.specs.Steps.{is_live, new_stage, entered}
+use Rattle.worker_model.specs.Rooms.{marking}
+use Rattle.worker_model.specs.Steps.{is_live, new_stage, entered}
 use Rattle.line_laws.proofs.Looks.{IsPlain}
 
 -- ---- views

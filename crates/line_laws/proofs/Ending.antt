@@ -29,15 +29,15 @@ use Rattle.http1_model.specs.Framing as out
 use Rattle.http1_model.specs.Head.{Head}
 use Rattle.http1_model.specs.Messages.{head}
 use Rattle.http1_model.specs.Unread.{Reading}
-use Rattle.worker.specs.declared.room.Room.{Room}
-use Rattle.worker.specs.declared.types.Job.{Job}
-use Rattle.worker.specs.declared.types.Job.TheVariants as jobs
-use Rattle.worker.specs.declared.types.Line.{Line}
-use Rattle.worker.specs.declared.types.Reads.{Reads}
-use Rattle.worker.specs.Moves.{ended_at, ended_back, ended_in}
-use Rattle.worker.specs.Plan.{Plan}
-use Rattle.worker.specs.Rooms as rooms
-use Rattle.worker.specs.Steps.{done_jobs, close_up, ends_with, ends_at, exchange_for}
+use Rattle.worker_model.specs.Room.{Room}
+use Rattle.worker_model.specs.declared.types.Job.{Job}
+use Rattle.worker_model.specs.declared.types.Job.TheVariants as jobs
+use Rattle.worker_model.specs.declared.types.Line.{Line}
+use Rattle.worker_model.specs.declared.types.Reads.{Reads}
+use Rattle.worker_model.specs.Moves.{ended_at, ended_back, ended_in}
+use Rattle.worker_model.specs.Plan.{Plan}
+use Rattle.worker_model.specs.Rooms as rooms
+use Rattle.worker_model.specs.Steps.{done_jobs, close_up, ends_with, ends_at, exchange_for}
 use Rattle.line_laws.specs.Living.{requests_in}
 use Rattle.line_laws.specs.Requests.{is_whole, AreOf, IsSentOf, WholeReadsBack, IsExact, close_behind, OneByOne}
 use Rattle.line_laws.proofs.Earlier.{behind}

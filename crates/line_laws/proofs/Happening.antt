@@ -12,14 +12,14 @@ use Rattle.gate_io.specs.declared.event.Side.TheVariants.{Down, Up}
 use Rattle.gate_io.specs.declared.event.What.{What}
 use Rattle.gate_io.specs.declared.event.What.TheVariants as whats
 use Rattle.http1_model.specs.Unread.{Reading, finished, fed}
-use Rattle.worker.specs.declared.room.Room.{Room}
-use Rattle.worker.specs.declared.types.Job.TheVariants as jobs
-use Rattle.worker.specs.declared.types.Line.{Line}
-use Rattle.worker.specs.declared.types.Reads.{Reads}
-use Rattle.worker.specs.Plan.{Plan}
-use Rattle.worker.specs.Rooms as rooms
-use Rattle.worker.specs.Rooms.{moves, place_in, on_number, sending}
-use Rattle.worker.specs.Steps.{change_line, change_exchange, on_line, on_lines, exchange_of_line, exchange_on, line_in, line_reading, drops_line, reads_side, most_lines, new_line, place_for, opens, further, further_back, with_further, further_on, is_open, is_answered_in, is_read_in, comes, lost_exchange, lost, loses_down, is_missed, loses_up, happens}
+use Rattle.worker_model.specs.Room.{Room}
+use Rattle.worker_model.specs.declared.types.Job.TheVariants as jobs
+use Rattle.worker_model.specs.declared.types.Line.{Line}
+use Rattle.worker_model.specs.declared.types.Reads.{Reads}
+use Rattle.worker_model.specs.Plan.{Plan}
+use Rattle.worker_model.specs.Rooms as rooms
+use Rattle.worker_model.specs.Rooms.{moves, place_in, on_number, sending}
+use Rattle.worker_model.specs.Steps.{change_line, change_exchange, on_line, on_lines, exchange_of_line, exchange_on, line_in, line_reading, drops_line, reads_side, most_lines, new_line, place_for, opens, further, further_back, with_further, further_on, is_open, is_answered_in, is_read_in, comes, lost_exchange, lost, loses_down, is_missed, loses_up, happens}
 use Rattle.line_laws.proofs.Finding.{Seeks, missing, first, seeks, IsOnce, insert_other, insert_found, insert_once}
 use Rattle.line_laws.proofs.Hearing.{Feeds, no_feed, further_feeds}
 use Rattle.line_laws.proofs.Kept.{by_bool}

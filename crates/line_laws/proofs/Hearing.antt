@@ -6,8 +6,8 @@ use Rattle.filter_chain.specs.declared.item.Item.{Item}
 use Rattle.http1_model.specs.Head.{Head}
 use Rattle.http1_model.specs.Messages.{Stop}
 use Rattle.http1_model.specs.Unread.{Part, Reading, Hands, Halts, Act, feeds, ends, hands, halts, DoesAll, fed, finished}
-use Rattle.worker.specs.declared.types.Line.{Line}
-use Rattle.worker.specs.Steps.{further, head_item}
+use Rattle.worker_model.specs.declared.types.Line.{Line}
+use Rattle.worker_model.specs.Steps.{further, head_item}
 use Rattle.line_laws.specs.Heard.{items_of, items_heard, WasHeard}
 use Rattle.line_laws.proofs.Kept.{by_bool}
 use Rattle.line_laws.proofs.Looks.{look}

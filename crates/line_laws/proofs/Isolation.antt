@@ -9,21 +9,21 @@ use Rattle.course.specs.declared.host.Callback.TheVariants as callbacks
 use Rattle.course.specs.declared.host.Death.TheVariants as deaths
 use Rattle.exchange.specs.declared.types.Hub.{Hub}
 use Rattle.http1_model.specs.Unread.{Reading}
-use Rattle.worker.specs.declared.room.Room.{Room}
-use Rattle.worker.specs.declared.types.Asked.{Asked}
-use Rattle.worker.specs.declared.types.Job.{Job}
-use Rattle.worker.specs.declared.types.Job.TheVariants as jobs
-use Rattle.worker.specs.declared.types.Line.{Line}
-use Rattle.worker.specs.declared.types.NewContext.{NewContext}
-use Rattle.worker.specs.declared.types.Next.{Next}
-use Rattle.worker.specs.declared.types.Next.TheVariants as next
-use Rattle.worker.specs.declared.types.Own.{Own}
-use Rattle.worker.specs.declared.types.Own.TheVariants.{Nobody, Stage}
-use Rattle.worker.specs.declared.types.Reads.{Reads}
-use Rattle.worker.specs.Moves.{asks_at}
-use Rattle.worker.specs.Plan.{Plan}
-use Rattle.worker.specs.Rooms.{next_of, next_part, moves, moves_or, frees_or, ends_or, begins_or_rests, is_any, is_over, is_released, is_dead, with_lines}
-use Rattle.worker.specs.Steps.{Both, both, line_in, Answered, answered, Then, goes_on_with, nothing_more, called_in, called_live, calls_live, acts_on, unless_zero, done_with, deletes, rooting, creating, ticked, may_stream, reads_in, reads_next, reading_on, moved, move_at, tells, made_one, made_with, ticks_with, tells_ready, notices, works, works_first, callback_of, number_of, vm_length, plugin_length, step}
+use Rattle.worker_model.specs.Room.{Room}
+use Rattle.worker_model.specs.declared.types.Asked.{Asked}
+use Rattle.worker_model.specs.declared.types.Job.{Job}
+use Rattle.worker_model.specs.declared.types.Job.TheVariants as jobs
+use Rattle.worker_model.specs.declared.types.Line.{Line}
+use Rattle.worker_model.specs.declared.types.NewContext.{NewContext}
+use Rattle.worker_model.specs.declared.types.Next.{Next}
+use Rattle.worker_model.specs.declared.types.Next.TheVariants as next
+use Rattle.worker_model.specs.declared.types.Own.{Own}
+use Rattle.worker_model.specs.declared.types.Own.TheVariants.{Nobody, Stage}
+use Rattle.worker_model.specs.declared.types.Reads.{Reads}
+use Rattle.worker_model.specs.Moves.{asks_at}
+use Rattle.worker_model.specs.Plan.{Plan}
+use Rattle.worker_model.specs.Rooms.{next_of, next_part, moves, moves_or, frees_or, ends_or, begins_or_rests, is_any, is_over, is_released, is_dead, with_lines}
+use Rattle.worker_model.specs.Steps.{Both, both, line_in, Answered, answered, Then, goes_on_with, nothing_more, called_in, called_live, calls_live, acts_on, unless_zero, done_with, deletes, rooting, creating, ticked, may_stream, reads_in, reads_next, reading_on, moved, move_at, tells, made_one, made_with, ticks_with, tells_ready, notices, works, works_first, callback_of, number_of, vm_length, plugin_length, step}
 use Rattle.line_laws.specs.Isolation.{IsFree, is_job_of, is_read_of, is_at, is_work_of, is_first_of, is_step_of, lines_on, IsUntouched, StepsOfOthers, no_step, one_step, OthersLeaveTheLine}
 use Rattle.line_laws.specs.Logs.{WriteLogs}
 use Rattle.line_laws.proofs.Kept.{by_bool}

@@ -5,7 +5,7 @@ use Rattle.line_laws.specs.Isolation.{IsFree}
 use Rattle.line_laws.specs.IsolationExamples.{answering, trapping, the_filter, two_lines, behind, IsolationExample}
 use Rattle.line_laws.specs.Logs.{WriteLogs}
 use Rattle.line_laws.proofs.Isolation.{each_leaves}
-use Rattle.worker.specs.Steps.{both}
+use Rattle.worker_model.specs.Steps.{both}
 
 two_free : IsFree 2 two_lines.lines
 two_free = ((λ e. absurd (cc)), ((λ e. (refl, refl, refl)), tt))

@@ -3,7 +3,7 @@ use Rattle.std.proofs.Common.{◌≡◌, Bool, true, false, ◌||◌, List, [], 
 use Rattle.exchange_laws.specs.Responses.{IsBody, IsMessage}
 use Rattle.filter_chain.specs.declared.item.Item.{Item}
 use Rattle.filter_chain.specs.declared.item.Item.TheVariants.{Head, Piece, Trailers}
-use Rattle.worker.specs.Steps.{begins_with_head, is_last}
+use Rattle.worker_model.specs.Steps.{begins_with_head, is_last}
 use Rattle.line_laws.proofs.Lives.{NoHead}
 use Rattle.line_laws.proofs.Phases.{Phase, fresh, inside, bare, whole as all, run, IsSound}
 use Rattle.line_laws.proofs.Story.{is_whole, Proper}

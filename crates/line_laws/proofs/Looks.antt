@@ -24,9 +24,9 @@ use Rattle.filter_chain.specs.declared.item.Passed.TheVariants as passed
 use Rattle.gate_io.specs.declared.event.Sent.{Sent}
 use Rattle.gate_io.specs.declared.event.Sent.TheVariants as to
 use Rattle.gate_io.specs.declared.event.Side.TheVariants.{Down, Up}
-use Rattle.worker.specs.declared.types.Line.{Line}
-use Rattle.worker.specs.Rooms.{Changes, marking, in_exchange, in_line, at_some, at_place, all_lines}
-use Rattle.worker.specs.Steps.{with_filter, change_line, change_exchange, line_at, line_at_place, in_place, line_in}
+use Rattle.worker_model.specs.declared.types.Line.{Line}
+use Rattle.worker_model.specs.Rooms.{Changes, marking, in_exchange, in_line, at_some, at_place, all_lines}
+use Rattle.worker_model.specs.Steps.{with_filter, change_line, change_exchange, line_at, line_at_place, in_place, line_in}
 use Rattle.line_laws.specs.Clients.{clients, client_of}
 use Rattle.line_laws.specs.Living.{request_in, requests_in, IsFairly, LivesBy}
 use Rattle.line_laws.proofs.Finding.{Seeks, missing, first, seeks, IsOnce, set_other, only_found, set_once, set_there}

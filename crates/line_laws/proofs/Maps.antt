@@ -9,7 +9,7 @@ use Rattle.contexts.specs.Creating.{new_exchange, opened, placed_at, place_or}
 use Rattle.contexts.specs.Reached.{exchange_at, view_at, with_view}
 use Rattle.exchange.specs.Maps.{or_none, request_in, request_map, in_view, put_request_trailers, mark}
 use Rattle.header_maps.specs.Headers.{Headers}
-use Rattle.worker.specs.Steps.{free_place}
+use Rattle.worker_model.specs.Steps.{free_place}
 
 -- a view that changes at a place, with the same map of the request
 set_view : (xs : List (Option parts.Exchange)) (q p : ℕ) (v w : ExchangeView) → view_at xs q ≡ Some v → w.maps.request ≡ v.maps.request

@@ -3,13 +3,13 @@ use Rattle.std.proofs.Common.{◌≡◌, ℕ, zero, suc, ◌==◌, Bool, true, f
 use Rattle.std.specs.Prelude.{Option, None, Some, option_map, slice_get, slice_set, find, if◌then◌else◌}
 use Rattle.exchange.specs.declared.types.Exchange.{Exchange}
 use Rattle.filter_chain.specs.declared.item.Item.{Item}
-use Rattle.worker.specs.declared.room.Room.{Room}
-use Rattle.worker.specs.declared.types.Job.{Job}
-use Rattle.worker.specs.declared.types.Job.TheVariants as jobs
-use Rattle.worker.specs.declared.types.Line.{Line}
-use Rattle.worker.specs.declared.types.Reads.{Reads}
-use Rattle.worker.specs.Rooms.{moves}
-use Rattle.worker.specs.Steps.{on_line, line_at, line_at_place, creates, refuses, puts_items, begins_exchange, begins_for, begins_with_head, jobs_of, exchange_on}
+use Rattle.worker_model.specs.Room.{Room}
+use Rattle.worker_model.specs.declared.types.Job.{Job}
+use Rattle.worker_model.specs.declared.types.Job.TheVariants as jobs
+use Rattle.worker_model.specs.declared.types.Line.{Line}
+use Rattle.worker_model.specs.declared.types.Reads.{Reads}
+use Rattle.worker_model.specs.Rooms.{moves}
+use Rattle.worker_model.specs.Steps.{on_line, line_at, line_at_place, creates, refuses, puts_items, begins_exchange, begins_for, begins_with_head, jobs_of, exchange_on}
 use Rattle.line_laws.proofs.Finding.{Seeks, missing, first, seeks, IsOnce, set_other, only_found, set_once, set_there}
 use Rattle.line_laws.proofs.Kept.{by_bool}
 use Rattle.line_laws.proofs.Looks.{is_n, look, equal_by}

@@ -15,18 +15,18 @@ use Rattle.gate_io.specs.declared.event.Sent.{Sent}
 use Rattle.gate_io.specs.declared.event.Sent.TheVariants as to
 use Rattle.gate_io.specs.declared.event.What.{What}
 use Rattle.outbox.specs.Joined.{are_one, as_one, neighbours, behind_all, joined_behind, joined}
-use Rattle.worker.specs.declared.room.Room.{Room}
-use Rattle.worker.specs.declared.types.Job.{Job}
-use Rattle.worker.specs.declared.types.Job.TheVariants as jobs
-use Rattle.worker.specs.declared.types.Line.{Line}
-use Rattle.worker.specs.declared.types.Next.{Next}
-use Rattle.worker.specs.declared.types.Next.TheVariants as next
-use Rattle.worker.specs.declared.types.Reads.{Reads}
-use Rattle.worker.specs.Plan.{Plan}
-use Rattle.worker.specs.Rooms.{next_of, next_part, moves, moves_or, frees_or, ends_or, begins_or_rests, is_any, is_over, is_released}
-use Rattle.worker.specs.Settling.{settling, settling_none, settling_rest, settling_step, rests}
-use Rattle.worker.specs.Steps.{Both, is_late, step}
-use Rattle.worker.specs.Turn.{is_of, roots_from, start_of, starts_of, vms_in, starts, is_due_now, ticks_in, ticks_of, ticks_due, deadlines, registers_at, notice_of, notices_of, agenda_of, at_moment, facing, most_steps, Outcome, comes_to, turned, turn_by, turn}
+use Rattle.worker_model.specs.Room.{Room}
+use Rattle.worker_model.specs.declared.types.Job.{Job}
+use Rattle.worker_model.specs.declared.types.Job.TheVariants as jobs
+use Rattle.worker_model.specs.declared.types.Line.{Line}
+use Rattle.worker_model.specs.declared.types.Next.{Next}
+use Rattle.worker_model.specs.declared.types.Next.TheVariants as next
+use Rattle.worker_model.specs.declared.types.Reads.{Reads}
+use Rattle.worker_model.specs.Plan.{Plan}
+use Rattle.worker_model.specs.Rooms.{next_of, next_part, moves, moves_or, frees_or, ends_or, begins_or_rests, is_any, is_over, is_released}
+use Rattle.worker_model.specs.Settling.{settling, settling_none, settling_rest, settling_step, rests}
+use Rattle.worker_model.specs.Steps.{Both, is_late, step}
+use Rattle.worker_model.specs.Turn.{is_of, roots_from, start_of, starts_of, vms_in, starts, is_due_now, ticks_in, ticks_of, ticks_due, deadlines, registers_at, notice_of, notices_of, agenda_of, at_moment, facing, most_steps, Outcome, comes_to, turned, turn_by, turn}
 use Rattle.line_laws.specs.Isolation.{lines_on, IsFree, is_event_of, is_job_of, jobs_on, is_read_of, is_sent_on, sent_on, is_at, is_late_on, is_work_of, is_first_of, is_step_of, IsUntouched, IsAsBefore, TurnsOfOthersLeaveTheLine}
 use Rattle.line_laws.specs.Logs.{WriteLogs}
 use Rattle.line_laws.proofs.Finding.{Seeks, missing, first, seeks}

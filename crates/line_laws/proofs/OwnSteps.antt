@@ -26,17 +26,17 @@ use Rattle.header_maps.specs.Operations.{no_headers}
 use Rattle.http1_model.specs.Head.{Head}
 use Rattle.http1_model.specs.Messages.{Stop, rest, over, refusal}
 use Rattle.http1_model.specs.Unread.{Part, head_part, interim_part, piece, trailer_part, Reading}
-use Rattle.worker.specs.declared.room.Room.{Room}
-use Rattle.worker.specs.declared.types.Job.{Job}
-use Rattle.worker.specs.declared.types.Job.TheVariants as jobs
-use Rattle.worker.specs.declared.types.Line.{Line}
-use Rattle.worker.specs.declared.types.Next.{Next}
-use Rattle.worker.specs.declared.types.Next.TheVariants as next
-use Rattle.worker.specs.declared.types.Reads.{Reads}
-use Rattle.worker.specs.Moves.{ended_in, ended_back, ended_at}
-use Rattle.worker.specs.Plan.{Plan}
-use Rattle.worker.specs.Rooms.{Changes, in_exchange, in_line, at_some, at_place, all_lines, place_in, with_lines, on_number, exchange_moves, next_of, next_part, moves, moves_or, frees_or, ends_or, begins_or_rests, is_any, is_over, is_released, sending}
-use Rattle.worker.specs.Steps.{Both, both, change_exchange, change_line, line_at, line_at_place, exchange_of_line, line_in, exchange_on, in_place, open_filter, filter_at, creating_filter, made_with, is_live, new_stage, entering, filters_of, plugins_at, is_gone, with_exchange, exchange_for, free_place, begun, line_reading, reading_on, read_on, with_reader, is_last, noted, on_lines, takes, keeps_response, in_contexts, head_item, put_trailers, hands_part, stops, after_heard, drops_at, drops_line, closes_line, line_ends, fixed_answer, refusal_sent, refuses_in, refuses_line, most_lines, new_line, place_for, opens, with_further, further_on, is_open, is_answered_in, is_read_in, comes_on, lost_exchange, lost, loses_down, is_missed, loses_up, happens, ends_with, ends_at, is_late, expires_all, reads_in, reads_next, works, works_first, step}
+use Rattle.worker_model.specs.Room.{Room}
+use Rattle.worker_model.specs.declared.types.Job.{Job}
+use Rattle.worker_model.specs.declared.types.Job.TheVariants as jobs
+use Rattle.worker_model.specs.declared.types.Line.{Line}
+use Rattle.worker_model.specs.declared.types.Next.{Next}
+use Rattle.worker_model.specs.declared.types.Next.TheVariants as next
+use Rattle.worker_model.specs.declared.types.Reads.{Reads}
+use Rattle.worker_model.specs.Moves.{ended_in, ended_back, ended_at}
+use Rattle.worker_model.specs.Plan.{Plan}
+use Rattle.worker_model.specs.Rooms.{Changes, in_exchange, in_line, at_some, at_place, all_lines, place_in, with_lines, on_number, exchange_moves, next_of, next_part, moves, moves_or, frees_or, ends_or, begins_or_rests, is_any, is_over, is_released, sending}
+use Rattle.worker_model.specs.Steps.{Both, both, change_exchange, change_line, line_at, line_at_place, exchange_of_line, line_in, exchange_on, in_place, open_filter, filter_at, creating_filter, made_with, is_live, new_stage, entering, filters_of, plugins_at, is_gone, with_exchange, exchange_for, free_place, begun, line_reading, reading_on, read_on, with_reader, is_last, noted, on_lines, takes, keeps_response, in_contexts, head_item, put_trailers, hands_part, stops, after_heard, drops_at, drops_line, closes_line, line_ends, fixed_answer, refusal_sent, refuses_in, refuses_line, most_lines, new_line, place_for, opens, with_further, further_on, is_open, is_answered_in, is_read_in, comes_on, lost_exchange, lost, loses_down, is_missed, loses_up, happens, ends_with, ends_at, is_late, expires_all, reads_in, reads_next, works, works_first, step}
 use Rattle.line_laws.specs.Isolation.{IsUnfiltered, IsFree, is_read_of, is_at, is_work_of, is_first_of, is_step_of, CallsNone, TakesNoFilters, OwnStepsCallNothing}
 use Rattle.line_laws.proofs.Finding.{Seeks, missing, first, seeks}
 use Rattle.line_laws.proofs.Kept.{by_bool}

@@ -22,11 +22,11 @@ use Rattle.http1_model.specs.Framing.{Framing, no_body, by_length, framing_of, O
 use Rattle.http1_model.specs.Framing as out
 use Rattle.http1_model.specs.Head.{Head}
 use Rattle.http1_model.specs.Unread.{Reading}
-use Rattle.worker.specs.declared.types.Job.{Job}
-use Rattle.worker.specs.declared.types.Line.{Line}
-use Rattle.worker.specs.declared.types.Reads.{Reads}
-use Rattle.worker.specs.Plan.{Plan}
-use Rattle.worker.specs.Steps.{head_item}
+use Rattle.worker_model.specs.declared.types.Job.{Job}
+use Rattle.worker_model.specs.declared.types.Line.{Line}
+use Rattle.worker_model.specs.declared.types.Reads.{Reads}
+use Rattle.worker_model.specs.Plan.{Plan}
+use Rattle.worker_model.specs.Steps.{head_item}
 use Rattle.line_laws.specs.Heard.{items_heard, WasHeard}
 use Rattle.line_laws.specs.Requests.{is_whole, AreEmpty, IsAllOfOne, GoesUp, sends_nothing, sends_request, Part, IsPart, close_behind, traffic_of, AreParts, OneByOne}
 use Rattle.line_laws.proofs.Items.{message_front}

@@ -9,11 +9,11 @@ use Rattle.filter_chain.specs.declared.item.Item.{Item}
 use Rattle.gate_io.specs.declared.event.Sent.{Sent}
 use Rattle.http1_model.specs.Messages.{head}
 use Rattle.http1_model.specs.Unread.{Reading}
-use Rattle.worker.specs.declared.room.Room.{Room}
-use Rattle.worker.specs.declared.types.Line.{Line}
-use Rattle.worker.specs.declared.types.Reads.{Reads}
-use Rattle.worker.specs.Plan.{Plan}
-use Rattle.worker.specs.Steps.{Both, on_line, on_lines, exchange_on, exchange_of_line, exchange_reading, line_in, read_on, reading_on, line_reading, reads_in, reads_next, after_heard}
+use Rattle.worker_model.specs.Room.{Room}
+use Rattle.worker_model.specs.declared.types.Line.{Line}
+use Rattle.worker_model.specs.declared.types.Reads.{Reads}
+use Rattle.worker_model.specs.Plan.{Plan}
+use Rattle.worker_model.specs.Steps.{Both, on_line, on_lines, exchange_on, exchange_of_line, exchange_reading, line_in, read_on, reading_on, line_reading, reads_in, reads_next, after_heard}
 use Rattle.line_laws.proofs.Looks.{look, line_in_is, equal_by, equal_is}
 use Rattle.line_laws.proofs.OnLines.{on_same}
 use Rattle.line_laws.proofs.Story.{Tail, Rests, HasClose, pending, LineOk, ExOk, Known}

@@ -20,8 +20,8 @@ use Rattle.http1_model.specs.Framing as out
 use Rattle.http1_model.specs.Head.{Head}
 use Rattle.http1_model.specs.Length.{nothing, chunked}
 use Rattle.http1_model.specs.Wire.{field_line, field_lines, sent_fields, via_of, close_field}
-use Rattle.worker.specs.Plan.{Plan}
-use Rattle.worker.specs.declared.room.Room.{Room}
+use Rattle.worker_model.specs.Plan.{Plan}
+use Rattle.worker_model.specs.Room.{Room}
 use Rattle.line_laws.specs.Examples.{openings, posted_wire, Refused}
 use Rattle.line_laws.specs.Requests.{GoesUp, sends_nothing, sends_request, close_behind, IsAllOfOne, AreEmpty, IsExact, IsOpen, Part, IsPart, traffic_of}
 

@@ -25,17 +25,17 @@ use Rattle.exchange_laws.proofs.Traffic.{ups_join}
 use Rattle.gate_io.specs.declared.event.Sent.{Sent}
 use Rattle.gate_io.specs.declared.event.Sent.TheVariants as to
 use Rattle.store_model.specs.Program.{Program, done, ask, measure}
-use Rattle.worker.specs.Changes.{changed}
-use Rattle.worker.specs.declared.types.Change.TheVariants as changes
-use Rattle.worker.specs.declared.room.Room.{Room}
-use Rattle.worker.specs.declared.types.Asked.{Asked}
-use Rattle.worker.specs.declared.types.ContextAt.{ContextAt}
-use Rattle.worker.specs.declared.types.Job.{Job}
-use Rattle.worker.specs.declared.types.Job.TheVariants as jobs
-use Rattle.worker.specs.declared.types.Line.{Line}
-use Rattle.worker.specs.declared.types.Own.{Own}
-use Rattle.worker.specs.Rooms.{Changes, all_lines, with_lines, place_in, place_of, on_number, on_context, with_contexts, sending, is_own, does, effects_of, without_effects, died, death_text, behind, answered_with}
-use Rattle.worker.specs.Steps.{Both, Then, nothing_more, is_zero, action_of, in_front, unless_zero, has_vm, waits, last_jobs, done_with, deletes, acts_on}
+use Rattle.worker_model.specs.Changes.{changed}
+use Rattle.worker_model.specs.declared.types.Change.TheVariants as changes
+use Rattle.worker_model.specs.Room.{Room}
+use Rattle.worker_model.specs.declared.types.Asked.{Asked}
+use Rattle.worker_model.specs.declared.types.ContextAt.{ContextAt}
+use Rattle.worker_model.specs.declared.types.Job.{Job}
+use Rattle.worker_model.specs.declared.types.Job.TheVariants as jobs
+use Rattle.worker_model.specs.declared.types.Line.{Line}
+use Rattle.worker_model.specs.declared.types.Own.{Own}
+use Rattle.worker_model.specs.Rooms.{Changes, all_lines, with_lines, place_in, place_of, on_number, on_context, with_contexts, sending, is_own, does, effects_of, without_effects, died, death_text, behind, answered_with}
+use Rattle.worker_model.specs.Steps.{Both, Then, nothing_more, is_zero, action_of, in_front, unless_zero, has_vm, waits, last_jobs, done_with, deletes, acts_on}
 use Rattle.line_laws.specs.Clients.{clients, client_of}
 use Rattle.line_laws.specs.Logs.{AreLogs, OnlyLogs}
 use Rattle.line_laws.proofs.Finding.{IsOnce}

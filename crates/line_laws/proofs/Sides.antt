@@ -15,13 +15,13 @@ use Rattle.gate_io.specs.declared.event.Sent.{Sent}
 use Rattle.header_maps.specs.Headers.{Headers}
 use Rattle.http1_model.specs.Messages.{Due, head}
 use Rattle.http1_model.specs.Unread.{Reading}
-use Rattle.worker.specs.declared.room.Room.{Room}
-use Rattle.worker.specs.declared.types.Job.{Job}
-use Rattle.worker.specs.declared.types.Line.{Line}
-use Rattle.worker.specs.declared.types.Reads.{Reads}
-use Rattle.worker.specs.Plan.{Plan}
-use Rattle.worker.specs.Rooms.{moves}
-use Rattle.worker.specs.Steps.{change_line, change_exchange, exchange_on, read_on, with_reader, jobs_of, puts_items, refuses, begins_for, begins_with_head}
+use Rattle.worker_model.specs.Room.{Room}
+use Rattle.worker_model.specs.declared.types.Job.{Job}
+use Rattle.worker_model.specs.declared.types.Line.{Line}
+use Rattle.worker_model.specs.declared.types.Reads.{Reads}
+use Rattle.worker_model.specs.Plan.{Plan}
+use Rattle.worker_model.specs.Rooms.{moves}
+use Rattle.worker_model.specs.Steps.{change_line, change_exchange, exchange_on, read_on, with_reader, jobs_of, puts_items, refuses, begins_for, begins_with_head}
 use Rattle.line_laws.specs.Requests.{OneByOne}
 use Rattle.line_laws.proofs.Finding.{IsOnce}
 use Rattle.line_laws.proofs.Kept.{Staid}

@@ -45,21 +45,21 @@ use Rattle.http1_model.specs.Messages.{Stop, rest, over, refusal}
 use Rattle.http1_model.specs.Unread.{Part, head_part, interim_part, piece, trailer_part, Reading}
 use Rattle.store_model.specs.declared.call.Reply.{Reply}
 use Rattle.store_model.specs.declared.call.Reply.TheVariants as replies
-use Rattle.worker.specs.Changes.{changed}
-use Rattle.worker.specs.declared.room.Room.{Room}
-use Rattle.worker.specs.declared.types.Asked.{Asked}
-use Rattle.worker.specs.declared.types.Change.TheVariants as changes
-use Rattle.worker.specs.declared.types.ContextAt.{ContextAt}
-use Rattle.worker.specs.declared.types.Job.{Job}
-use Rattle.worker.specs.declared.types.Job.TheVariants as jobs
-use Rattle.worker.specs.declared.types.Line.{Line}
-use Rattle.worker.specs.declared.types.NewContext.{NewContext}
-use Rattle.worker.specs.declared.types.Own.{Own}
-use Rattle.worker.specs.declared.types.Reads.{Reads}
-use Rattle.worker.specs.Moves.{asks_stage, asks_as, asks_exchange, asks_response, asks_in, asks_back, asks_at, count_of, ended_in, ended_back, ended_at}
-use Rattle.worker.specs.Plan.{Plan}
-use Rattle.worker.specs.Rooms.{Changes, all_lines, place_in, with_lines, on_number, on_context, with_contexts, sending, is_own, is_dead, does, effects_of, without_effects, death_text, died, answered_with}
-use Rattle.worker.specs.Steps.{Then, is_zero, action_of, in_front, unless_zero, has_vm, waits, last_jobs, done_with, deletes, acts_on, is_drawn_out, may_root, root_jobs, rooting, with_filter, change_exchange, change_line, exchange_of_line, line_in, exchange_on, may_stream, with_stream, streaming, creating_filter, filter_at, creating, entering, with_exchange, exchange_for, free_place, begun, line_reading, read_on, with_reader, is_last, noted, on_lines, jobs_of, reading_ends, with_item, joins, takes, keeps_response, in_contexts, head_item, interim_of, put_trailers, hands_part, stops, after_heard, drops_line, closes_line, reads_side, line_ends, fixed_answer, refusal_sent, refuses_in, refuses_line, most_lines, new_line, place_for, opens, with_further, further_on, is_open, is_answered_in, is_read_in, comes_on, lost_exchange, lost, loses_down, is_missed, loses_up, happens, done_jobs, close_up, ends_exchange, ends_with, ends_at, is_due_tick, ticked_at, ticked, is_late, expires_all, noticed, quietly, first_begun, frees_at, frees}
+use Rattle.worker_model.specs.Changes.{changed}
+use Rattle.worker_model.specs.Room.{Room}
+use Rattle.worker_model.specs.declared.types.Asked.{Asked}
+use Rattle.worker_model.specs.declared.types.Change.TheVariants as changes
+use Rattle.worker_model.specs.declared.types.ContextAt.{ContextAt}
+use Rattle.worker_model.specs.declared.types.Job.{Job}
+use Rattle.worker_model.specs.declared.types.Job.TheVariants as jobs
+use Rattle.worker_model.specs.declared.types.Line.{Line}
+use Rattle.worker_model.specs.declared.types.NewContext.{NewContext}
+use Rattle.worker_model.specs.declared.types.Own.{Own}
+use Rattle.worker_model.specs.declared.types.Reads.{Reads}
+use Rattle.worker_model.specs.Moves.{asks_stage, asks_as, asks_exchange, asks_response, asks_in, asks_back, asks_at, count_of, ended_in, ended_back, ended_at}
+use Rattle.worker_model.specs.Plan.{Plan}
+use Rattle.worker_model.specs.Rooms.{Changes, all_lines, place_in, with_lines, on_number, on_context, with_contexts, sending, is_own, is_dead, does, effects_of, without_effects, death_text, died, answered_with}
+use Rattle.worker_model.specs.Steps.{Then, is_zero, action_of, in_front, unless_zero, has_vm, waits, last_jobs, done_with, deletes, acts_on, is_drawn_out, may_root, root_jobs, rooting, with_filter, change_exchange, change_line, exchange_of_line, line_in, exchange_on, may_stream, with_stream, streaming, creating_filter, filter_at, creating, entering, with_exchange, exchange_for, free_place, begun, line_reading, read_on, with_reader, is_last, noted, on_lines, jobs_of, reading_ends, with_item, joins, takes, keeps_response, in_contexts, head_item, interim_of, put_trailers, hands_part, stops, after_heard, drops_line, closes_line, reads_side, line_ends, fixed_answer, refusal_sent, refuses_in, refuses_line, most_lines, new_line, place_for, opens, with_further, further_on, is_open, is_answered_in, is_read_in, comes_on, lost_exchange, lost, loses_down, is_missed, loses_up, happens, done_jobs, close_up, ends_exchange, ends_with, ends_at, is_due_tick, ticked_at, ticked, is_late, expires_all, noticed, quietly, first_begun, frees_at, frees}
 use Rattle.line_laws.specs.Isolation.{lines_on, IsFree, is_event_of, is_job_of, jobs_on, is_read_of, sent_on, is_at, is_late_on, is_work_of}
 use Rattle.line_laws.specs.Logs.{AreLogs}
 use Rattle.line_laws.proofs.Calls.{asks_on}

@@ -5,19 +5,19 @@ use Rattle.std.specs.Prelude.{Option, None, Some, is_some, slice_get, remove, po
 use Rattle.course.specs.Course.{Course, ends, asks, measures, hears}
 use Rattle.course.proofs.Holds.{AllEnds, all_then}
 use Rattle.gate_io.specs.declared.event.Sent.{Sent}
-use Rattle.worker.specs.declared.room.Room.{Room}
-use Rattle.worker.specs.declared.types.ContextAt.{ContextAt}
-use Rattle.worker.specs.declared.types.Job.{Job}
-use Rattle.worker.specs.declared.types.Job.TheVariants as jobs
-use Rattle.worker.specs.declared.types.Line.{Line}
-use Rattle.worker.specs.declared.types.Next.{Next}
-use Rattle.worker.specs.declared.types.Next.TheVariants as next
-use Rattle.worker.specs.declared.types.Reads.{Reads}
-use Rattle.worker.specs.Plan.{Plan}
-use Rattle.worker.specs.Rooms as rooms
-use Rattle.worker.specs.Rooms.{next_of, next_part, moves, moves_or, frees_or, ends_or, begins_or_rests, is_any, is_released}
-use Rattle.worker.specs.Settling.{settling, settling_none, settling_rest, settling_step, rests}
-use Rattle.worker.specs.Steps.{Both, step, works, works_first, frees, frees_at, last_jobs, first_begun}
+use Rattle.worker_model.specs.Room.{Room}
+use Rattle.worker_model.specs.declared.types.ContextAt.{ContextAt}
+use Rattle.worker_model.specs.declared.types.Job.{Job}
+use Rattle.worker_model.specs.declared.types.Job.TheVariants as jobs
+use Rattle.worker_model.specs.declared.types.Line.{Line}
+use Rattle.worker_model.specs.declared.types.Next.{Next}
+use Rattle.worker_model.specs.declared.types.Next.TheVariants as next
+use Rattle.worker_model.specs.declared.types.Reads.{Reads}
+use Rattle.worker_model.specs.Plan.{Plan}
+use Rattle.worker_model.specs.Rooms as rooms
+use Rattle.worker_model.specs.Rooms.{next_of, next_part, moves, moves_or, frees_or, ends_or, begins_or_rests, is_any, is_released}
+use Rattle.worker_model.specs.Settling.{settling, settling_none, settling_rest, settling_step, rests}
+use Rattle.worker_model.specs.Steps.{Both, step, works, works_first, frees, frees_at, last_jobs, first_begun}
 use Rattle.line_laws.specs.Logs.{WriteLogs}
 use Rattle.line_laws.proofs.Finding.{Seeks, missing, first, seeks}
 use Rattle.line_laws.proofs.Looks.{look, still_aside, beside_itself}

@@ -21,15 +21,15 @@ use Rattle.gate_io.specs.declared.event.Sent.{Sent}
 use Rattle.header_maps.specs.Headers.{Headers}
 use Rattle.http1_model.specs.Head.{Head}
 use Rattle.http1_model.specs.Messages.{Due, head}
-use Rattle.worker.specs.declared.room.Room.{Room}
-use Rattle.worker.specs.declared.types.Job.{Job}
-use Rattle.worker.specs.declared.types.Job.TheVariants as jobs
-use Rattle.worker.specs.declared.types.Line.{Line}
-use Rattle.worker.specs.declared.types.Reads.{Reads}
-use Rattle.worker.specs.Plan.{Plan}
-use Rattle.worker.specs.Rooms as rooms
-use Rattle.worker.specs.Rooms.{moves}
-use Rattle.worker.specs.Steps.{begins_with_head}
+use Rattle.worker_model.specs.Room.{Room}
+use Rattle.worker_model.specs.declared.types.Job.{Job}
+use Rattle.worker_model.specs.declared.types.Job.TheVariants as jobs
+use Rattle.worker_model.specs.declared.types.Line.{Line}
+use Rattle.worker_model.specs.declared.types.Reads.{Reads}
+use Rattle.worker_model.specs.Plan.{Plan}
+use Rattle.worker_model.specs.Rooms as rooms
+use Rattle.worker_model.specs.Rooms.{moves}
+use Rattle.worker_model.specs.Steps.{begins_with_head}
 use Rattle.line_laws.specs.Living.{requests_in, request_in, LivesBy}
 pub use Rattle.line_laws.specs.Requests.{is_whole}
 use Rattle.line_laws.specs.Requests.{IsBegun, Began, OneByOne, AreOf, IsAskedAs}

@@ -17,7 +17,7 @@ use Rattle.http1_model.specs.Length.{BodyLength, nothing, exactly, chunked, unti
 use Rattle.http1_model.specs.Messages.{due_after, due_behind, request, interim, response, octet, end, trailers, counted, Due, head, body, Step, item, stop, counted_step, StepsTo}
 use Rattle.http1_model.specs.Trailers.{piece_limit}
 use Rattle.http1_model.specs.Unread.{due_at, Part, head_part, interim_part, piece, trailer_part, Next, part, none, Carries, by_itself, piece_before, IsNext, Reading, Hands, Act, feeds, ends, hands, halts, DoesAll}
-use Rattle.worker.specs.Steps.{head_item}
+use Rattle.worker_model.specs.Steps.{head_item}
 use Rattle.line_laws.specs.Heard.{items_of, items_heard, WasHeard}
 use Rattle.line_laws.specs.Requests.{is_whole}
 use Rattle.line_laws.proofs.Readable.{IsSmall}

@@ -13,12 +13,12 @@ use Rattle.filter_chain.specs.declared.item.Item.{Item}
 use Rattle.gate_io.specs.declared.event.Sent.{Sent}
 use Rattle.header_maps.specs.Headers.{Headers}
 use Rattle.http1_model.specs.Messages.{Due, head}
-use Rattle.worker.specs.declared.types.Job.{Job}
-use Rattle.worker.specs.declared.types.Line.{Line}
-use Rattle.worker.specs.declared.types.Reads.{Reads}
-use Rattle.worker.specs.Plan.{Plan}
-use Rattle.worker.specs.Rooms.{Changes, marking, in_line, in_exchange, with_result, put_back, at_some, at_place, place_in}
-use Rattle.worker.specs.Steps.{exchange_of_line, begins_with_head}
+use Rattle.worker_model.specs.declared.types.Job.{Job}
+use Rattle.worker_model.specs.declared.types.Line.{Line}
+use Rattle.worker_model.specs.declared.types.Reads.{Reads}
+use Rattle.worker_model.specs.Plan.{Plan}
+use Rattle.worker_model.specs.Rooms.{Changes, marking, in_line, in_exchange, with_result, put_back, at_some, at_place, place_in}
+use Rattle.worker_model.specs.Steps.{exchange_of_line, begins_with_head}
 use Rattle.line_laws.specs.Living.{request_in}
 use Rattle.line_laws.proofs.Finding.{Seeks, missing, first, seeks, IsOnce, only_found, set_once, set_there}
 use Rattle.line_laws.proofs.Hearing.{Listens, Feeds, feeds_listen}

@@ -29,15 +29,15 @@ use Rattle.http1_model.specs.Head.{Head}
 use Rattle.http1_model.specs.Messages.{Due}
 use Rattle.http1_model.specs.Unread.{Reading}
 use Rattle.outbox.specs.Joined.{joined}
-use Rattle.worker.specs.declared.room.Room.{Room}
-use Rattle.worker.specs.declared.types.Job.{Job}
-use Rattle.worker.specs.declared.types.Job.TheVariants as jobs
-use Rattle.worker.specs.declared.types.Line.{Line}
-use Rattle.worker.specs.declared.types.Reads.{Reads}
-use Rattle.worker.specs.Plan.{Plan}
-use Rattle.worker.specs.Settling.{settling}
-use Rattle.worker.specs.Steps.{Both, both, exchange_of_line, exchange_on, line_in, line_reading}
-use Rattle.worker.specs.Turn.{Outcome, turn, turn_by, facing, agenda_of, starts, starts_of, start_of, roots_from, vms_in, is_of, ticks_in, ticks_of, ticks_due, deadlines, notice_of, notices_of, is_due_now, registers_at, most_steps, comes_to, emptied}
+use Rattle.worker_model.specs.Room.{Room}
+use Rattle.worker_model.specs.declared.types.Job.{Job}
+use Rattle.worker_model.specs.declared.types.Job.TheVariants as jobs
+use Rattle.worker_model.specs.declared.types.Line.{Line}
+use Rattle.worker_model.specs.declared.types.Reads.{Reads}
+use Rattle.worker_model.specs.Plan.{Plan}
+use Rattle.worker_model.specs.Settling.{settling}
+use Rattle.worker_model.specs.Steps.{Both, both, exchange_of_line, exchange_on, line_in, line_reading}
+use Rattle.worker_model.specs.Turn.{Outcome, turn, turn_by, facing, agenda_of, starts, starts_of, start_of, roots_from, vms_in, is_of, ticks_in, ticks_of, ticks_due, deadlines, notice_of, notices_of, is_due_now, registers_at, most_steps, comes_to, emptied}
 use Rattle.line_laws.specs.Laws.{ExchangesLive, RequestsGoUpOneByOne}
 use Rattle.line_laws.specs.Logs.{WriteLogs}
 use Rattle.line_laws.specs.Living.{requests_in, request_in, LivesBy}

@@ -17,9 +17,9 @@ use Rattle.exchange_laws.proofs.Own.{own_line}
 use Rattle.filter_chain.specs.declared.stage.Stage.{Stage}
 use Rattle.gate_io.specs.declared.event.Sent.{Sent}
 use Rattle.gate_io.specs.declared.event.Sent.TheVariants as to
-use Rattle.worker.specs.declared.types.Line.{Line}
-use Rattle.worker.specs.Rooms.{Changes, in_exchange, in_line, at_some, at_place, all_lines, place_in, place_of, has_open}
-use Rattle.worker.specs.Steps.{is_late, on_line, line_at, line_at_place, drops_at}
+use Rattle.worker_model.specs.declared.types.Line.{Line}
+use Rattle.worker_model.specs.Rooms.{Changes, in_exchange, in_line, at_some, at_place, all_lines, place_in, place_of, has_open}
+use Rattle.worker_model.specs.Steps.{is_late, on_line, line_at, line_at_place, drops_at}
 use Rattle.line_laws.specs.Isolation.{IsUnfiltered, lines_on, IsFree, is_sent_on, sent_on}
 use Rattle.line_laws.specs.Logs.{AreLogs}
 use Rattle.line_laws.proofs.Finding.{Seeks, missing, first, seeks}

@@ -30,7 +30,7 @@ use Rattle.header_maps.specs.Headers.{Headers}
 use Rattle.http1_model.specs.Fields.{Pair}
 use Rattle.http1_model.specs.Framing.{OutItem, head_wire, piece_wire}
 use Rattle.http1_model.specs.Framing as out
-use Rattle.worker.specs.Steps.{is_live, new_stage, entered}
+use Rattle.worker_model.specs.Steps.{is_live, new_stage, entered}
 use Rattle.line_laws.specs.Living.{request_in}
 use Rattle.line_laws.proofs.Kept.{by_bool}
 use Rattle.line_laws.proofs.Phases.{Phase, fresh, broken, step, run, IsSound, run_join, sound_run, chain, sound_chain, AreIdle, Goes, Given, put_goes, GoesOn, continued_goes, through_goes, Asks, asked_goes, made_phase, made_idle}

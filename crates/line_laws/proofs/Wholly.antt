@@ -4,11 +4,11 @@ use Rattle.course.specs.Called.{Calling}
 use Rattle.exchange_laws.specs.Traffic.{ups}
 use Rattle.gate_io.specs.declared.event.Sent.{Sent}
 use Rattle.store_model.specs.Made.{Made}
-use Rattle.worker.specs.Making.{contexts_of, new_worker}
-use Rattle.worker.specs.Plan.{Plan}
-use Rattle.worker.specs.State.{Standing, rules_of}
-use Rattle.worker.specs.Steps.{exchange_on}
-use Rattle.worker.specs.Turn.{outcome}
+use Rattle.worker_model.specs.Making.{contexts_of, new_worker}
+use Rattle.worker_model.specs.Plan.{Plan}
+use Rattle.worker_model.specs.State.{Standing, rules_of}
+use Rattle.worker_model.specs.Steps.{exchange_on}
+use Rattle.worker_model.specs.Turn.{outcome}
 use Rattle.line_laws.specs.Laws.{WorkersGoUpOneByOne}
 use Rattle.line_laws.specs.Requests.{GoesUpBy}
 use Rattle.line_laws.specs.Turns.{Done, Turns, Worked, no_turn, a_turn, sent_in}

@@ -22,12 +22,12 @@ use Rattle.http1_model.specs.Unread.{Reading, head_part, piece, new_reading, fed
 use Rattle.httparse.proofs.OnLiterals.{httparse_on_literals}
 use Rattle.httpdate.proofs.OnLiterals.{httpdate_on_literals}
 use Rattle.matchit.proofs.OnLiterals.{matchit_on_literals}
-use Rattle.worker.specs.NoCalls.{no_calling}
-use Rattle.worker.specs.Settling.{settling}
-use Rattle.worker.specs.Steps.{Both}
-use Rattle.worker.specs.Turn.{Outcome, outcome, turn}
-use Rattle.worker.specs.declared.no_machines.NoMachines.{NoMachines}
-use Rattle.worker.specs.declared.types.Line.{Line}
+use Rattle.worker_model.specs.NoCalls.{no_calling}
+use Rattle.worker_model.specs.Settling.{settling}
+use Rattle.worker_model.specs.Steps.{Both}
+use Rattle.worker_model.specs.Turn.{Outcome, outcome, turn}
+use Rattle.worker_model.specs.declared.no_machines.NoMachines.{NoMachines}
+use Rattle.worker_model.specs.declared.types.Line.{Line}
 use Rattle.line_laws.specs.Examples.{open_plan, new_worker, event, whole_response, worked_request, LineExamples, answered_wire}
 use Rattle.line_laws.specs.Clients.{clients}
 use Rattle.line_laws.specs.Turns.{Done, Turns, sent_in}

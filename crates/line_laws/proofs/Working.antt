@@ -19,13 +19,13 @@ use Rattle.filter_chain.specs.Chains.{ready}
 use Rattle.filter_chain.specs.declared.item.Item.{Item}
 use Rattle.gate_io.specs.declared.event.Sent.{Sent}
 use Rattle.header_maps.specs.Headers.{Headers}
-use Rattle.worker.specs.declared.room.Room.{Room}
-use Rattle.worker.specs.declared.types.Job.{Job}
-use Rattle.worker.specs.declared.types.Job.TheVariants as jobs
-use Rattle.worker.specs.declared.types.Line.{Line}
-use Rattle.worker.specs.Plan.{Plan}
-use Rattle.worker.specs.Rooms.{Changes, moves, exchange_moves, at_place, at_some, in_line, in_exchange, put_back, with_lines, place_in, on_number}
-use Rattle.worker.specs.Steps.{Both, exchange_of_line, entered, entering, works, begins_with_head}
+use Rattle.worker_model.specs.Room.{Room}
+use Rattle.worker_model.specs.declared.types.Job.{Job}
+use Rattle.worker_model.specs.declared.types.Job.TheVariants as jobs
+use Rattle.worker_model.specs.declared.types.Line.{Line}
+use Rattle.worker_model.specs.Plan.{Plan}
+use Rattle.worker_model.specs.Rooms.{Changes, moves, exchange_moves, at_place, at_some, in_line, in_exchange, put_back, with_lines, place_in, on_number}
+use Rattle.worker_model.specs.Steps.{Both, exchange_of_line, entered, entering, works, begins_with_head}
 use Rattle.line_laws.specs.Logs.{WriteLogs}
 use Rattle.line_laws.specs.Living.{requests_in}
 use Rattle.line_laws.proofs.Finding.{Seeks, missing, first, seeks, IsOnce, set_other, only_found}

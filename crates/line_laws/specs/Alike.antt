@@ -7,15 +7,15 @@ use Rattle.course.specs.Called.{Calling}
 use Rattle.course.specs.Course.{ends, Met, Reaches}
 use Rattle.exchange.specs.declared.types.Exchange.{Exchange}
 use Rattle.gate_io.specs.declared.event.Sent.{Sent}
-use Rattle.worker.specs.declared.room.Room.{Room}
-use Rattle.worker.specs.declared.types.Job.{Job}
-use Rattle.worker.specs.declared.types.Line.{Line}
-use Rattle.worker.specs.declared.types.Next.{Next}
-use Rattle.worker.specs.declared.types.Next.TheVariants as next
-use Rattle.worker.specs.declared.types.Reads.{Reads}
-use Rattle.worker.specs.Plan.{Plan}
-use Rattle.worker.specs.Rooms.{next_of}
-use Rattle.worker.specs.Steps.{Both, line_in, most_lines, step}
+use Rattle.worker_model.specs.Room.{Room}
+use Rattle.worker_model.specs.declared.types.Job.{Job}
+use Rattle.worker_model.specs.declared.types.Line.{Line}
+use Rattle.worker_model.specs.declared.types.Next.{Next}
+use Rattle.worker_model.specs.declared.types.Next.TheVariants as next
+use Rattle.worker_model.specs.declared.types.Reads.{Reads}
+use Rattle.worker_model.specs.Plan.{Plan}
+use Rattle.worker_model.specs.Rooms.{next_of}
+use Rattle.worker_model.specs.Steps.{Both, line_in, most_lines, step}
 use Rattle.line_laws.specs.Isolation.{IsFree, is_job_of, TakesNoFilters}
 
 -- one exchange is as the other, but for the place of its maps among the contexts; and there is at its place what is at the other's

@@ -18,12 +18,12 @@ use Rattle.http1_model.specs.Examples.{worked_head, worked_text, worked_wire, wo
 use Rattle.http1_model.specs.Framing.{no_body, by_chunks}
 use Rattle.http1_model.specs.Head.{Head}
 use Rattle.http1_model.specs.Length.{chunked}
-use Rattle.worker.specs.NoCalls.{no_calling}
-use Rattle.worker.specs.Plan.{Plan}
-use Rattle.worker.specs.Steps.{Both, both}
-use Rattle.worker.specs.declared.no_machines.NoMachines.{NoMachines}
-use Rattle.worker.specs.declared.room.Room.{Room}
-use Rattle.worker.specs.declared.types.Line.{Line}
+use Rattle.worker_model.specs.NoCalls.{no_calling}
+use Rattle.worker_model.specs.Plan.{Plan}
+use Rattle.worker_model.specs.Steps.{Both, both}
+use Rattle.worker_model.specs.declared.no_machines.NoMachines.{NoMachines}
+use Rattle.worker_model.specs.Room.{Room}
+use Rattle.worker_model.specs.declared.types.Line.{Line}
 use Rattle.line_laws.specs.Clients.{clients}
 use Rattle.line_laws.specs.Logs.{WriteLogs}
 use Rattle.line_laws.specs.Requests.{IsJudged, HasRoom, GoesUp, IsAllOfOne, AreEmpty, IsOpen, Part, IsPart, traffic_of}

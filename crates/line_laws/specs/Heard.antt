@@ -5,7 +5,7 @@ use Rattle.filter_chain.specs.declared.item.Item.TheVariants.{Piece, Trailers}
 use Rattle.http1_model.specs.Head.{Head}
 use Rattle.http1_model.specs.Messages.{head}
 use Rattle.http1_model.specs.Unread.{Part, head_part, interim_part, piece, trailer_part, Reading, Act, feeds, ends, hands, halts, DoesAll}
-use Rattle.worker.specs.Steps.{head_item}
+use Rattle.worker_model.specs.Steps.{head_item}
 
 -- a part that a reader hands on, as items
 abbrev pub items_of : Part → List Item

@@ -15,11 +15,11 @@ use Rattle.gate_base.specs.declared.cause.Cause.TheVariants as causes
 use Rattle.header_maps.specs.Operations.{no_headers}
 use Rattle.http1_model.specs.Unread.{new_reading}
 use Rattle.store_model.specs.Program.{done}
-use Rattle.worker.specs.declared.room.Room.{Room}
-use Rattle.worker.specs.declared.types.Line.{Line}
-use Rattle.worker.specs.declared.types.Next.TheVariants as next
-use Rattle.worker.specs.Rooms.{next_of}
-use Rattle.worker.specs.Steps.{Both, both, line_in, step}
+use Rattle.worker_model.specs.Room.{Room}
+use Rattle.worker_model.specs.declared.types.Line.{Line}
+use Rattle.worker_model.specs.declared.types.Next.TheVariants as next
+use Rattle.worker_model.specs.Rooms.{next_of}
+use Rattle.worker_model.specs.Steps.{Both, both, line_in, step}
 use Rattle.line_laws.specs.Examples.{open_plan}
 use Rattle.line_laws.specs.Isolation.{IsFree, sent_on, is_step_of, IsUntouched}
 

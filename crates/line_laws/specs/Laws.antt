@@ -10,10 +10,10 @@ use Rattle.gate_io.specs.declared.event.Sent.{Sent}
 use Rattle.store_model.specs.Made.{Made}
 use Rattle.vm_host.specs.Slots as slots
 use Rattle.vm_host.specs.declared.slots.Vms.{Vms}
-use Rattle.worker.specs.Making.{new_worker}
-use Rattle.worker.specs.Plan.{Plan}
-use Rattle.worker.specs.State.{Standing, rules_of}
-use Rattle.worker.specs.Steps.{Both, both, exchange_on}
+use Rattle.worker_model.specs.Making.{new_worker}
+use Rattle.worker_model.specs.Plan.{Plan}
+use Rattle.worker_model.specs.State.{Standing, rules_of}
+use Rattle.worker_model.specs.Steps.{Both, both, exchange_on}
 use Rattle.line_laws.specs.Logs.{WriteLogs}
 use Rattle.line_laws.specs.Requests.{HasLived, GoesUpBy}
 use Rattle.line_laws.specs.Turns.{Done, Turns, Worked, new_room, sent_in}

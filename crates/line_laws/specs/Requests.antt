@@ -24,9 +24,9 @@ use Rattle.http1_model.specs.Lines.{head_limit, line_limit}
 use Rattle.http1_model.specs.Messages.{head as head_is_due}
 use Rattle.http1_model.specs.Target.{absolute}
 use Rattle.http1_model.specs.Unread.{Reading}
-use Rattle.worker.specs.Plan.{Plan}
-use Rattle.worker.specs.Steps.{exchange_for, is_last, line_in, line_reading}
-use Rattle.worker.specs.declared.room.Room.{Room}
+use Rattle.worker_model.specs.Plan.{Plan}
+use Rattle.worker_model.specs.Steps.{exchange_for, is_last, line_in, line_reading}
+use Rattle.worker_model.specs.Room.{Room}
 use Rattle.line_laws.specs.Heard.{WasHeard}
 use Rattle.line_laws.specs.Living.{requests_in}
 

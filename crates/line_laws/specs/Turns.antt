@@ -8,14 +8,14 @@ use Rattle.gate_io.specs.declared.event.Event.{Event}
 use Rattle.gate_io.specs.declared.event.Sent.{Sent}
 use Rattle.gate_io.specs.declared.passed.Passed.{Passed}
 use Rattle.gate_config.specs.declared.config.Config.{Config}
-use Rattle.worker.specs.Making.{contexts_of, first_room}
-use Rattle.worker.specs.Plan.{Plan}
+use Rattle.worker_model.specs.Making.{contexts_of, first_room}
+use Rattle.worker_model.specs.Plan.{Plan}
 use Rattle.store_model.specs.Made.{Made}
-use Rattle.worker.specs.State.{Standing}
-use Rattle.worker.specs.Steps.{Both}
-use Rattle.worker.specs.Turn.{Outcome, turn}
-use Rattle.worker.specs.Turned.{Whole}
-use Rattle.worker.specs.declared.room.Room.{Room}
+use Rattle.worker_model.specs.State.{Standing}
+use Rattle.worker_model.specs.Steps.{Both}
+use Rattle.worker_model.specs.Turn.{Outcome, turn}
+use Rattle.worker_model.specs.Turned.{Whole}
+use Rattle.worker_model.specs.Room.{Room}
 
 -- what a worker begins with, whatever its contexts: no line is open, and nothing is in hand
 abbrev pub new_room : Contexts → Room

@@ -10,11 +10,11 @@ use Rattle.gate_io.specs.declared.passed.Passed.{Passed}
 use Rattle.outbox.proofs.Deliveries.{delivers_none, delivers-push}
 use Rattle.outbox.specs.Turns.{OneTurn, Delivers, HandsOver, events_of}
 use Rattle.store_model.specs.Made.{Made}
-use Rattle.worker.specs.Plan.{Plan}
-use Rattle.worker.specs.State.{Setting, Standing, rules_of}
-use Rattle.worker.specs.Steps.{Both}
-use Rattle.worker.specs.Turn.{Outcome, outcome, turn}
-use Rattle.worker.specs.Turned.{one_turn, Whole}
+use Rattle.worker_model.specs.Plan.{Plan}
+use Rattle.worker_model.specs.State.{Setting, Standing, rules_of}
+use Rattle.worker_model.specs.Steps.{Both}
+use Rattle.worker_model.specs.Turn.{Outcome, outcome, turn}
+use Rattle.worker_model.specs.Turned.{one_turn, Whole}
 use Rattle.meaning.specs.Laws.{MeaningExamples, MeaningGoesOn, MeaningIsAFunction}
 use Rattle.meaning.specs.Meaning.{Means, Run, first_turn, last_turn, meaning, means, run}
 

@@ -5,11 +5,11 @@ use Rattle.course.specs.Course.{ends, then_do, Met, Reaches, calls_in}
 use Rattle.course.specs.Once.{asked_in, replies_in}
 use Rattle.gate_io.specs.MemoryWorld.{stop_at}
 use Rattle.gate_io.specs.declared.event.Event.{Event}
-use Rattle.worker.specs.Plan.{Plan}
-use Rattle.worker.specs.State.{Standing}
-use Rattle.worker.specs.Steps.{Both}
-use Rattle.worker.specs.Turn.{turn}
-use Rattle.worker.specs.Turned.{one_turn}
+use Rattle.worker_model.specs.Plan.{Plan}
+use Rattle.worker_model.specs.State.{Standing}
+use Rattle.worker_model.specs.Steps.{Both}
+use Rattle.worker_model.specs.Turn.{turn}
+use Rattle.worker_model.specs.Turned.{one_turn}
 use Rattle.meaning.specs.Meaning.{Run, last_turn, meaning, means, run}
 
 -- A MEANING IS A FUNCTION OF THE REPLIES: where the shared stores reply the same, the same is asked of them, and the run comes to the same.

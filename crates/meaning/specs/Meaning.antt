@@ -7,11 +7,11 @@ use Rattle.gate_io.specs.declared.event.Event.{Event}
 use Rattle.gate_io.specs.declared.passed.Passed.{Passed}
 use Rattle.outbox.specs.Turns.{OneTurn, Delivers, events_of}
 use Rattle.store_model.specs.Made.{Made}
-use Rattle.worker.specs.Plan.{Plan}
-use Rattle.worker.specs.State.{Standing, rules_of}
-use Rattle.worker.specs.Steps.{Both}
-use Rattle.worker.specs.Turn.{Outcome, turn}
-use Rattle.worker.specs.Turned.{one_turn}
+use Rattle.worker_model.specs.Plan.{Plan}
+use Rattle.worker_model.specs.State.{Standing, rules_of}
+use Rattle.worker_model.specs.Steps.{Both}
+use Rattle.worker_model.specs.Turn.{Outcome, turn}
+use Rattle.worker_model.specs.Turned.{one_turn}
 
 -- what a run comes to: the state that it leaves, and its turns, each with its event and what it sends
 pub record Run (H : Type 0) : Type 0 where

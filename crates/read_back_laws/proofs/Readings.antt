@@ -16,9 +16,9 @@ use Rattle.http1_model.specs.Framing.{Framing, OutItem, items_wire}
 use Rattle.http1_model.specs.Framing as out
 use Rattle.http1_model.specs.Head.{Head}
 use Rattle.store_model.specs.Made.{Made}
-use Rattle.worker.specs.Plan.{Plan}
-use Rattle.worker.specs.Steps.{exchange_for, exchange_on}
-use Rattle.worker.specs.declared.room.Room.{Room}
+use Rattle.worker_model.specs.Plan.{Plan}
+use Rattle.worker_model.specs.Steps.{exchange_for, exchange_on}
+use Rattle.worker_model.specs.Room.{Room}
 use Rattle.line_laws.specs.Requests.{IsBegun, IsMadeOf, IsOneRequest, GoesUp, sends_nothing, sends_request, IsAllOfOne, Part, AreParts, OneByOne, IsOpen, GoesUpBy}
 use Rattle.line_laws.proofs.Product.{requests_of_the_product_go_up}
 use Rattle.line_laws.proofs.Turning.{all_go_up_one_by_one}

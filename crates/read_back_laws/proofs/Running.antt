@@ -17,9 +17,9 @@ use Rattle.http1_model.specs.Messages as messages
 use Rattle.http1_model.specs.Unread.{Reading, head_part, piece, new_reading, fed, moved_on}
 use Rattle.httparse.proofs.OnLiterals.{httparse_on_literals}
 use Rattle.matchit.proofs.OnLiterals.{matchit_on_literals}
-use Rattle.worker.specs.Settling.{settling}
-use Rattle.worker.specs.Steps.{exchange_for}
-use Rattle.worker.specs.Turn.{Outcome, outcome, turn}
+use Rattle.worker_model.specs.Settling.{settling}
+use Rattle.worker_model.specs.Steps.{exchange_for}
+use Rattle.worker_model.specs.Turn.{Outcome, outcome, turn}
 use Rattle.line_laws.specs.Examples.{event}
 use Rattle.line_laws.specs.Logs.{WriteLogs}
 use Rattle.line_laws.specs.Requests.{IsBegun}

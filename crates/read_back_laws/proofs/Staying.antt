@@ -57,28 +57,28 @@ use Rattle.store_model.specs.declared.call.Reply.{Reply}
 use Rattle.store_model.specs.declared.call.Reply.TheVariants as replies
 use Rattle.vm_host.specs.Slots as slots
 use Rattle.vm_host.specs.declared.slots.Vms.{Vms}
-use Rattle.worker.specs.Changes.{changed}
-use Rattle.worker.specs.Making.{with_vms, with_plugins, contexts_of, new_worker}
-use Rattle.worker.specs.Moves.{asks_as, asks_response, asks_exchange, asks_in, asks_at, ended_in, ended_back, ended_at}
-use Rattle.worker.specs.Plan.{Plan}
-use Rattle.worker.specs.Rooms.{Changes, in_exchange, in_line, at_some, at_place, all_lines, with_lines, place_in, place_of, on_number, on_context, with_contexts, sending, is_own, does, effects_of, without_effects, is_dead, died, death_text, behind, answered_with, next_of, marking}
-use Rattle.worker.specs.Settling.{settling, rests, settling_step, settling_rest, settling_none}
-use Rattle.worker.specs.State.{Standing, rules_of}
-use Rattle.worker.specs.Steps.{Both as BothOf, both, Answered, answered, Then, goes_on_with, nothing_more, called_in, called_live, calls_live, is_zero, action_of, in_front, unless_zero, has_vm, waits, last_jobs, done_with, deletes, acts_on, is_drawn_out, may_root, rooting, may_stream, streaming, creating_filter, filter_at, creating, begun, line_in, line_reading, reading_on, on_lines, change_line, keeps_response, in_contexts, put_trailers, hands_part, takes, head_item, is_last, stops, after_heard, read_on, exchange_on, interim_of, drops_line, closes_line, line_ends, refusal_sent, fixed_answer, refuses_in, refuses_line, most_lines, opens, is_open, is_answered_in, is_read_in, exchange_of_line, comes_on, loses_down, is_missed, loses_up, happens, close_up, ends_exchange, ends_with, ends_at, is_due_tick, next_tick, ticked_at, ticked, is_late, expires_all, noticed, first_begun, frees_at, entering, reads_in, reads_next, callback_of, number_of, vm_length, plugin_length, moved, move_at, tells, made_one, takes_notice, notices, works, works_first, step, with_filter, change_exchange, line_at, line_at_place, on_line, drops_at, further_on, with_further, lost, lost_exchange, place_for, new_line, free_place, exchange_for, with_exchange, with_reader, noted}
-use Rattle.worker.specs.Turn.{Outcome, turn, turn_by, facing, most_steps, comes_to}
-use Rattle.worker.specs.declared.room.Room.{Room}
-use Rattle.worker.specs.declared.types.Asked.{Asked}
-use Rattle.worker.specs.declared.types.Change.TheVariants as changes
-use Rattle.worker.specs.declared.types.ContextAt.{ContextAt}
-use Rattle.worker.specs.declared.types.Job.{Job}
-use Rattle.worker.specs.declared.types.Job.TheVariants as jobs
-use Rattle.worker.specs.declared.types.Line.{Line}
-use Rattle.worker.specs.declared.types.NewContext.{NewContext}
-use Rattle.worker.specs.declared.types.Next.{Next}
-use Rattle.worker.specs.declared.types.Next.TheVariants as next
-use Rattle.worker.specs.declared.types.Own.{Own}
-use Rattle.worker.specs.declared.types.Own.TheVariants.{Nobody, Stage}
-use Rattle.worker.specs.declared.types.Reads.{Reads}
+use Rattle.worker_model.specs.Changes.{changed}
+use Rattle.worker_model.specs.Making.{with_vms, with_plugins, contexts_of, new_worker}
+use Rattle.worker_model.specs.Moves.{asks_as, asks_response, asks_exchange, asks_in, asks_at, ended_in, ended_back, ended_at}
+use Rattle.worker_model.specs.Plan.{Plan}
+use Rattle.worker_model.specs.Rooms.{Changes, in_exchange, in_line, at_some, at_place, all_lines, with_lines, place_in, place_of, on_number, on_context, with_contexts, sending, is_own, does, effects_of, without_effects, is_dead, died, death_text, behind, answered_with, next_of, marking}
+use Rattle.worker_model.specs.Settling.{settling, rests, settling_step, settling_rest, settling_none}
+use Rattle.worker_model.specs.State.{Standing, rules_of}
+use Rattle.worker_model.specs.Steps.{Both as BothOf, both, Answered, answered, Then, goes_on_with, nothing_more, called_in, called_live, calls_live, is_zero, action_of, in_front, unless_zero, has_vm, waits, last_jobs, done_with, deletes, acts_on, is_drawn_out, may_root, rooting, may_stream, streaming, creating_filter, filter_at, creating, begun, line_in, line_reading, reading_on, on_lines, change_line, keeps_response, in_contexts, put_trailers, hands_part, takes, head_item, is_last, stops, after_heard, read_on, exchange_on, interim_of, drops_line, closes_line, line_ends, refusal_sent, fixed_answer, refuses_in, refuses_line, most_lines, opens, is_open, is_answered_in, is_read_in, exchange_of_line, comes_on, loses_down, is_missed, loses_up, happens, close_up, ends_exchange, ends_with, ends_at, is_due_tick, next_tick, ticked_at, ticked, is_late, expires_all, noticed, first_begun, frees_at, entering, reads_in, reads_next, callback_of, number_of, vm_length, plugin_length, moved, move_at, tells, made_one, takes_notice, notices, works, works_first, step, with_filter, change_exchange, line_at, line_at_place, on_line, drops_at, further_on, with_further, lost, lost_exchange, place_for, new_line, free_place, exchange_for, with_exchange, with_reader, noted}
+use Rattle.worker_model.specs.Turn.{Outcome, turn, turn_by, facing, most_steps, comes_to}
+use Rattle.worker_model.specs.Room.{Room}
+use Rattle.worker_model.specs.declared.types.Asked.{Asked}
+use Rattle.worker_model.specs.declared.types.Change.TheVariants as changes
+use Rattle.worker_model.specs.declared.types.ContextAt.{ContextAt}
+use Rattle.worker_model.specs.declared.types.Job.{Job}
+use Rattle.worker_model.specs.declared.types.Job.TheVariants as jobs
+use Rattle.worker_model.specs.declared.types.Line.{Line}
+use Rattle.worker_model.specs.declared.types.NewContext.{NewContext}
+use Rattle.worker_model.specs.declared.types.Next.{Next}
+use Rattle.worker_model.specs.declared.types.Next.TheVariants as next
+use Rattle.worker_model.specs.declared.types.Own.{Own}
+use Rattle.worker_model.specs.declared.types.Own.TheVariants.{Nobody, Stage}
+use Rattle.worker_model.specs.declared.types.Reads.{Reads}
 use Rattle.line_laws.specs.Logs.{AreLogs, OnlyLogs, WriteLogs}
 use Rattle.line_laws.specs.Requests.{IsJudged}
 use Rattle.line_laws.specs.Turns.{Done, Turns, new_room, sent_in}

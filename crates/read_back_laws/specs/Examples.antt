@@ -14,8 +14,8 @@ use Rattle.http1_model.specs.Framing.{by_length, by_chunks, head_wire, piece}
 use Rattle.http1_model.specs.Head.{Head}
 use Rattle.http1_model.specs.Messages.{Item, head, rest}
 use Rattle.httparse.specs.Ascii.{crlf_bytes}
-use Rattle.worker.specs.Plan.{Plan}
-use Rattle.worker.specs.Steps.{exchange_for}
+use Rattle.worker_model.specs.Plan.{Plan}
+use Rattle.worker_model.specs.Steps.{exchange_for}
 use Rattle.line_laws.specs.Examples.{worked_request}
 use Rattle.line_laws.specs.Requests.{IsJudged, IsMadeOf}
 use Rattle.read_back_laws.specs.OneRequest.{begun, IsNeverTwo, IsReadAsOne}

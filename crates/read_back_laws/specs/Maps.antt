@@ -29,10 +29,10 @@ use Rattle.store_model.specs.declared.call.Reply.{Reply}
 use Rattle.store_model.specs.declared.metric.MetricReply.{MetricReply}
 use Rattle.vm_host.specs.Slots as slots
 use Rattle.vm_host.specs.declared.slots.Vms.{Vms}
-use Rattle.worker.specs.Making.{new_worker}
-use Rattle.worker.specs.Plan.{Plan}
-use Rattle.worker.specs.State.{Standing}
-use Rattle.worker.specs.Steps.{Both, both}
+use Rattle.worker_model.specs.Making.{new_worker}
+use Rattle.worker_model.specs.Plan.{Plan}
+use Rattle.worker_model.specs.State.{Standing}
+use Rattle.worker_model.specs.Steps.{Both, both}
 
 -- ---- maps
 

@@ -17,7 +17,7 @@ use Rattle.gate_io.specs.declared.event.What.TheVariants as whats
 use Rattle.h1_write.specs.Lines.{out_wire}
 use Rattle.h1_write.specs.Round.{body_items}
 use Rattle.store_model.specs.Program.{Program, done}
-use Rattle.worker.specs.Steps.{Both, both}
+use Rattle.worker_model.specs.Steps.{Both, both}
 use Rattle.line_laws.specs.Examples.{event}
 use Rattle.line_laws.specs.Logs.{WriteLogs}
 use Rattle.line_laws.specs.Requests.{IsBegun, IsMadeOf}

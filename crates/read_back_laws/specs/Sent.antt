@@ -15,8 +15,8 @@ use Rattle.http1_model.specs.Framing.{Framing, no_body, by_length, by_chunks, by
 use Rattle.http1_model.specs.Framing as out
 use Rattle.http1_model.specs.Head.{Head}
 use Rattle.http1_model.specs.Target.{GivesTarget}
-use Rattle.worker.specs.Plan.{Plan}
-use Rattle.worker.specs.declared.room.Room.{Room}
+use Rattle.worker_model.specs.Plan.{Plan}
+use Rattle.worker_model.specs.Room.{Room}
 use Rattle.line_laws.specs.Requests.{is_whole, AreEmpty, HasRoom, IsMadeOf, IsOpen, Part, AreParts, traffic_of}
 use Rattle.read_back_laws.specs.OneRequest.{IsNeverTwo, IsReadAsOne}
 

@@ -3,9 +3,9 @@ use Rattle.std.proofs.Common.{◌≡◌, inl, ℕ, zero, suc, List, [], ◌∷�
 use Rattle.std.specs.Prelude.{Option, None, Some, slice_get, slice_set}
 use Rattle.exchange.specs.declared.types.Exchange.{Exchange}
 use Rattle.exchange.specs.declared.types.Hub.{Hub}
-use Rattle.worker.specs.declared.types.Line.{Line}
-use Rattle.worker.specs.Rooms.{Changes, in_exchange, in_line, at_some, at_place, all_lines}
-use Rattle.worker.specs.Steps.{change_line, change_exchange, line_at, line_at_place}
+use Rattle.worker_model.specs.declared.types.Line.{Line}
+use Rattle.worker_model.specs.Rooms.{Changes, in_exchange, in_line, at_some, at_place, all_lines}
+use Rattle.worker_model.specs.Steps.{change_line, change_exchange, line_at, line_at_place}
 use Rattle.reading_laws.proofs.Readers.{ReaderGoes, reader_then}
 
 pub record Alike (l m : Line) : Type 0 where

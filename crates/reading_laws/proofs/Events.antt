@@ -8,11 +8,11 @@ use Rattle.gate_io.specs.declared.event.Side.TheVariants.{Down, Up}
 use Rattle.gate_io.specs.declared.event.What.{What}
 use Rattle.gate_io.specs.declared.event.What.TheVariants as whats
 use Rattle.http1_model.specs.Unread.{Reading, new_reading, fed, finished}
-use Rattle.worker.specs.declared.room.Room.{Room}
-use Rattle.worker.specs.declared.types.Line.{Line}
-use Rattle.worker.specs.Rooms.{place_in, on_number, sending}
-use Rattle.worker.specs.Steps.{on_lines, on_line, line_in, line_reading, exchange_of_line, exchange_on, exchange_reading, change_exchange, drops_line, reads_side, most_lines, new_line, place_for, opens, further, further_back, with_further, further_on, is_open, is_answered_in, is_read_in, comes, lost_exchange, lost, loses_down, is_missed, loses_up, happens}
-use Rattle.worker.specs.Wants.{is_up}
+use Rattle.worker_model.specs.Room.{Room}
+use Rattle.worker_model.specs.declared.types.Line.{Line}
+use Rattle.worker_model.specs.Rooms.{place_in, on_number, sending}
+use Rattle.worker_model.specs.Steps.{on_lines, on_line, line_in, line_reading, exchange_of_line, exchange_on, exchange_reading, change_exchange, drops_line, reads_side, most_lines, new_line, place_for, opens, further, further_back, with_further, further_on, is_open, is_answered_in, is_read_in, comes, lost_exchange, lost, loses_down, is_missed, loses_up, happens}
+use Rattle.worker_model.specs.Wants.{is_up}
 use Rattle.reading_laws.specs.Lines.{AreAbove, AreRising}
 use Rattle.reading_laws.proofs.Readers.{refused_kept}
 use Rattle.reading_laws.proofs.Alike.{Alike, AreAlike, are_itself, place_alike, change_alike, on_alike}

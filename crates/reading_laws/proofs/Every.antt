@@ -4,8 +4,8 @@ use Rattle.std.specs.Prelude.{Option, None, Some, if◌then◌else◌}
 use Rattle.course.specs.Heard.{Heard, hands, halts, Hears}
 use Rattle.exchange.specs.declared.types.Exchange.{Exchange}
 use Rattle.http1_model.specs.Unread.{Reading, new_reading}
-use Rattle.worker.specs.declared.types.Line.{Line}
-use Rattle.worker.specs.Steps.{line_reading, exchange_reading, change_line, change_exchange, with_reader, read_on, new_line}
+use Rattle.worker_model.specs.declared.types.Line.{Line}
+use Rattle.worker_model.specs.Steps.{line_reading, exchange_reading, change_line, change_exchange, with_reader, read_on, new_line}
 use Rattle.reading_laws.specs.Lines.{AreAbove, AreRising}
 use Rattle.reading_laws.proofs.Readers.{ReaderGoes}
 use Rattle.reading_laws.proofs.Alike.{Alike, AreAlike}

@@ -17,12 +17,12 @@ use Rattle.http1_model.specs.Lines.{skipped}
 use Rattle.http1_model.specs.Messages.{Due, head, body, done, counted, coded, unbounded}
 use Rattle.http1_model.specs.Unread.{Reading, fed, finished, unread_at}
 use Rattle.outbox.specs.Places.{is_same_side}
-use Rattle.worker.specs.Making.{first_room}
-use Rattle.worker.specs.Plan.{Plan}
-use Rattle.worker.specs.Steps.{Both, both, line_reading, exchange_reading, further}
-use Rattle.worker.specs.Wants.{has_room, reads_more, is_wanted, is_up, wants_of}
-use Rattle.worker.specs.declared.room.Room as rooms
-use Rattle.worker.specs.declared.types.Line.{Line}
+use Rattle.worker_model.specs.Making.{first_room}
+use Rattle.worker_model.specs.Plan.{Plan}
+use Rattle.worker_model.specs.Steps.{Both, both, line_reading, exchange_reading, further}
+use Rattle.worker_model.specs.Wants.{has_room, reads_more, is_wanted, is_up, wants_of}
+use Rattle.worker_model.specs.Room as rooms
+use Rattle.worker_model.specs.declared.types.Line.{Line}
 use Rattle.reading_laws.specs.Limits.{KeepLimits, LinesKeepLimits, AreWanted, IsShort, UnreadStaysShort}
 use Rattle.reading_laws.specs.Lines.{AreAbove, AreRising}
 use Rattle.reading_laws.specs.Spelled.{bytes_in}

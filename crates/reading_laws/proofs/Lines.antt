@@ -3,9 +3,9 @@ use Rattle.std.proofs.Common.{◌≡◌, ◌⊎◌, inl, inr, ℕ, suc, ◌+◌,
 use Rattle.std.proofs.lemmas.Bool.Decides.{leb_tells, eqb_tells}
 use Rattle.std.specs.Prelude.{Option, None, Some, is_some, option_map, slice_get, position, nat_lt, insert, if◌then◌else◌}
 use Rattle.std.specs.List.{position_or_len}
-use Rattle.worker.specs.declared.types.Line.{Line}
-use Rattle.worker.specs.Rooms.{place_in}
-use Rattle.worker.specs.Steps.{on_line, line_at, line_at_place, in_place, line_in, drops_at, new_line, place_for}
+use Rattle.worker_model.specs.declared.types.Line.{Line}
+use Rattle.worker_model.specs.Rooms.{place_in}
+use Rattle.worker_model.specs.Steps.{on_line, line_at, line_at_place, in_place, line_in, drops_at, new_line, place_for}
 use Rattle.reading_laws.specs.Lines.{AreAbove, AreRising}
 use Rattle.reading_laws.proofs.Alike.{AreAlike}
 use Prim.Native.Nat.compare

@@ -33,21 +33,21 @@ use Rattle.gate_io.specs.declared.event.Sent.{Sent}
 use Rattle.gate_io.specs.declared.event.What.{What}
 use Rattle.store_model.specs.declared.call.Reply.{Reply}
 use Rattle.store_model.specs.declared.call.Reply.TheVariants as replies
-use Rattle.worker.specs.Changes.{changed}
-use Rattle.worker.specs.declared.room.Room.{Room}
-use Rattle.worker.specs.declared.types.Asked.{Asked}
-use Rattle.worker.specs.declared.types.Change.TheVariants as changes
-use Rattle.worker.specs.declared.types.ContextAt.{ContextAt}
-use Rattle.worker.specs.declared.types.Job.{Job}
-use Rattle.worker.specs.declared.types.Job.TheVariants as jobs
-use Rattle.worker.specs.declared.types.Line.{Line}
-use Rattle.worker.specs.declared.types.NewContext.{NewContext}
-use Rattle.worker.specs.declared.types.Own.{Own}
-use Rattle.worker.specs.declared.types.Own.TheVariants.{Nobody, Stage}
-use Rattle.worker.specs.Moves.{asks_at, asks_line, asks_in, asks_exchange, asks_as, asks_response}
-use Rattle.worker.specs.Plan.{Plan}
-use Rattle.worker.specs.Rooms.{Changes, all_lines, with_lines, place_in, place_of, on_number, on_context, with_contexts, sending, is_own, is_dead, does, effects_of, without_effects, died, behind, answered_with}
-use Rattle.worker.specs.Steps.{Both, both, Answered, answered, Then, goes_on_with, nothing_more, called_in, called_live, calls_live, is_zero, action_of, in_front, unless_zero, has_vm, waits, last_jobs, done_with, deletes, acts_on, is_drawn_out, may_root, root_jobs, rooting, with_filter, may_stream, with_stream, streaming, creating_filter, filter_at, creating, entering, ticked_at, ticked, is_due_tick, is_late, expires_all, noticed, moved, move_at, tells, made_one, made_with, roots, streams, ticks, tells_ready, takes_notice, notices, callback_of, number_of}
+use Rattle.worker_model.specs.Changes.{changed}
+use Rattle.worker_model.specs.Room.{Room}
+use Rattle.worker_model.specs.declared.types.Asked.{Asked}
+use Rattle.worker_model.specs.declared.types.Change.TheVariants as changes
+use Rattle.worker_model.specs.declared.types.ContextAt.{ContextAt}
+use Rattle.worker_model.specs.declared.types.Job.{Job}
+use Rattle.worker_model.specs.declared.types.Job.TheVariants as jobs
+use Rattle.worker_model.specs.declared.types.Line.{Line}
+use Rattle.worker_model.specs.declared.types.NewContext.{NewContext}
+use Rattle.worker_model.specs.declared.types.Own.{Own}
+use Rattle.worker_model.specs.declared.types.Own.TheVariants.{Nobody, Stage}
+use Rattle.worker_model.specs.Moves.{asks_at, asks_line, asks_in, asks_exchange, asks_as, asks_response}
+use Rattle.worker_model.specs.Plan.{Plan}
+use Rattle.worker_model.specs.Rooms.{Changes, all_lines, with_lines, place_in, place_of, on_number, on_context, with_contexts, sending, is_own, is_dead, does, effects_of, without_effects, died, behind, answered_with}
+use Rattle.worker_model.specs.Steps.{Both, both, Answered, answered, Then, goes_on_with, nothing_more, called_in, called_live, calls_live, is_zero, action_of, in_front, unless_zero, has_vm, waits, last_jobs, done_with, deletes, acts_on, is_drawn_out, may_root, root_jobs, rooting, with_filter, may_stream, with_stream, streaming, creating_filter, filter_at, creating, entering, ticked_at, ticked, is_due_tick, is_late, expires_all, noticed, moved, move_at, tells, made_one, made_with, roots, streams, ticks, tells_ready, takes_notice, notices, callback_of, number_of}
 use Rattle.reading_laws.proofs.Readers.{by_bool, ReaderGoes, acts_kept, resumes_kept, closed_kept, answer_kept, dies_kept, expires_kept, passed_on_kept}
 use Rattle.reading_laws.proofs.Alike.{Alike, AreAlike, are_itself, are_then, alike_itself, alike_set, KeepsReader, place_alike, all_alike, change_on}
 

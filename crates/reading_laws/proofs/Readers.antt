@@ -17,7 +17,7 @@ use Rattle.filter_chain.specs.declared.item.Passed.TheVariants as passed
 use Rattle.filter_chain.specs.declared.stage.Stage.{Stage}
 use Rattle.http1_model.specs.Fields.{Pair}
 use Rattle.http1_model.specs.Unread.{Reading, new_reading}
-use Rattle.worker.specs.Steps.{exchange_reading, is_answered_in}
+use Rattle.worker_model.specs.Steps.{exchange_reading, is_answered_in}
 
 pub by_bool : {A : Type 0} (P : A → Type 0) (b : Bool) (a c : A) → (b ≡ true → P a) → (b ≡ false → P c) → P (if b then a else c)
 by_bool P true a c here there = here refl

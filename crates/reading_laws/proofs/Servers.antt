@@ -9,10 +9,10 @@ use Rattle.gate_io.specs.declared.event.Side.TheVariants.{Up}
 use Rattle.gate_io.specs.declared.event.What.{What}
 use Rattle.gate_io.specs.declared.event.What.TheVariants as whats
 use Rattle.http1_model.specs.Unread.{Reading, new_reading}
-use Rattle.worker.specs.Making.{first_room}
-use Rattle.worker.specs.Plan.{Plan}
-use Rattle.worker.specs.Steps.{Both, both, line_reading, exchange_reading, exchange_of_line, change_line, change_exchange, with_reader, read_on, new_line, further, further_back, with_further, further_on, is_open, is_answered_in}
-use Rattle.worker.specs.declared.types.Line.{Line}
+use Rattle.worker_model.specs.Making.{first_room}
+use Rattle.worker_model.specs.Plan.{Plan}
+use Rattle.worker_model.specs.Steps.{Both, both, line_reading, exchange_reading, exchange_of_line, change_line, change_exchange, with_reader, read_on, new_line, further, further_back, with_further, further_on, is_open, is_answered_in}
+use Rattle.worker_model.specs.declared.types.Line.{Line}
 use Rattle.reading_laws.specs.Lines.{AreAbove, AreRising}
 use Rattle.reading_laws.specs.Servers.{HasServed, HasHeardNothing, ServersReadWhatCame, ServersReadSince}
 use Rattle.reading_laws.specs.Turns.{OneTurn, Turns, AreWhole, happened}

@@ -18,17 +18,17 @@ use Rattle.gate_io.specs.declared.event.Side.TheVariants.{Down, Up}
 use Rattle.gate_io.specs.declared.event.What.{What}
 use Rattle.gate_io.specs.declared.event.What.TheVariants as whats
 use Rattle.gate_io.specs.Events.{is_stop}
-use Rattle.worker.specs.declared.room.Room.{Room}
-use Rattle.worker.specs.declared.types.Job.{Job}
-use Rattle.worker.specs.declared.types.Job.TheVariants as jobs
-use Rattle.worker.specs.declared.types.Line.{Line}
-use Rattle.worker.specs.declared.types.Next.{Next}
-use Rattle.worker.specs.declared.types.Next.TheVariants as next
-use Rattle.worker.specs.Plan.{Plan}
-use Rattle.worker.specs.Rooms.{next_of, next_part, moves, moves_or, frees_or, ends_or, begins_or_rests, is_any, is_released, is_over, place_in, on_number, sending}
-use Rattle.worker.specs.Settling.{settling, settling_none, settling_more, goes, rests}
-use Rattle.worker.specs.Steps.{Both, step, works, works_first, move_at, frees, ends_at, first_begun, happens, comes, on_lines, further_on, reads_side, is_open, is_read_in, is_answered_in, line_reading, line_in, exchange_of_line, exchange_on, opens, most_lines, new_line, place_for, loses_down, loses_up, lost, drops_line, is_missed}
-use Rattle.worker.specs.Turn.{Outcome, turn, turn_by, facing, agenda_of, starts, starts_of, start_of, roots_from, vms_in, is_of, ticks_in, ticks_of, ticks_due, deadlines, notice_of, notices_of, is_due_now, registers_at, most_steps, comes_to, emptied}
+use Rattle.worker_model.specs.Room.{Room}
+use Rattle.worker_model.specs.declared.types.Job.{Job}
+use Rattle.worker_model.specs.declared.types.Job.TheVariants as jobs
+use Rattle.worker_model.specs.declared.types.Line.{Line}
+use Rattle.worker_model.specs.declared.types.Next.{Next}
+use Rattle.worker_model.specs.declared.types.Next.TheVariants as next
+use Rattle.worker_model.specs.Plan.{Plan}
+use Rattle.worker_model.specs.Rooms.{next_of, next_part, moves, moves_or, frees_or, ends_or, begins_or_rests, is_any, is_released, is_over, place_in, on_number, sending}
+use Rattle.worker_model.specs.Settling.{settling, settling_none, settling_more, goes, rests}
+use Rattle.worker_model.specs.Steps.{Both, step, works, works_first, move_at, frees, ends_at, first_begun, happens, comes, on_lines, further_on, reads_side, is_open, is_read_in, is_answered_in, line_reading, line_in, exchange_of_line, exchange_on, opens, most_lines, new_line, place_for, loses_down, loses_up, lost, drops_line, is_missed}
+use Rattle.worker_model.specs.Turn.{Outcome, turn, turn_by, facing, agenda_of, starts, starts_of, start_of, roots_from, vms_in, is_of, ticks_in, ticks_of, ticks_due, deadlines, notice_of, notices_of, is_due_now, registers_at, most_steps, comes_to, emptied}
 use Rattle.reading_laws.specs.Turns.{IsAtRest}
 use Rattle.reading_laws.proofs.Readers.{by_bool}
 use Rattle.reading_laws.proofs.Alike.{AreAlike, are_itself}

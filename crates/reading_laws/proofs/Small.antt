@@ -4,9 +4,9 @@ use Rattle.course.specs.Called.{Calling}
 use Rattle.rest_laws.proofs.Sizes.{workers_come_to_rest}
 use Rattle.rest_laws.specs.Sizes.{first_state, IsReady}
 use Rattle.store_model.specs.Made.{Made}
-use Rattle.worker.specs.Making.{new_worker}
-use Rattle.worker.specs.State.{Setting, Standing, rules_of}
-use Rattle.worker.specs.Steps.{Both}
+use Rattle.worker_model.specs.Making.{new_worker}
+use Rattle.worker_model.specs.State.{Setting, Standing, rules_of}
+use Rattle.worker_model.specs.Steps.{Both}
 use Rattle.reading_laws.proofs.Wholly.{worked_turns, obeyed_worked, workers_read, little_unread}
 use Rattle.reading_laws.specs.Small.{AreSmall, SmallTurnsAreWhole, SmallTurnsReadWhatCame, SmallTurnsLeaveLittleUnread}
 use Rattle.reading_laws.specs.Turns.{OneTurn, Turns, AreWhole}

@@ -23,16 +23,16 @@ use Rattle.header_maps.specs.Operations.{no_headers}
 use Rattle.http1_model.specs.Head.{Head}
 use Rattle.http1_model.specs.Messages.{Stop, rest, over, refusal}
 use Rattle.http1_model.specs.Unread.{Part, head_part, interim_part, piece, trailer_part, Reading}
-use Rattle.worker.specs.declared.room.Room.{Room}
-use Rattle.worker.specs.declared.types.ContextAt.{ContextAt}
-use Rattle.worker.specs.declared.types.Job.{Job}
-use Rattle.worker.specs.declared.types.Job.TheVariants as jobs
-use Rattle.worker.specs.declared.types.Line.{Line}
-use Rattle.worker.specs.declared.types.Reads.{Reads}
-use Rattle.worker.specs.Moves.{ended_at, ended_back, ended_in}
-use Rattle.worker.specs.Plan.{Plan}
-use Rattle.worker.specs.Rooms.{place_in, on_number, sending}
-use Rattle.worker.specs.Steps.{Both, on_lines, change_line, exchange_on, line_in, line_reading, reading_on, read_on, is_last, noted, creates, begins_with_head, refuses, puts_items, begins_exchange, begins_for, jobs_of, reading_ends, with_item, joins, takes, keeps_response, in_contexts, head_item, with_exchange, begun, put_trailers, hands_part, stops, after_heard, drops_line, closes_line, reads_side, line_ends, refusal_sent, refuses_in, refuses_line, in_front, entering, reads_in, reads_next, done_jobs, ends_with, ends_at, frees, frees_at, unless_zero, done_with, deletes, vm_length, plugin_length, works}
+use Rattle.worker_model.specs.Room.{Room}
+use Rattle.worker_model.specs.declared.types.ContextAt.{ContextAt}
+use Rattle.worker_model.specs.declared.types.Job.{Job}
+use Rattle.worker_model.specs.declared.types.Job.TheVariants as jobs
+use Rattle.worker_model.specs.declared.types.Line.{Line}
+use Rattle.worker_model.specs.declared.types.Reads.{Reads}
+use Rattle.worker_model.specs.Moves.{ended_at, ended_back, ended_in}
+use Rattle.worker_model.specs.Plan.{Plan}
+use Rattle.worker_model.specs.Rooms.{place_in, on_number, sending}
+use Rattle.worker_model.specs.Steps.{Both, on_lines, change_line, exchange_on, line_in, line_reading, reading_on, read_on, is_last, noted, creates, begins_with_head, refuses, puts_items, begins_exchange, begins_for, jobs_of, reading_ends, with_item, joins, takes, keeps_response, in_contexts, head_item, with_exchange, begun, put_trailers, hands_part, stops, after_heard, drops_line, closes_line, reads_side, line_ends, refusal_sent, refuses_in, refuses_line, in_front, entering, reads_in, reads_next, done_jobs, ends_with, ends_at, frees, frees_at, unless_zero, done_with, deletes, vm_length, plugin_length, works}
 use Rattle.reading_laws.proofs.Readers.{by_bool, ReaderGoes, put_in_kept, refused_kept}
 use Rattle.reading_laws.proofs.Alike.{AreAlike, are_itself, are_then, alike_itself, alike_set, change_on, on_alike}
 use Rattle.reading_laws.proofs.Lines.{found_in, set_in, without, line_in_found, on_line_set, drops_without}

@@ -10,8 +10,8 @@ use Rattle.gate_io.specs.declared.event.What.{What}
 use Rattle.gate_io.specs.declared.event.What.TheVariants as whats
 use Rattle.http1_model.specs.Unread.{Reading, new_reading, Act, feeds, ends, hands, halts, DoesAll, text_of, fed, finished}
 use Rattle.outbox.specs.Places.{is_same_side}
-use Rattle.worker.specs.Steps.{further}
-use Rattle.worker.specs.Wants.{is_up}
+use Rattle.worker_model.specs.Steps.{further}
+use Rattle.worker_model.specs.Wants.{is_up}
 use Rattle.reading_laws.specs.Spelled.{bytes_in, ends_in, spelled, has_ended, IsReadOf}
 use Rattle.reading_laws.proofs.Readers.{by_bool}
 use Rattle.reading_laws.proofs.Lines.{equal_is, equal_by}

@@ -2,9 +2,9 @@
 use Rattle.std.proofs.Common.{List, refl, ap, subst}
 use Rattle.course.specs.Called.{Calling}
 use Rattle.store_model.specs.Made.{Made}
-use Rattle.worker.specs.Making.{new_worker}
-use Rattle.worker.specs.Plan.{Plan}
-use Rattle.worker.specs.State.{Standing, rules_of}
+use Rattle.worker_model.specs.Making.{new_worker}
+use Rattle.worker_model.specs.Plan.{Plan}
+use Rattle.worker_model.specs.State.{Standing, rules_of}
 use Rattle.reading_laws.specs.Limits.{AreWanted}
 use Rattle.reading_laws.specs.Wholly.{Worked, no_turn, a_turn, Obeyed, none_heard, one_heard, WorkersReadWhatCame, WorkersLeaveLittleUnread}
 use Rattle.reading_laws.specs.Turns.{OneTurn, Turns}

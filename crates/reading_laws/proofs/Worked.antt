@@ -12,7 +12,7 @@ use Rattle.http1_model.specs.Fronts.{AreFronts}
 use Rattle.http1_model.specs.Head.{found}
 use Rattle.http1_model.specs.Messages.{Item, response, end, counted, Due, head, body, done, Stop, item, StepsTo}
 use Rattle.http1_model.specs.Unread.{head_part, piece, part, Reading, Hands, feeds, hands, none, IsNext, items_handed}
-use Rattle.worker.specs.declared.types.Line.{Line}
+use Rattle.worker_model.specs.declared.types.Line.{Line}
 use Rattle.reading_laws.specs.Examples.{at_once, cut, woven, so_far, get, in_pieces, in_one, before_body, head_alone, IsWorked, ReadingExamples}
 use Rattle.reading_laws.specs.Laws.{NotOpened}
 use Rattle.reading_laws.specs.Spelled.{spelled, IsReadOf}

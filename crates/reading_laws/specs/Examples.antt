@@ -9,10 +9,10 @@ use Rattle.http1_model.specs.Examples.{worked_text, worked_response_text, worked
 use Rattle.http1_model.specs.Fronts.{AreFronts}
 use Rattle.http1_model.specs.Messages.{Item, response, counted, body, done, Stop}
 use Rattle.http1_model.specs.Unread.{piece, part, Reading, none, IsNext, text_of, items_handed}
-use Rattle.worker.specs.Making.{first_room}
-use Rattle.worker.specs.Plan.{Plan}
-use Rattle.worker.specs.Steps.{Both, both, line_in}
-use Rattle.worker.specs.declared.types.Line.{Line}
+use Rattle.worker_model.specs.Making.{first_room}
+use Rattle.worker_model.specs.Plan.{Plan}
+use Rattle.worker_model.specs.Steps.{Both, both, line_in}
+use Rattle.worker_model.specs.declared.types.Line.{Line}
 use Rattle.reading_laws.specs.Spelled.{spelled, has_ended, IsReadOf}
 use Rattle.reading_laws.specs.Turns.{OneTurn, Turns, AreWhole, happened}
 

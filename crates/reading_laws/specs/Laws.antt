@@ -6,10 +6,10 @@ use Rattle.gate_io.specs.declared.event.Side.TheVariants.{Down}
 use Rattle.gate_io.specs.declared.event.What.{What}
 use Rattle.gate_io.specs.declared.event.What.TheVariants.{Opened}
 use Rattle.http1_model.specs.Unread.{Reading}
-use Rattle.worker.specs.Making.{first_room}
-use Rattle.worker.specs.Plan.{Plan}
-use Rattle.worker.specs.Steps.{Both, both, line_in}
-use Rattle.worker.specs.declared.types.Line.{Line}
+use Rattle.worker_model.specs.Making.{first_room}
+use Rattle.worker_model.specs.Plan.{Plan}
+use Rattle.worker_model.specs.Steps.{Both, both, line_in}
+use Rattle.worker_model.specs.declared.types.Line.{Line}
 use Rattle.reading_laws.specs.Spelled.{IsReadOf}
 use Rattle.reading_laws.specs.Turns.{OneTurn, Turns, AreWhole, happened, StaysOpen}
 

@@ -5,11 +5,11 @@ use Rattle.gate_config.specs.declared.config.Config.{Config}
 use Rattle.gate_io.specs.Events.{IsSized, Obeys}
 use Rattle.gate_io.specs.declared.event.Sent.{Sent}
 use Rattle.http1_model.specs.Unread.{Reading}
-use Rattle.worker.specs.Making.{first_room}
-use Rattle.worker.specs.Plan.{Plan}
-use Rattle.worker.specs.Steps.{Both, both, line_in, exchange_reading}
-use Rattle.worker.specs.Wants.{wants_of}
-use Rattle.worker.specs.declared.types.Line.{Line}
+use Rattle.worker_model.specs.Making.{first_room}
+use Rattle.worker_model.specs.Plan.{Plan}
+use Rattle.worker_model.specs.Steps.{Both, both, line_in, exchange_reading}
+use Rattle.worker_model.specs.Wants.{wants_of}
+use Rattle.worker_model.specs.declared.types.Line.{Line}
 use Rattle.reading_laws.specs.Lines.{AreRising}
 use Rattle.reading_laws.specs.Turns.{OneTurn, Turns, AreWhole}
 

@@ -1,6 +1,6 @@
 -- The lines of a worker: their numbers rise.
 use Rattle.std.specs.Prelude.{◌<◌, ℕ, List, [], ◌∷◌}
-use Rattle.worker.specs.declared.types.Line.{Line}
+use Rattle.worker_model.specs.declared.types.Line.{Line}
 
 -- all of these numbers are above
 abbrev pub AreAbove : ℕ → List Line → Type 0

@@ -5,10 +5,10 @@ use Rattle.course.specs.declared.host.Callback.{Callback}
 use Rattle.gate_config.specs.declared.config.Config.{Config}
 use Rattle.rest_laws.specs.Sizes.{first_state, start_size}
 use Rattle.store_model.specs.Made.{Made}
-use Rattle.worker.specs.Making.{new_worker}
-use Rattle.worker.specs.State.{Setting, Standing, rules_of}
-use Rattle.worker.specs.Steps.{Both, line_in, exchange_reading}
-use Rattle.worker.specs.declared.types.Line.{Line}
+use Rattle.worker_model.specs.Making.{new_worker}
+use Rattle.worker_model.specs.State.{Setting, Standing, rules_of}
+use Rattle.worker_model.specs.Steps.{Both, line_in, exchange_reading}
+use Rattle.worker_model.specs.declared.types.Line.{Line}
 use Rattle.reading_laws.specs.Laws.{HasRead}
 use Rattle.reading_laws.specs.Limits.{IsShort}
 use Rattle.reading_laws.specs.Turns.{OneTurn, Turns, AreWhole}

@@ -4,12 +4,12 @@ use Rattle.course.specs.Called.{Calling}
 use Rattle.course.specs.Course.{ends, Met, Reaches}
 use Rattle.gate_io.specs.declared.event.Event.{Event}
 use Rattle.gate_io.specs.declared.event.What.{What}
-use Rattle.worker.specs.declared.room.Room as rooms
-use Rattle.worker.specs.Plan.{Plan}
-use Rattle.worker.specs.Rooms.{next_of}
-use Rattle.worker.specs.Settling.{rests}
-use Rattle.worker.specs.Steps.{Both, line_in}
-use Rattle.worker.specs.Turn.{Outcome, turn}
+use Rattle.worker_model.specs.Room as rooms
+use Rattle.worker_model.specs.Plan.{Plan}
+use Rattle.worker_model.specs.Rooms.{next_of}
+use Rattle.worker_model.specs.Settling.{rests}
+use Rattle.worker_model.specs.Steps.{Both, line_in}
+use Rattle.worker_model.specs.Turn.{Outcome, turn}
 
 -- one of them: the event, what its course met, and what it came to
 pub record OneTurn (H : Type 0) : Type 0 where

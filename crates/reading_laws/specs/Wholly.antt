@@ -6,12 +6,12 @@ use Rattle.gate_config.specs.declared.config.Config.{Config}
 use Rattle.gate_io.specs.Events.{Last}
 use Rattle.gate_io.specs.declared.passed.Passed.{Passed}
 use Rattle.store_model.specs.Made.{Made}
-use Rattle.worker.specs.Making.{new_worker}
-use Rattle.worker.specs.State.{Standing}
-use Rattle.worker.specs.Steps.{line_in, exchange_reading}
-use Rattle.worker.specs.Turn.{outcome}
-use Rattle.worker.specs.Turned.{wanted, Heard, Whole}
-use Rattle.worker.specs.declared.types.Line.{Line}
+use Rattle.worker_model.specs.Making.{new_worker}
+use Rattle.worker_model.specs.State.{Standing}
+use Rattle.worker_model.specs.Steps.{line_in, exchange_reading}
+use Rattle.worker_model.specs.Turn.{outcome}
+use Rattle.worker_model.specs.Turned.{wanted, Heard, Whole}
+use Rattle.worker_model.specs.declared.types.Line.{Line}
 use Rattle.reading_laws.specs.Laws.{HasRead}
 use Rattle.reading_laws.specs.Limits.{IsShort}
 use Rattle.reading_laws.specs.Turns.{OneTurn, AreWhole}

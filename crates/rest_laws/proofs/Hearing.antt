@@ -16,14 +16,14 @@ use Rattle.http1_model.specs.Head.{Head}
 use Rattle.http1_model.specs.Messages.{Stop, rest, over, refusal}
 use Rattle.http1_model.specs.Unread.{Part, head_part, interim_part, piece, trailer_part, Reading}
 use Rattle.contexts.specs.Creating.{opened}
-use Rattle.worker.specs.declared.room.Room.{Room}
-use Rattle.worker.specs.declared.types.Job.{Job}
-use Rattle.worker.specs.declared.types.Job.TheVariants as jobs
-use Rattle.worker.specs.declared.types.Line.{Line}
-use Rattle.worker.specs.declared.types.Reads.{Reads}
-use Rattle.worker.specs.Plan.{Plan}
-use Rattle.worker.specs.Rooms.{place_in, with_contexts}
-use Rattle.worker.specs.Steps.{is_gone, filter_at_plugin, filters_by, filters_of, plugins_of, plugins_at, with_exchange, exchange_for, free_place, begun, exchange_reading, line_reading, reading_on, with_reader, read_on, change_exchange, change_line, line_in, in_place, exchange_of_line, exchange_on, is_last, noted, on_lines, creates, begins_with_head, refuses, puts_items, begins_exchange, begins_for, jobs_of, reading_ends, with_item, joins, takes, keeps_response, in_contexts, head_item, interim_of, hands_part, stops, after_heard}
+use Rattle.worker_model.specs.Room.{Room}
+use Rattle.worker_model.specs.declared.types.Job.{Job}
+use Rattle.worker_model.specs.declared.types.Job.TheVariants as jobs
+use Rattle.worker_model.specs.declared.types.Line.{Line}
+use Rattle.worker_model.specs.declared.types.Reads.{Reads}
+use Rattle.worker_model.specs.Plan.{Plan}
+use Rattle.worker_model.specs.Rooms.{place_in, with_contexts}
+use Rattle.worker_model.specs.Steps.{is_gone, filter_at_plugin, filters_by, filters_of, plugins_of, plugins_at, with_exchange, exchange_for, free_place, begun, exchange_reading, line_reading, reading_on, with_reader, read_on, change_exchange, change_line, line_in, in_place, exchange_of_line, exchange_on, is_last, noted, on_lines, creates, begins_with_head, refuses, puts_items, begins_exchange, begins_for, jobs_of, reading_ends, with_item, joins, takes, keeps_response, in_contexts, head_item, interim_of, hands_part, stops, after_heard}
 use Rattle.rest_laws.specs.Moves.{for_each, moves_of, spare, spare_of, chains_left}
 use Rattle.rest_laws.specs.Left.{reading_cost, end_cost, byte_cost, left, line_left, open_left, reader_left, exchange_left, jobs_left, reading_left, AllFit, Fits, OpenFits, RoutesFit}
 use Rattle.rest_laws.specs.Readings.{ends_body}

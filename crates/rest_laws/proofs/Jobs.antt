@@ -19,13 +19,13 @@ use Rattle.gate_io.specs.declared.event.What.TheVariants as whats
 use Rattle.http1_model.specs.Unread.{Reading}
 use Rattle.store_model.specs.declared.call.Reply.{Reply}
 use Rattle.store_model.specs.declared.call.Reply.TheVariants as replies
-use Rattle.worker.specs.declared.room.Room.{Room}
-use Rattle.worker.specs.declared.types.Job.{Job}
-use Rattle.worker.specs.declared.types.Job.TheVariants as jobs
-use Rattle.worker.specs.declared.types.Line.{Line}
-use Rattle.worker.specs.declared.types.NewContext.{NewContext}
-use Rattle.worker.specs.Rooms.{all_lines, place_in, with_lines, is_dead, died}
-use Rattle.worker.specs.Steps.{in_front, is_drawn_out, may_root, root_jobs, rooting, with_filter, change_exchange, change_line, line_in, exchange_on, exchange_of_line, may_stream, streaming, creating_filter, filter_at, creating, is_live, new_stage, entered, on_lines, drops_line, closes_line, reads_side, line_ends, refusal_sent, refuses_in, refuses_line, most_lines, new_line, place_for, opens, further, further_back, with_further, further_on, is_open, line_reading, is_answered_in, is_read_in, comes_on, lost_exchange, lost, loses_down, is_missed, loses_up, happens, is_late, expires_all, noticed}
+use Rattle.worker_model.specs.Room.{Room}
+use Rattle.worker_model.specs.declared.types.Job.{Job}
+use Rattle.worker_model.specs.declared.types.Job.TheVariants as jobs
+use Rattle.worker_model.specs.declared.types.Line.{Line}
+use Rattle.worker_model.specs.declared.types.NewContext.{NewContext}
+use Rattle.worker_model.specs.Rooms.{all_lines, place_in, with_lines, is_dead, died}
+use Rattle.worker_model.specs.Steps.{in_front, is_drawn_out, may_root, root_jobs, rooting, with_filter, change_exchange, change_line, line_in, exchange_on, exchange_of_line, may_stream, streaming, creating_filter, filter_at, creating, is_live, new_stage, entered, on_lines, drops_line, closes_line, reads_side, line_ends, refusal_sent, refuses_in, refuses_line, most_lines, new_line, place_for, opens, further, further_back, with_further, further_on, is_open, line_reading, is_answered_in, is_read_in, comes_on, lost_exchange, lost, loses_down, is_missed, loses_up, happens, is_late, expires_all, noticed}
 use Rattle.rest_laws.specs.Moves.{for_each, moves_of, spare_of}
 use Rattle.rest_laws.specs.Left.{reading_cost, byte_cost, open_left, reader_left, exchange_left, job_left, jobs_left, bytes_of, Fits, OpenFits}
 use Rattle.rest_laws.proofs.Exchanges.{Adds, open_moves, refused_adds, expires_adds, put_in_adds}

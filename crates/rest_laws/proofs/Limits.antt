@@ -5,8 +5,8 @@ use Rattle.contexts.specs.declared.parts.Contexts.{Contexts}
 use Rattle.contexts.specs.Reached.{vm_in}
 use Rattle.exchange.specs.declared.types.Exchange.{Exchange}
 use Rattle.filter_chain.specs.declared.stage.Stage.{Stage}
-use Rattle.worker.specs.declared.types.Line.{Line}
-use Rattle.worker.specs.Turn.{vms_in}
+use Rattle.worker_model.specs.declared.types.Line.{Line}
+use Rattle.worker_model.specs.Turn.{vms_in}
 use Rattle.rest_laws.specs.Left.{AllFit, OpenFits}
 use Rattle.rest_laws.specs.Limits.{WaitFew, OpenKeeps, LinesKeep, LimitsAreSmall}
 use Rattle.rest_laws.specs.Sizes.{stages_size, open_size, lines_size, vms_size}

@@ -4,9 +4,9 @@ use Rattle.std.specs.Prelude.{Option, None, Some, slice_get, slice_set, remove, 
 use Rattle.exchange.specs.declared.types.Exchange.{Exchange}
 use Rattle.exchange.specs.declared.types.Hub.{Hub}
 use Rattle.http1_model.specs.Unread.{Reading}
-use Rattle.worker.specs.declared.types.Line.{Line}
-use Rattle.worker.specs.Rooms.{Changes, in_exchange, in_line, at_some, at_place, all_lines, place_in}
-use Rattle.worker.specs.Steps.{line_at, line_at_place, on_line, in_place, line_in, drops_at}
+use Rattle.worker_model.specs.declared.types.Line.{Line}
+use Rattle.worker_model.specs.Rooms.{Changes, in_exchange, in_line, at_some, at_place, all_lines, place_in}
+use Rattle.worker_model.specs.Steps.{line_at, line_at_place, on_line, in_place, line_in, drops_at}
 use Rattle.rest_laws.specs.Left.{byte_cost, reader_left, exchange_left, open_left, line_left, lines_left, Fits, OpenFits, AllFit}
 use Rattle.rest_laws.proofs.Exchanges.{unread_in, Adds}
 use Rattle.rest_laws.proofs.Sums.{for_each_fewer}

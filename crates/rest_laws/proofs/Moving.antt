@@ -17,13 +17,13 @@ use Rattle.filter_chain.specs.declared.item.Asking.TheVariants.{Nothing, Over, A
 use Rattle.filter_chain.specs.declared.item.Passed.TheVariants as passed
 use Rattle.filter_chain.specs.declared.stage.Stage.{Stage as ChainStage}
 use Rattle.store_model.specs.Program.{Program}
-use Rattle.worker.specs.declared.room.Room.{Room}
-use Rattle.worker.specs.declared.types.Asked.{Asked}
-use Rattle.worker.specs.declared.types.Line.{Line}
-use Rattle.worker.specs.declared.types.Own.TheVariants.{Stage}
-use Rattle.worker.specs.Moves.{asks_chain, asks_exchange, asks_in, asks_line, asks_at}
-use Rattle.worker.specs.Rooms.{exchange_moves, moves, with_lines}
-use Rattle.worker.specs.Steps.{Both, Answered, acts_on, called_in, callback_of, number_of, moved, move_at, action_of}
+use Rattle.worker_model.specs.Room.{Room}
+use Rattle.worker_model.specs.declared.types.Asked.{Asked}
+use Rattle.worker_model.specs.declared.types.Line.{Line}
+use Rattle.worker_model.specs.declared.types.Own.TheVariants.{Stage}
+use Rattle.worker_model.specs.Moves.{asks_chain, asks_exchange, asks_in, asks_line, asks_at}
+use Rattle.worker_model.specs.Rooms.{exchange_moves, moves, with_lines}
+use Rattle.worker_model.specs.Steps.{Both, Answered, acts_on, called_in, callback_of, number_of, moved, move_at, action_of}
 use Rattle.exchange.specs.Passing.{acts}
 use Rattle.rest_laws.specs.Moves.{spare, spare_of, moves_left}
 use Rattle.rest_laws.specs.Left.{left, line_left, lines_left, open_left, exchange_left, AllFit, OpenFits}

@@ -6,13 +6,13 @@ use Rattle.std.specs.Prelude.{if◌then◌else◌}
 use Rattle.course.specs.Course.{ends, Met, Reaches}
 use Rattle.gate_io.specs.Events.{is_stop}
 use Rattle.gate_io.specs.declared.event.Event.{Event}
-use Rattle.worker.specs.declared.room.Room.{Room}
-use Rattle.worker.specs.declared.types.Job.TheVariants as jobs
-use Rattle.worker.specs.Plan.{Plan}
-use Rattle.worker.specs.Settling.{settling}
-use Rattle.worker.specs.State.{Setting, rules_of}
-use Rattle.worker.specs.Steps.{Both, both}
-use Rattle.worker.specs.Turn.{vms_in, starts, starts_of, ticks_due, deadlines, notices_of, agenda_of, at_moment, Outcome, outcome, comes_to, turn, turn_by, turned, most_steps}
+use Rattle.worker_model.specs.Room.{Room}
+use Rattle.worker_model.specs.declared.types.Job.TheVariants as jobs
+use Rattle.worker_model.specs.Plan.{Plan}
+use Rattle.worker_model.specs.Settling.{settling}
+use Rattle.worker_model.specs.State.{Setting, rules_of}
+use Rattle.worker_model.specs.Steps.{Both, both}
+use Rattle.worker_model.specs.Turn.{vms_in, starts, starts_of, ticks_due, deadlines, notices_of, agenda_of, at_moment, Outcome, outcome, comes_to, turn, turn_by, turned, most_steps}
 use Rattle.rest_laws.specs.Left.{left, byte_cost, jobs_left, parts_left, reading_left, bytes_of}
 use Rattle.rest_laws.specs.Paid.{starting, brought, all_brought, TakesBy, TakeAll, LivesArePaid}
 use Rattle.rest_laws.specs.Sizes.{OneTurn, first_state, turn_start, IsReady, Follow}

@@ -12,8 +12,8 @@ use Rattle.filter_chain.specs.declared.item.Held.{Held}
 use Rattle.filter_chain.specs.declared.item.Held.TheVariants as held
 use Rattle.filter_chain.specs.declared.item.Item.{Item}
 use Rattle.filter_chain.specs.declared.stage.Stage.{Stage}
-use Rattle.worker.specs.Rooms.{moves, exchange_moves, exchange_ends, is_over}
-use Rattle.worker.specs.declared.types.Line.{Line}
+use Rattle.worker_model.specs.Rooms.{moves, exchange_moves, exchange_ends, is_over}
+use Rattle.worker_model.specs.declared.types.Line.{Line}
 use Rattle.rest_laws.specs.Laws.{IsPaused, WaitWherePaused, OpenRests, AllRest}
 use Rattle.rest_laws.proofs.Tests.{is_not, neither}
 

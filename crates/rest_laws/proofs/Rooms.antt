@@ -20,14 +20,14 @@ use Rattle.gate_base.specs.declared.level.Level.TheVariants.{Critical}
 use Rattle.gate_io.specs.declared.event.Sent.{Sent}
 use Rattle.gate_io.specs.declared.event.Sent.TheVariants.{Log}
 use Rattle.store_model.specs.Program.{Program}
-use Rattle.worker.specs.Changes.{changed}
-use Rattle.worker.specs.declared.room.Room.{Room}
-use Rattle.worker.specs.declared.types.Change.TheVariants as changes
-use Rattle.worker.specs.declared.types.Line.{Line}
-use Rattle.worker.specs.declared.types.Own.{Own}
-use Rattle.worker.specs.declared.types.Own.TheVariants.{Nobody}
-use Rattle.worker.specs.Rooms.{Changes, at_place, place_in, place_of, with_lines, on_number, on_context, with_contexts, sending, is_own, does, effects_of, without_effects, died, behind, answered_with, is_dead, death_text}
-use Rattle.worker.specs.Steps.{Both, Answered, Then, called_in, called_live, calls_live}
+use Rattle.worker_model.specs.Changes.{changed}
+use Rattle.worker_model.specs.Room.{Room}
+use Rattle.worker_model.specs.declared.types.Change.TheVariants as changes
+use Rattle.worker_model.specs.declared.types.Line.{Line}
+use Rattle.worker_model.specs.declared.types.Own.{Own}
+use Rattle.worker_model.specs.declared.types.Own.TheVariants.{Nobody}
+use Rattle.worker_model.specs.Rooms.{Changes, at_place, place_in, place_of, with_lines, on_number, on_context, with_contexts, sending, is_own, does, effects_of, without_effects, died, behind, answered_with, is_dead, death_text}
+use Rattle.worker_model.specs.Steps.{Both, Answered, Then, called_in, called_live, calls_live}
 use Rattle.rest_laws.specs.Left.{left, AllFit}
 use Rattle.rest_laws.proofs.Exchanges.{Adds, answer_adds, resumes_adds, closed_adds, dies_adds}
 use Rattle.rest_laws.proofs.Lines.{LeavesBy, adds_leaves, AllLeave, at_place_leaves, all_lines_leave}

@@ -3,14 +3,14 @@ use Rattle.std.proofs.Common.{◌≡◌, ℕ, zero, suc, ◌<◌, Bool, true, fa
 use Rattle.course.specs.Called.{Calling}
 use Rattle.std.specs.Prelude.{Option, None, Some, is_some, position, if◌then◌else◌}
 use Rattle.course.proofs.Holds.{AllEnds, all_then, all_reached}
-use Rattle.worker.specs.declared.room.Room.{Room}
-use Rattle.worker.specs.declared.types.Job.{Job}
-use Rattle.worker.specs.declared.types.Next.{Next}
-use Rattle.worker.specs.declared.types.Next.TheVariants as next
-use Rattle.worker.specs.Plan.{Plan}
-use Rattle.worker.specs.Rooms.{moves, is_over, is_any, begins_or_rests, ends_or, frees_or, moves_or, is_released, next_part, next_of}
-use Rattle.worker.specs.Settling.{settling, settling_step, settling_rest, settling_none, rests}
-use Rattle.worker.specs.Steps.{Both, step}
+use Rattle.worker_model.specs.Room.{Room}
+use Rattle.worker_model.specs.declared.types.Job.{Job}
+use Rattle.worker_model.specs.declared.types.Next.{Next}
+use Rattle.worker_model.specs.declared.types.Next.TheVariants as next
+use Rattle.worker_model.specs.Plan.{Plan}
+use Rattle.worker_model.specs.Rooms.{moves, is_over, is_any, begins_or_rests, ends_or, frees_or, moves_or, is_released, next_part, next_of}
+use Rattle.worker_model.specs.Settling.{settling, settling_step, settling_rest, settling_none, rests}
+use Rattle.worker_model.specs.Steps.{Both, step}
 use Rattle.rest_laws.specs.Laws.{IsAtRest, StepsLeaveLess, StepsComeToRest, NothingIsLeft, RestIsRest}
 use Rattle.rest_laws.specs.Left.{left, AllFit, RoutesFit}
 use Rattle.rest_laws.proofs.Paused.{all_rest}

@@ -20,16 +20,16 @@ use Rattle.gate_io.specs.Events.{is_stop}
 use Rattle.gate_io.specs.declared.event.Event.{Event}
 use Rattle.gate_io.specs.declared.event.What.{What}
 use Rattle.http1_model.specs.Unread.{Reading}
-use Rattle.worker.specs.declared.room.Room.{Room}
-use Rattle.worker.specs.declared.types.Job.{Job}
-use Rattle.worker.specs.declared.types.Job.TheVariants as jobs
-use Rattle.worker.specs.declared.types.Line.{Line}
-use Rattle.worker.specs.Plan.{Plan}
+use Rattle.worker_model.specs.Room.{Room}
+use Rattle.worker_model.specs.declared.types.Job.{Job}
+use Rattle.worker_model.specs.declared.types.Job.TheVariants as jobs
+use Rattle.worker_model.specs.declared.types.Line.{Line}
+use Rattle.worker_model.specs.Plan.{Plan}
 use Rattle.store_model.specs.Made.{Made}
-use Rattle.worker.specs.Settling.{settling}
-use Rattle.worker.specs.State.{Setting, rules_of}
-use Rattle.worker.specs.Steps.{Both, both}
-use Rattle.worker.specs.Turn.{is_of, roots_from, start_of, starts_of, first_vms, vms_in, starts, is_due_now, ticks_in, ticks_of, ticks_due, deadlines, registers_at, notice_of, notices_of, agenda_of, at_moment, Outcome, outcome, turn, turn_by, most_steps}
+use Rattle.worker_model.specs.Settling.{settling}
+use Rattle.worker_model.specs.State.{Setting, rules_of}
+use Rattle.worker_model.specs.Steps.{Both, both}
+use Rattle.worker_model.specs.Turn.{is_of, roots_from, start_of, starts_of, first_vms, vms_in, starts, is_due_now, ticks_in, ticks_of, ticks_due, deadlines, registers_at, notice_of, notices_of, agenda_of, at_moment, Outcome, outcome, turn, turn_by, most_steps}
 use Rattle.rest_laws.specs.Left.{byte_cost, left, lines_left, open_left, reader_left, jobs_left, parts_left, reading_left, bytes_of, OpenFits, AllFit}
 use Rattle.rest_laws.specs.Moves.{for_each, moves_of, spare, spare_of, chains_left}
 use Rattle.rest_laws.specs.Sizes.{stages_size, reader_size, open_size, lines_size, vms_size, OneTurn, first_state, turn_start, start_size, IsReady, Follow, WorkersComeToRest, WholeTurnsComeToRest}

@@ -9,19 +9,19 @@ use Rattle.exchange.specs.declared.types.Exchange.{Exchange}
 use Rattle.exchange.specs.declared.types.Filter.{Filter}
 use Rattle.http1_model.specs.Unread.{Reading}
 use Rattle.store_model.specs.Program.{Program}
-use Rattle.worker.specs.declared.room.Room.{Room}
-use Rattle.worker.specs.declared.types.ContextAt.{ContextAt}
-use Rattle.worker.specs.declared.types.Job.{Job}
-use Rattle.worker.specs.declared.types.Job.TheVariants as jobs
-use Rattle.worker.specs.declared.types.Line.{Line}
-use Rattle.worker.specs.declared.types.Next.{Next}
-use Rattle.worker.specs.declared.types.Next.TheVariants as next
-use Rattle.worker.specs.declared.types.Reads.{Reads}
-use Rattle.worker.specs.Moves.{ended_in, ended_at}
-use Rattle.worker.specs.Plan.{Plan}
-use Rattle.worker.specs.Rooms.{moves, is_over, exchange_ends, is_any, begins_or_rests, ends_or, frees_or, moves_or, is_released, next_part, next_of}
-use Rattle.worker.specs.Settling.{rests}
-use Rattle.worker.specs.Steps.{Both, last_jobs, done_jobs, ends_with, ends_at, first_begun, frees_at, frees, reading_on, reads_in, reads_next, works, works_first, step}
+use Rattle.worker_model.specs.Room.{Room}
+use Rattle.worker_model.specs.declared.types.ContextAt.{ContextAt}
+use Rattle.worker_model.specs.declared.types.Job.{Job}
+use Rattle.worker_model.specs.declared.types.Job.TheVariants as jobs
+use Rattle.worker_model.specs.declared.types.Line.{Line}
+use Rattle.worker_model.specs.declared.types.Next.{Next}
+use Rattle.worker_model.specs.declared.types.Next.TheVariants as next
+use Rattle.worker_model.specs.declared.types.Reads.{Reads}
+use Rattle.worker_model.specs.Moves.{ended_in, ended_at}
+use Rattle.worker_model.specs.Plan.{Plan}
+use Rattle.worker_model.specs.Rooms.{moves, is_over, exchange_ends, is_any, begins_or_rests, ends_or, frees_or, moves_or, is_released, next_part, next_of}
+use Rattle.worker_model.specs.Settling.{rests}
+use Rattle.worker_model.specs.Steps.{Both, last_jobs, done_jobs, ends_with, ends_at, first_begun, frees_at, frees, reading_on, reads_in, reads_next, works, works_first, step}
 use Rattle.rest_laws.specs.Moves.{for_each}
 use Rattle.rest_laws.specs.Left.{reading_cost, left, open_left, exchange_left, job_left, jobs_left, parts_left, reading_left, AllFit, OpenFits, RoutesFit}
 use Rattle.rest_laws.proofs.Hearing.{heard_less}

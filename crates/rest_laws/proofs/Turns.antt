@@ -11,14 +11,14 @@ use Rattle.gate_config.specs.declared.entries.RouteEntry.{RouteEntry}
 use Rattle.gate_config.specs.Kept.{IsRoute}
 use Rattle.gate_io.specs.Events.{is_stop}
 use Rattle.gate_io.specs.declared.event.Event.{Event}
-use Rattle.worker.specs.declared.types.Line.{Line}
-use Rattle.worker.specs.Plan.{Plan}
-use Rattle.worker.specs.Rooms.{next_of}
-use Rattle.worker.specs.Settling.{settling, settling_step, settling_rest, settling_none, rests}
-use Rattle.worker.specs.State.{Setting, rules_of}
-use Rattle.worker.specs.Steps.{Both, both, step}
-use Rattle.worker.specs.Turn.{Outcome, turn, turn_by, turned, comes_to, facing, most_steps}
-use Rattle.worker.proofs.More.{more_steps}
+use Rattle.worker_model.specs.declared.types.Line.{Line}
+use Rattle.worker_model.specs.Plan.{Plan}
+use Rattle.worker_model.specs.Rooms.{next_of}
+use Rattle.worker_model.specs.Settling.{settling, settling_step, settling_rest, settling_none, rests}
+use Rattle.worker_model.specs.State.{Setting, rules_of}
+use Rattle.worker_model.specs.Steps.{Both, both, step}
+use Rattle.worker_model.specs.Turn.{Outcome, turn, turn_by, turned, comes_to, facing, most_steps}
+use Rattle.worker_model.proofs.More.{more_steps}
 use Rattle.rest_laws.specs.Laws.{BoundsChangeNothing, StepsArePaid, TurnsComeToRest, IsClear, AllClear, RoomsComeToRest}
 use Rattle.rest_laws.specs.Left.{left, OpenFits, AllFit, RoutesFit}
 use Rattle.rest_laws.proofs.Rooms.{IsLess}

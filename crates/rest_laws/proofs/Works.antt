@@ -14,14 +14,14 @@ use Rattle.course.specs.declared.host.Death.{Death}
 use Rattle.course.specs.declared.host.Death.TheVariants as deaths
 use Rattle.course.proofs.Holds.{AllEnds}
 use Rattle.store_model.specs.Program.{Program}
-use Rattle.worker.specs.declared.room.Room.{Room}
-use Rattle.worker.specs.declared.types.ContextAt.{ContextAt}
-use Rattle.worker.specs.declared.types.Job.{Job}
-use Rattle.worker.specs.declared.types.Job.TheVariants as jobs
-use Rattle.worker.specs.declared.types.NewContext.{NewContext}
-use Rattle.worker.specs.Plan.{Plan}
-use Rattle.worker.specs.Rooms.{is_dead}
-use Rattle.worker.specs.Steps.{Both, nothing_more, in_front, is_zero, unless_zero, has_vm, waits, last_jobs, done_with, deletes, rooting, line_in, may_stream, creating, entering, is_due_tick, next_tick, with_tick, ticked_at, ticked, tells, starts, made_with, ticks_with, tells_ready, notices, works, vm_length, plugin_length}
+use Rattle.worker_model.specs.Room.{Room}
+use Rattle.worker_model.specs.declared.types.ContextAt.{ContextAt}
+use Rattle.worker_model.specs.declared.types.Job.{Job}
+use Rattle.worker_model.specs.declared.types.Job.TheVariants as jobs
+use Rattle.worker_model.specs.declared.types.NewContext.{NewContext}
+use Rattle.worker_model.specs.Plan.{Plan}
+use Rattle.worker_model.specs.Rooms.{is_dead}
+use Rattle.worker_model.specs.Steps.{Both, nothing_more, in_front, is_zero, unless_zero, has_vm, waits, last_jobs, done_with, deletes, rooting, line_in, may_stream, creating, entering, is_due_tick, next_tick, with_tick, ticked_at, ticked, tells, starts, made_with, ticks_with, tells_ready, notices, works, vm_length, plugin_length}
 use Rattle.exchange.specs.Passing.{put_in}
 use Rattle.rest_laws.specs.Moves.{for_each}
 use Rattle.rest_laws.specs.Left.{job_left, jobs_left}

@@ -26,16 +26,16 @@ use Rattle.http1_model.specs.Unread.{head_part, new_reading, fed, moved_on}
 use Rattle.header_maps.specs.Operations.{no_headers}
 use Rattle.course.specs.Heard.{hands}
 use Rattle.store_model.specs.Program.{Program, done}
-use Rattle.worker.specs.Plan.{Plan}
-use Rattle.worker.specs.Rooms.{next_of}
-use Rattle.worker.specs.Steps.{Both, both, step, after_heard}
-use Rattle.worker.specs.Turn.{facing}
-use Rattle.worker.specs.declared.room.Room.{Room}
-use Rattle.worker.specs.declared.types.Job.{Job}
-use Rattle.worker.specs.declared.types.Job.TheVariants as jobs
-use Rattle.worker.specs.declared.types.Line.{Line}
-use Rattle.worker.specs.declared.types.Next.TheVariants as next
-use Rattle.worker.specs.declared.types.Reads.{Reads}
+use Rattle.worker_model.specs.Plan.{Plan}
+use Rattle.worker_model.specs.Rooms.{next_of}
+use Rattle.worker_model.specs.Steps.{Both, both, step, after_heard}
+use Rattle.worker_model.specs.Turn.{facing}
+use Rattle.worker_model.specs.Room.{Room}
+use Rattle.worker_model.specs.declared.types.Job.{Job}
+use Rattle.worker_model.specs.declared.types.Job.TheVariants as jobs
+use Rattle.worker_model.specs.declared.types.Line.{Line}
+use Rattle.worker_model.specs.declared.types.Next.TheVariants as next
+use Rattle.worker_model.specs.declared.types.Reads.{Reads}
 use Rattle.rest_laws.specs.Left.{left}
 use Rattle.rest_laws.specs.Laws.{IsAtRest, AllRest}
 use Rattle.rest_laws.specs.Paid.{brought}

@@ -9,15 +9,15 @@ use Rattle.filter_chain.specs.declared.stage.Stage.{Stage}
 use Rattle.gate_config.specs.declared.config.Config.{Config}
 use Rattle.gate_io.specs.Events.{is_stop}
 use Rattle.gate_io.specs.declared.event.Event.{Event}
-use Rattle.worker.specs.declared.room.Room.{Room}
-use Rattle.worker.specs.declared.types.Line.{Line}
-use Rattle.worker.specs.Making.{first_room}
-use Rattle.worker.specs.Plan.{Plan}
-use Rattle.worker.specs.Rooms.{moves, is_over, is_released, next_of}
-use Rattle.worker.specs.Settling.{settling, rests}
-use Rattle.worker.specs.State.{Setting, rules_of}
-use Rattle.worker.specs.Steps.{Both, step}
-use Rattle.worker.specs.Turn.{Outcome, turn, facing, most_steps}
+use Rattle.worker_model.specs.Room.{Room}
+use Rattle.worker_model.specs.declared.types.Line.{Line}
+use Rattle.worker_model.specs.Making.{first_room}
+use Rattle.worker_model.specs.Plan.{Plan}
+use Rattle.worker_model.specs.Rooms.{moves, is_over, is_released, next_of}
+use Rattle.worker_model.specs.Settling.{settling, rests}
+use Rattle.worker_model.specs.State.{Setting, rules_of}
+use Rattle.worker_model.specs.Steps.{Both, step}
+use Rattle.worker_model.specs.Turn.{Outcome, turn, facing, most_steps}
 use Rattle.rest_laws.specs.Left.{left, AllFit, RoutesFit}
 
 -- everything is at rest

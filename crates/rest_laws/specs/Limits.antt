@@ -3,8 +3,8 @@ use Rattle.std.specs.Prelude.{◌≤◌, ℕ, ◌^◌, List, [], ◌∷◌, leng
 use Rattle.contexts.specs.Reached.{vm_in}
 use Rattle.exchange.specs.declared.types.Exchange.{Exchange}
 use Rattle.filter_chain.specs.declared.stage.Stage.{Stage}
-use Rattle.worker.specs.declared.room.Room.{Room}
-use Rattle.worker.specs.declared.types.Line.{Line}
+use Rattle.worker_model.specs.Room.{Room}
+use Rattle.worker_model.specs.declared.types.Line.{Line}
 use Rattle.rest_laws.specs.Left.{AllFit}
 use Rattle.rest_laws.specs.Sizes.{reader_size, room_size}
 

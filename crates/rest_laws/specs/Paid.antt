@@ -5,11 +5,11 @@ use Rattle.course.specs.Called.{Calling}
 use Rattle.course.specs.Course.{ends, Reaches}
 use Rattle.gate_io.specs.Events.{is_stop}
 use Rattle.gate_io.specs.declared.event.Event.{Event}
-use Rattle.worker.specs.declared.room.Room.{Room}
-use Rattle.worker.specs.Settling.{settling}
-use Rattle.worker.specs.State.{Setting, rules_of}
-use Rattle.worker.specs.Steps.{Both}
-use Rattle.worker.specs.Turn.{comes_to, vms_in}
+use Rattle.worker_model.specs.Room.{Room}
+use Rattle.worker_model.specs.Settling.{settling}
+use Rattle.worker_model.specs.State.{Setting, rules_of}
+use Rattle.worker_model.specs.Steps.{Both}
+use Rattle.worker_model.specs.Turn.{comes_to, vms_in}
 use Rattle.rest_laws.specs.Left.{left, bytes_of}
 use Rattle.rest_laws.specs.Sizes.{vms_size, OneTurn, first_state, turn_start, Follow}
 

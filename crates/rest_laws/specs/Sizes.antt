@@ -13,14 +13,14 @@ use Rattle.gate_io.specs.declared.event.Event.{Event}
 use Rattle.gate_io.specs.declared.passed.Passed.{Passed}
 use Rattle.http1_model.specs.Unread.{Reading}
 use Rattle.store_model.specs.Made.{Made}
-use Rattle.worker.specs.declared.room.Room.{Room}
-use Rattle.worker.specs.declared.types.Line.{Line}
-use Rattle.worker.specs.Making.{first_room, new_worker}
-use Rattle.worker.specs.Settling.{settling}
-use Rattle.worker.specs.State.{Setting, Standing, rules_of}
-use Rattle.worker.specs.Steps.{Both, both}
-use Rattle.worker.specs.Turn.{Outcome, turn, facing, most_steps, vms_in}
-use Rattle.worker.specs.Turned.{Whole}
+use Rattle.worker_model.specs.Room.{Room}
+use Rattle.worker_model.specs.declared.types.Line.{Line}
+use Rattle.worker_model.specs.Making.{first_room, new_worker}
+use Rattle.worker_model.specs.Settling.{settling}
+use Rattle.worker_model.specs.State.{Setting, Standing, rules_of}
+use Rattle.worker_model.specs.Steps.{Both, both}
+use Rattle.worker_model.specs.Turn.{Outcome, turn, facing, most_steps, vms_in}
+use Rattle.worker_model.specs.Turned.{Whole}
 use Rattle.rest_laws.specs.Laws.{IsAtRest}
 use Rattle.rest_laws.specs.Left.{left, bytes_of, AllFit}
 

@@ -18,22 +18,22 @@ use Rattle.vm_laws.specs.Apart.{CallbacksAreApart}
 use Rattle.vm_laws.specs.MadeVms.{MadeVmsAreInPlace}
 use Rattle.vm_laws.specs.OwnChanges.{IsPlaced, ArePlaced, CallbacksChangeTheirOwn, PlacesStay}
 use Rattle.vm_laws.specs.Silent.{DeadVmsAreSilent}
-use Rattle.worker.specs.declared.room.Room.{Room}
-use Rattle.worker.specs.declared.types.Asked.{Asked}
-use Rattle.worker.specs.declared.types.Job.{Job}
-use Rattle.worker.specs.declared.types.Job.TheVariants as jobs
-use Rattle.worker.specs.declared.types.Line.{Line}
-use Rattle.worker.specs.declared.types.NewContext.{NewContext}
-use Rattle.worker.specs.declared.types.Next.{Next}
-use Rattle.worker.specs.declared.types.Next.TheVariants as next
-use Rattle.worker.specs.declared.types.Own.{Own}
-use Rattle.worker.specs.declared.types.Own.TheVariants as owns
-use Rattle.worker.specs.Moves.{asks_at}
-use Rattle.worker.specs.Plan.{Plan}
-use Rattle.worker.specs.Rooms.{is_dead, next_of, with_lines, answered_with, valued}
-use Rattle.worker.specs.Settling.{settling, settling_step, settling_rest, settling_none, rests}
-use Rattle.worker.specs.Steps.{Both, both, Answered, answered, Then, goes_on_with, called_in, calls_live, acts_on, moved, moved_with, tells, made_with, ticks_with, tells_ready, works, works_first, nothing_more, unless_zero, done_with, deletes, rooting, creating, ticked, may_stream, callback_of, number_of, vm_length, plugin_length, step}
-use Rattle.worker.specs.Turn.{comes_to, facing, most_steps, turn_by, turn}
+use Rattle.worker_model.specs.Room.{Room}
+use Rattle.worker_model.specs.declared.types.Asked.{Asked}
+use Rattle.worker_model.specs.declared.types.Job.{Job}
+use Rattle.worker_model.specs.declared.types.Job.TheVariants as jobs
+use Rattle.worker_model.specs.declared.types.Line.{Line}
+use Rattle.worker_model.specs.declared.types.NewContext.{NewContext}
+use Rattle.worker_model.specs.declared.types.Next.{Next}
+use Rattle.worker_model.specs.declared.types.Next.TheVariants as next
+use Rattle.worker_model.specs.declared.types.Own.{Own}
+use Rattle.worker_model.specs.declared.types.Own.TheVariants as owns
+use Rattle.worker_model.specs.Moves.{asks_at}
+use Rattle.worker_model.specs.Plan.{Plan}
+use Rattle.worker_model.specs.Rooms.{is_dead, next_of, with_lines, answered_with, valued}
+use Rattle.worker_model.specs.Settling.{settling, settling_step, settling_rest, settling_none, rests}
+use Rattle.worker_model.specs.Steps.{Both, both, Answered, answered, Then, goes_on_with, called_in, calls_live, acts_on, moved, moved_with, tells, made_with, ticks_with, tells_ready, works, works_first, nothing_more, unless_zero, done_with, deletes, rooting, creating, ticked, may_stream, callback_of, number_of, vm_length, plugin_length, step}
+use Rattle.worker_model.specs.Turn.{comes_to, facing, most_steps, turn_by, turn}
 use Rattle.run_laws.specs.Bare.{run_if, always, RunsAllItAsks}
 use Rattle.run_laws.specs.Homes.{made, IsHome}
 use Rattle.run_laws.specs.Runs.{AreAtHome}

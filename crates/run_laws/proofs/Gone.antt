@@ -11,14 +11,14 @@ use Rattle.exchange.specs.declared.types.Exchange.{Exchange}
 use Rattle.filter_chain.specs.Chains.{ready}
 use Rattle.gate_io.specs.declared.event.Side.TheVariants.{Down}
 use Rattle.gate_io.specs.declared.event.What.TheVariants as whats
-use Rattle.worker.specs.Rooms.{exchange_moves, exchange_ends, moves, is_over, moves_or, frees_or, ends_or, begins_or_rests, is_any, is_released, next_of, place_in}
-use Rattle.worker.specs.Steps.{both, change_exchange, in_place, line_at, line_at_place, lost, lost_exchange, drops_line, on_lines, loses_down, happens, first_begun, step}
-use Rattle.worker.specs.declared.room.Room.{Room}
-use Rattle.worker.specs.declared.types.Job.{Job}
-use Rattle.worker.specs.declared.types.Job.TheVariants as jobs
-use Rattle.worker.specs.declared.types.Line.{Line}
-use Rattle.worker.specs.declared.types.Next.{Next}
-use Rattle.worker.specs.declared.types.Next.TheVariants as next
+use Rattle.worker_model.specs.Rooms.{exchange_moves, exchange_ends, moves, is_over, moves_or, frees_or, ends_or, begins_or_rests, is_any, is_released, next_of, place_in}
+use Rattle.worker_model.specs.Steps.{both, change_exchange, in_place, line_at, line_at_place, lost, lost_exchange, drops_line, on_lines, loses_down, happens, first_begun, step}
+use Rattle.worker_model.specs.Room.{Room}
+use Rattle.worker_model.specs.declared.types.Job.{Job}
+use Rattle.worker_model.specs.declared.types.Job.TheVariants as jobs
+use Rattle.worker_model.specs.declared.types.Line.{Line}
+use Rattle.worker_model.specs.declared.types.Next.{Next}
+use Rattle.worker_model.specs.declared.types.Next.TheVariants as next
 use Rattle.run_laws.specs.Gone.{told_gone, behind_gone, GoneEndNext, one_line, with_one, GoneExamples}
 use Rattle.run_laws.proofs.Runs.{then_true}
 

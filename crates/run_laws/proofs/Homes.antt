@@ -18,11 +18,11 @@ use Rattle.vm_laws.specs.Lives.{Lives, no_turn, one_turn, Goes, no_step, one_ste
 use Rattle.vm_laws.specs.MadeVms.{MadeVmsAreInPlace}
 use Rattle.vm_laws.specs.OwnChanges.{IsPlaced, ArePlaced, CallbacksChangeTheirOwn, PlacesStay}
 use Rattle.vm_laws.specs.Silent.{AreTied}
-use Rattle.worker.specs.Making.{with_vms, with_plugins, contexts_of}
-use Rattle.worker.specs.Plan.{Plan}
-use Rattle.worker.specs.Rooms.{is_dead, next_of}
-use Rattle.worker.specs.Steps.{Both, both, step}
-use Rattle.worker.specs.Turn.{Outcome, emptied, facing, turn}
+use Rattle.worker_model.specs.Making.{with_vms, with_plugins, contexts_of}
+use Rattle.worker_model.specs.Plan.{Plan}
+use Rattle.worker_model.specs.Rooms.{is_dead, next_of}
+use Rattle.worker_model.specs.Steps.{Both, both, step}
+use Rattle.worker_model.specs.Turn.{Outcome, emptied, facing, turn}
 use Rattle.run_laws.specs.Homes.{made, IsHome, BeginsAtHome, StaysAtHome, HasMachine, LiveVmsKeepMachines, IsRun, RunsOverLives}
 use Rattle.run_laws.specs.Runs.{IsLive, HasFunction}
 use Rattle.run_laws.proofs.Runs.{runs_what_is_asked}

@@ -17,21 +17,21 @@ use Rattle.exchange.specs.declared.types.Hub.{Hub}
 use Rattle.exchange.specs.Maps.{marked}
 use Rattle.exchange.specs.Passing.{dies}
 use Rattle.http1_model.specs.Unread.{Reading}
-use Rattle.worker.specs.declared.room.Room.{Room}
-use Rattle.worker.specs.declared.types.Asked.{Asked}
-use Rattle.worker.specs.declared.types.Job.{Job}
-use Rattle.worker.specs.declared.types.Job.TheVariants as jobs
-use Rattle.worker.specs.declared.types.Line.{Line}
-use Rattle.worker.specs.declared.types.NewContext.{NewContext}
-use Rattle.worker.specs.declared.types.Next.{Next}
-use Rattle.worker.specs.declared.types.Next.TheVariants as next
-use Rattle.worker.specs.declared.types.Own.{Own}
-use Rattle.worker.specs.declared.types.Own.TheVariants as owns
-use Rattle.worker.specs.declared.types.Reads.{Reads}
-use Rattle.worker.specs.Moves.{asks_at}
-use Rattle.worker.specs.Plan.{Plan}
-use Rattle.worker.specs.Rooms.{Changes, marking, in_exchange, in_line, at_some, at_place, all_lines, place_in, place_of, is_dead, with_lines, answered_with, valued}
-use Rattle.worker.specs.Steps.{Both, both, Answered, answered, Then, goes_on_with, called_in, called_live, calls_live, acts_on, moved, moved_with, tells, made_with, ticks_with, tells_ready, notices, works, works_first, reads_in, reads_next, reading_on, nothing_more, unless_zero, done_with, deletes, rooting, creating, ticked, may_stream, callback_of, number_of, vm_length, plugin_length, step}
+use Rattle.worker_model.specs.Room.{Room}
+use Rattle.worker_model.specs.declared.types.Asked.{Asked}
+use Rattle.worker_model.specs.declared.types.Job.{Job}
+use Rattle.worker_model.specs.declared.types.Job.TheVariants as jobs
+use Rattle.worker_model.specs.declared.types.Line.{Line}
+use Rattle.worker_model.specs.declared.types.NewContext.{NewContext}
+use Rattle.worker_model.specs.declared.types.Next.{Next}
+use Rattle.worker_model.specs.declared.types.Next.TheVariants as next
+use Rattle.worker_model.specs.declared.types.Own.{Own}
+use Rattle.worker_model.specs.declared.types.Own.TheVariants as owns
+use Rattle.worker_model.specs.declared.types.Reads.{Reads}
+use Rattle.worker_model.specs.Moves.{asks_at}
+use Rattle.worker_model.specs.Plan.{Plan}
+use Rattle.worker_model.specs.Rooms.{Changes, marking, in_exchange, in_line, at_some, at_place, all_lines, place_in, place_of, is_dead, with_lines, answered_with, valued}
+use Rattle.worker_model.specs.Steps.{Both, both, Answered, answered, Then, goes_on_with, called_in, called_live, calls_live, acts_on, moved, moved_with, tells, made_with, ticks_with, tells_ready, notices, works, works_first, reads_in, reads_next, reading_on, nothing_more, unless_zero, done_with, deletes, rooting, creating, ticked, may_stream, callback_of, number_of, vm_length, plugin_length, step}
 use Rattle.run_laws.specs.Marks.{IsUnasked, IsTold, DeathsDropMarks, ChangesAreTold, AskNone, WorkersRaiseNone}
 use Rattle.run_laws.proofs.Changing.{pick, Keeping, dies_keeps}
 use Rattle.run_laws.proofs.Rooms.{Stands, in_all, to_answered, KeepsThen, nothing_keeps, unless_zero_keeps, done_keeps, deletes_keeps, acts_on_keeps, InThird, in_asks_at, to_lines, StandsThere, to_root, to_stream, StandsDue, to_tick, to_notice, to_heard, to_quietly, to_ends_at, to_begun, to_frees}

@@ -41,21 +41,21 @@ use Rattle.http1_model.specs.Messages.{Stop, rest, over, refusal}
 use Rattle.http1_model.specs.Unread.{Part, head_part, interim_part, piece, trailer_part}
 use Rattle.store_model.specs.declared.call.Reply.{Reply}
 use Rattle.store_model.specs.declared.call.Reply.TheVariants as replies
-use Rattle.worker.specs.Changes.{changed}
-use Rattle.worker.specs.declared.types.Change.TheVariants as changes
-use Rattle.worker.specs.Moves.{asks_as, asks_chain, asks_exchange, asks_in, asks_line, asks_with, asks_back, asks_at, asks_response, ended_at, with_none}
-use Rattle.worker.specs.Plan.{Plan}
-use Rattle.worker.specs.Rooms.{Changes, marking, in_exchange, in_line, at_some, at_place, all_lines, with_lines, place_in, place_of, on_number, on_context, with_contexts, sending, is_own, does, effects_of, without_effects, died, behind, answered_with, is_dead}
-use Rattle.worker.specs.Steps.{Then, nothing_more, is_zero, action_of, in_front, unless_zero, has_vm, waits, last_jobs, done_with, deletes, acts_on, is_drawn_out, may_root, rooting, with_stream, may_stream, streaming, creating_filter, filter_at, creating, entering, begun, head_item, keeps_response, change_line, exchange_on, in_contexts, put_trailers, takes, hands_part, stops, after_heard, on_lines, read_on, reading_ends, is_last, line_in, line_reading, exchange_of_line, line_ends, refusal_sent, refuses_in, refuses_line, most_lines, opens, comes_on, comes, is_open, is_answered_in, is_read_in, loses_down, is_missed, loses_up, happens, ends_exchange, ends_with, ends_at, with_tick, next_tick, ticked_at, ticked, is_due_tick, is_late, expires_all, noticed, first_begun, frees_at, quietly}
-use Rattle.worker.specs.declared.room.Room.{Room}
-use Rattle.worker.specs.declared.types.Asked.{Asked}
-use Rattle.worker.specs.declared.types.ContextAt.{ContextAt}
-use Rattle.worker.specs.declared.types.Job.{Job}
-use Rattle.worker.specs.declared.types.Job.TheVariants as jobs
-use Rattle.worker.specs.declared.types.Line.{Line}
-use Rattle.worker.specs.declared.types.NewContext.{NewContext}
-use Rattle.worker.specs.declared.types.Own.{Own}
-use Rattle.worker.specs.declared.types.Reads.{Reads}
+use Rattle.worker_model.specs.Changes.{changed}
+use Rattle.worker_model.specs.declared.types.Change.TheVariants as changes
+use Rattle.worker_model.specs.Moves.{asks_as, asks_chain, asks_exchange, asks_in, asks_line, asks_with, asks_back, asks_at, asks_response, ended_at, with_none}
+use Rattle.worker_model.specs.Plan.{Plan}
+use Rattle.worker_model.specs.Rooms.{Changes, marking, in_exchange, in_line, at_some, at_place, all_lines, with_lines, place_in, place_of, on_number, on_context, with_contexts, sending, is_own, does, effects_of, without_effects, died, behind, answered_with, is_dead}
+use Rattle.worker_model.specs.Steps.{Then, nothing_more, is_zero, action_of, in_front, unless_zero, has_vm, waits, last_jobs, done_with, deletes, acts_on, is_drawn_out, may_root, rooting, with_stream, may_stream, streaming, creating_filter, filter_at, creating, entering, begun, head_item, keeps_response, change_line, exchange_on, in_contexts, put_trailers, takes, hands_part, stops, after_heard, on_lines, read_on, reading_ends, is_last, line_in, line_reading, exchange_of_line, line_ends, refusal_sent, refuses_in, refuses_line, most_lines, opens, comes_on, comes, is_open, is_answered_in, is_read_in, loses_down, is_missed, loses_up, happens, ends_exchange, ends_with, ends_at, with_tick, next_tick, ticked_at, ticked, is_due_tick, is_late, expires_all, noticed, first_begun, frees_at, quietly}
+use Rattle.worker_model.specs.Room.{Room}
+use Rattle.worker_model.specs.declared.types.Asked.{Asked}
+use Rattle.worker_model.specs.declared.types.ContextAt.{ContextAt}
+use Rattle.worker_model.specs.declared.types.Job.{Job}
+use Rattle.worker_model.specs.declared.types.Job.TheVariants as jobs
+use Rattle.worker_model.specs.declared.types.Line.{Line}
+use Rattle.worker_model.specs.declared.types.NewContext.{NewContext}
+use Rattle.worker_model.specs.declared.types.Own.{Own}
+use Rattle.worker_model.specs.declared.types.Reads.{Reads}
 use Rattle.run_laws.proofs.Changing.{pick, IsClosed, In, InBoth, Keeping, has_changed, has_ended_one, has_awaited, has_deleted, has_root, has_stream, in_none, in_passed_on, put_in_keeps, resumes_keeps, closed_keeps, acts_keeps, dies_keeps, refused_keeps, expires_keeps, answer_keeps}
 
 -- so it is of the contexts, and of these VMs all are dead

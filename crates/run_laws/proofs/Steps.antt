@@ -19,23 +19,23 @@ use Rattle.vm_host.specs.declared.slots.Vms.{Vms}
 use Rattle.vm_laws.specs.Apart as programs
 use Rattle.vm_laws.specs.Apart.{CallbacksAreApart}
 use Rattle.vm_laws.specs.OwnChanges.{ArePlaced, CallbacksChangeTheirOwn, PlacesStay}
-use Rattle.worker.specs.declared.room.Room.{Room}
-use Rattle.worker.specs.declared.types.Asked.{Asked}
-use Rattle.worker.specs.declared.types.Job.{Job}
-use Rattle.worker.specs.declared.types.Job.TheVariants as jobs
-use Rattle.worker.specs.declared.types.Line.{Line}
-use Rattle.worker.specs.declared.types.NewContext.{NewContext}
-use Rattle.worker.specs.declared.types.Next.{Next}
-use Rattle.worker.specs.declared.types.Next.TheVariants as next
-use Rattle.worker.specs.declared.types.Own.{Own}
-use Rattle.worker.specs.declared.types.Own.TheVariants as owns
-use Rattle.worker.specs.declared.types.Reads.{Reads}
-use Rattle.worker.specs.Moves.{asks_at}
-use Rattle.worker.specs.Plan.{Plan}
-use Rattle.worker.specs.Rooms.{is_dead, next_of, with_lines, answered_with, valued}
-use Rattle.worker.specs.Settling.{settling, settling_step, settling_rest, settling_none, rests}
-use Rattle.worker.specs.Steps.{Both, both, Answered, answered, Then, goes_on_with, called_in, called_live, calls_live, acts_on, moved, moved_with, tells, made_with, ticks_with, tells_ready, notices, works, works_first, reads_in, reads_next, reading_on, nothing_more, unless_zero, done_with, deletes, rooting, creating, ticked, may_stream, callback_of, number_of, vm_length, plugin_length, quietly, step}
-use Rattle.worker.specs.Turn.{Outcome, comes_to, facing, most_steps, turn_by, turn}
+use Rattle.worker_model.specs.Room.{Room}
+use Rattle.worker_model.specs.declared.types.Asked.{Asked}
+use Rattle.worker_model.specs.declared.types.Job.{Job}
+use Rattle.worker_model.specs.declared.types.Job.TheVariants as jobs
+use Rattle.worker_model.specs.declared.types.Line.{Line}
+use Rattle.worker_model.specs.declared.types.NewContext.{NewContext}
+use Rattle.worker_model.specs.declared.types.Next.{Next}
+use Rattle.worker_model.specs.declared.types.Next.TheVariants as next
+use Rattle.worker_model.specs.declared.types.Own.{Own}
+use Rattle.worker_model.specs.declared.types.Own.TheVariants as owns
+use Rattle.worker_model.specs.declared.types.Reads.{Reads}
+use Rattle.worker_model.specs.Moves.{asks_at}
+use Rattle.worker_model.specs.Plan.{Plan}
+use Rattle.worker_model.specs.Rooms.{is_dead, next_of, with_lines, answered_with, valued}
+use Rattle.worker_model.specs.Settling.{settling, settling_step, settling_rest, settling_none, rests}
+use Rattle.worker_model.specs.Steps.{Both, both, Answered, answered, Then, goes_on_with, called_in, called_live, calls_live, acts_on, moved, moved_with, tells, made_with, ticks_with, tells_ready, notices, works, works_first, reads_in, reads_next, reading_on, nothing_more, unless_zero, done_with, deletes, rooting, creating, ticked, may_stream, callback_of, number_of, vm_length, plugin_length, quietly, step}
+use Rattle.worker_model.specs.Turn.{Outcome, comes_to, facing, most_steps, turn_by, turn}
 use Rattle.run_laws.proofs.Callbacks.{LeavesAll, leaves_all}
 use Rattle.run_laws.proofs.Counted.{Counted, counted}
 use Rattle.run_laws.proofs.Changing.{pick}

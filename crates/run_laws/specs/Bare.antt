@@ -11,10 +11,10 @@ use Rattle.vm_host.specs.Slots.{slot_in, calling}
 use Rattle.vm_host.specs.Vms.{VmAt}
 use Rattle.vm_host.specs.declared.slots.Vms.{Vms}
 use Rattle.vm_laws.specs.Lives.{Lives, Goes}
-use Rattle.worker.specs.Plan.{Plan}
-use Rattle.worker.specs.Rooms.{next_of}
-use Rattle.worker.specs.Steps.{Both, step}
-use Rattle.worker.specs.Turn.{turn}
+use Rattle.worker_model.specs.Plan.{Plan}
+use Rattle.worker_model.specs.Rooms.{next_of}
+use Rattle.worker_model.specs.Steps.{Both, step}
+use Rattle.worker_model.specs.Turn.{turn}
 use Rattle.run_laws.specs.Homes.{made, IsHome}
 use Rattle.run_laws.specs.Runs.{run_for}
 

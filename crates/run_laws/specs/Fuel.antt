@@ -29,8 +29,8 @@ use Rattle.wasm_syntax.specs.declared.instr.Instr.TheVariants as instr
 use Rattle.wasm_syntax.specs.declared.module.ExportKind.TheVariants as exported
 use Rattle.wasm_syntax.specs.declared.module.Module.{Module}
 use Rattle.wasm_syntax.specs.declared.types.Value.{Value}
-use Rattle.worker.specs.Plan.{Plan}
-use Rattle.worker.specs.Steps.{Both}
+use Rattle.worker_model.specs.Plan.{Plan}
+use Rattle.worker_model.specs.Steps.{Both}
 use Rattle.run_laws.specs.Denying.{nothing_to_nothing, at_home}
 use Rattle.run_laws.specs.Homes.{made}
 use Rattle.run_laws.specs.Made.{entry_of}

@@ -8,14 +8,14 @@ use Rattle.gate_base.specs.declared.level.Level.TheVariants as levels
 use Rattle.gate_io.specs.declared.event.Side.TheVariants.{Down}
 use Rattle.gate_io.specs.declared.event.What.TheVariants as whats
 use Rattle.http1_model.specs.Unread.{new_reading}
-use Rattle.worker.specs.Plan.{Plan}
-use Rattle.worker.specs.Rooms.{next_of, place_in}
-use Rattle.worker.specs.Steps.{both, happens, first_begun, step}
-use Rattle.worker.specs.declared.room.Room.{Room}
-use Rattle.worker.specs.declared.types.Job.{Job}
-use Rattle.worker.specs.declared.types.Job.TheVariants as jobs
-use Rattle.worker.specs.declared.types.Line.{Line}
-use Rattle.worker.specs.declared.types.Next.TheVariants as next
+use Rattle.worker_model.specs.Plan.{Plan}
+use Rattle.worker_model.specs.Rooms.{next_of, place_in}
+use Rattle.worker_model.specs.Steps.{both, happens, first_begun, step}
+use Rattle.worker_model.specs.Room.{Room}
+use Rattle.worker_model.specs.declared.types.Job.{Job}
+use Rattle.worker_model.specs.declared.types.Job.TheVariants as jobs
+use Rattle.worker_model.specs.declared.types.Line.{Line}
+use Rattle.worker_model.specs.declared.types.Next.TheVariants as next
 
 -- the room in which that is the only job in hand, and the one behind it
 abbrev pub told_gone : Room → Room

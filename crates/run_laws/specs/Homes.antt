@@ -9,10 +9,10 @@ use Rattle.vm_host.specs.declared.slots.Vms.{Vms}
 use Rattle.vm_laws.specs.Lives.{Lives, Goes}
 use Rattle.vm_laws.specs.MadeVms.{made_vms}
 use Rattle.vm_laws.specs.OwnChanges.{ArePlaced}
-use Rattle.worker.specs.Making.{new_worker}
-use Rattle.worker.specs.Plan.{Plan}
-use Rattle.worker.specs.Rooms.{is_dead}
-use Rattle.worker.specs.Steps.{Both}
+use Rattle.worker_model.specs.Making.{new_worker}
+use Rattle.worker_model.specs.Plan.{Plan}
+use Rattle.worker_model.specs.Rooms.{is_dead}
+use Rattle.worker_model.specs.Steps.{Both}
 use Rattle.run_laws.specs.Runs.{IsLive, AreAtHome, run_for, run_of, HasFunction}
 
 -- the machines and the room of a worker as it is made, with the machines of its configuration

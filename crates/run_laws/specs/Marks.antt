@@ -16,13 +16,13 @@ use Rattle.gate_io.specs.declared.event.Sent.{Sent}
 use Rattle.store_model.specs.Program.{done}
 use Rattle.vm_host.specs.declared.slots.Vms.{Vms}
 use Rattle.vm_laws.specs.Apart.{AllEnds}
-use Rattle.worker.specs.Plan.{Plan}
-use Rattle.worker.specs.Rooms.{Changes, place_in, place_of, on_number, on_context, died, answered_with}
-use Rattle.worker.specs.Steps.{Both, step}
-use Rattle.worker.specs.declared.room.Room.{Room}
-use Rattle.worker.specs.declared.types.Line.{Line}
-use Rattle.worker.specs.declared.types.Next.{Next}
-use Rattle.worker.specs.declared.types.Own.{Own}
+use Rattle.worker_model.specs.Plan.{Plan}
+use Rattle.worker_model.specs.Rooms.{Changes, place_in, place_of, on_number, on_context, died, answered_with}
+use Rattle.worker_model.specs.Steps.{Both, step}
+use Rattle.worker_model.specs.Room.{Room}
+use Rattle.worker_model.specs.declared.types.Line.{Line}
+use Rattle.worker_model.specs.declared.types.Next.{Next}
+use Rattle.worker_model.specs.declared.types.Own.{Own}
 use Rattle.run_laws.specs.Denying.{denies, at_home, asked_of}
 use Rattle.run_laws.specs.Gone.{with_one}
 

@@ -24,10 +24,10 @@ use Rattle.outbox.specs.Places.{marks_at}
 use Rattle.outbox.specs.Turns.{OneTurn, Delivers, HandsOver, events_of, to_go}
 use Rattle.outbox.specs.declared.place.Place.{Place}
 use Rattle.replay_script.specs.Prints.{Told, tell}
-use Rattle.worker.specs.Plan.{Plan}
-use Rattle.worker.specs.Steps.{Both}
-use Rattle.worker.specs.Turn.{Outcome, turn, turn_by}
-use Rattle.worker.specs.Turned.{one_turn, wanted}
+use Rattle.worker_model.specs.Plan.{Plan}
+use Rattle.worker_model.specs.Steps.{Both}
+use Rattle.worker_model.specs.Turn.{Outcome, turn, turn_by}
+use Rattle.worker_model.specs.Turned.{one_turn, wanted}
 use Rattle.script_play.specs.Delivered.{DeliveredExamples, InItsWorld, Step, events_in, met_in, placed_step, sent_in, sent_of, steps_of, turns_in}
 use Rattle.script_play.specs.Replay.{Setup, first_worker}
 

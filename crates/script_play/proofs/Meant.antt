@@ -10,9 +10,9 @@ use Rattle.outbox.specs.Delivery.{solid}
 use Rattle.replay_script.specs.Prints.{Told, tell}
 use Rattle.replay_script.specs.Scripts.{workers_of}
 use Rattle.store_model.specs.Sequential.{Stores}
-use Rattle.worker.specs.State.{Standing}
-use Rattle.worker.specs.Steps.{Both}
-use Rattle.worker.specs.Turn.{Outcome, turn}
+use Rattle.worker_model.specs.State.{Standing}
+use Rattle.worker_model.specs.Steps.{Both}
+use Rattle.worker_model.specs.Turn.{Outcome, turn}
 use Rattle.script_play.specs.Delivered.{EachMeans, Step, Stepped, events_in, met_in, placed_step, sent_in, steps_of, turns_in}
 use Rattle.script_play.specs.Laws.{EachWorkerMeans}
 use Rattle.script_play.specs.Replay.{Placed, Plays, PlaysFirst, Setup, first_worker, first_workers, placed_of, plan_for, state_at, state_of, stores_for}

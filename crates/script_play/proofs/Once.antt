@@ -5,9 +5,9 @@ use Rattle.course.specs.Course.{ends, Goes}
 use Rattle.outbox.specs.Delivery.{solid}
 use Rattle.replay_script.specs.Prints.{Told, tell}
 use Rattle.store_model.specs.Sequential.{Stores, Performs}
-use Rattle.worker.proofs.Alone.{goes_once}
-use Rattle.worker.specs.Steps.{Both}
-use Rattle.worker.specs.Turn.{Outcome, turn}
+use Rattle.worker_model.proofs.Alone.{goes_once}
+use Rattle.worker_model.specs.Steps.{Both}
+use Rattle.worker_model.specs.Turn.{Outcome, turn}
 use Rattle.script_play.specs.Replay.{Placed, Plays, PlaysFirst, Setup, first_workers, for_worker, placed_of, plan_for, state_at, state_of, stores_for}
 use Rattle.script_play.specs.Laws.{OneReplay, IsFront, FrontsOfOne}
 

@@ -14,9 +14,9 @@ use Rattle.replay_script.specs.Prints.{Told, tell, told}
 use Rattle.replay_script.specs.Scripts.{events_of, workers_of}
 use Rattle.store_model.specs.Made.{Made, called, measured}
 use Rattle.store_model.specs.Sequential.{Stores, Performs, measured_after, performs_joined, stores_after}
-use Rattle.worker.proofs.Alone.{goes_once}
-use Rattle.worker.specs.Steps.{Both}
-use Rattle.worker.specs.Turn.{turn}
+use Rattle.worker_model.proofs.Alone.{goes_once}
+use Rattle.worker_model.specs.Steps.{Both}
+use Rattle.worker_model.specs.Turn.{turn}
 use Rattle.script_play.specs.Laws.{ScriptsOfOneAreRuns}
 use Rattle.script_play.specs.Replay.{Placed, Plays, Setup, first_worker, first_workers, for_worker, placed_of, plan_for, state_at, state_of, stores_for}
 use Rattle.script_play.proofs.Fronts.{all_placed}

@@ -13,10 +13,10 @@ use Rattle.replay_script.specs.ScriptWorld.{Playing, fresh, nature}
 use Rattle.replay_script.specs.Scripts.{events_of, workers_of}
 use Rattle.course.specs.Course.{ends, Goes}
 use Rattle.store_model.specs.Sequential.{Stores, Performs}
-use Rattle.worker.specs.Plan.{Plan}
-use Rattle.worker.specs.State.{Standing, rules_of}
-use Rattle.worker.specs.Steps.{Both}
-use Rattle.worker.specs.Turn.{Outcome, outcome, turn}
+use Rattle.worker_model.specs.Plan.{Plan}
+use Rattle.worker_model.specs.State.{Standing, rules_of}
+use Rattle.worker_model.specs.Steps.{Both}
+use Rattle.worker_model.specs.Turn.{Outcome, outcome, turn}
 use Rattle.script_play.specs.Delivered.{Prints, PrintsFront}
 use Rattle.script_play.specs.Replay.{Setup, Placed, placed, place_all, placed_of, first_worker, first_workers, for_worker, plan_for, state_at, state_of, stores_for, Plays, PlaysFirst, IsReady, Flushed, Advances}
 use Rattle.script_play.proofs.Fronts.{all_placed, each_has_its_worker, gave_all, goes, place_both, placed_front}

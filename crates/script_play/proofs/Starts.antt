@@ -4,7 +4,7 @@ use Rattle.std.specs.Prelude.{All}
 use Rattle.shared_store.specs.Fresh.{fresh_stores}
 use Rattle.store_model.specs.Sequential.{Stores}
 use Rattle.store_model.specs.Store.{empty_store}
-use Rattle.worker.specs.State.{Standing}
+use Rattle.worker_model.specs.State.{Standing}
 use Rattle.script_play.specs.Replay.{Setup, CanTurn, Seated, first_worker, first_workers, stores_for}
 
 -- so many stores are so many

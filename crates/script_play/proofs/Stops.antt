@@ -6,8 +6,8 @@ use Rattle.course.specs.Course.{ends, Goes}
 use Rattle.gate_io.specs.MemoryWorld.{stop_at}
 use Rattle.replay_script.specs.Prints.{Told}
 use Rattle.store_model.specs.Sequential.{Stores, Performs, performs_nothing}
-use Rattle.worker.specs.Steps.{Both}
-use Rattle.worker.specs.Turn.{outcome, turn}
+use Rattle.worker_model.specs.Steps.{Both}
+use Rattle.worker_model.specs.Turn.{outcome, turn}
 use Rattle.script_play.specs.Laws.{StopStandsForAll, stops}
 use Rattle.script_play.specs.Replay.{Placed, Plays, Setup, first_workers, for_worker, placed, placed_of, plan_for, state_at, state_of, stores_for}
 use Rattle.script_play.proofs.Progresses.{plays_more}

@@ -15,8 +15,8 @@ use Rattle.outbox.specs.Turns.{OneTurn, Delivers}
 use Rattle.replay_script.specs.Prints.{Told, printed_by, tell, told}
 use Rattle.replay_script.specs.declared.command.Command.{Command}
 use Rattle.store_model.specs.Sequential.{Stores, Performs}
-use Rattle.worker.specs.Steps.{Both}
-use Rattle.worker.specs.Turned.{one_turn}
+use Rattle.worker_model.specs.Steps.{Both}
+use Rattle.worker_model.specs.Turned.{one_turn}
 use Rattle.script_play.specs.Replay.{Placed, Replays, ReplaysFront, Setup, first_worker, for_worker, placed, placed_of, stores_for}
 
 -- a turn of a script: its worker, its event, what its course met, and what it sends

@@ -10,8 +10,8 @@ use Rattle.replay_script.specs.Prints.{Told, tell}
 use Rattle.replay_script.specs.Scripts.{events_of, workers_of}
 use Rattle.replay_script.specs.declared.command.Command.{Command}
 use Rattle.store_model.specs.Sequential.{Stores, Performs}
-use Rattle.worker.specs.State.{Standing}
-use Rattle.worker.specs.Steps.{Both}
+use Rattle.worker_model.specs.State.{Standing}
+use Rattle.worker_model.specs.Steps.{Both}
 use Rattle.script_play.specs.Delivered.{EachMeans}
 use Rattle.script_play.specs.Replay.{Placed, PlaysFirst, Setup, Replays, ReplaysFront, first_worker, placed, placed_of, stores_for}
 

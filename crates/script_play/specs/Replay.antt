@@ -17,12 +17,12 @@ use Rattle.replay_script.specs.ScriptWorld.{Playing, fresh, nature, taken_since}
 use Rattle.replay_script.specs.Scripts.{events_of, workers_of}
 use Rattle.shared_store.specs.Fresh.{fresh_metrics, fresh_stores}
 use Rattle.store_model.specs.Sequential.{Stores, Performs}
-use Rattle.worker.specs.Making.{new_worker}
-use Rattle.worker.specs.Plan.{Plan}
-use Rattle.worker.specs.State.{Standing, rules_of}
-use Rattle.worker.specs.Steps.{Both}
-use Rattle.worker.specs.Turn.{Outcome, outcome, turn}
-use Rattle.worker.specs.Turned.{one_turn}
+use Rattle.worker_model.specs.Making.{new_worker}
+use Rattle.worker_model.specs.Plan.{Plan}
+use Rattle.worker_model.specs.State.{Standing, rules_of}
+use Rattle.worker_model.specs.Steps.{Both}
+use Rattle.worker_model.specs.Turn.{Outcome, outcome, turn}
+use Rattle.worker_model.specs.Turned.{one_turn}
 
 -- What a script is played over: what a callback of the machines does, which callbacks they export, which VMs register queues; the
 -- configuration; and the machines as they are at the start.

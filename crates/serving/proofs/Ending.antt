@@ -6,7 +6,7 @@ use Rattle.fleet.specs.declared.run.FleetEnd.{FleetEnd}
 use Rattle.fleet.specs.declared.run.FleetEnd.TheVariants as fleet_ends
 use Rattle.gate_config.specs.declared.config.Config.{Config}
 use Rattle.shared_seats.specs.Closed.{ClosedOf}
-use Rattle.worker.specs.State.{Standing}
+use Rattle.worker_model.specs.State.{Standing}
 use Rattle.serving.specs.Serving.{Ends, Eyes, Finishes, Tells}
 use Rattle.serving.specs.Summary.{summary}
 use Rattle.serving.specs.declared.running.ServeEnd.{ServeEnd}

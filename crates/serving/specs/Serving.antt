@@ -13,7 +13,7 @@ use Rattle.gate_io.specs.Told.{Gains, GainsFront, Rose}
 use Rattle.gate_io.specs.declared.passed.Passed.{Passed}
 use Rattle.gate_io.specs.declared.settings.Settings.{Settings}
 use Rattle.shared_seats.specs.Closed.{ClosedOf}
-use Rattle.worker.specs.State.{Standing}
+use Rattle.worker_model.specs.State.{Standing}
 use Rattle.serving.specs.Summary.{summary}
 use Rattle.serving.specs.declared.running.ServeEnd.{ServeEnd}
 use Rattle.serving.specs.declared.running.ServeEnd.TheVariants.{Done, SiteFault, OutFault, OutOfMemory}

@@ -16,9 +16,9 @@ use Rattle.http1_model.specs.Unread.{Reading, new_reading, Act, feeds, ends, han
 use Rattle.outbox.proofs.Marks.{octets_in-append, octets_in-map}
 use Rattle.outbox.specs.Places.{Mark, octet, opening, closing, marks_of, marks_at, octets_in, is_same_side}
 use Rattle.outbox.specs.declared.place.Place.TheVariants.{Peer}
-use Rattle.worker.specs.Steps.{line_in, line_reading}
-use Rattle.worker.specs.Wants.{has_room, reads_more, is_wanted, is_up}
-use Rattle.worker.specs.declared.types.Line.{Line}
+use Rattle.worker_model.specs.Steps.{line_in, line_reading}
+use Rattle.worker_model.specs.Wants.{has_room, reads_more, is_wanted, is_up}
+use Rattle.worker_model.specs.declared.types.Line.{Line}
 use Rattle.turn_laws.specs.Backlog.{open_line, one, two, asked, wants, RoomExamples, TextExamples, LineExamples, bytes_to, backlog, BacklogIsBounded, AreApart, HasUnread, UnreadIsBounded, IsAsked, DoesAsked, ReaderIsBounded}
 
 -- ---- worked rooms

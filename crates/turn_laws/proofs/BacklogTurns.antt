@@ -16,7 +16,7 @@ use Rattle.outbox.specs.Turns.{OneTurn, HandsOver, all_sent, to_go}
 use Rattle.outbox.specs.declared.place.Place.{Place}
 use Rattle.outbox.specs.declared.place.Place.TheVariants.{Peer}
 use Rattle.store_model.specs.Made.{Made}
-use Rattle.worker.specs.State.{Standing, rules_of}
+use Rattle.worker_model.specs.State.{Standing, rules_of}
 use Rattle.turn_laws.proofs.Backlog.{backlog_is_bounded, waits}
 use Rattle.turn_laws.specs.Backlog.{FitsBacklog, backlog, bytes_to}
 use Rattle.turn_laws.specs.BacklogTurns.{BacklogIsKept, EventsFit, Obeyed, WaitsSince, a_turn, no_turn}

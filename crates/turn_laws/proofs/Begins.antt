@@ -8,7 +8,7 @@ use Rattle.exchange.specs.declared.types.Filter.{Filter}
 use Rattle.exchange.specs.Maps.{request_in}
 use Rattle.filter_chain.specs.declared.stage.Stage.{Stage}
 use Rattle.header_maps.specs.Headers.{Headers}
-use Rattle.worker.specs.Steps.{is_live, new_stage}
+use Rattle.worker_model.specs.Steps.{is_live, new_stage}
 use Rattle.turn_laws.specs.Begins.{ExchangesBeginNew}
 
 set_there : {A : Type 0} (xs : List A) (n : ℕ) (x d : A) → n < length xs → slice_index_or (slice_set xs n x) n d ≡ x

@@ -6,14 +6,14 @@ use Rattle.contexts.specs.declared.parts.Context.{Context}
 use Rattle.contexts.specs.declared.parts.Tick.{Tick}
 use Rattle.contexts.specs.Reached.{vm_in}
 use Rattle.exchange.specs.declared.types.Exchange.{Exchange}
-use Rattle.worker.specs.Plan.{Plan}
-use Rattle.worker.specs.Rooms.{is_dead}
-use Rattle.worker.specs.Steps.{at_most_last}
-use Rattle.worker.specs.Turn.{registers_at, vms_in}
-use Rattle.worker.specs.Wants.{due_in, due_of, due_on, looks, looks_one, ticks_up_to, with_lines, with_notices, with_ticks}
-use Rattle.worker.specs.Wishes.{earlier}
-use Rattle.worker.specs.declared.room.Room.{Room}
-use Rattle.worker.specs.declared.types.Line.{Line}
+use Rattle.worker_model.specs.Plan.{Plan}
+use Rattle.worker_model.specs.Rooms.{is_dead}
+use Rattle.worker_model.specs.Steps.{at_most_last}
+use Rattle.worker_model.specs.Turn.{registers_at, vms_in}
+use Rattle.worker_model.specs.Wants.{due_in, due_of, due_on, looks, looks_one, ticks_up_to, with_lines, with_notices, with_ticks}
+use Rattle.worker_model.specs.Wants.{earlier}
+use Rattle.worker_model.specs.Room.{Room}
+use Rattle.worker_model.specs.declared.types.Line.{Line}
 use Rattle.turn_laws.specs.Due.{DueExamples, DeadlineExamples, TickExamples, NoticeExamples, IsBy, NothingIsDueBefore}
 
 pub due_examples : DueExamples

@@ -16,10 +16,10 @@ use Rattle.contexts.proofs.Isolation.{put_is_seen, all_else_stays}
 use Rattle.exchange.specs.declared.types.Exchange.{Exchange}
 use Rattle.filter_chain.specs.declared.stage.Stage.{Stage}
 use Rattle.filter_chain.specs.Chains.{cleared}
-use Rattle.worker.specs.declared.room.Room.{Room}
-use Rattle.worker.specs.declared.types.Line.{Line}
-use Rattle.worker.specs.Moves.{ended_in, ended_back, ended_at}
-use Rattle.worker.specs.Steps.{ends_with}
+use Rattle.worker_model.specs.Room.{Room}
+use Rattle.worker_model.specs.declared.types.Line.{Line}
+use Rattle.worker_model.specs.Moves.{ended_in, ended_back, ended_at}
+use Rattle.worker_model.specs.Steps.{ends_with}
 use Rattle.turn_laws.specs.Ended.{HoldsNothing, HoldNothing, NothingIsHeld, NothingIsHeldBehindAnEnd}
 
 -- ---- what a context has for itself, once it was written, and what another has

@@ -15,18 +15,18 @@ use Rattle.http_header.specs.Token.{is_token_byte}
 use Rattle.httparse.proofs.OnLiterals.{httparse_on_literals}
 use Rattle.httpdate.proofs.OnLiterals.{httpdate_on_literals}
 use Rattle.matchit.proofs.OnLiterals.{matchit_on_literals}
-use Rattle.worker.specs.Plan.{Plan}
+use Rattle.worker_model.specs.Plan.{Plan}
 use Rattle.exchange.specs.Passing.{expires}
-use Rattle.worker.specs.Rooms.{all_lines, with_lines, is_any, is_over, is_released, moves, next_of, moves_or, frees_or, ends_or, begins_or_rests}
-use Rattle.worker.specs.Settling.{rests, settling, settling_step}
-use Rattle.worker.specs.Steps.{Both, works, happens, is_late, expires_all}
-use Rattle.worker.specs.Turn.{Outcome, turn_by, facing, at_moment, comes_to, deadlines, most_steps, notices_of, starts_of, vms_in}
-use Rattle.worker.specs.declared.room.Room.{Room}
-use Rattle.worker.specs.declared.types.Job.{Job}
-use Rattle.worker.specs.declared.types.Job.TheVariants as jobs
-use Rattle.worker.specs.declared.types.Line.{Line}
-use Rattle.worker.specs.declared.types.Next.{Next}
-use Rattle.worker.specs.declared.types.Next.TheVariants as next
+use Rattle.worker_model.specs.Rooms.{all_lines, with_lines, is_any, is_over, is_released, moves, next_of, moves_or, frees_or, ends_or, begins_or_rests}
+use Rattle.worker_model.specs.Settling.{rests, settling, settling_step}
+use Rattle.worker_model.specs.Steps.{Both, works, happens, is_late, expires_all}
+use Rattle.worker_model.specs.Turn.{Outcome, turn_by, facing, at_moment, comes_to, deadlines, most_steps, notices_of, starts_of, vms_in}
+use Rattle.worker_model.specs.Room.{Room}
+use Rattle.worker_model.specs.declared.types.Job.{Job}
+use Rattle.worker_model.specs.declared.types.Job.TheVariants as jobs
+use Rattle.worker_model.specs.declared.types.Line.{Line}
+use Rattle.worker_model.specs.declared.types.Next.{Next}
+use Rattle.worker_model.specs.declared.types.Next.TheVariants as next
 use Rattle.turn_laws.proofs.Answer.{head_is_read, nothing_behind}
 use Rattle.turn_laws.proofs.Following.{end_by, ends_there, Meets, reaches_by}
 use Rattle.turn_laws.proofs.Passage.{response_is_read, body_is_read}

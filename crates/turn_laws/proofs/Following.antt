@@ -7,7 +7,7 @@ use Rattle.gate_base.specs.declared.level.Level.TheVariants.{Info}
 use Rattle.http1_model.specs.Head.{not_yet}
 use Rattle.http1_model.specs.Messages.{rest, stop}
 use Rattle.http1_model.specs.Unread.{new_reading, waiting}
-use Rattle.worker.specs.Turn.{Outcome, outcome}
+use Rattle.worker_model.specs.Turn.{Outcome, outcome}
 use Rattle.turn_laws.specs.Scenes.{state}
 use Rattle.turn_laws.specs.Tables.{Call}
 

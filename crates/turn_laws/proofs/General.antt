@@ -1,8 +1,8 @@
 -- The laws of turns, whatever the machines do.
 use Rattle.course.proofs.Once.{once}
 use Rattle.turn_laws.specs.Laws.{TurnsAreFunctionsOver, MoreStepsChangeNothingOver}
-use Rattle.worker.specs.Turn.{turn}
-use Rattle.worker.proofs.More.{more_steps}
+use Rattle.worker_model.specs.Turn.{turn}
+use Rattle.worker_model.proofs.More.{more_steps}
 
 pub turns_are_functions : (H : Type 0) → TurnsAreFunctionsOver H
 turns_are_functions H calling plan state event ms ns a b one two same = once ms ns (turn calling plan state event) a b one two same

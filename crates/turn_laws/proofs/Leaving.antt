@@ -1,9 +1,9 @@
 -- A client that is gone, and Stop, by computation.
 use Rattle.std.proofs.Common.{◌≡◌, true, List, [], ◌∷◌, map, None, refl}
 use Rattle.course.specs.Course.{Course}
-use Rattle.worker.specs.Settling.{settling}
-use Rattle.worker.specs.Turn.{Outcome}
-use Rattle.worker.specs.declared.types.Line.{Line}
+use Rattle.worker_model.specs.Settling.{settling}
+use Rattle.worker_model.specs.Turn.{Outcome}
+use Rattle.worker_model.specs.declared.types.Line.{Line}
 use Rattle.turn_laws.proofs.Following.{end_by, ends_there, reaches_by}
 use Rattle.turn_laws.specs.Tables.{Call}
 use Rattle.turn_laws.specs.Leaving.{GoneExample, StopExample, gone, gone_calls, gone_sends, late, idle, ids_of}

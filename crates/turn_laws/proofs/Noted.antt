@@ -6,7 +6,7 @@ use Rattle.exchange_laws.specs.Lives.{IsKin}
 use Rattle.exchange_laws.specs.Responses.{IsKinDown}
 use Rattle.exchange_laws.proofs.Quiet.{by_bool}
 use Rattle.filter_chain.specs.declared.item.Item.{Item}
-use Rattle.worker.specs.Steps.{noted, entered}
+use Rattle.worker_model.specs.Steps.{noted, entered}
 use Rattle.turn_laws.specs.Noted.{NotesAreFair, NotesAreFairDown}
 use Rattle.turn_laws.proofs.Begins.{no_stages, no_stages_back}
 

@@ -4,8 +4,8 @@ use Rattle.std.specs.Fmt.{digits}
 use Rattle.http1_model.specs.Moment.{year_from, month_from}
 use Rattle.httparse.proofs.OnLiterals.{httparse_on_literals}
 use Rattle.httpdate.proofs.OnLiterals.{httpdate_on_literals}
-use Rattle.worker.specs.Settling.{settling}
-use Rattle.worker.specs.declared.types.Line.{Line}
+use Rattle.worker_model.specs.Settling.{settling}
+use Rattle.worker_model.specs.declared.types.Line.{Line}
 use Rattle.turn_laws.proofs.Following.{end_by, ends_there, Meets, reaches_by, still_waits}
 use Rattle.turn_laws.specs.Parts.{PartsExample, asks, met, sends, turned}
 

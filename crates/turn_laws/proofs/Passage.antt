@@ -15,9 +15,9 @@ use Rattle.http1_model.specs.Unread.{head_part, piece}
 use Rattle.httparse.proofs.OnLiterals.{httparse_on_literals}
 use Rattle.httpdate.proofs.OnLiterals.{httpdate_on_literals}
 use Rattle.matchit.proofs.OnLiterals.{matchit_on_literals}
-use Rattle.worker.specs.Settling.{settling}
-use Rattle.worker.specs.Turn.{Outcome}
-use Rattle.worker.specs.declared.types.Line.{Line}
+use Rattle.worker_model.specs.Settling.{settling}
+use Rattle.worker_model.specs.Turn.{Outcome}
+use Rattle.worker_model.specs.declared.types.Line.{Line}
 use Rattle.turn_laws.proofs.Answer.{head_is_read, nothing_behind}
 use Rattle.turn_laws.proofs.Following.{end_by, ends_there, Meets, reaches_by}
 use Rattle.turn_laws.specs.Tables.{Call}

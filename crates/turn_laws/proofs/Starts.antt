@@ -2,9 +2,9 @@
 use Rattle.std.proofs.Common.{◌≡◌, true, List, [], ◌∷◌, map, Some, codes, refl}
 use Rattle.course.specs.Course.{Course}
 use Rattle.course.specs.declared.host.Callback.TheVariants.{VmStart, Configure}
-use Rattle.worker.specs.Settling.{settling}
-use Rattle.worker.specs.Turn.{Outcome}
-use Rattle.worker.specs.declared.types.Line.{Line}
+use Rattle.worker_model.specs.Settling.{settling}
+use Rattle.worker_model.specs.Turn.{Outcome}
+use Rattle.worker_model.specs.declared.types.Line.{Line}
 use Rattle.turn_laws.proofs.Following.{end_by, ends_there, reaches_by}
 use Rattle.turn_laws.specs.Tables.{Call, Comes}
 use Rattle.turn_laws.specs.Starts.{OneVmExample, TwoVmsExample, RefusedExample, roots_of, contexts_of, first, first_calls, next, second, second_calls, refused, no_start_calls, no_configure_calls, told}

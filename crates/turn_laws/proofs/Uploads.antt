@@ -23,9 +23,9 @@ use Rattle.http1_model.specs.Unread.{head_part, interim_part, piece, trailer_par
 use Rattle.httparse.proofs.OnLiterals.{httparse_on_literals}
 use Rattle.httpdate.proofs.OnLiterals.{httpdate_on_literals}
 use Rattle.matchit.proofs.OnLiterals.{matchit_on_literals}
-use Rattle.worker.specs.Settling.{settling}
-use Rattle.worker.specs.Turn.{Outcome}
-use Rattle.worker.specs.declared.types.Line.{Line}
+use Rattle.worker_model.specs.Settling.{settling}
+use Rattle.worker_model.specs.Turn.{Outcome}
+use Rattle.worker_model.specs.declared.types.Line.{Line}
 use Rattle.turn_laws.proofs.Following.{end_by, ends_there, Meets, reaches_by}
 use Rattle.turn_laws.proofs.Texts.{request_texts, response_texts}
 use Rattle.turn_laws.specs.Tables.{Call}

@@ -2,9 +2,9 @@
 use Rattle.std.proofs.Common.{◌≡◌, true, List, [], map, refl}
 use Rattle.course.specs.Course.{Course}
 use Rattle.store_model.specs.declared.call.Reply.{Reply}
-use Rattle.worker.specs.Settling.{settling}
-use Rattle.worker.specs.Turn.{Outcome}
-use Rattle.worker.specs.declared.types.Line.{Line}
+use Rattle.worker_model.specs.Settling.{settling}
+use Rattle.worker_model.specs.Turn.{Outcome}
+use Rattle.worker_model.specs.declared.types.Line.{Line}
 use Rattle.turn_laws.proofs.Following.{end_by, ends_there, Meets, reaches_by}
 use Rattle.turn_laws.specs.Tables.{Call}
 use Rattle.turn_laws.specs.Waiting.{WaitingExample, first, first_calls, second, second_met, second_calls}

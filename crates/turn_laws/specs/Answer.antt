@@ -14,8 +14,8 @@ use Rattle.header_maps.specs.declared.kind.ListKind.TheVariants.{Plain}
 use Rattle.http1_model.specs.Examples.{worked_text, worked_head}
 use Rattle.http1_model.specs.Messages.{head, rest}
 use Rattle.http1_model.specs.Unread.{Reading, head_part, new_reading, fed, moved_on, waiting}
-use Rattle.worker.specs.Plan.{Plan}
-use Rattle.worker.specs.Turn.{Outcome, turn}
+use Rattle.worker_model.specs.Plan.{Plan}
+use Rattle.worker_model.specs.Turn.{Outcome, turn}
 use Rattle.turn_laws.specs.Tables.{Call, call, Deed, calling_by, Comes}
 use Rattle.turn_laws.specs.Scenes.{line_of, first_date, plugin, rooted, line, state, event, plan_of}
 

@@ -13,11 +13,11 @@ use Rattle.gate_io.specs.declared.event.What.TheVariants.{Opened, Bytes, End, Go
 use Rattle.gate_io.specs.declared.passed.Wants.{Wants}
 use Rattle.http1_model.specs.Unread.{Reading, new_reading, fed, Act, feeds, ends, hands, halts, Does}
 use Rattle.outbox.specs.Places.{is_same_side}
-use Rattle.worker.specs.Plan.{Plan}
-use Rattle.worker.specs.Steps.{line_in, line_reading, opens}
-use Rattle.worker.specs.Wants.{is_up, reads_more, wants_of}
-use Rattle.worker.specs.declared.room.Room as rooms
-use Rattle.worker.specs.declared.types.Line.{Line}
+use Rattle.worker_model.specs.Plan.{Plan}
+use Rattle.worker_model.specs.Steps.{line_in, line_reading, opens}
+use Rattle.worker_model.specs.Wants.{is_up, reads_more, wants_of}
+use Rattle.worker_model.specs.Room as rooms
+use Rattle.worker_model.specs.declared.types.Line.{Line}
 use Rattle.turn_laws.specs.Scenes.{filter_of, stage, exchange, line, room, rooted, open_plan}
 
 -- ---- what is asked for in worked rooms

@@ -11,8 +11,8 @@ use Rattle.gate_io.specs.declared.event.What.TheVariants.{Opened, Bytes, End, Go
 use Rattle.gate_io.specs.declared.passed.Passed.{Passed}
 use Rattle.outbox.specs.Turns.{OneTurn, all_sent}
 use Rattle.store_model.specs.Made.{Made}
-use Rattle.worker.specs.State.{Standing}
-use Rattle.worker.specs.Turned.{Heard, Whole, one_turn, wanted}
+use Rattle.worker_model.specs.State.{Standing}
+use Rattle.worker_model.specs.Turned.{Heard, Whole, one_turn, wanted}
 use Rattle.turn_laws.specs.Backlog.{FitsBacklog, backlog}
 
 -- THE EVENT OF A TURN comes where little waits: of what waits when the turn begins, which is what the worker asks by. However a turn ended, its event was heard so

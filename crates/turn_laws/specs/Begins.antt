@@ -7,8 +7,8 @@ use Rattle.exchange.specs.Heads.{request_of, up_framing}
 use Rattle.exchange.specs.Leaving.{goes_up}
 use Rattle.exchange.specs.Maps.{request_map}
 use Rattle.http1_model.specs.Head.{Head}
-use Rattle.worker.specs.Plan.{Plan}
-use Rattle.worker.specs.Steps.{entered, exchange_for, free_place}
+use Rattle.worker_model.specs.Plan.{Plan}
+use Rattle.worker_model.specs.Steps.{entered, exchange_for, free_place}
 
 abbrev pub begun_for : Plan → ℕ → List ℕ → Head → Option ℕ → Contexts → Exchange
 begun_for plan now dead h route contexts = exchange_for plan (free_place contexts) now dead h route

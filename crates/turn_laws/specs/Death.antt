@@ -15,8 +15,8 @@ use Rattle.gate_io.specs.declared.event.Sent.{Sent}
 use Rattle.gate_io.specs.declared.event.Sent.TheVariants as sent
 use Rattle.gate_io.specs.declared.event.Side.TheVariants.{Down, Up}
 use Rattle.gate_io.specs.declared.event.What.TheVariants.{Clock}
-use Rattle.worker.specs.Steps.{with_tick}
-use Rattle.worker.specs.Turn.{Outcome, turn}
+use Rattle.worker_model.specs.Steps.{with_tick}
+use Rattle.worker_model.specs.Turn.{Outcome, turn}
 use Rattle.turn_laws.specs.Tables.{Call, call, Deed, calling_by, Comes}
 use Rattle.turn_laws.specs.Scenes.{line_of, first_date, get_map, plugin, rooted, filter_of, stage, exchange, line, waits_on, state, event, plan_of}
 

@@ -3,7 +3,7 @@ use Rattle.std.specs.Prelude.{◌≡◌, ℕ, List, [], codes}
 use Rattle.course.specs.declared.host.Death.{Death}
 use Rattle.course.specs.declared.host.Death.TheVariants as deaths
 use Rattle.gate_base.specs.declared.cause.Cause.TheVariants as causes
-use Rattle.worker.specs.Rooms.{death_text}
+use Rattle.worker_model.specs.Rooms.{death_text}
 
 abbrev pub told : Death → List ℕ
 told death = death_text (codes "v") death

@@ -12,8 +12,8 @@ use Rattle.http1_model.specs.Chunks.{size_line, inside}
 use Rattle.http1_model.specs.Examples.{worked_text, worked_head, worked_interim_text, worked_interim, worked_response_text, worked_response, worked_bare_response}
 use Rattle.http1_model.specs.Messages.{body, done, coded, unbounded, head, rest}
 use Rattle.http1_model.specs.Unread.{Reading, head_part, interim_part, piece, trailer_part, new_reading, fed, finished, moved_on, waiting}
-use Rattle.worker.specs.Steps.{Both}
-use Rattle.worker.specs.Turn.{Outcome}
+use Rattle.worker_model.specs.Steps.{Both}
+use Rattle.worker_model.specs.Turn.{Outcome}
 use Rattle.turn_laws.specs.Tables.{Call, Comes}
 use Rattle.turn_laws.specs.Scenes.{line_of, first_date, one_line, up_start, up_end, closing}
 use Rattle.turn_laws.specs.Answer.{behind_head}

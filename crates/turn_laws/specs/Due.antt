@@ -10,14 +10,14 @@ use Rattle.exchange.specs.declared.types.Exchange.{Exchange}
 use Rattle.exchange.specs.Leaving.{is_due}
 use Rattle.filter_chain.specs.declared.item.Held.TheVariants as held
 use Rattle.gate_base.specs.declared.level.Level.TheVariants.{Info}
-use Rattle.worker.specs.Plan.{Plan}
-use Rattle.worker.specs.Rooms.{is_dead}
-use Rattle.worker.specs.Steps.{due_at, is_due_tick, next_tick}
-use Rattle.worker.specs.Turn.{notices_of, ticks_due, vms_in}
-use Rattle.worker.specs.Wants.{due_in, wants_of}
-use Rattle.worker.specs.declared.room.Room.{Room}
-use Rattle.worker.specs.declared.types.Job.TheVariants as jobs
-use Rattle.worker.specs.declared.types.Line.{Line}
+use Rattle.worker_model.specs.Plan.{Plan}
+use Rattle.worker_model.specs.Rooms.{is_dead}
+use Rattle.worker_model.specs.Steps.{due_at, is_due_tick, next_tick}
+use Rattle.worker_model.specs.Turn.{notices_of, ticks_due, vms_in}
+use Rattle.worker_model.specs.Wants.{due_in, wants_of}
+use Rattle.worker_model.specs.Room.{Room}
+use Rattle.worker_model.specs.declared.types.Job.TheVariants as jobs
+use Rattle.worker_model.specs.declared.types.Line.{Line}
 use Rattle.turn_laws.specs.Scenes.{filter_of, stage, exchange, line, room, plan_of}
 
 -- ---- the worker

@@ -19,8 +19,8 @@ use Rattle.h1_head.specs.declared.head.Length.TheVariants as lengths
 use Rattle.header_maps.specs.Operations.{no_headers}
 use Rattle.http1_model.specs.Examples.{worked_response}
 use Rattle.http1_model.specs.Unread.{new_reading}
-use Rattle.worker.specs.Steps.{with_tick}
-use Rattle.worker.specs.Turn.{Outcome, turn}
+use Rattle.worker_model.specs.Steps.{with_tick}
+use Rattle.worker_model.specs.Turn.{Outcome, turn}
 use Rattle.turn_laws.specs.Tables.{Call, call, Deed, calling_by, Comes}
 use Rattle.turn_laws.specs.Scenes.{line_of, first_date, get_map, plugin, rooted, filter_of, stage, exchange, line, waits_on, state, event, plan_of}
 

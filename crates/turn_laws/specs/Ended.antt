@@ -7,9 +7,9 @@ use Rattle.contexts.specs.Lending.{stage_in}
 use Rattle.contexts.specs.Stages.{own_at}
 use Rattle.exchange.specs.declared.types.Exchange.{Exchange}
 use Rattle.filter_chain.specs.declared.stage.Stage.{Stage}
-use Rattle.worker.specs.declared.room.Room.{Room}
-use Rattle.worker.specs.declared.types.Line.{Line}
-use Rattle.worker.specs.Steps.{ends_at}
+use Rattle.worker_model.specs.Room.{Room}
+use Rattle.worker_model.specs.declared.types.Line.{Line}
+use Rattle.worker_model.specs.Steps.{ends_at}
 
 -- where the context of the stage is there, it holds nothing for it: no byte, and no body callback of it is asked
 abbrev pub HoldsNothing : Contexts → Stage → Type 0

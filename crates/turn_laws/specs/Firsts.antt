@@ -15,12 +15,12 @@ use Rattle.gate_io.specs.declared.event.Side.TheVariants.{Down, Up}
 use Rattle.gate_io.specs.declared.event.What.TheVariants as whats
 use Rattle.http1_model.specs.Examples.{worked_head, worked_response_text}
 use Rattle.http1_model.specs.Unread.{head_part, new_reading}
-use Rattle.worker.specs.Plan.{Plan}
-use Rattle.worker.specs.Rooms.{next_of}
-use Rattle.worker.specs.Settling.{settling, rests}
-use Rattle.worker.specs.Steps.{Both, happens, is_late}
-use Rattle.worker.specs.Turn.{Outcome, turn, at_moment, comes_to, most_steps, notices_of, ticks_due, vms_in}
-use Rattle.worker.specs.declared.room.Room as rooms
+use Rattle.worker_model.specs.Plan.{Plan}
+use Rattle.worker_model.specs.Rooms.{next_of}
+use Rattle.worker_model.specs.Settling.{settling, rests}
+use Rattle.worker_model.specs.Steps.{Both, happens, is_late}
+use Rattle.worker_model.specs.Turn.{Outcome, turn, at_moment, comes_to, most_steps, notices_of, ticks_due, vms_in}
+use Rattle.worker_model.specs.Room as rooms
 use Rattle.turn_laws.specs.Tables.{Call, calling_by, Comes}
 use Rattle.turn_laws.specs.Answer.{unread, behind_head}
 use Rattle.turn_laws.specs.Passage.{third_met}

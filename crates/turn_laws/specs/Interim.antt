@@ -8,11 +8,11 @@ use Rattle.gate_io.specs.declared.event.Side.TheVariants.{Down}
 use Rattle.http1_model.specs.Examples.{worked_interim}
 use Rattle.http1_model.specs.Head.{Head}
 use Rattle.http1_model.specs.Unread.{Reading, interim_part, new_reading}
-use Rattle.worker.specs.Plan.{Plan}
-use Rattle.worker.specs.Steps.{after_heard, exchange_on, on_line, read_on}
-use Rattle.worker.specs.Wants.{due_in}
-use Rattle.worker.specs.declared.room.Room.{Room}
-use Rattle.worker.specs.declared.types.Reads.{Reads}
+use Rattle.worker_model.specs.Plan.{Plan}
+use Rattle.worker_model.specs.Steps.{after_heard, exchange_on, on_line, read_on}
+use Rattle.worker_model.specs.Wants.{due_in}
+use Rattle.worker_model.specs.Room.{Room}
+use Rattle.worker_model.specs.declared.types.Reads.{Reads}
 use Rattle.turn_laws.specs.Due.{quiet, until, waits, on_line as line_with}
 use Rattle.turn_laws.specs.Scenes.{get, line_of}
 

@@ -4,11 +4,11 @@ use Rattle.course.specs.Called.{Calling}
 use Rattle.course.specs.Course.{ends, Met, Reaches, calls_in}
 use Rattle.course.specs.Once.{asked_in, replies_in}
 use Rattle.gate_io.specs.declared.event.Event.{Event}
-use Rattle.worker.specs.Plan.{Plan}
-use Rattle.worker.specs.Rooms.{next_of}
-use Rattle.worker.specs.Settling.{settling, rests}
-use Rattle.worker.specs.Steps.{Both}
-use Rattle.worker.specs.Turn.{Outcome, turn}
+use Rattle.worker_model.specs.Plan.{Plan}
+use Rattle.worker_model.specs.Rooms.{next_of}
+use Rattle.worker_model.specs.Settling.{settling, rests}
+use Rattle.worker_model.specs.Steps.{Both}
+use Rattle.worker_model.specs.Turn.{Outcome, turn}
 
 -- A TURN IS A FUNCTION OF THE REPLIES: where the shared stores reply the same, the same is asked of them, and the turn comes to the same.
 abbrev pub TurnsAreFunctionsOver : (H : Type 0) → Type 0

@@ -16,8 +16,8 @@ use Rattle.gate_io.specs.declared.event.Side.TheVariants.{Down, Up}
 use Rattle.gate_io.specs.declared.event.What.TheVariants as whats
 use Rattle.http1_model.specs.Examples.{worked_response_text}
 use Rattle.http1_model.specs.Unread.{new_reading}
-use Rattle.worker.specs.Steps.{Both, with_tick}
-use Rattle.worker.specs.Turn.{Outcome, turn}
+use Rattle.worker_model.specs.Steps.{Both, with_tick}
+use Rattle.worker_model.specs.Turn.{Outcome, turn}
 use Rattle.turn_laws.specs.Tables.{Call, call, calling_by, Comes}
 use Rattle.turn_laws.specs.Scenes.{get_map, plugin, rooted, filter_of, stage, exchange, line, state, event, plan_of}
 use Rattle.turn_laws.specs.Starts.{one_vm}

@@ -8,7 +8,7 @@ use Rattle.filter_chain.specs.declared.item.Item.{Item}
 use Rattle.http1_model.specs.Head.{Head}
 use Rattle.http1_model.specs.Length.{Measure, response_measure, is_without_body, without_body}
 use Rattle.http1_model.specs.Unread.{Reading}
-use Rattle.worker.specs.Steps.{with_reader, noted, with_further, keeps_response, head_item, entered, lost_exchange}
+use Rattle.worker_model.specs.Steps.{with_reader, noted, with_further, keeps_response, head_item, entered, lost_exchange}
 
 -- WHAT A WORKER NOTES IS FAIR TO THE REQUEST: what it keeps of a reader, of an item that was read and of the head of a response, that text has come
 -- or has ended, that stages are made where there are no filters, and that the client is gone

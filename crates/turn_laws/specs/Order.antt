@@ -5,14 +5,14 @@ use Rattle.contexts.specs.Creating.{awaited}
 use Rattle.exchange.specs.declared.types.Exchange.{Exchange}
 use Rattle.filter_chain.specs.declared.item.Held.TheVariants as held
 use Rattle.filter_chain.specs.declared.item.Item.TheVariants.{Head}
-use Rattle.worker.specs.Rooms.{next_of}
-use Rattle.worker.specs.declared.room.Room.{Room}
-use Rattle.worker.specs.declared.types.ContextAt.{ContextAt}
-use Rattle.worker.specs.declared.types.Job.{Job}
-use Rattle.worker.specs.declared.types.Job.TheVariants as jobs
-use Rattle.worker.specs.declared.types.Line.{Line}
-use Rattle.worker.specs.declared.types.Next.TheVariants as next
-use Rattle.worker.specs.declared.types.Reads.{Reads}
+use Rattle.worker_model.specs.Rooms.{next_of}
+use Rattle.worker_model.specs.Room.{Room}
+use Rattle.worker_model.specs.declared.types.ContextAt.{ContextAt}
+use Rattle.worker_model.specs.declared.types.Job.{Job}
+use Rattle.worker_model.specs.declared.types.Job.TheVariants as jobs
+use Rattle.worker_model.specs.declared.types.Line.{Line}
+use Rattle.worker_model.specs.declared.types.Next.TheVariants as next
+use Rattle.worker_model.specs.declared.types.Reads.{Reads}
 use Rattle.turn_laws.specs.Scenes.{plugin, rooted, filter_of, stage, exchange, line, room}
 
 -- nothing waits at the stage of the exchange; a head waits there; its end has come

@@ -15,9 +15,9 @@ use Rattle.gate_io.specs.declared.event.What.TheVariants.{Clock}
 use Rattle.http1_model.specs.Unread.{new_reading}
 use Rattle.store_model.specs.declared.call.Call.TheVariants as calls
 use Rattle.store_model.specs.declared.call.Reply.TheVariants.{Owed, NoneOwed}
-use Rattle.worker.specs.Plan.{Plan}
-use Rattle.worker.specs.Steps.{with_tick}
-use Rattle.worker.specs.Turn.{Outcome, turn}
+use Rattle.worker_model.specs.Plan.{Plan}
+use Rattle.worker_model.specs.Steps.{with_tick}
+use Rattle.worker_model.specs.Turn.{Outcome, turn}
 use Rattle.turn_laws.specs.Tables.{Call, call, calling_by, Comes}
 use Rattle.turn_laws.specs.Scenes.{line_of, get_map, plugin, rooted, filter_of, stage, exchange, line, waits_on, state, event, plan_of}
 

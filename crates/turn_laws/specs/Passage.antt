@@ -16,9 +16,9 @@ use Rattle.gate_io.specs.declared.event.What.TheVariants as whats
 use Rattle.http1_model.specs.Examples.{worked_text, worked_head, worked_response_text, worked_response}
 use Rattle.http1_model.specs.Messages.{body, done, counted, rest}
 use Rattle.http1_model.specs.Unread.{Reading, head_part, piece, new_reading, fed, moved_on, waiting}
-use Rattle.worker.specs.Plan.{Plan}
-use Rattle.worker.specs.Steps.{Both, with_tick}
-use Rattle.worker.specs.Turn.{Outcome, turn}
+use Rattle.worker_model.specs.Plan.{Plan}
+use Rattle.worker_model.specs.Steps.{Both, with_tick}
+use Rattle.worker_model.specs.Turn.{Outcome, turn}
 use Rattle.turn_laws.specs.Tables.{Call, call, Deed, calling_by, Comes}
 use Rattle.turn_laws.specs.Answer.{behind_head}
 use Rattle.turn_laws.specs.Scenes.{line_of, plugin, rooted, line, state, event, plan_of}

@@ -7,9 +7,9 @@ use Rattle.gate_config.specs.declared.entries.PluginEntry.{PluginEntry}
 use Rattle.gate_config.specs.declared.entries.RouteEntry.{RouteEntry}
 use Rattle.header_maps.specs.Headers.{Headers}
 use Rattle.header_maps.specs.Operations.{request_headers}
-use Rattle.worker.specs.Making.{bodies_of, registers_of}
-use Rattle.worker.specs.Steps.{filters_requests, filters_responses}
-use Rattle.worker.specs.declared.types.Bodies.{Bodies}
+use Rattle.worker_model.specs.Making.{bodies_of, registers_of}
+use Rattle.worker_model.specs.Steps.{filters_requests, filters_responses}
+use Rattle.worker_model.specs.declared.types.Bodies.{Bodies}
 
 -- ---- BODIES
 

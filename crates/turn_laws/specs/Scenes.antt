@@ -21,10 +21,10 @@ use Rattle.http1_model.specs.Unread.{new_reading, waiting}
 use Rattle.course.specs.Course.{Met, heard}
 use Rattle.course.specs.Heard.{halts}
 use Rattle.httparse.specs.Ascii.{crlf_bytes}
-use Rattle.worker.specs.Plan.{Plan}
-use Rattle.worker.specs.Steps.{Both, both}
-use Rattle.worker.specs.declared.room.Room.{Room}
-use Rattle.worker.specs.declared.types.Line.{Line}
+use Rattle.worker_model.specs.Plan.{Plan}
+use Rattle.worker_model.specs.Steps.{Both, both}
+use Rattle.worker_model.specs.Room.{Room}
+use Rattle.worker_model.specs.declared.types.Line.{Line}
 use Rattle.turn_laws.specs.Tables.{Call}
 
 abbrev pub line_of : List ℕ → List ℕ

@@ -10,8 +10,8 @@ use Rattle.course.specs.declared.host.Callback.{Callback}
 use Rattle.course.specs.declared.host.Callback.TheVariants as callbacks
 use Rattle.gate_io.specs.declared.event.Sent.{Sent}
 use Rattle.store_model.specs.Program.{Program, done}
-use Rattle.worker.specs.Turn.{Outcome}
-use Rattle.worker.specs.declared.types.Line.{Line}
+use Rattle.worker_model.specs.Turn.{Outcome}
+use Rattle.worker_model.specs.declared.types.Line.{Line}
 
 -- a callback that was called: of which VM, for which context, and with which two numbers behind it
 pub record Call : Type 0 where

@@ -13,9 +13,9 @@ use Rattle.http1_model.specs.Chunks.{size_line, inside}
 use Rattle.http1_model.specs.Examples.{worked_interim_text, worked_interim, worked_response_text, worked_response}
 use Rattle.http1_model.specs.Messages.{body, done, counted, coded, head, rest}
 use Rattle.http1_model.specs.Unread.{Reading, head_part, interim_part, piece, trailer_part, new_reading, fed, moved_on, waiting}
-use Rattle.worker.specs.Plan.{Plan}
-use Rattle.worker.specs.Steps.{Both, both}
-use Rattle.worker.specs.Turn.{Outcome, turn}
+use Rattle.worker_model.specs.Plan.{Plan}
+use Rattle.worker_model.specs.Steps.{Both, both}
+use Rattle.worker_model.specs.Turn.{Outcome, turn}
 use Rattle.turn_laws.specs.Tables.{Call, calling_by, Comes}
 use Rattle.turn_laws.specs.Scenes.{line_of, first_date, plugin, rooted, line, room, event, plan_of, open_plan, one_line, up_start, up_end, closing}
 use Rattle.turn_laws.specs.Texts.{posted_text, posted_head, upload_text, upload_head, download_text, download_head, no_content_text, no_content_head}

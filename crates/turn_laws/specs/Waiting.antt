@@ -17,8 +17,8 @@ use Rattle.gate_io.specs.declared.event.What.TheVariants as whats
 use Rattle.store_model.specs.Program.{Program, ask, done}
 use Rattle.store_model.specs.declared.call.Call.TheVariants.{Get}
 use Rattle.store_model.specs.declared.call.Reply.{Reply}
-use Rattle.worker.specs.Steps.{Both, with_tick}
-use Rattle.worker.specs.Turn.{Outcome, turn}
+use Rattle.worker_model.specs.Steps.{Both, with_tick}
+use Rattle.worker_model.specs.Turn.{Outcome, turn}
 use Rattle.turn_laws.specs.Tables.{Call, call, call_of, Deed, number_of, calling_by, Comes}
 use Rattle.turn_laws.specs.Scenes.{get_map, plugin, rooted, filter_of, stage, exchange, line, state, event, plan_of}
 

@@ -12,10 +12,10 @@ use Rattle.course.specs.declared.host.Death.TheVariants as deaths
 use Rattle.exchange.specs.declared.types.Filter.{Filter}
 use Rattle.vm_laws.proofs.OwnChanges.{both_left}
 use Rattle.vm_laws.specs.LastIds.{last_of, greatest, IdsRunOut, LastIdExamples}
-use Rattle.worker.specs.declared.room.Room.{Room}
-use Rattle.worker.specs.declared.types.NewContext.{NewContext}
-use Rattle.worker.specs.Rooms.{is_dead, died, with_contexts}
-use Rattle.worker.specs.Steps.{is_drawn_out, may_root, may_stream, new_one, root_jobs, in_front, rooting, with_stream, streaming}
+use Rattle.worker_model.specs.Room.{Room}
+use Rattle.worker_model.specs.declared.types.NewContext.{NewContext}
+use Rattle.worker_model.specs.Rooms.{is_dead, died, with_contexts}
+use Rattle.worker_model.specs.Steps.{is_drawn_out, may_root, may_stream, new_one, root_jobs, in_front, rooting, with_stream, streaming}
 
 abbrev Making : Type 0
 Making = Option NewContext × Room

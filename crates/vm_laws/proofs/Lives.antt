@@ -18,10 +18,10 @@ use Rattle.vm_laws.proofs.MadeVms.{in_place}
 use Rattle.vm_laws.proofs.OwnChanges.{change_their_own, places_stay}
 use Rattle.vm_laws.proofs.OwnEffects.{effects_own}
 use Rattle.vm_laws.proofs.Silent.{dead_are_silent, ties_stay}
-use Rattle.worker.specs.Plan.{Plan}
-use Rattle.worker.specs.Rooms.{next_of}
-use Rattle.worker.specs.Steps.{Both, both, step}
-use Rattle.worker.specs.Turn.{Outcome, emptied, facing, turn}
+use Rattle.worker_model.specs.Plan.{Plan}
+use Rattle.worker_model.specs.Rooms.{next_of}
+use Rattle.worker_model.specs.Steps.{Both, both, step}
+use Rattle.worker_model.specs.Turn.{Outcome, emptied, facing, turn}
 
 -- ---- what a callback keeps
 

@@ -20,12 +20,12 @@ use Rattle.gate_io.specs.declared.event.Sent.{Sent}
 use Rattle.vm_laws.proofs.OwnChanges.{both_left}
 use Rattle.vm_laws.proofs.OwnEffects.{grown, all_as}
 use Rattle.vm_laws.specs.OwnLines.{takes_part, IsSentFor, ActsOnItsOwn, EffectsActOnOwnLines}
-use Rattle.worker.specs.Changes.{changed}
-use Rattle.worker.specs.declared.room.Room.{Room}
-use Rattle.worker.specs.declared.types.Change.TheVariants as changes
-use Rattle.worker.specs.declared.types.Line.{Line}
-use Rattle.worker.specs.declared.types.Own.{Own}
-use Rattle.worker.specs.Rooms.{Changes, in_exchange, put_back, at_some, at_place, with_lines, has_open, place_of, on_context, is_own, does, effects_of}
+use Rattle.worker_model.specs.Changes.{changed}
+use Rattle.worker_model.specs.Room.{Room}
+use Rattle.worker_model.specs.declared.types.Change.TheVariants as changes
+use Rattle.worker_model.specs.declared.types.Line.{Line}
+use Rattle.worker_model.specs.declared.types.Own.{Own}
+use Rattle.worker_model.specs.Rooms.{Changes, in_exchange, put_back, at_some, at_place, with_lines, has_open, place_of, on_context, is_own, does, effects_of}
 
 -- ---- lists of lines
 

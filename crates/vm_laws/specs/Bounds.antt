@@ -11,8 +11,8 @@ use Rattle.vm_host.specs.declared.slots.Vms.{Vms}
 use Rattle.vm_laws.specs.Apart.{AllEnds}
 use Rattle.vm_laws.specs.Lives.{Lives, Goes}
 use Rattle.wasm_syntax.specs.Reduction.{Program}
-use Rattle.worker.specs.Plan.{Plan}
-use Rattle.worker.specs.Steps.{Both}
+use Rattle.worker_model.specs.Plan.{Plan}
+use Rattle.worker_model.specs.Steps.{Both}
 
 -- of a guest: its program, the function that allocates, and what the host answers while it is closed
 abbrev pub fixed : GuestAt → Program × Option ℕ × List Closing

@@ -7,10 +7,10 @@ use Rattle.course.specs.declared.host.Death.TheVariants as deaths
 use Rattle.exchange.specs.declared.types.Filter.{Filter}
 use Rattle.gate_base.specs.declared.level.Level.TheVariants.{Critical}
 use Rattle.gate_io.specs.declared.event.Sent.TheVariants.{Log}
-use Rattle.worker.specs.declared.room.Room.{Room}
-use Rattle.worker.specs.declared.types.NewContext.{NewContext}
-use Rattle.worker.specs.Rooms.{is_dead, died}
-use Rattle.worker.specs.Steps.{may_root, may_stream, new_one, rooting, streaming}
+use Rattle.worker_model.specs.Room.{Room}
+use Rattle.worker_model.specs.declared.types.NewContext.{NewContext}
+use Rattle.worker_model.specs.Rooms.{is_dead, died}
+use Rattle.worker_model.specs.Steps.{may_root, may_stream, new_one, rooting, streaming}
 
 -- the last id that was drawn for contexts of a VM
 abbrev pub last_of : (vm : ℕ) → Room → ℕ

@@ -12,10 +12,10 @@ use Rattle.vm_laws.specs.MadeVms.{made_vms}
 use Rattle.vm_laws.specs.OwnChanges.{ArePlaced, ChangesItsOwn}
 use Rattle.vm_laws.specs.OwnEffects.{AsksForItsOwn}
 use Rattle.vm_laws.specs.Silent.{IsSilent, AreTied}
-use Rattle.worker.specs.Plan.{Plan}
-use Rattle.worker.specs.Rooms.{next_of}
-use Rattle.worker.specs.Steps.{Both, both, step}
-use Rattle.worker.specs.Turn.{Outcome, turn, emptied, facing}
+use Rattle.worker_model.specs.Plan.{Plan}
+use Rattle.worker_model.specs.Rooms.{next_of}
+use Rattle.worker_model.specs.Steps.{Both, both, step}
+use Rattle.worker_model.specs.Turn.{Outcome, turn, emptied, facing}
 
 -- A LIFE: whole turns one behind the other, from one state to another, each at some event, whatever the shared stores reply and whatever is read.
 pub data Lives (plan : Plan) : Both Vms → Both Vms → Type 0 where

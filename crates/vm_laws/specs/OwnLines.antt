@@ -7,10 +7,10 @@ use Rattle.exchange.specs.declared.types.Filter.{Filter}
 use Rattle.exchange_laws.specs.Own.{IsOn}
 use Rattle.gate_io.specs.declared.event.Sent.{Sent}
 use Rattle.vm_laws.specs.OwnEffects.{GrowsBy}
-use Rattle.worker.specs.declared.room.Room.{Room}
-use Rattle.worker.specs.declared.types.Line.{Line}
-use Rattle.worker.specs.declared.types.Own.{Own}
-use Rattle.worker.specs.Rooms.{effects_of}
+use Rattle.worker_model.specs.Room.{Room}
+use Rattle.worker_model.specs.declared.types.Line.{Line}
+use Rattle.worker_model.specs.declared.types.Own.{Own}
+use Rattle.worker_model.specs.Rooms.{effects_of}
 
 -- the exchange of a line is open, and a context of that VM was created for it
 abbrev pub takes_part : (vm : ℕ) → Option Exchange → Bool

@@ -1,14 +1,4 @@
-pub mod Heads
 pub mod Places
-pub mod Readings
-pub mod Dying
-pub mod Quiet
 pub mod Quietly
 pub mod Turns
-pub mod More
-pub mod Alone
-pub mod TurnLaws
-pub mod Firsts
-pub mod Stirs
-pub mod Wished
-pub mod Listing
+pub mod Wants

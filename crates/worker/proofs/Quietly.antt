@@ -1,5 +1,5 @@
 -- Steps that call nothing.
-use Rattle.std.proofs.Common.{◌≡◌, ℕ, Bool, List, [], ap, sym, refl, subst}
+use Rattle.std.proofs.Common.{◌≡◌, ℕ, Bool, List, [], sym, refl, subst}
 use Rattle.std.specs.Prelude.{Result, Ok, Err, OnOk, Option, None, Some}
 use Rattle.contexts.specs.declared.parts.Contexts.{Contexts}
 use Rattle.course.specs.Called.{Called}
@@ -9,13 +9,13 @@ use Rattle.course.specs.declared.host.Callback.{Callback}
 use Rattle.http1_model.specs.Unread.{Reading}
 use Rattle.store_model.specs.Made.{Made}
 use Rattle.store_model.specs.Program.{Program}
-use Rattle.worker.specs.declared.room.Room.{Room}
-use Rattle.worker.specs.declared.types.ContextAt.{ContextAt}
-use Rattle.worker.specs.declared.types.Job.{Job}
-use Rattle.worker.specs.declared.types.Job.TheVariants as jobs
-use Rattle.worker.specs.declared.types.Reads.{Reads}
-use Rattle.worker.specs.Plan.{Plan}
-use Rattle.worker.specs.Steps.{Both, both, works, works_life, quietly, reads_in, reads_next, ReadSo, ReadOn, after_heard, reading_on}
+use Rattle.worker_model.specs.Room.{Room}
+use Rattle.worker_model.specs.declared.types.ContextAt.{ContextAt}
+use Rattle.worker_model.specs.declared.types.Job.{Job}
+use Rattle.worker_model.specs.declared.types.Job.TheVariants as jobs
+use Rattle.worker_model.specs.declared.types.Reads.{Reads}
+use Rattle.worker_model.specs.Plan.{Plan}
+use Rattle.worker_model.specs.Steps.{Both, both, works, works_life, quietly, reads_in, reads_next, ReadSo, ReadOn, after_heard, reading_on}
 
 -- the end that a part has come to is the function's
 pub room_ends_on : {S H C E : Type 0} {performs : S → List Made → S → Type 0} {s t : S} {p : Course (Both H)} (host : H) (a b : Room) (r : Result C E) → OnOk r (b ≡ a)

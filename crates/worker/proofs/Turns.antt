@@ -23,14 +23,14 @@ use Rattle.outbox.specs.Joined.{joined}
 use Rattle.outbox.proofs.Deliveries.{told_of_turn, handed_over, stands_still, is_no_stop}
 use Rattle.store_model.specs.Made.{Made}
 use Rattle.store_model.specs.Program.{Program}
-use Rattle.worker.specs.declared.room.Room.{Room}
+use Rattle.worker_model.specs.Room.{Room}
 use Rattle.worker.specs.Filled.{filled}
-use Rattle.worker.specs.Settling.{settling}
-use Rattle.worker.specs.State.{Standing, rules_of}
-use Rattle.worker.specs.Steps.{Both, both}
-use Rattle.worker.specs.declared.worker.Turn.{Turn}
-use Rattle.worker.specs.Turn.{Outcome, outcome, emptied, comes_to, facing, most_steps, turn, turn_by}
-use Rattle.worker.specs.Turned.{TookWhole, one_turn, wanted, Heard, NoEvent, Whole, Unanswered, PartlySent, Turned, TurnedOn}
+use Rattle.worker_model.specs.Settling.{settling}
+use Rattle.worker_model.specs.State.{Standing, rules_of}
+use Rattle.worker_model.specs.Steps.{Both, both}
+use Rattle.worker_model.specs.declared.types.Turn.{Turn}
+use Rattle.worker_model.specs.Turn.{Outcome, outcome, emptied, comes_to, facing, most_steps, turn, turn_by}
+use Rattle.worker_model.specs.Turned.{TookWhole, one_turn, wanted, Heard, NoEvent, Whole, Unanswered, PartlySent, Turned, TurnedOn}
 
 -- of a world that takes each piece whole, no `send` took less
 pub took_whole : {E : Type 0} (takes_whole : Bool) (old mid new : Option (List Passed)) (before after : List Sent) (wants : Wants) (event : Event) → IsTrue takes_whole

@@ -3,7 +3,7 @@ use Rattle.std.specs.Prelude.{ℕ, List}
 use Rattle.gate_io.specs.declared.event.Event.{Event}
 use Rattle.gate_io.specs.declared.event.Sent.{Sent}
 use Rattle.gate_io.specs.declared.event.What.{What}
-use Rattle.worker.specs.declared.room.Room.{Room}
+use Rattle.worker_model.specs.Room.{Room}
 
 -- a room in which this is sent
 abbrev pub filled : List Sent → Room → Room

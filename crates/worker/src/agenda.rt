@@ -1,18 +1,18 @@
 // The parts of a turn, in order.
-ghost use Rattle.worker.specs.Plan.{plan_of};
+ghost use Rattle.worker_model.specs.Plan.{plan_of};
 ghost use Rattle.std.specs.List.{list_any};
 ghost use Rattle.std.specs.Prelude.{◌≡◌, ◌≤◌, true, [], ◌∷◌, ◌++◌, length, OnOk, IfOk, slice_get};
-ghost use Rattle.worker.specs.Turn.{is_of, roots_from, start_of, starts_of, first_vms, vms_in, starts, is_due_now, ticks_in, ticks_of, ticks_due, deadlines, registers_at, notice_of, notices_of, agenda_of};
+ghost use Rattle.worker_model.specs.Turn.{is_of, roots_from, start_of, starts_of, first_vms, vms_in, starts, is_due_now, ticks_in, ticks_of, ticks_due, deadlines, registers_at, notice_of, notices_of, agenda_of};
 ghost use Rattle.contexts.specs.Reached.{vm_in};
-ghost use Rattle.worker.specs.Steps.{is_due_tick};
+ghost use Rattle.worker_model.specs.Steps.{is_due_tick};
 
-use crate::room::Room;
-use crate::types::{Job, Rules};
 use contexts::{Context, Contexts, Plugin, Tick};
 use gate_base::{OutOfMemory, VmNo};
 use gate_io::What;
 use queue::Queue;
 use std::alloc::Global;
+use worker_model::{Job, Rules};
+use worker_room::Room;
 
 /// How many VMs there are, 16 at most.
 pub(crate) fn vms_in(room: &Room) -> u8

@@ -1,17 +1,18 @@
 // How a worker asks its world for an event.
-ghost use Rattle.worker.specs.Plan.{plan_of};
-ghost use Rattle.std.specs.Prelude.{◌≡◌, ◌≤◌, Err, IfOk, IsTrue};
+ghost use Rattle.worker_model.specs.Plan.{plan_of};
+ghost use Rattle.std.specs.Prelude.{◌≡◌, ◌≤◌, [], true, Err, IfOk, IsTrue};
 ghost use Rattle.gate_io.specs.Events.{Follows, Obeys, after_next};
 ghost use Rattle.gate_io.specs.Passing.{asking};
 ghost use Rattle.gate_io.specs.Told.{Gains, Rose};
-ghost use Rattle.worker.specs.Wants.{due_in, wants_of};
+ghost use Rattle.worker_model.specs.Wants.{due_in, wants_of};
 
-use crate::room::Room;
-use crate::types::Rules;
-use crate::wanted::{due_in, nothing_waits, wants_on};
+use crate::due::due_in;
 use gate_io::{Event, Wants, World, WorldEnd};
 use outbox::Outbox;
 use std::alloc::Global;
+use worker_lines::wants_on;
+use worker_model::Rules;
+use worker_room::Room;
 
 /// The moment at which something falls due, at which the lists that are kept ask to be called from now on.
 fn call_when_due(rules: &Rules, room: &mut Room) -> Option<u64>
@@ -53,4 +54,11 @@ pub(crate) fn ask<W: World>(
     };
     wants.due = due;
     world.next(alloc, wants)
+}
+
+/// Whether nothing waits.
+fn nothing_waits(outbox: &Outbox) -> bool
+    ensures { result ≡ true → outbox.now ≡ [] }
+{
+    outbox.waiting().is_empty()
 }

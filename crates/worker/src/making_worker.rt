@@ -1,13 +1,10 @@
 // A worker that has done nothing.
 ghost use Rattle.std.specs.List.{list_any};
 ghost use Rattle.std.specs.Prelude.{◌≡◌, ◌≤◌, [], ◌++◌, map, length, IfOk, OnOk};
-ghost use Rattle.worker.specs.Making.{with_vms, with_plugins, contexts_of, first_room, bodies_by, bodies_of, runs_on, is_told, registers_of};
-ghost use Rattle.worker.specs.Turn.{first_vms};
+ghost use Rattle.worker_model.specs.Making.{with_vms, with_plugins, contexts_of, first_room, bodies_by, bodies_of, runs_on, is_told, registers_of};
+ghost use Rattle.worker_model.specs.Turn.{first_vms};
 
 use crate::agenda::vm_of;
-use crate::lines::Lines;
-use crate::room::Room;
-use crate::types::Bodies;
 use contexts::{Configuration, Contexts, ShortName};
 use course::{Callback, Host};
 use exchange::Hub;
@@ -15,6 +12,9 @@ use gate_base::{OutOfMemory, VmNo};
 use gate_config::{Config, PluginEntry, VmEntry};
 use queue::Queue;
 use std::alloc::{AllocError, Global};
+use worker_lines::Lines;
+use worker_model::Bodies;
+use worker_room::Room;
 
 /// Which bodies a plug-in filters.
 fn bodies_by<H: Host>(host: &H, p: &PluginEntry) -> Bodies

@@ -1,20 +1,18 @@
 // All is done until everything is at rest.
-ghost use Rattle.worker.specs.Plan.{plan_of};
+ghost use Rattle.worker_model.specs.Plan.{plan_of};
 ghost use Rattle.std.specs.Prelude.{◌≡◌, ◌≤◌, ◌<◌, Some, None, OnOk, IfOk, length};
 ghost use Rattle.course.specs.Course.{Ends};
-ghost use Rattle.worker.specs.Steps.{both, step, works, move_at, moved, callback_of, number_of, made_one, roots, streams, ticks, tells, starts, finishes, forgets, works_life, quietly, takes_notice, notices, tells_ready, vm_length, plugin_length};
-ghost use Rattle.worker.specs.Settling.{settling, rests};
+ghost use Rattle.worker_model.specs.Steps.{both, step, works, move_at, moved, callback_of, number_of, made_one, roots, streams, ticks, tells, starts, finishes, forgets, works_life, quietly, takes_notice, notices, tells_ready, vm_length, plugin_length};
+ghost use Rattle.worker_model.specs.Settling.{settling, rests};
 
-use crate::calls::{call_back, call_live};
-use crate::making::may_stream;
-use crate::room::Room;
-use crate::types::{Asked, Change, ContextAt, Job, NewContext, Next, Own, Rules};
 use contexts::Contexts;
 use course::{Callback, Death, Host};
 use filter_chain::AskKind;
 use gate_base::{ContextId, LineNo, OutOfMemory, QueueId, VmNo};
 use std::alloc::Global;
 use store_model::{Call, Shared};
+use worker_model::{Asked, Change, ContextAt, Job, NewContext, Next, Own, Rules};
+use worker_room::{Room, call_back, call_live, may_stream};
 
 /// The callback that a stage is asked by.
 fn name_of(response: bool, kind: AskKind) -> Callback

@@ -1,24 +1,22 @@
 // A worker, and its turns.
-ghost use Rattle.worker.specs.Plan.{plan_of};
+ghost use Rattle.worker_model.specs.Plan.{plan_of};
 ghost use Rattle.std.specs.Prelude.{◌≡◌, ◌≤◌, ◌++◌, IsTrue, length, [], IfOk, OnOk};
 ghost use Rattle.course.specs.Course.{Ends};
 ghost use Rattle.gate_io.specs.Told.{Rose};
 ghost use Rattle.outbox.specs.Delivery.{Offered};
 ghost use Rattle.outbox.specs.Joined.{joined};
 ghost use Rattle.worker.specs.Filled.{filled, event_of};
-ghost use Rattle.worker.specs.Making.{new_worker};
-ghost use Rattle.worker.specs.Settling.{settling};
-ghost use Rattle.worker.specs.State.{rules_of};
-ghost use Rattle.worker.specs.Steps.{both};
-ghost use Rattle.worker.specs.Turn.{facing, most_steps};
-ghost use Rattle.worker.specs.Turned.{Turned, TurnedOn, TookWhole};
+ghost use Rattle.worker_model.specs.Making.{new_worker};
+ghost use Rattle.worker_model.specs.Settling.{settling};
+ghost use Rattle.worker_model.specs.State.{rules_of};
+ghost use Rattle.worker_model.specs.Steps.{both};
+ghost use Rattle.worker_model.specs.Turn.{facing, most_steps};
+ghost use Rattle.worker_model.specs.Turned.{Turned, TurnedOn, TookWhole};
 
 use crate::agenda::agenda_of;
 use crate::asking::ask;
 use crate::making_worker::parts_of;
-use crate::room::Room;
 use crate::turning::settle;
-use crate::types::Rules;
 use course::Host;
 use gate_base::{Members, OutOfMemory, WorkerNo};
 use gate_config::Config;
@@ -28,19 +26,8 @@ use queue::Queue;
 use std::alloc::Global;
 use std::marker::Model;
 use store_model::Shared;
-
-/// How a turn ended.
-#[derive(Clone, Copy)]
-pub enum Turn {
-    /// An event was taken.
-    Went,
-    /// The event was Stop.
-    Stopped,
-    /// The world failed, and gave no event.
-    WorldFault,
-    /// Memory ran out. The worker is to be used no more.
-    OutOfMemory,
-}
+use worker_model::{Rules, Turn};
+use worker_room::Room;
 
 /// A worker: its machines, its lines and contexts, and what waits until its world takes it. Clauses see what it was made with, its machines
 /// and the rest of it, what waits, and whether it took an event.
@@ -58,7 +45,7 @@ pub struct Worker<H> {
 }
 
 impl<H> Model for Worker<H> {
-    ghost use Rattle.worker.specs.State.{Standing};
+    ghost use Rattle.worker_model.specs.State.{Standing};
 
     ghost Value = { Standing H };
 

@@ -1,5 +1,5 @@
 use Rattle.std.proofs.Common.{◌∙◌, List, ℕ, ap, sym, subst, inl}
-use Rattle.worker.specs.State.{Standing}
+use Rattle.worker_model.specs.State.{Standing}
 use Rattle.fleet.specs.Lives.{Life, first_of}
 use Rattle.fleet.proofs.lives.live_once.Goals as goal
 

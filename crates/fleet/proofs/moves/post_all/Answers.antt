@@ -2,7 +2,7 @@ use Rattle.std.proofs.Common.{rules, false, All, IfSome, ◌≡◌, ◌∙◌, �
 use Rattle.shared_seats.specs.Seats.{SeatsOf}
 use Rattle.fleet.specs.Moves.{AreFrom}
 use Rattle.fleet.specs.declared.post.Post.{Post}
-use Rattle.worker.specs.declared.worker.Turn.TheVariants.{Stopped}
+use Rattle.worker_model.specs.declared.types.Turn.TheVariants.{Stopped}
 use Rattle.fleet.proofs.Eaches.{all_left}
 use Rattle.fleet.proofs.Moving.{moved, one_more}
 use Rattle.fleet.proofs.moves.post_all.Goals as goal

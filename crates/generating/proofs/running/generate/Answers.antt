@@ -4,7 +4,7 @@ use Rattle.fleet.specs.Run.{AnyRose, EndedBy, EndedWell, Ran}
 use Rattle.fleet.specs.declared.run.FleetEnd.{FleetEnd}
 use Rattle.fleet.specs.declared.run.FleetEnd.TheVariants.{WorldFault}
 use Rattle.gate_io.specs.MemoryWorld.{MemoryWorld, nature_of}
-use Rattle.worker.specs.State.{Standing}
+use Rattle.worker_model.specs.State.{Standing}
 use Rattle.generating.specs.Generating.{summary}
 use Rattle.generating.proofs.Ending.{told}
 use Rattle.generating.proofs.Faults.{faults_of, no_fault, trace_of}

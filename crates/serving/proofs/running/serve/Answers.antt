@@ -2,7 +2,7 @@ use Rattle.std.proofs.Common.{◌∙◌, ℕ, List, [], ◌∷◌, map, Option, 
 use Rattle.fleet.specs.Lives.{first_of}
 use Rattle.gate_io.specs.Told.{Gains}
 use Rattle.gate_io.specs.declared.settings.Settings.{Settings}
-use Rattle.worker.specs.State.{Standing}
+use Rattle.worker_model.specs.State.{Standing}
 use Rattle.serving.specs.Serving.{Ends, Eyes, settings_of}
 use Rattle.serving.proofs.Ending.{ends_so}
 use Rattle.serving.proofs.running.serve.Goals as goal

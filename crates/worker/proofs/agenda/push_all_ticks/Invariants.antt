@@ -1,5 +1,5 @@
 use Rattle.std.proofs.Common.{◌≡◌, ◌++◌}
-use Rattle.worker.specs.Turn.{ticks_of}
+use Rattle.worker_model.specs.Turn.{ticks_of}
 use Rattle.worker.proofs.agenda.push_all_ticks.Given as goal
 
 abbrev pub invariant-loop-n : goal.invariant-loop-n

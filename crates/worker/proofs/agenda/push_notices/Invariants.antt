@@ -1,6 +1,6 @@
 use Rattle.std.proofs.Common.{◌≡◌, ◌++◌}
-use Rattle.worker.specs.Plan.{plan_of}
-use Rattle.worker.specs.Turn.{notices_of}
+use Rattle.worker_model.specs.Plan.{plan_of}
+use Rattle.worker_model.specs.Turn.{notices_of}
 use Rattle.worker.proofs.agenda.push_notices.Given as goal
 
 abbrev pub invariant-loop-n : goal.invariant-loop-n

@@ -1,6 +1,6 @@
 use Rattle.std.proofs.Common.{◌≡◌, ◌++◌, drop}
 use Rattle.std.specs.Prelude.{true}
-use Rattle.worker.specs.Turn.{roots_from}
+use Rattle.worker_model.specs.Turn.{roots_from}
 use Rattle.worker.proofs.agenda.push_roots.Given as goal
 
 abbrev pub invariant-loop-plugin : goal.invariant-loop-plugin

@@ -1,5 +1,5 @@
 use Rattle.std.proofs.Common.{◌≡◌, ◌++◌}
-use Rattle.worker.specs.Turn.{starts_of}
+use Rattle.worker_model.specs.Turn.{starts_of}
 use Rattle.worker.proofs.agenda.push_starts.Given as goal
 
 abbrev pub invariant-loop-n : goal.invariant-loop-n

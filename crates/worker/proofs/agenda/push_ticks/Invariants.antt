@@ -1,5 +1,5 @@
 use Rattle.std.proofs.Common.{◌≡◌, ◌++◌, drop}
-use Rattle.worker.specs.Turn.{ticks_in}
+use Rattle.worker_model.specs.Turn.{ticks_in}
 use Rattle.worker.proofs.agenda.push_ticks.Given as goal
 
 abbrev pub invariant-loop-c : goal.invariant-loop-c

@@ -1,5 +1,5 @@
 use Rattle.std.proofs.Common.{◌≡◌, drop}
-use Rattle.worker.specs.Making.{with_plugins}
+use Rattle.worker_model.specs.Making.{with_plugins}
 use Rattle.worker.proofs.making_worker.add_plugins.Given as goal
 
 abbrev pub invariant-loop-p : goal.invariant-loop-p

@@ -1,5 +1,5 @@
 use Rattle.std.proofs.Common.{◌≡◌, drop}
-use Rattle.worker.specs.Making.{with_vms}
+use Rattle.worker_model.specs.Making.{with_vms}
 use Rattle.worker.proofs.making_worker.add_vms.Given as goal
 
 abbrev pub invariant-loop-v : goal.invariant-loop-v

@@ -1,5 +1,5 @@
 use Rattle.std.proofs.Common.{◌≡◌, ◌++◌, drop}
-use Rattle.worker.specs.Making.{bodies_of}
+use Rattle.worker_model.specs.Making.{bodies_of}
 use Rattle.worker.proofs.making_worker.bodies_of.Given as goal
 
 abbrev pub invariant-loop-p : goal.invariant-loop-p

@@ -1,5 +1,5 @@
 use Rattle.std.proofs.Common.{◌≡◌}
-use Rattle.worker.specs.Making.{registers_of}
+use Rattle.worker_model.specs.Making.{registers_of}
 use Rattle.worker.proofs.making_worker.registers_of.Given as goal
 
 abbrev pub invariant-loop-n : goal.invariant-loop-n

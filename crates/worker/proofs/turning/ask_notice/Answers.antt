@@ -1,7 +1,7 @@
 use Rattle.course.specs.Course.{ends}
 use Rattle.course.specs.Runs.{cut_short, goes_still, goes_called}
 use Rattle.store_model.specs.declared.call.Call.TheVariants as calls
-use Rattle.worker.specs.Steps.{both, noticed}
+use Rattle.worker_model.specs.Steps.{both, noticed}
 use Rattle.worker.proofs.Quietly.{room_ends_on}
 use Rattle.worker.proofs.turning.ask_notice.Goals as goal
 

@@ -1,7 +1,7 @@
 use Rattle.std.proofs.Common.{sym}
 use Rattle.course.specs.Course.{ends}
 use Rattle.course.specs.Runs.{cut_part, goes_part, goes_as}
-use Rattle.worker.specs.Steps.{both}
+use Rattle.worker_model.specs.Steps.{both}
 use Rattle.worker.proofs.turning.delete.Goals as goal
 
 pub returns-in_err-call_live-clause-run : goal.returns-in_err-call_live-clause-run

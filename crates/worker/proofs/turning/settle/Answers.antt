@@ -1,7 +1,7 @@
 use Rattle.std.proofs.Common.{◌≡◌, ◌-◌, suc, ap, sym, ◌∙◌, ℕ, arith}
 use Rattle.course.specs.Runs.{cut_short, goes_as, goes_then, goes_part, then_part}
-use Rattle.worker.specs.Plan.{plan_of}
-use Rattle.worker.specs.Settling.{settling, settling_step, settling_rest, settling_none}
+use Rattle.worker_model.specs.Plan.{plan_of}
+use Rattle.worker_model.specs.Settling.{settling, settling_step, settling_rest, settling_none}
 use Rattle.worker.proofs.turning.settle.Goals as goal
 
 pub returns-then-is_rest-clause-run : goal.returns-then-is_rest-clause-run

@@ -1,7 +1,7 @@
 use Rattle.std.proofs.Common.{◌≡◌}
 use Rattle.course.specs.Course.{Goes}
-use Rattle.worker.specs.Plan.{plan_of}
-use Rattle.worker.specs.Settling.{settling}
+use Rattle.worker_model.specs.Plan.{plan_of}
+use Rattle.worker_model.specs.Settling.{settling}
 use Rattle.worker.proofs.turning.settle.Given as goal
 
 -- what is left to do is what so many steps do that are left

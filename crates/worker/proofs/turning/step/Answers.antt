@@ -1,4 +1,4 @@
-use Rattle.worker.specs.Plan.{plan_of}
+use Rattle.worker_model.specs.Plan.{plan_of}
 use Rattle.worker.proofs.Quietly.{quiet_ends, reads_ends}
 use Rattle.worker.proofs.turning.step.Goals as goal
 

@@ -1,4 +1,4 @@
-use Rattle.worker.specs.Plan.{plan_of}
+use Rattle.worker_model.specs.Plan.{plan_of}
 use Rattle.worker.proofs.Quietly.{ends_as, works_on}
 use Rattle.worker.proofs.turning.work.Goals as goal
 

@@ -1,11 +1,11 @@
 use Rattle.std.proofs.Common.{◌≡◌, sym, ap}
 use Rattle.course.specs.Course.{ends}
 use Rattle.course.specs.Runs.{cut_short, goes_still, goes_from, goes_as}
-use Rattle.worker.specs.declared.room.Room.{Room}
-use Rattle.worker.specs.Plan.{plan_of}
-use Rattle.worker.specs.Settling.{settling}
-use Rattle.worker.specs.Steps.{both}
-use Rattle.worker.specs.Turn.{facing, most_steps}
+use Rattle.worker_model.specs.Room.{Room}
+use Rattle.worker_model.specs.Plan.{plan_of}
+use Rattle.worker_model.specs.Settling.{settling}
+use Rattle.worker_model.specs.Steps.{both}
+use Rattle.worker_model.specs.Turn.{facing, most_steps}
 use Rattle.worker.proofs.worker.react.Goals as goal
 
 pub returns-in_err-face-clause-run : goal.returns-in_err-face-clause-run

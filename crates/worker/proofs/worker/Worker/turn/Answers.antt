@@ -4,7 +4,7 @@ use Rattle.gate_io.specs.Nature.{Nature}
 use Rattle.gate_io.specs.declared.ends.WorldEnd.TheVariants as ends
 use Rattle.worker.proofs.Quietly.{cut_of}
 use Rattle.worker.proofs.Turns.{took_whole, stopped, went, unanswered, partly_sent, no_event, heard_so, refused_as, in_room, turned_at, turned_from}
-use Rattle.worker.specs.declared.worker.Turn.TheVariants.{Went, Stopped, WorldFault, OutOfMemory}
+use Rattle.worker_model.specs.declared.types.Turn.TheVariants.{Went, Stopped, WorldFault, OutOfMemory}
 use Rattle.worker.proofs.worker.Worker.turn.Goals as goal
 
 pub returns-in-Err-Failed-clause-turned : goal.returns-in-Err-Failed-clause-turned

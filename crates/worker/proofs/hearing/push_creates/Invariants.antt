@@ -1,6 +1,0 @@
-use Rattle.std.proofs.Common.{◌≡◌, ◌++◌}
-use Rattle.worker.specs.Steps.{creates}
-use Rattle.worker.proofs.hearing.push_creates.Given as goal
-
-abbrev pub invariant-loop-at : goal.invariant-loop-at
-invariant-loop-at l = l.jobs ≡ l.fn.jobs ++ creates l.line l.at

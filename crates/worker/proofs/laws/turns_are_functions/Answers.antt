@@ -1,5 +1,0 @@
-use Rattle.worker.proofs.TurnLaws as laws
-use Rattle.worker.proofs.laws.turns_are_functions.Goals as goal
-
-pub returns : goal.returns
-returns c = laws.turns_are_functions

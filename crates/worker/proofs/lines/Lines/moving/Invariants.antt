@@ -1,7 +1,0 @@
-use Rattle.worker.specs.Rooms.{moves}
-use Rattle.worker.proofs.Firsts.{Fails}
-use Rattle.worker.proofs.lines.Lines.moving.Given as goal
-
--- it is none of those that were looked at
-abbrev pub invariant-loop-at : goal.invariant-loop-at
-invariant-loop-at l = Fails moves l.self l.at

@@ -1,4 +1,0 @@
-use Rattle.worker.proofs.lines.change.Goals as goal
-
-pub returns-in-Close : goal.returns-in-Close
-returns-in-Close c = rw c.in-Close.is (c.close.ensures c.args.n)

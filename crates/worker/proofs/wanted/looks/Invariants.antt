@@ -1,7 +1,0 @@
-use Rattle.std.proofs.Common.{◌≡◌}
-use Rattle.worker.specs.Plan.{plan_of}
-use Rattle.worker.specs.Wants.{looks}
-use Rattle.worker.proofs.wanted.looks.Given as goal
-
-abbrev pub invariant-loop-n : goal.invariant-loop-n
-invariant-loop-n l = l.found ≡ looks (plan_of l.rules) l.room l.n

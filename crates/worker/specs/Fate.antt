@@ -1,9 +1,0 @@
--- What becomes of a line behind an exchange, by the code's names.
-use Rattle.std.specs.Prelude.{Bool, Option, None, Some, if◌then◌else◌}
-use Rattle.worker.specs.declared.types.Line.{Line}
-use Rattle.worker.specs.declared.happening.Fate.{Fate}
-use Rattle.worker.specs.declared.happening.Fate.TheVariants.{Nothing, Drop, Close, Read}
-
-abbrev pub fate_of : Bool → Option Line → Fate
-fate_of stays None = Nothing
-fate_of stays (Some line) = if line.is_gone then Drop else if stays then Read else Close

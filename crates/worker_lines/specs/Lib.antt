@@ -1,0 +1,3 @@
+pub mod Stirring
+pub mod Wishes
+pub mod Hearing

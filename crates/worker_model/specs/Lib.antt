@@ -1,0 +1,14 @@
+pub mod Plan
+pub mod Room
+pub mod Rooms
+pub mod Changes
+pub mod Moves
+pub mod Steps
+pub mod Settling
+pub mod Turn
+pub mod State
+pub mod Wants
+pub mod Making
+pub mod Turned
+pub mod NoCalls
+pub mod Laws

@@ -1,0 +1,229 @@
+// What is said between the parts of a worker.
+use exchange::Exchange;
+use filter_chain::{Ask, Item};
+use gate_base::{ContextId, LineNo, Octets, QueueId, VmNo};
+use gate_config::Config;
+use gate_io::What;
+use h1_stream::MessageReader;
+use header_maps::HeaderList;
+use queue::Queue;
+
+/// Which bodies a plug-in filters: whether its VM's module exports the callbacks for them.
+#[derive(Clone, Copy)]
+pub struct Bodies {
+    pub requests: bool,
+    pub responses: bool,
+}
+
+/// What a worker goes by, which never changes: its configuration; which bodies each plug-in filters, by its place; and whether each VM is
+/// told of the items of queues that it registered.
+#[derive(Drop)]
+pub struct Rules {
+    pub config: Config,
+    pub bodies: Queue<Bodies>,
+    pub registers: Queue<bool>,
+}
+
+/// An open line: what has come from its client, and the exchange that is open on it.
+#[derive(Drop)]
+pub struct Line {
+    pub number: LineNo,
+    pub requests: MessageReader,
+    /// Its client is gone.
+    pub is_gone: bool,
+    pub exchange: Option<Exchange>,
+}
+
+/// A line that was looked for last, if any, and the place where it stands.
+#[derive(Clone, Copy)]
+pub struct Seen {
+    pub number: LineNo,
+    pub place: usize,
+}
+
+/// What a line wants where nothing waits for its peers: whether bytes of its client and of its server are taken, and when its response is due.
+#[derive(Clone, Copy)]
+pub struct Wish {
+    pub number: LineNo,
+    pub down: bool,
+    pub up: bool,
+    pub due: Option<u64>,
+}
+
+/// A side of a line that is being read, and what was read of it.
+#[derive(Drop)]
+pub struct Reads {
+    pub line: LineNo,
+    /// It is the server's.
+    pub up: bool,
+    pub batch: Queue<Item>,
+}
+
+/// A context of a VM.
+#[derive(Clone, Copy)]
+pub struct ContextAt {
+    pub vm: VmNo,
+    pub context: ContextId,
+}
+
+/// One thing that is to be done once the chains are at rest.
+#[derive(Drop)]
+pub enum Job {
+    /// A VM begins.
+    Begin {
+        vm: VmNo,
+    },
+    /// The root of a plug-in is made, the first one of its VM or a further one.
+    Root {
+        vm: VmNo,
+        plugin: usize,
+        first: bool,
+    },
+    /// A VM starts.
+    Start {
+        vm: VmNo,
+        root: ContextId,
+    },
+    /// A plug-in is configured.
+    Configure {
+        vm: VmNo,
+        root: ContextId,
+        plugin: usize,
+    },
+    /// A root is called that is due.
+    Tick {
+        vm: VmNo,
+        root: ContextId,
+    },
+    /// Responses that are due are answered for.
+    Expire,
+    /// The event happens.
+    Happen {
+        what: What,
+    },
+    /// The context of a filter is made, by its place among the filters of the exchange.
+    Create {
+        line: LineNo,
+        at: usize,
+    },
+    /// The stages of the exchange are made.
+    Enter {
+        line: LineNo,
+    },
+    /// What was read comes to a chain.
+    Put {
+        line: LineNo,
+        response: bool,
+        items: Queue<Item>,
+    },
+    /// What was read is refused.
+    Refuse {
+        line: LineNo,
+        status: u16,
+    },
+    /// A context is done with.
+    Done {
+        of: ContextAt,
+    },
+    Log {
+        of: ContextAt,
+    },
+    Delete {
+        of: ContextAt,
+    },
+    /// Behind an exchange the line stays open, or is closed.
+    Close {
+        line: LineNo,
+        stays: bool,
+    },
+    /// Notices are taken, so many at most.
+    Notice {
+        vm: VmNo,
+        left: u8,
+    },
+    /// A root is told of an item in a queue.
+    Ready {
+        vm: VmNo,
+        root: ContextId,
+        queue: QueueId,
+    },
+}
+
+/// What a worker does next.
+#[derive(Clone, Copy)]
+pub enum Next {
+    Read,
+    Move { place: usize },
+    Work,
+    Free { at: usize },
+    End { place: usize },
+    Begin,
+    Rest,
+}
+
+/// Whose callback it is: of a stage, by its context and direction, or of none.
+#[derive(Clone, Copy)]
+pub enum Own {
+    Nobody,
+    Stage { context: ContextId, response: bool },
+}
+
+/// What is done to an exchange.
+#[derive(Drop)]
+pub enum Change {
+    Resume {
+        vm: VmNo,
+        context: ContextId,
+        response: bool,
+    },
+    Close,
+    Answer {
+        status: u16,
+        fields: HeaderList,
+        body: Octets,
+    },
+    Act {
+        response: bool,
+        stage: usize,
+        value: u32,
+    },
+    Refuse {
+        status: u16,
+    },
+    Put {
+        response: bool,
+        items: Queue<Item>,
+    },
+}
+
+/// A stage that is asked: its VM, its context and direction, the number of its line, what it is asked, and how many pairs or bytes there are.
+#[derive(Clone, Copy)]
+pub struct Asked {
+    pub vm: VmNo,
+    pub context: ContextId,
+    pub response: bool,
+    pub line: LineNo,
+    pub ask: Ask,
+    pub count: u32,
+}
+
+/// The context of a filter that is made, and its root.
+#[derive(Clone, Copy)]
+pub struct NewContext {
+    pub vm: VmNo,
+    pub context: ContextId,
+    pub root: ContextId,
+}
+
+/// How a turn ended.
+#[derive(Clone, Copy)]
+pub enum Turn {
+    /// An event was taken.
+    Went,
+    /// The event was Stop.
+    Stopped,
+    /// The world failed, and gave no event.
+    WorldFault,
+    /// Memory ran out. The worker is to be used no more.
+    OutOfMemory,
+}

@@ -1,0 +1,72 @@
+// Callbacks, and all that comes of them.
+ghost use Rattle.std.specs.Prelude.{◌≡◌, ◌≤◌, Some, None, Option};
+ghost use Rattle.course.specs.Course.{Ends};
+ghost use Rattle.worker_model.specs.Steps.{both, answered, called_in, called_live};
+
+use crate::room::{Room, value_of};
+use course::{Callback, Host};
+use gate_base::{ContextId, OutOfMemory, VmNo};
+use std::alloc::Global;
+use store_model::Shared;
+use worker_model::Own;
+
+/// A callback: what it wrote into the log is sent, and then its effects are done, or its VM is dead. What it returned, if it did.
+pub fn call_back<H: Host, S: Shared>(
+    alloc: Global,
+    host: &mut H,
+    room: &mut Room,
+    vm: VmNo,
+    name: Callback,
+    context: ContextId,
+    first: u32,
+    second: u32,
+    own: Own,
+    shared: &mut S,
+) -> Result<Option<Option<u32>>, OutOfMemory>
+    requires stores { H.needs host.old ≤ S.stores shared.old }
+    ensures needs { H.needs host.new ≡ H.needs host.old }
+    ensures stores { S.stores shared.new ≡ S.stores shared.old }
+    ensures run { Ends S.performs shared.old (called_in H.calling vm name context first second own host.old room.old) (λ v. answered v (both host.new room.new)) result shared.new }
+{
+    let moment = room.hub.moment;
+    let id = context.get();
+    let contexts = &mut room.hub.contexts;
+    let answer = host.callback(alloc, vm, name, id, first, second, moment, contexts, shared)?;
+    let end = answer.end;
+    room.answer(alloc, vm, &own, end, answer.lines)?;
+    Ok(value_of(end))
+}
+
+/// The same, but no callback comes of a VM that died.
+pub fn call_live<H: Host, S: Shared>(
+    alloc: Global,
+    host: &mut H,
+    room: &mut Room,
+    vm: VmNo,
+    name: Callback,
+    context: ContextId,
+    first: u32,
+    second: u32,
+    shared: &mut S,
+) -> Result<Option<Option<u32>>, OutOfMemory>
+    requires stores { H.needs host.old ≤ S.stores shared.old }
+    ensures needs { H.needs host.new ≡ H.needs host.old }
+    ensures stores { S.stores shared.new ≡ S.stores shared.old }
+    ensures run { Ends S.performs shared.old (called_live H.calling vm name context first second host.old room.old) (λ v. answered v (both host.new room.new)) result shared.new }
+{
+    if room.is_dead(vm) {
+        return Ok(None);
+    }
+    call_back(
+        alloc,
+        host,
+        room,
+        vm,
+        name,
+        context,
+        first,
+        second,
+        Own::Nobody,
+        shared,
+    )
+}
