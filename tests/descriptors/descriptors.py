@@ -169,10 +169,10 @@ process = subprocess.Popen([PROGRAM, "replay", "-"], stdin=STREAMS[0], stdout=ST
 out, err = process.communicate(timeout=PATIENCE)
 judge("one descriptor to spare", (process.returncode, out, err), (6, b"", b"wasmgate: site\n"))
 
-# Some 1.6 MB of words, under bounds of addresses from what is too little for the loader to what is enough, in steps of 256 KiB.
+# Some 1.6 MB of words, under bounds of addresses from what is too little for the loader up to what is enough, in steps of 256 KiB.
 words = ["x" * 100_000] * 15 + ["x" * 1000] * 100
-ends = {}
-for size in range(1 << 20, 16 << 20, 1 << 18):
+ends = set()
+for size in range(1 << 20, 256 << 20, 1 << 18):
 
     def bounded():
         resource.setrlimit(resource.RLIMIT_AS, (size, size))
@@ -183,8 +183,9 @@ for size in range(1 << 20, 16 << 20, 1 << 18):
         continue
     out, err = process.communicate(timeout=PATIENCE)
     if process.returncode in (2, 8):
-        ends.setdefault((process.returncode, out, err), 0)
-        ends[process.returncode, out, err] += 1
+        ends.add((process.returncode, out, err))
+    if process.returncode == 2:
+        break
 judge("words that memory does not hold", sorted(ends), [(2, b"", b"wasmgate: usage\n"), (8, b"", b"wasmgate: memory\n")])
 
 for name in failed:
