@@ -63,7 +63,7 @@ MODULES = {
     "cut.wasm": (HEADER + ONE + exports((ABI, 0, 0)) + EMPTY)[:-1],
     "text.wasm": b"(module)",
     # A property's name in its data, no allocator, a callback for bodies, and one that is never called.
-    "names.wasm": HEADER + h("01 17 03 60 00 00 60 04 7f 7f 7f 7f 01 7f 60 03 7f 7f 7f 01 7f 60 01 7f 00".replace("01 17 03", "01 17 04")) + imports(("env", "proxy_get_property", 1)) + h("03 04 03 00 02 03")
+    "names.wasm": HEADER + h("01 17 04 60 00 00 60 04 7f 7f 7f 7f 01 7f 60 03 7f 7f 7f 01 7f 60 01 7f 00") + imports(("env", "proxy_get_property", 1)) + h("03 04 03 00 02 03")
     + h("05 03 01 00 01") + exports((ABI, 0, 1), ("proxy_on_request_body", 0, 2), ("proxy_on_foreign_function", 0, 3)) + bodies(b"\0\x0b", h("00 41 00 0b"), b"\0\x0b")
     + b"\x0b" + sized(vector([h("00 41 00 0b") + sized(b"plugin_root_id\0source\0address\0")])),
 }
