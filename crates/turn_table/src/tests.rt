@@ -78,16 +78,6 @@ fn opened(alloc: Global) -> Result<(TurnTable<Number>, Seat), Fail>
     Ok(TurnTable::new(alloc, Number { vm, number: 0 })?)
 }
 
-/// A table of VM 3 with the number 0, and the seats of workers 1 and 2.
-fn opened_for_two(alloc: Global) -> Result<(TurnTable<Number>, (Seat, Seat)), Fail>
-    ensures first { IfOk result (λ t. (t.1.0.table ≡ t.0) × (t.1.0.number ≡ 1) × (t.1.0.given ≡ 2) × (t.1.0.ended ≡ [])) }
-    ensures second { IfOk result (λ t. (t.1.1.table ≡ t.0) × (t.1.1.number ≡ 2)) }
-{
-    let (table, mut first) = opened(alloc)?;
-    let second = table.split(&mut first)?;
-    Ok((table, (first, second)))
-}
-
 /// Joins the second seat into the first, and ends the table.
 fn shut(table: TurnTable<Number>, mut first: Seat, second: Seat) -> (Number, u64)
     requires first { (first.table ≡ table) × (first.number ≡ 1) × (first.given ≡ 2) × (first.ended ≡ []) }
@@ -125,14 +115,6 @@ impl Gate for OneAtATime {
         }
         self.calls.fetch_add(1, Ordering::SeqCst);
         self.inside.fetch_sub(1, Ordering::SeqCst);
-    }
-}
-
-impl OneAtATime {
-    /// Whether there were so many calls, and no two of them overlapped.
-    fn has_seen(&self, calls: u64) -> bool {
-        let seen = self.calls.load(Ordering::SeqCst);
-        seen == calls && self.overlaps.load(Ordering::SeqCst) == 0
     }
 }
 
@@ -178,30 +160,19 @@ impl Gate for Sums {
 #[test]
 fn two_seats_have_one_history(rt: HostRuntime) -> Result<(), Fail> {
     let alloc = rt.alloc();
+    let (table, mut first) = opened(alloc)?;
+    let mut second = table.split(&mut first)?;
     let call = set(alloc, 0);
-    let (table, (mut first, mut second)) = opened_for_two(alloc)?;
-    let one = done_by(&rt, alloc, &table, &mut first, &call);
-    let two = done_by(&rt, alloc, &table, &mut second, &call);
-    let are_numbered = first.who().get() == 1 && second.who().get() == 2;
+    let one = table.with_turn(&rt, alloc, &mut first, &call, &NoGate)?;
+    let two = table.with_turn(&rt, alloc, &mut second, &call, &NoGate)?;
+    assert_eq!(rt; first.who().get(), 1);
+    assert_eq!(rt; second.who().get(), 2);
+    assert_eq!(rt; done(&one), Some(1));
+    assert_eq!(rt; done(&two), None);
     let (value, count) = shut(table, first, second);
-    let is_set = one? == Some(1) && two?.is_none();
-    assert!(rt; are_numbered && is_set && value.number == 1 && count == 2);
+    assert_eq!(rt; value.number, 1);
+    assert_eq!(rt; count, 2);
     Ok(())
-}
-
-/// Makes a call by a seat: the number of its Done.
-fn done_by<R: Wait>(
-    rt: &R,
-    alloc: Global,
-    table: &TurnTable<Number>,
-    seat: &mut Seat,
-    call: &Call,
-) -> Result<Option<u32>, OutOfMemory>
-    requires { seat.old.table ≡ table.now }
-    ensures { IsSameSeat seat.old seat.new }
-{
-    let reply = table.with_turn(rt, alloc, seat, call, &NoGate)?;
-    Ok(done(&reply))
 }
 
 /// The number of a Done.
@@ -226,28 +197,15 @@ fn the_gate_is_passed_inside_each_turn(rt: HostRuntime) -> Result<(), Fail> {
     let gate = Sums {
         told: AtomicU64::new(0),
     };
-    let (table, (mut first, mut second)) = opened_for_two(alloc)?;
-    let one = told_by(&rt, alloc, &table, &mut first, &gate);
-    let two = told_by(&rt, alloc, &table, &mut second, &gate);
+    let (table, mut first) = opened(alloc)?;
+    let mut second = table.split(&mut first)?;
+    table.with_turn(&rt, alloc, &mut first, &Call::Notice, &gate)?;
+    assert_eq!(rt; gate.told.load(Ordering::SeqCst), 30_101);
+    table.with_turn(&rt, alloc, &mut second, &Call::Notice, &gate)?;
+    assert_eq!(rt; gate.told.load(Ordering::SeqCst), 60_302);
     let (_, count) = shut(table, first, second);
-    let is_told = one? == 30_101 && two? == 60_302;
-    assert!(rt; is_told && count == 2);
+    assert_eq!(rt; count, 2);
     Ok(())
-}
-
-/// Takes a notice by a seat: what the gate has then been told.
-fn told_by<R: Wait>(
-    rt: &R,
-    alloc: Global,
-    table: &TurnTable<Number>,
-    seat: &mut Seat,
-    gate: &Sums,
-) -> Result<u64, OutOfMemory>
-    requires { seat.old.table ≡ table.now }
-    ensures { IsSameSeat seat.old seat.new }
-{
-    table.with_turn(rt, alloc, seat, &Call::Notice, gate)?;
-    Ok(gate.told.load(Ordering::SeqCst))
 }
 
 /// A call that the number refuses memory.
@@ -273,30 +231,18 @@ fn is_key(reply: &Reply) -> bool {
 #[test]
 fn a_call_refused_memory_is_not_in_the_history(rt: HostRuntime) -> Result<(), Fail> {
     let alloc = rt.alloc();
-    let get = get_key(alloc)?;
     let (table, mut first) = opened(alloc)?;
-    let none = done_by(&rt, alloc, &table, &mut first, &refused(alloc));
-    let given = is_given(&rt, alloc, &table, &mut first, &get);
+    let call = refused(alloc);
+    let is_refused = table
+        .with_turn(&rt, alloc, &mut first, &call, &NoGate)
+        .is_err();
+    let call = get_key(alloc)?;
+    let reply = table.with_turn(&rt, alloc, &mut first, &call, &NoGate)?;
+    let is_given = is_key(&reply);
     let (value, count) = table.close(first);
     let is_three = value.vm().get() == 3;
-    let is_given = given?;
-    assert!(rt; none.is_err() && is_given && is_three && count == 1);
+    assert!(rt; is_refused && is_given && is_three && count == 1);
     Ok(())
-}
-
-/// Makes a call by a seat: whether it gives `key`.
-fn is_given<R: Wait>(
-    rt: &R,
-    alloc: Global,
-    table: &TurnTable<Number>,
-    seat: &mut Seat,
-    call: &Call,
-) -> Result<bool, OutOfMemory>
-    requires { seat.old.table ≡ table.now }
-    ensures { IsSameSeat seat.old seat.new }
-{
-    let reply = table.with_turn(rt, alloc, seat, call, &NoGate)?;
-    Ok(is_key(&reply))
 }
 
 /// Makes one call again and again.
@@ -321,13 +267,14 @@ fn repeat<R: Wait, G: Gate>(
 #[test]
 fn a_hundred_thousand_calls_are_counted(rt: HostRuntime) -> Result<(), Fail> {
     let alloc = rt.alloc();
+    let (table, first) = opened(alloc)?;
     let call = Call::Dequeue {
         queue: QueueId::new(1),
     };
-    let (table, first) = opened(alloc)?;
     let first = repeat(&rt, alloc, &table, first, &call, 100_000, &NoGate)?;
     let (value, count) = table.close(first);
-    assert!(rt; value.number == 0 && count == 100_000);
+    assert_eq!(rt; value.number, 0);
+    assert_eq!(rt; count, 100_000);
     Ok(())
 }
 
@@ -390,11 +337,14 @@ fn threads_raise_the_number_in_turns(rt: HostRuntime) -> Result<(), Fail> {
         inside: AtomicU64::new(0),
         overlaps: AtomicU64::new(0),
     };
-    let (table, seats) = opened_for_two(alloc)?;
-    let (first, second) = raise_both(&rt, alloc, &table, seats, &gate)?;
+    let (table, mut first) = opened(alloc)?;
+    let second = table.split(&mut first)?;
+    let (first, second) = raise_both(&rt, alloc, &table, (first, second), &gate)?;
     let (value, count) = shut(table, first, second);
-    let is_each_alone = gate.has_seen(count);
-    assert!(rt; value.number == 2000 && 2000 <= count && count <= 4000 && is_each_alone);
+    assert_eq!(rt; value.number, 2000);
+    assert!(rt; 2000 <= count && count <= 4000);
+    assert_eq!(rt; gate.calls.load(Ordering::SeqCst), count);
+    assert_eq!(rt; gate.overlaps.load(Ordering::SeqCst), 0);
     Ok(())
 }
 
@@ -437,12 +387,14 @@ fn a_table_does_not_wait_for_another(rt: HostRuntime) -> Result<(), Fail> {
         given_up: AtomicU64::new(0),
     };
     let (held, one) = opened(alloc)?;
-    let (free, (other, two)) = opened_for_two(alloc)?;
+    let (free, mut other) = opened(alloc)?;
+    let two = free.split(&mut other)?;
     let (one, two) = one_held(&rt, alloc, (&held, &free), (one, two), &gate)?;
-    let (_, calls_held) = held.close(one);
-    let (_, calls_free) = shut(free, other, two);
-    let has_waited = gate.given_up.load(Ordering::SeqCst) != 0;
-    assert!(rt; !has_waited && calls_held == 1 && calls_free == 1);
+    assert_eq!(rt; gate.given_up.load(Ordering::SeqCst), 0);
+    let (_, count) = held.close(one);
+    assert_eq!(rt; count, 1);
+    let (_, count) = shut(free, other, two);
+    assert_eq!(rt; count, 1);
     Ok(())
 }
 
@@ -546,6 +498,8 @@ fn seats_that_sleep_are_woken_one_after_another(rt: HostRuntime) -> Result<(), F
         come: AtomicU64::new(0),
     };
     let answered = ask_all(&rt, alloc, &table, seats, &gate)?;
-    assert!(rt; answered.len() == 8 && answered.iter().all(|each| *each) && mark(&table) == 0);
+    assert_eq!(rt; answered.len(), 8);
+    assert!(rt; answered.iter().all(|each| *each));
+    assert_eq!(rt; mark(&table), 0);
     Ok(())
 }

@@ -5,7 +5,7 @@ ghost use Rattle.shared_store.specs.Workers.{AreAll, ListsGoOn, WentOn};
 ghost use Rattle.store_model.specs.Made.{Made};
 
 use crate::asks::{Ask, answer, call_of};
-use crate::{ClosedStores, StoreSeat, Tables};
+use crate::{StoreSeat, Tables};
 use gate_base::{OutOfMemory, VmNo, WorkerNo};
 use gate_io::{Gate, NoGate, Point};
 use std::alloc::Global;
@@ -140,27 +140,13 @@ fn eight_threads_lose_no_set(rt: HostRuntime) -> Result<(), Fail> {
     ask_by_first(&rt, alloc, &tables, &mut lists, Ask::Set(&[0], 0))?;
     let mut lists = raise_all(&rt, alloc, &tables, lists)?;
     let read = ask_by_first(&rt, alloc, &tables, &mut lists, Ask::Get(b"k"))?;
+    assert_eq!(rt; read.as_str(), "[0, 1, 56, 128] under 80001");
     let closed = tables.shut(lists);
-    let is_read = read.as_str() == "[0, 1, 56, 128] under 80001";
-    assert!(rt; is_read && is_raised(&closed));
+    let (other, vm) = (VmNo::new(0).unwrap(), VmNo::new(1).unwrap());
+    assert!(rt; 160_002 <= closed.calls(vm));
+    assert_eq!(rt; closed.calls(other), 0);
+    assert_eq!(rt; closed.counts(vm), (1, 0));
     Ok(())
-}
-
-/// How many calls were made on each of two stores.
-fn calls_on(closed: &ClosedStores) -> (u64, u64)
-    requires { 1 < length closed.now }
-{
-    let (first, second) = (VmNo::new(0).unwrap(), VmNo::new(1).unwrap());
-    (closed.calls(first), closed.calls(second))
-}
-
-/// Whether store 1 has its one key after at least a read and a Set for each raise, the first Set and the last Get, and nobody called store 0.
-fn is_raised(closed: &ClosedStores) -> bool
-    requires { 1 < length closed.now }
-{
-    let (other, calls) = calls_on(closed);
-    let (keys, items) = closed.counts(VmNo::new(1).unwrap());
-    other == 0 && 160_002 <= calls && keys == 1 && items == 0
 }
 
 /// Holds worker 1 inside its turn until it is told of an answer, but not for ever.
@@ -168,14 +154,6 @@ fn is_raised(closed: &ClosedStores) -> bool
 struct UntilAnswered {
     answered: AtomicU64,
     given_up: AtomicU64,
-}
-
-impl UntilAnswered {
-    /// Whether it was told, and did not give up before.
-    fn was_told(&self) -> bool {
-        let answered = self.answered.load(Ordering::SeqCst);
-        answered == 1 && self.given_up.load(Ordering::SeqCst) == 0
-    }
 }
 
 impl Gate for UntilAnswered {
@@ -239,8 +217,10 @@ fn a_name_does_not_wait_for_another(rt: HostRuntime) -> Result<(), Fail> {
     };
     let (tables, lists) = Tables::make(alloc, 2, 2)?;
     let lists = ask_all(&rt, alloc, &tables, &gate, lists)?;
+    assert_eq!(rt; gate.answered.load(Ordering::SeqCst), 1);
+    assert_eq!(rt; gate.given_up.load(Ordering::SeqCst), 0);
     let closed = tables.shut(lists);
-    let (first, second) = calls_on(&closed);
-    assert!(rt; gate.was_told() && first == 1 && second == 1);
+    assert_eq!(rt; closed.calls(VmNo::new(0).unwrap()), 1);
+    assert_eq!(rt; closed.calls(VmNo::new(1).unwrap()), 1);
     Ok(())
 }

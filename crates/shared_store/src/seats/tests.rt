@@ -69,28 +69,15 @@ fn seats_answer_as_one_thread(rt: HostRuntime) -> Result<(), Fail> {
     let mut first = StoreSeat::over(&rt, &tables, one, &NoGate);
     let mut second = StoreSeat::over(&rt, &tables, two, &NoGate);
     let failed = play(alloc, &mut alone, &mut first, &mut second)?;
-    drop(alone);
     let (one, two) = (first.give_back(), second.give_back());
+    assert_eq!(rt; failed, None);
     let closed = shut(tables, one, two);
-    let is_queued = is_queued(alloc, &closed)?;
-    assert!(rt; failed.is_none() && is_queued && are_counted(&closed));
-    Ok(())
-}
-
-/// Whether each of the two stores had seven calls, one has the key, and the other the item.
-fn are_counted(closed: &ClosedStores) -> bool
-    requires { length closed.now ≡ 2 }
-{
     let (zero, next) = (VmNo::new(0).unwrap(), VmNo::new(1).unwrap());
-    closed.calls(zero) == 7
-        && closed.calls(next) == 7
-        && closed.counts(zero) == (1, 0)
-        && closed.counts(next) == (0, 1)
-}
-
-/// Whether the queue has one item, and a number that is no queue's none.
-fn is_queued(alloc: Global, closed: &ClosedStores) -> Result<bool, OutOfMemory> {
-    let queued = closed.items(alloc, QueueId::new(16_777_217))?.len();
-    let none = closed.items(alloc, QueueId::new(1))?.len();
-    Ok(queued == 1 && none == 0)
+    assert_eq!(rt; closed.calls(zero), 7);
+    assert_eq!(rt; closed.calls(next), 7);
+    assert_eq!(rt; closed.counts(zero), (1, 0));
+    assert_eq!(rt; closed.counts(next), (0, 1));
+    assert_eq!(rt; closed.items(alloc, QueueId::new(16_777_217))?.len(), 1);
+    assert_eq!(rt; closed.items(alloc, QueueId::new(1))?.len(), 0);
+    Ok(())
 }
