@@ -389,6 +389,8 @@ def fault_of(want, play, places):
         got = play.outcome.text()
         return None if got == wanted else ["the whole outcome is"] + got
     if want.stream == "fuel":
+        if want.callback and not any(want.callback in play.names(at) for at in range(len(play.modules))):
+            return ["no call of %s was made" % want.callback]
         for at, vm in enumerate(play.config["vm"]):
             if play.is_spent(at):
                 return ["%s spends its fuel, %d units" % (vm["name"], play.fuel(at))]
