@@ -1342,8 +1342,8 @@ def beside_work(gateway, upstream):
             count += 1
         sender.join()
         expect(answer, ["200"])
-        # Where 64 pieces come before another line is heard there are three or four.
-        if count < PIECES // 8:
+        # Where all pieces that have come are heard before the system is asked again, there is one for each five or so.
+        if count < PIECES // 2:
             raise AssertionError("%d answers beside an upload of %d pieces" % (count, PIECES))
 
 
