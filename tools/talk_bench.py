@@ -60,12 +60,17 @@ def plain_config(modules):
 
 def read_config(path, folder="."):
     """The configuration in a file, with its modules' paths from `folder`."""
-    import tomllib
-
-    with open(path, "rb") as file:
-        config = tomllib.load(file)
-    for vm in config.get("vm", []):
-        vm["module"] = os.path.join(os.path.abspath(folder), vm["module"])
+    try:
+        import tomllib
+    except ImportError:
+        raise talk.Fault("%s: a configuration needs a python from 3.11 on" % path) from None
+    try:
+        with open(path, "rb") as file:
+            config = tomllib.load(file)
+        for vm in config.get("vm", []):
+            vm["module"] = os.path.join(os.path.abspath(folder), vm["module"])
+    except (AttributeError, KeyError, TypeError, ValueError) as fault:
+        raise talk.Fault("%s: no configuration (`wasmgate check` says why): %s" % (path, fault)) from None
     return config
 
 
