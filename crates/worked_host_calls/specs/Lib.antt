@@ -1,0 +1,9 @@
+pub mod Scenes
+pub mod Giving
+pub mod Buffers
+pub mod MapRows
+pub mod Streams
+pub mod Stores
+pub mod Metrics
+pub mod Services
+pub mod Wasi
