@@ -1,0 +1,3 @@
+mod Splitting
+mod Walking
+mod Worked
