@@ -1,4 +1,4 @@
--- The worked rows of this name, by computation.
+-- The rows of these examples hold by computation.
 use Rattle.std.proofs.Common.{refl}
 use Rattle.wasm_syntax.specs.ReductionRuns.{walk, walk_hosted}
 use Rattle.worked_host_calls.specs.Giving.{GivingExamples}

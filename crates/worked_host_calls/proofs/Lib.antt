@@ -6,3 +6,4 @@ mod Stores
 mod Metrics
 mod Services
 mod Wasi
+mod Bare

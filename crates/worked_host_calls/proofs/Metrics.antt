@@ -1,4 +1,4 @@
--- The worked rows of this name, by computation.
+-- The rows of these examples hold by computation.
 use Rattle.std.proofs.Common.{refl}
 use Rattle.worked_host_calls.specs.Metrics.{MetricNames, MetricWords}
 

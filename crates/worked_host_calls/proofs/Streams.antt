@@ -1,4 +1,4 @@
--- The worked rows of this name, by computation.
+-- The rows of these examples hold by computation.
 use Rattle.std.proofs.Common.{refl}
 use Rattle.http_header.specs.Token.{is_token_byte}
 use Rattle.worked_host_calls.specs.Streams.{StreamExamples, ResponseExamples}

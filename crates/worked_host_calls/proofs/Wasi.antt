@@ -1,6 +1,7 @@
--- The worked rows of this name, by computation.
+-- The rows of these examples hold by computation.
 use Rattle.std.proofs.Common.{refl}
-use Rattle.worked_host_calls.specs.Wasi.{WasiExamples, NoArguments}
+use Rattle.rand_core.specs.Steps.{u32_at}
+use Rattle.worked_host_calls.specs.Wasi.{WasiExamples, NoArguments, RandomExamples}
 
 pub wasi_examples : WasiExamples
 wasi_examples = record {
@@ -8,6 +9,7 @@ wasi_examples = record {
   output = refl;
   below = refl;
   no_such_file = refl;
+  joined = refl;
   piece_outside = refl;
   entries_outside = refl;
   count_outside = refl;
@@ -27,4 +29,10 @@ no_arguments = record {
   environment_outside = refl;
   arguments_outside = refl;
   exit = refl;
+}
+
+pub random_examples : RandomExamples
+unfolding u32_at
+random_examples = record {
+  drawn = refl;
 }

@@ -7,3 +7,4 @@ pub mod Stores
 pub mod Metrics
 pub mod Services
 pub mod Wasi
+pub mod Bare

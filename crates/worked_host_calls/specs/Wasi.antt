@@ -1,5 +1,6 @@
 -- The calls of WASI.
-use Rattle.std.specs.Prelude.{◌≡◌, ℕ, List, [], ◌∷◌, ◌++◌, codes}
+use Rattle.std.specs.Prelude.{◌≡◌, ℕ, List, [], ◌∷◌, ◌++◌, Some, codes, replicate, take}
+use Rattle.std.specs.Int.{w32, to_le_bytes}
 use Rattle.abi_calls.specs.Hosting.{Hosted}
 use Rattle.abi_model.specs.Calls.{called_trapped}
 use Rattle.abi_model.specs.declared.table.WasiCall.{WasiCall}
@@ -8,6 +9,7 @@ use Rattle.contexts.specs.Reached.{Seen, no_changes}
 use Rattle.gate_base.specs.declared.cause.Cause.TheVariants.{Exit}
 use Rattle.gate_base.specs.declared.level.Level.TheVariants.{Info, Error}
 use Rattle.gate_io.specs.declared.event.Sent.TheVariants.{Log}
+use Rattle.rand_chacha.specs.ChaCha.{word_at}
 use Rattle.store_model.specs.Program.{Program, done}
 use Rattle.worked_host_calls.specs.Scenes.{guest, letters, told, seen, ends, wasi_on, answers, writes}
 
@@ -18,6 +20,10 @@ entry = told 13 3 (codes "mnopqrstuvwx")
 -- the same, where the number of bytes stands at place 18
 abbrev pub counted : (number : ℕ) → List ℕ
 counted number = told 13 3 (codes "mnopqr" ++ number ∷ 0 ∷ 0 ∷ 0 ∷ codes "wx")
+
+-- two entries, of three bytes at place 21 and of two at place 20
+abbrev pub entries : List ℕ → List ℕ
+entries first = first ++ 21 ∷ 0 ∷ 0 ∷ 0 ∷ 3 ∷ 0 ∷ 0 ∷ 0 ∷ 20 ∷ 0 ∷ 0 ∷ 0 ∷ 2 ∷ 0 ∷ 0 ∷ 0 ∷ codes "uvwx"
 
 -- every line is sent
 abbrev pub of_all : Seen
@@ -35,6 +41,8 @@ pub record WasiExamples : Type 0 where
   pub output : wasi_on entry of_all wasi.FdWrite (1 ∷ 4 ∷ 1 ∷ 18 ∷ []) ≡ done (ends 0 (guest (counted 3) 9) no_changes (Log Info (codes "nop") ∷ []))
   pub below : wasi_on entry seen wasi.FdWrite (1 ∷ 4 ∷ 1 ∷ 18 ∷ []) ≡ done (ends 0 (guest (counted 3) 9) no_changes [])
   pub no_such_file : wasi_on entry seen wasi.FdWrite (3 ∷ 4 ∷ 1 ∷ 18 ∷ []) ≡ refuses 8 entry
+  -- the pieces `vwx` and `uv` are one line of five bytes
+  pub joined : wasi_on (entries (codes "abcd")) seen wasi.FdWrite (2 ∷ 4 ∷ 2 ∷ 0 ∷ []) ≡ done (ends 0 (guest (entries (5 ∷ 0 ∷ 0 ∷ 0 ∷ [])) 9) no_changes (Log Error (codes "vwxuv") ∷ []))
   -- a second entry would begin at place 12, and its piece is outside
   pub piece_outside : wasi_on entry seen wasi.FdWrite (2 ∷ 4 ∷ 2 ∷ 18 ∷ []) ≡ refuses 21 entry
   pub entries_outside : wasi_on entry seen wasi.FdWrite (2 ∷ 18 ∷ 1 ∷ 4 ∷ []) ≡ refuses 21 entry
@@ -55,3 +63,7 @@ pub record NoArguments : Type 0 where
   pub arguments_outside : wasi_calls wasi.ArgsSizesGet (21 ∷ 4 ∷ []) ≡ answers 21
   -- a trap, by which what was done is kept no more
   pub exit : wasi_calls wasi.ProcExit (3 ∷ []) ≡ done (record { called = called_trapped Exit 9; changes = no_changes; lines = [] })
+
+pub record RandomExamples : Type 0 where
+  -- word 7 of stream 0, which has four bytes: the first three of them, and then the next place
+  pub drawn : wasi_calls wasi.RandomGet (4 ∷ 3 ∷ []) ≡ done (ends 0 (guest (codes "abcd" ++ take 3 (to_le_bytes w32 (word_at 4 (replicate 8 0) 0 7)) ++ codes "hijklmnopqrstuvwx") 9) (record no_changes { random_place = Some 8 }) [])

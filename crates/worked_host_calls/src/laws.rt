@@ -6,11 +6,17 @@ ghost use Rattle.worked_host_calls.specs.Streams.{StreamExamples, ResponseExampl
 ghost use Rattle.worked_host_calls.specs.Stores.{DataExamples, QueueExamples, ItemExamples};
 ghost use Rattle.worked_host_calls.specs.Metrics.{MetricNames, MetricWords};
 ghost use Rattle.worked_host_calls.specs.Services.{LocalExamples, ContextExamples, PropertyExamples, PathExamples};
-ghost use Rattle.worked_host_calls.specs.Wasi.{WasiExamples, NoArguments};
+ghost use Rattle.worked_host_calls.specs.Wasi.{WasiExamples, NoArguments, RandomExamples};
+ghost use Rattle.worked_host_calls.specs.Bare.{NoAllocator};
 
 /// Bytes and numbers handed over: place, size, the place 0, places outside, no allocator, a trap, fuel.
 pub fn worked_giving()
     ensures { GivingExamples }
+{}
+
+/// Calls that give bytes to a guest without an allocator.
+pub fn worked_no_allocator()
+    ensures { NoAllocator }
 {}
 
 /// Parts of buffers.
@@ -98,7 +104,7 @@ pub fn worked_path()
     ensures { PathExamples }
 {}
 
-/// The calls of WASI on files, clocks and random bytes.
+/// The calls of WASI on files and clocks.
 pub fn worked_wasi()
     ensures { WasiExamples }
 {}
@@ -106,4 +112,9 @@ pub fn worked_wasi()
 /// The calls of WASI on arguments and the environment, and the exit.
 pub fn worked_no_arguments()
     ensures { NoArguments }
+{}
+
+/// Random bytes: which word is drawn, where its bytes go, and which comes next.
+pub fn worked_random()
+    ensures { RandomExamples }
 {}
