@@ -28,7 +28,6 @@ and_true a b x y = (λ i. x i && b) ∙ y
 
 -- ---- a root, by the outlines of contexts
 
-
 abbrev Outline : Type 0
 Outline = ℕ × ℕ × ℕ × Option ℕ
 

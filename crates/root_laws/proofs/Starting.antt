@@ -29,21 +29,27 @@ roots_in : (plugins : List Plugin) (vm place i : ℕ) (first : Bool) (q : Plugin
 roots_in [] vm place zero first q at is = absurd (cc at)
 roots_in [] vm place (suc i) first q at is = absurd (cc at)
 roots_in (p ∷ ps) vm place zero first q at is =
-    let place_is : place ≡ place + 0 = omega arith in
-    (first, subst (λ (b : Bool). Contains (if b then jobs.Root vm place first ∷ roots_from vm (place + 1) false ps else roots_from vm (place + 1) first ps) (jobs.Root vm (place + 0) first)) (sym (same_vm vm p q at is))
-    (subst (λ (k : ℕ). Contains (jobs.Root vm place first ∷ roots_from vm (place + 1) false ps) (jobs.Root vm k first)) place_is (here (jobs.Root vm place first) (roots_from vm (place + 1) false ps))))
+    let place_is : place ≡ place + 0 = omega arith in (
+      first,
+      subst (λ (b : Bool). Contains (if b then jobs.Root vm place first ∷ roots_from vm (place + 1) false ps else roots_from vm (place + 1) first ps) (jobs.Root vm (place + 0) first)) (sym (same_vm vm p q at is))
+          (subst (λ (k : ℕ). Contains (jobs.Root vm place first ∷ roots_from vm (place + 1) false ps) (jobs.Root vm k first)) place_is (here (jobs.Root vm place first) (roots_from vm (place + 1) false ps))),
+    )
 roots_in (p ∷ ps) vm place (suc i) first q at is =
     let place_is : place + 1 + i ≡ place + suc i = omega arith in
     elim (cases_Bool (is_of vm p)) [
       | inl own ↦
-          let far = roots_in ps vm (place + 1) i false q at is in
-          (far.0, subst (λ (b : Bool). Contains (if b then jobs.Root vm place first ∷ roots_from vm (place + 1) false ps else roots_from vm (place + 1) first ps) (jobs.Root vm (place + suc i) far.0)) (sym own)
-          (behind (jobs.Root vm place first) (jobs.Root vm (place + suc i) far.0) (roots_from vm (place + 1) false ps)
-          (subst (λ (k : ℕ). Contains (roots_from vm (place + 1) false ps) (jobs.Root vm k far.0)) place_is far.1)))
+          let far = roots_in ps vm (place + 1) i false q at is in (
+            far.0,
+            subst (λ (b : Bool). Contains (if b then jobs.Root vm place first ∷ roots_from vm (place + 1) false ps else roots_from vm (place + 1) first ps) (jobs.Root vm (place + suc i) far.0)) (sym own)
+                (behind (jobs.Root vm place first) (jobs.Root vm (place + suc i) far.0) (roots_from vm (place + 1) false ps)
+                (subst (λ (k : ℕ). Contains (roots_from vm (place + 1) false ps) (jobs.Root vm k far.0)) place_is far.1)),
+          )
       | inr other ↦
-          let far = roots_in ps vm (place + 1) i first q at is in
-          (far.0, subst (λ (b : Bool). Contains (if b then jobs.Root vm place first ∷ roots_from vm (place + 1) false ps else roots_from vm (place + 1) first ps) (jobs.Root vm (place + suc i) far.0)) (sym other)
-          (subst (λ (k : ℕ). Contains (roots_from vm (place + 1) first ps) (jobs.Root vm k far.0)) place_is far.1))
+          let far = roots_in ps vm (place + 1) i first q at is in (
+            far.0,
+            subst (λ (b : Bool). Contains (if b then jobs.Root vm place first ∷ roots_from vm (place + 1) false ps else roots_from vm (place + 1) first ps) (jobs.Root vm (place + suc i) far.0)) (sym other)
+                (subst (λ (k : ℕ). Contains (roots_from vm (place + 1) first ps) (jobs.Root vm k far.0)) place_is far.1),
+          )
     ]
 
 or_true : (a b : Bool) → b ≡ true → (a || b) ≡ true
@@ -59,10 +65,12 @@ any_of (p ∷ ps) vm (suc i) q at is = or_true (is_of vm p) (list_any (is_of vm)
 start_has : (plugins : List Plugin) (vm i : ℕ) (q : Plugin) → slice_get plugins i ≡ Some q → q.vm ≡ vm → HasRoot (start_of vm plugins) vm i
 start_has plugins vm i q at is =
     let far = roots_in plugins vm 0 i true q at is in
-    let place_is : 0 + i ≡ i = omega arith in
-    (far.0, subst (λ (b : Bool). Contains (if b then jobs.Begin vm ∷ roots_from vm 0 true plugins else []) (jobs.Root vm i far.0)) (sym (any_of plugins vm i q at is))
-    (behind (jobs.Begin vm) (jobs.Root vm i far.0) (roots_from vm 0 true plugins)
-    (subst (λ (k : ℕ). Contains (roots_from vm 0 true plugins) (jobs.Root vm k far.0)) place_is far.1)))
+    let place_is : 0 + i ≡ i = omega arith in (
+      far.0,
+      subst (λ (b : Bool). Contains (if b then jobs.Begin vm ∷ roots_from vm 0 true plugins else []) (jobs.Root vm i far.0)) (sym (any_of plugins vm i q at is))
+          (behind (jobs.Begin vm) (jobs.Root vm i far.0) (roots_from vm 0 true plugins)
+          (subst (λ (k : ℕ). Contains (roots_from vm 0 true plugins) (jobs.Root vm k far.0)) place_is far.1)),
+    )
 
 less_of : (v n : ℕ) → v < suc n → (v ≡ n → ⊥) → v < n
 less_of v n low apart = omega (arith, low, apart)
@@ -81,6 +89,8 @@ pub starts_have_roots : StartsHaveRoots
 starts_have_roots plan what room p q begun at low =
     let plugins = room.hub.contexts.plugins in
     let far = starts_have (vms_in room) plugins q.vm p low (start_has plugins q.vm p q at refl) in
-    let all : List Job = ticks_due room ++ (deadlines plan ++ (jobs.Happen what ∷ notices_of plan (vms_in room))) in
-    (far.0, Contains-append_left (starts room) all (jobs.Root q.vm p far.0)
-    (subst (λ (b : Bool). Contains (if b then [] else starts_of (vms_in room) plugins) (jobs.Root q.vm p far.0)) (sym begun) far.1))
+    let all : List Job = ticks_due room ++ (deadlines plan ++ (jobs.Happen what ∷ notices_of plan (vms_in room))) in (
+      far.0,
+      Contains-append_left (starts room) all (jobs.Root q.vm p far.0)
+          (subst (λ (b : Bool). Contains (if b then [] else starts_of (vms_in room) plugins) (jobs.Root q.vm p far.0)) (sym begun) far.1),
+    )
