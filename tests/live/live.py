@@ -272,7 +272,7 @@ class Upstream:
 class Gateway:
     """The program, serving at an address."""
 
-    def __init__(self, program, folder, address, server, lines, workers=1, more=""):
+    def __init__(self, program, folder, address, server, lines, workers=1, more="", memory=resource.RLIM_INFINITY):
         self.lines = lines
         self.opened = 0
         self.guard = threading.Lock()
@@ -285,7 +285,11 @@ class Gateway:
                 % (address, self.port, *server, workers, more)
             )
         self.words = program + ["serve", config, "--stop-after", str(lines)]
-        self.process = subprocess.Popen(self.words, stdout=subprocess.PIPE, stderr=subprocess.PIPE, cwd=folder)
+
+        def bound():
+            resource.setrlimit(resource.RLIMIT_AS, (memory, memory))
+
+        self.process = subprocess.Popen(self.words, stdout=subprocess.PIPE, stderr=subprocess.PIPE, cwd=folder, preexec_fn=bound)
 
     def connect(self):
         with self.guard:
@@ -300,6 +304,11 @@ class Gateway:
                     raise AssertionError("the gateway ended: %r" % (self.process.communicate(),))
                 time.sleep(0.02)
         raise AssertionError("the gateway does not listen")
+
+    def size(self):
+        """How many bytes of addresses it has taken at most."""
+        with open("/proc/%d/status" % self.process.pid) as f:
+            return next(int(line.split()[1]) * 1024 for line in f if line.startswith("VmPeak"))
 
     def rss(self):
         with open("/proc/%d/status" % self.process.pid) as f:
@@ -344,6 +353,12 @@ class Gateway:
             if time.monotonic() > until:
                 raise AssertionError("%d descriptors, and %d before" % (self.descriptors(), base))
             time.sleep(0.05)
+
+    def ends_for_memory(self):
+        """It stops by itself, with the status and the line of memory that ran out."""
+        out, err = self.process.communicate(timeout=PATIENCE)
+        if self.process.returncode != 8 or out != b"" or not err.endswith(b"wasmgate: memory\n"):
+            raise AssertionError("status %d, output %r, errors %r" % (self.process.returncode, out, err[-500:]))
 
     def ends(self, wanted=b"", told=None):
         """It stops by itself once all lines have closed, with status 0 and this output, or output of this form, and of what it wrote to standard error this is true."""
@@ -631,6 +646,21 @@ def to_a_reset(gateway, upstream):
             pass
 
 
+def to_a_plain_reset(gateway, upstream):
+    """A response that goes on until the server's end, and that the server resets, is reset to the client too, behind what came of it."""
+    with gateway.connect() as s:
+        reader = Reader(s)
+        s.sendall(request("/to-reset"))
+        first, fields = reader.head()
+        expect((status_of(first), fields.get("transfer-encoding")), ("200", None))
+        expect(reader.exactly(13000) == b"until the end" * 1000, True)
+        try:
+            reader.rest()
+            raise AssertionError("it ended as a whole one")
+        except ConnectionResetError:
+            pass
+
+
 def malformed(gateway, upstream):
     """A bad request is answered and its line closed, though more than fits still comes."""
     with gateway.connect() as s:
@@ -838,6 +868,46 @@ def crowd(gateway, upstream):
     first.close()
 
 
+def waits_for_places(gateway, upstream):
+    """Lines that come while all places of a worker are taken wait, and are answered once others close, in their order."""
+    held = [gateway.connect() for _ in range(128)]
+    for s in held:
+        s.sendall(UNROUTED)
+        is_unrouted(s)
+    waiting = [gateway.connect() for _ in range(20)]
+    for s in waiting:
+        s.sendall(UNROUTED)
+    # Less than they would wait at most.
+    expect(select.select(waiting, [], [], 0.3)[0], [])
+    for s in held[:20]:
+        s.close()
+    for s in waiting:
+        is_unrouted(s)
+    for s in held[20:] + waiting:
+        s.close()
+
+
+def other_places(gateway, upstream):
+    """While all places of the first of two workers are taken, lines go to the other one, which has some, and each is answered."""
+    held = [gateway.connect() for _ in range(256)]
+    for s in held:
+        s.sendall(UNROUTED)
+        is_unrouted(s)
+    # Lines go to the workers in turn: the second one has none left.
+    for s in held[1::2]:
+        s.close()
+    begun = time.monotonic()
+    lines = [gateway.connect() for _ in range(40)]
+    for s in lines:
+        s.sendall(UNROUTED)
+        is_unrouted(s)
+    took = time.monotonic() - begun
+    if took > 5:
+        raise AssertionError("it took %f seconds" % took)
+    for s in held[::2] + lines:
+        s.close()
+
+
 FLOOD = 200  # lines that come at once
 ARRIVALS = 32  # so many are accepted before open lines are heard
 
@@ -1022,6 +1092,30 @@ def logged(gateway, upstream):
 
 
 LOGGED = b"warn a line with \\x01 and \\xff\ncritical vm teller died: unreachable\n"
+
+
+def some_memory(gateway, upstream):
+    """Where memory suffices for one of two workers, either the other one gets no line and each is answered, or the gateway ends, with all lines that wait, since no worker
+    accepts."""
+    try:
+        for _ in range(6):
+            with gateway.connect() as s:
+                s.sendall(UNROUTED)
+                is_unrouted(s)
+    except (EOFError, ConnectionError):
+        gateway.process.wait(PATIENCE)
+
+
+def unread_log(gateway, upstream):
+    """Where nobody reads what is written to standard error, lines of the log are lost, and requests are answered all the same."""
+    with gateway.connect() as s:
+        reader = Reader(s)
+        # So many lines take more than the 65,536 bytes that a pipe has.
+        for _ in range(5):
+            s.sendall(request("/told/l") * 500)
+            for _ in range(500):
+                first, fields = reader.head()
+                expect((status_of(first), reader.body(fields)), ("200", b"/told/l"))
 
 
 def quiet(gateway, upstream):
@@ -1441,6 +1535,12 @@ WITH_STORES = (
     '[[vm]]\nname = "second"\nmodule = "marked.wasm"\n'
 )
 
+# Eight VMs with a memory of 16 MiB each.
+LARGE = MARKED.replace(b"\5\3\1\0\1", b"\5\4\1\0\x80\2")
+WITH_LARGE_VMS = "".join('[[vm]]\nname = "large%d"\nmodule = "large.wasm"\npages = 256\n' % n for n in range(8))
+# What they take for one worker, and half as much again.
+LARGE_ROOM = 8 * 16777216 * 3 // 2
+
 WITH_A_METER = (
     '[[vm]]\nname = "meter"\nmodule = "meter.wasm"\n'
     '[[plugin]]\nname = "meter"\nvm = "meter"\n'
@@ -1482,6 +1582,13 @@ WITH_A_TELLER = (
     '[[route]]\npath = "/told/{*rest}"\nfilters = ["teller"]\n[[route]]\npath = "/told/"\nfilters = ["teller"]\n'
 )
 TOLD = b"store teller calls 0 keys 0 items 0\n"
+
+
+
+def tells(text):
+    """Whether standard error has lines of this notice, once or several times, and nothing else."""
+    return lambda err: re.fullmatch(rb"(warn %s: [1-9][0-9]*\n)+" % re.escape(text.encode()), err) is not None
+
 
 # name, workers, what the configuration has besides, what is printed at the end, cases with how many lines each opens, and where it is looked at
 # what is true of standard error
@@ -1534,13 +1641,16 @@ GROUPS = [
     ("silent lines", 2, "", b"", [(silent_lines, 101)]),
     ("beside a filter that works", 1, WITH_A_BUSY_FILTER, b"store busy calls 0 keys 0 items 0\n", [(beside_work, 2)]),
     ("a slow server", 1, "", b"", [(slow_server, 1)]),
-    ("a crowd", 1, "", b"", [(crowd, 200)]),
+    ("a crowd", 1, "", b"", [(crowd, 200)], tells("no place for a line")),
+    ("places that are taken", 1, "", b"", [(waits_for_places, 148)], lambda err: err == b""),
+    ("places of another worker", 2, "", b"", [(other_places, 296)], lambda err: err == b""),
     ("a flood", 1, "", b"", [(flooded, 128 + FLOOD)]),
     ("three workers", 3, "", b"", [(many, 30)]),
-    ("no server", 1, "", b"", [(refusing, 1)]),
+    ("no server", 1, "", b"", [(refusing, 1)], tells("upstream refused")),
+    ("a server that breaks off", 1, "", b"", [(to_a_plain_reset, 1)], tells("upstream broke off in its answer")),
     ("other addresses", 1, "", b"", [(other_addresses, 1)]),
     ("clients that stay", 1, "", b"", [(refused_stays, 11)], lambda err: err == b""),
-    ("a filter of bodies", 1, WITH_SHOUT, b"store shout calls 0 keys 0 items 0\n", [(to_a_reset, 2)], lambda err: err == b""),
+    ("a filter of bodies", 1, WITH_SHOUT, b"store shout calls 0 keys 0 items 0\n", [(to_a_reset, 2)], tells("upstream broke off in its answer")),
     (
         "stores",
         2,
@@ -1556,6 +1666,7 @@ GROUPS = [
         [(metered, 3)],
     ),
     ("an operator's filters", 2, WITH_AN_OPERATOR, AFTER_AN_OPERATOR, [(operated, 2)], lambda err: OPERATED.fullmatch(err) is not None),
+    ("some memory", 2, WITH_LARGE_VMS, b"", [(some_memory, 6)]),
     ("a queue", 2, WITH_A_QUEUE, AFTER_A_QUEUE, [(noticed, 2)], lambda err: err == b""),
     ("two deadlines", 1, "deadline_ms = 2000", b"", [(two_deadlines, 2)]),
     ("a deadline", 1, "deadline_ms = 300", b"", [(deadline, 1)], lambda err: err == b""),
@@ -1565,10 +1676,11 @@ GROUPS = [
     ("its random bytes", 1, WITH_A_TELLER % "", TOLD, [(random_bytes, 1)]),
     # So many workers that seeds of a single byte would hardly all differ.
     *[("its random bytes by workers, %d" % n, 8, WITH_A_TELLER % "", TOLD, [(random_by_workers, 8)]) for n in range(6)],
+    ("a log that is not read", 1, WITH_A_TELLER % "", TOLD, [(unread_log, 1)], lambda err: 1000 < err.count(b"warn a line") < 2500),
     ("ticks", 1, WITH_A_TELLER % 'configuration = "tick"\n', TOLD, [(quiet, 1)], has_ticked),
     ("late ticks", 1, WITH_A_TELLER % 'configuration = "slow"\n', TOLD, [(late_ticks, 3)], lambda err: err == b""),
-    ("no descriptor for a server", 1, "", b"", [(undialled, 1)], lambda err: err == b""),
-    ("descriptors that run out", 1, "", b"", [(no_descriptor, 5)], lambda err: err == b""),
+    ("no descriptor for a server", 1, "", b"", [(undialled, 1)], tells("upstream not dialled, no descriptor or port is left")),
+    ("descriptors that run out", 1, "", b"", [(no_descriptor, 5)], tells("line not accepted, the system refused it")),
     ("lines that are not read", 1, "", b"", [(unread, 363)]),
 ]
 
@@ -1583,7 +1695,13 @@ def run_group(program, folder, upstream, group):
     if name == "a slow server":
         upstream = Upstream(sips=True)
     port = closed_port() if name == "no server" else upstream.port
-    gateway = Gateway(program, folder, address, (upstream.address, port), lines, workers, more)
+    memory = resource.RLIM_INFINITY
+    if name == "some memory":
+        without = Gateway(program, folder, address, (upstream.address, port), 2, workers)
+        nothing(without, upstream)
+        memory = without.size() + LARGE_ROOM
+        without.kill()
+    gateway = Gateway(program, folder, address, (upstream.address, port), lines, workers, more, memory)
     passed, failed = 0, 0
     try:
         for case, _ in cases:
@@ -1595,7 +1713,10 @@ def run_group(program, folder, upstream, group):
                 print("FAIL live/%s: %s: %r" % (name, case.__name__, e), flush=True)
         if failed == 0:
             try:
-                gateway.ends(wanted, told)
+                if memory == resource.RLIM_INFINITY:
+                    gateway.ends(wanted, told)
+                else:
+                    gateway.ends_for_memory()
                 passed += 1
             except Exception as e:
                 failed += 1
@@ -1611,8 +1732,9 @@ def main():
     upstream = Upstream()
     passed, failed = 0, 0
     with tempfile.TemporaryDirectory() as folder:
-        with open(os.path.join(folder, "marked.wasm"), "wb") as f:
-            f.write(MARKED)
+        for module, text in (("marked", MARKED), ("large", LARGE)):
+            with open(os.path.join(folder, module + ".wasm"), "wb") as f:
+                f.write(text)
         for module in (METER, SHOUT, TELLER, BUSY, WAITS, ENQUEUES, *OPERATORS):
             shutil.copy(module, folder)
         for group in GROUPS:

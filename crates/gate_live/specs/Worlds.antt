@@ -24,7 +24,7 @@ pub record Gives {R P : Type 0} (gave took : P → Option (List ℕ)) (old : Liv
   pub heard : WasHeard gave took old.sockets.lines.items what new.sockets.lines.items
   pub read : LiesIn new.sockets.room.bytes.items what
 
--- An event of a line is given less than half a millisecond behind the last question to the system what is ready, by the clock as the call read it, and at most 64 are given behind one.
+-- An event of a line is given less than half a millisecond after the last question to the system what is ready, by the clock as the call read it, and at most 64 are given after one.
 abbrev pub Asks : {R P : Type 0} → LiveWorld R P → What → LiveWorld R P → Type 0
 Asks old what new = AsksFirst what old.sockets.looks new.sockets.looks
 

@@ -4,6 +4,7 @@
 mod live_site;
 mod live_world;
 mod log_line;
+mod stderr;
 
 pub use live_site::LiveSite;
 pub use live_world::LiveWorld;

@@ -7,15 +7,16 @@ ghost use Rattle.gate_live.specs.Sites.{AreNew, AreUntouched, FirstAccepts, IsUn
 
 use crate::LiveWorld;
 use gate_io::{Settings, Site, SiteEnd};
-use live_lines::Peer;
-use live_sockets::{Acceptor, Buffers, Mailbox, Neighbor, ORIGIN, Origin, Sockets, join_queue};
+use live_lines::{Peer, probe};
+use live_sockets::{
+    Acceptor, Buffers, Mailbox, Neighbor, ORIGIN, Origin, Sockets, Stage, join_queue,
+};
 use mio::net::TcpListener;
 use mio::{Interest, Poll, Waker};
 use std::alloc::Global;
 use std::io;
 use std::net::{Net, SocketAddr};
 use std::random::RandomSource;
-use std::sync::atomic::AtomicU64;
 use std::sync::{Arc, Wait};
 use std::time::Clock;
 
@@ -114,7 +115,9 @@ fn waker_of(poll: &Poll) -> Result<Waker, SiteEnd> {
 
 /// A listener at this address.
 fn listener_at<R: Net>(rt: &R, listen: SocketAddr) -> Result<TcpListener, SiteEnd> {
-    TcpListener::bind(rt, listen).map_err(end_of)
+    let listener = TcpListener::bind(rt, listen).map_err(end_of)?;
+    probe(&listener);
+    Ok(listener)
 }
 
 /// Has a poll watch a listener.
@@ -136,14 +139,14 @@ fn listening_poll<R: Net>(rt: &R, listen: SocketAddr) -> Result<(Poll, TcpListen
 fn waking_poll<R: Net>(
     alloc: Global,
     rt: &R,
-    ended: &Arc<AtomicU64>,
+    stage: &Arc<Stage>,
 ) -> Result<(Poll, Neighbor, Mailbox), SiteEnd>
     ensures offered { IfOk result (λ ends. ends.1.giver.lines ≡ []) }
 {
-    let ended = Arc::try_clone(ended)?;
+    let stage = Arc::try_clone(stage)?;
     let poll = poll_of(rt)?;
     let waker = waker_of(&poll)?;
-    let (neighbor, mailbox) = join_queue(alloc, waker, ended)?;
+    let (neighbor, mailbox) = join_queue(alloc, waker, stage)?;
     Ok((poll, neighbor, mailbox))
 }
 
@@ -152,13 +155,13 @@ fn other_world<R: Net + RandomSource + Clone + Drop>(
     alloc: Global,
     rt: &R,
     upstream: SocketAddr,
-    ended: &Arc<AtomicU64>,
+    stage: &Arc<Stage>,
 ) -> Result<(Neighbor, LiveWorld<R, Peer>), SiteEnd>
     ensures untouched { IfOk result (λ w. IsUntouched upstream w.1) }
     ensures offered { IfOk result (λ w. w.0.giver.lines ≡ []) }
 {
     let ground = ground_of(alloc, rt)?;
-    let (poll, neighbor, mailbox) = waking_poll(alloc, rt, ended)?;
+    let (poll, neighbor, mailbox) = waking_poll(alloc, rt, stage)?;
     let world = world_of(alloc, ground, poll, Origin::Mailbox(mailbox), upstream);
     Ok((neighbor, world))
 }
@@ -168,7 +171,7 @@ fn add_world<R: Net + RandomSource + Clone + Drop>(
     alloc: Global,
     rt: &R,
     upstream: SocketAddr,
-    ended: &Arc<AtomicU64>,
+    stage: &Arc<Stage>,
     others: &mut Vec<Neighbor>,
     worlds: &mut Vec<LiveWorld<R, Peer>>,
 ) -> Result<(), SiteEnd>
@@ -176,7 +179,7 @@ fn add_world<R: Net + RandomSource + Clone + Drop>(
     ensures count { IfOk result (λ _. length worlds.new.items ≡ length worlds.old.items + 1) }
     ensures offered { AreUnused others.old.items → IfOk result (λ _. AreUnused others.new.items) }
 {
-    let (neighbor, world) = other_world(alloc, rt, upstream, ended)?;
+    let (neighbor, world) = other_world(alloc, rt, upstream, stage)?;
     others.push(neighbor)?;
     worlds.push(world)?;
     Ok(())
@@ -188,7 +191,7 @@ fn other_worlds<R: Net + RandomSource + Clone + Drop>(
     rt: &R,
     count: u8,
     upstream: SocketAddr,
-    ended: &Arc<AtomicU64>,
+    stage: &Arc<Stage>,
     others: &mut Vec<Neighbor>,
     worlds: &mut Vec<LiveWorld<R, Peer>>,
 ) -> Result<(), SiteEnd>
@@ -197,7 +200,7 @@ fn other_worlds<R: Net + RandomSource + Clone + Drop>(
     ensures offered { AreUnused others.old.items → IfOk result (λ _. AreUnused others.new.items) }
 {
     for _ in 0..count {
-        add_world(alloc, rt, upstream, ended, others, worlds)?;
+        add_world(alloc, rt, upstream, stage, others, worlds)?;
     }
     Ok(())
 }
@@ -221,7 +224,7 @@ fn first_world<R: Net + RandomSource + Clone + Drop>(
     settings: &Settings,
     upstream: SocketAddr,
     others: Vec<Neighbor>,
-    ended: Arc<AtomicU64>,
+    stage: Arc<Stage>,
 ) -> Result<LiveWorld<R, Peer>, SiteEnd>
     requires { AreHome 0 others.items }
     ensures untouched { IfOk result (λ w. IsUntouched upstream w) }
@@ -229,7 +232,7 @@ fn first_world<R: Net + RandomSource + Clone + Drop>(
 {
     let (ground, poll, listener) = listening(alloc, rt, settings)?;
     let most = settings.stop_after.unwrap_or(u32::MAX);
-    let origin = Origin::Listener(Acceptor::new(listener, most, others, ended));
+    let origin = Origin::Listener(Acceptor::new(listener, most, others, stage));
     Ok(world_of(alloc, ground, poll, origin, upstream))
 }
 
@@ -247,11 +250,11 @@ fn fill<R: Net + RandomSource + Clone + Drop>(
     ensures count { IfOk result (λ _. length worlds.new.items ≡ length worlds.old.items + settings.now.workers) }
     ensures accepts { IfOk result (λ _. FirstAccepts (unwrap_or settings.now.stop_after 4294967295) worlds.new.items) }
 {
-    let ended = Arc::new(alloc, AtomicU64::new(0))?;
+    let stage = Arc::new(alloc, Stage::new())?;
     let mut others = Vec::new(alloc);
     let count = settings.workers - 1;
-    other_worlds(alloc, rt, count, upstream, &ended, &mut others, worlds)?;
-    let first = first_world(alloc, rt, settings, upstream, others, ended)?;
+    other_worlds(alloc, rt, count, upstream, &stage, &mut others, worlds)?;
+    let first = first_world(alloc, rt, settings, upstream, others, stage)?;
     worlds.insert(0, first)?;
     Ok(())
 }

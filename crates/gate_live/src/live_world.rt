@@ -4,13 +4,13 @@ ghost use Rattle.gate_io.specs.Events.{Follows, Obeys, is_stop};
 ghost use Rattle.live_sockets.specs.Spent.{IsBefore, IsEarly, IsOfLine, is_clock};
 
 use crate::log_line::log_line;
+use crate::stderr::put_line;
 use gate_base::{Level, LineNo, OutOfMemory};
 use gate_io::{Event, Side, Wants, What, World, WorldEnd};
 use live_lines::Duplex;
-use live_sockets::{Moments, Sockets};
+use live_sockets::{LEVEL, Moments, Notice, Sockets, TEXTS};
 use std::alloc::Global;
 use std::net::Net;
-use std::str;
 use std::sync::Wait;
 use std::time::Clock;
 
@@ -26,6 +26,10 @@ pub struct LiveWorld<R, P> {
     told: bool,
     stopped: bool,
     faults: u64,
+    /// The last line for standard error was cut off.
+    is_cut: bool,
+    /// How many lines of the log were dropped, since that was told.
+    dropped: u32,
 }
 
 impl<R, P> LiveWorld<R, P> {
@@ -46,6 +50,8 @@ impl<R, P> LiveWorld<R, P> {
             told: false,
             stopped: false,
             faults: 0,
+            is_cut: false,
+            dropped: 0,
         }
     }
 
@@ -98,6 +104,7 @@ impl<R: Net + Clock + Wait + Eprint, P: Duplex> World for LiveWorld<R, P> {
         ensures ended { result ≡ Err WorldEnd.Failed → AcceptsNone self.new }
     {
         let answer = self.following(alloc, wants);
+        self.tell(alloc);
         if let Err(WorldEnd::Failed) = answer {
             self.faults = self.faults.saturating_add(1);
             self.sockets.end();
@@ -149,13 +156,72 @@ impl<R: Net + Clock + Wait + Eprint, P: Duplex> World for LiveWorld<R, P> {
         ensures faults { self.new.faults ≡ self.old.faults }
     {
         let line = log_line(alloc, level, text)?;
-        show(&self.rt, &line);
+        self.show(&line);
         Ok(())
     }
 
+    // A worker asks for it as it begins a life.
     fn seed(&self) -> [u8; 32] {
+        self.sockets.origin.begin_life();
         self.seed
     }
+}
+
+impl<R: Eprint, P: Duplex> LiveWorld<R, P> {
+    ghost use Rattle.std.specs.Prelude.{◌≡◌};
+
+    /// Writes a line of the log. One that standard error does not take is dropped, and counted.
+    fn show(&mut self, line: &[u8])
+        ensures { self.new ≡ record self.old { is_cut = self.new.is_cut; dropped = self.new.dropped } }
+    {
+        if !put_line(&self.rt, line, &mut self.is_cut) {
+            self.dropped = self.dropped.saturating_add(1);
+        }
+    }
+
+    /// Tells the operator what happened since the last time, once a second at most. Where there is no memory for a line it is not told.
+    fn tell(&mut self, alloc: Global)
+        ensures lines { self.new.sockets.lines ≡ self.old.sockets.lines }
+        ensures room { self.new.sockets.room ≡ self.old.sockets.room }
+        ensures looks { self.new.sockets.looks ≡ self.old.sockets.looks }
+        ensures now { self.new.now ≡ self.old.now }
+        ensures stopped { self.new.stopped ≡ self.old.stopped }
+        ensures seed { self.new.seed ≡ self.old.seed }
+        ensures faults { self.new.faults ≡ self.old.faults }
+    {
+        self.sockets.notices.add(Notice::Dropped, self.dropped);
+        self.dropped = 0;
+        if let Some(counts) = self.sockets.take_notices() {
+            self.tell_all(alloc, &counts);
+        }
+    }
+
+    /// Tells how often each kind of notice came that did.
+    fn tell_all(&mut self, alloc: Global, counts: &[u32])
+        ensures { self.new ≡ record self.old { is_cut = self.new.is_cut; dropped = self.new.dropped } }
+    {
+        for (count, text) in counts.iter().zip(&TEXTS) {
+            self.tell_one(alloc, *count, text);
+        }
+    }
+
+    /// Tells how often a kind of notice came, where it did.
+    fn tell_one(&mut self, alloc: Global, count: u32, text: &str)
+        ensures { self.new ≡ record self.old { is_cut = self.new.is_cut; dropped = self.new.dropped } }
+    {
+        if count == 0 {
+            return;
+        }
+        if let Ok(line) = notice_line(alloc, text, count) {
+            self.show(&line);
+        }
+    }
+}
+
+/// The line that tells of a kind of notice and how often it came.
+fn notice_line(alloc: Global, text: &str, count: u32) -> Result<Vec<u8>, OutOfMemory> {
+    let told = format!(in alloc; "{text}: {count}")?;
+    log_line(alloc, LEVEL, told.as_bytes())
 }
 
 impl<R: Net + Clock + Wait, P: Duplex> LiveWorld<R, P> {
@@ -220,13 +286,6 @@ impl<R: Net + Clock + Wait, P: Duplex> LiveWorld<R, P> {
         self.told = is_clock(&what);
         self.stopped = is_stop(&what);
         Ok(Event { now, what })
-    }
-}
-
-/// Writes a line of the log. One that can't be written is lost.
-fn show<R: Eprint>(rt: &R, line: &[u8]) {
-    if let Ok(line) = str::from_utf8(line) {
-        let _ = rt.eprint(line);
     }
 }
 

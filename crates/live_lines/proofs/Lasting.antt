@@ -26,8 +26,8 @@ lasts_more gave now a b c last (inr first) (inl second) = inr (subst (λ o. Came
 lasts_more gave now a b c last (inr first) (inr second) = inr (came_more (gave a.peer) (gave b.peer) (gave c.peer) first.0 second.0, second.1 ∙ ap (lasts_to now) last)
 
 -- what a read gives: bytes, behind which it lasts, or nothing
-pub lasts_behind : {P : Type 0} (gave : P → Option (List ℕ)) (now n : ℕ) (room : List ℕ) (a b : Lingering P) → 1 ≤ n → n ≤ length room → Gains (gave a.peer) (take n room) (gave b.peer) → b.until ≡ lasts_to now a.last → Lasts gave now a b
-lasts_behind gave now n room a b some fits gains until = inr (record { bytes = take n room; some = (let long = length-take-le n room fits in omega arith); gains = gains }, until)
+pub lasts_after : {P : Type 0} (gave : P → Option (List ℕ)) (now n : ℕ) (room : List ℕ) (a b : Lingering P) → 1 ≤ n → n ≤ length room → Gains (gave a.peer) (take n room) (gave b.peer) → b.until ≡ lasts_to now a.last → Lasts gave now a b
+lasts_after gave now n room a b some fits gains until = inr (record { bytes = take n room; some = (let long = length-take-le n room fits in omega arith); gains = gains }, until)
 
 pub lasts_silent : {P : Type 0} (gave : P → Option (List ℕ)) (now : ℕ) (a b : Lingering P) → Gains (gave a.peer) [] (gave b.peer) → b.until ≡ a.until → Lasts gave now a b
 lasts_silent gave now a b gains until = inl (gained_nothing (gave a.peer) (gave b.peer) gains, until)

@@ -101,4 +101,13 @@ pub trait Duplex: Drop {
 
     /// Tells the peer that nothing more comes.
     fn finish(&self);
+
+    /// Tells the peer that the connection broke off.
+    fn reset(&self);
+
+    /// Whether it gave some bytes.
+    fn has_given(&self) -> bool;
+
+    /// Whether the peer itself refused it, as far as is known.
+    fn is_turned_away(&self) -> bool;
 }

@@ -2,18 +2,22 @@
 #![tactic(auto)]
 
 mod duplex;
+mod fault;
 mod laws;
 mod line;
 mod lingering;
+mod options;
 mod peer;
 mod room;
 mod upstream;
 mod waiting;
 
 pub use duplex::{Duplex, Heard};
+pub use fault::Fault;
 pub use laws::worked_lasting;
 pub use line::Line;
 pub use lingering::{LINGER, LINGER_MOST, Lingering, MOST_LEFT, MOST_LINGERING};
+pub use options::probe;
 pub use peer::Peer;
 pub use room::Room;
 pub use upstream::Upstream;

@@ -11,6 +11,7 @@ ghost use Rattle.live_lines.specs.Heard.{IsHeard, bytes_heard};
 ghost use Rattle.live_lines.specs.Waiting.{GoesOn, is_full};
 
 use crate::duplex::{Duplex, Heard};
+use crate::fault::{Fault, fault_of};
 use crate::room::Room;
 use crate::upstream::Upstream;
 use gate_base::{LineNo, Octets, OutOfMemory};
@@ -28,6 +29,8 @@ pub struct Line<P> {
     pub refused: bool,
     /// Whether the server is heard first at the next turn.
     pub server_first: bool,
+    /// What went wrong with the last connection to the server.
+    pub fault: Option<Fault>,
 }
 
 /// Whether bytes of a side of a line are wanted.
@@ -321,6 +324,7 @@ impl<P: Duplex> Line<P> {
             return Ok(None);
         };
         let told = heard_behind(alloc, wants, self.number, up, room)?;
+        self.fault = fault_of(&told, &up.peer, self.fault);
         if ends(&told) {
             self.up = None;
         }
@@ -336,6 +340,7 @@ impl<P: Duplex> Line<P> {
         ensures peer { peer_of self.new.up ≡ peer }
     {
         self.refused = peer.is_none();
+        self.fault = None;
         self.up = match peer {
             Some(peer) => Some(Upstream::new(alloc, peer)),
             None => None,
@@ -382,15 +387,24 @@ impl<P: Duplex> Line<P> {
         }
     }
 
-    /// Offers bytes to the client. Those for one that is not there are dropped.
+    /// Offers bytes to the client. Those for one that is not there are dropped. Where they begin an answer, it is another one than that in which the server
+    /// broke off.
     pub fn send_down(&mut self, bytes: &[u8]) -> usize
         ensures bound { result ≤ length bytes.now }
         ensures sent { SentOn P.gave P.took self.old sides.Down bytes.now result self.new }
     {
+        if self.is_cut() && bytes.starts_with(b"HTTP/1.") {
+            self.fault = None;
+        }
         match &mut self.down {
             Some(peer) => peer.write(bytes),
             None => bytes.len(),
         }
+    }
+
+    /// Whether the server broke off in its answer, and no other answer was begun since.
+    pub fn is_cut(&self) -> bool {
+        matches!(self.fault, Some(Fault::BrokeOff))
     }
 
     /// Sends bytes to the server, which takes them whole. Those for one that is not there are dropped.

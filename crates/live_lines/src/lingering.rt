@@ -56,7 +56,7 @@ impl<P: Duplex> Lingering<P> {
     }
 
     /// Reads once, as of this moment, and drops what came. False says that the connection is lost.
-    #[tactic(auto, using(crate::proofs::Lasting::lasts_behind))]
+    #[tactic(auto, using(crate::proofs::Lasting::lasts_after))]
     fn drop_some(&mut self, room: &mut Room, now: u64) -> bool
         ensures lasts { Lasts P.gave now self.old self.new }
         ensures last { self.new.last ≡ self.old.last }
@@ -73,7 +73,7 @@ impl<P: Duplex> Lingering<P> {
         }
     }
 
-    /// Sends on what waits, and drops what the peer sent, as of this moment. Behind bytes that came it lasts for a second more, to its last moment at
+    /// Sends on what waits, and drops what the peer sent, as of this moment. After bytes that came it lasts for a second more, to its last moment at
     /// most; where none came, no longer than before. False says that it is over.
     #[tactic(auto, using(crate::proofs::Lasting::lasts_same, crate::proofs::Lasting::lasts_more))]
     pub fn goes_on(&mut self, room: &mut Room, now: u64) -> bool

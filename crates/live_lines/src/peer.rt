@@ -3,6 +3,7 @@ ghost use Rattle.std.specs.Prelude.{◌≡◌, ◌≤◌, ◌&&◌, true, not, l
 ghost use Rattle.live_lines.specs.Heard.{IsHeard, OnEndHeard};
 
 use crate::duplex::{Duplex, Heard};
+use crate::options::reset;
 use crate::room::Room;
 use mio::event::Event as Readiness;
 use mio::net::TcpStream;
@@ -33,6 +34,10 @@ pub struct Peer {
     broken: bool,
     /// The peer's end was read.
     ended: bool,
+    /// It gave some bytes.
+    given: bool,
+    /// The peer itself refused it.
+    turned_away: bool,
 }
 
 impl Peer {
@@ -84,7 +89,8 @@ impl Peer {
                 self.short = true;
                 0
             }
-            Err(_) => {
+            Err(e) => {
+                self.turned_away = e.kind() == ErrorKind::ConnectionRefused;
                 self.broken = true;
                 self.readable = true;
                 bytes.len()
@@ -128,6 +134,8 @@ impl Duplex for Peer {
             joining,
             broken: false,
             ended: false,
+            given: false,
+            turned_away: false,
         })
     }
 
@@ -143,6 +151,9 @@ impl Duplex for Peer {
             self.writable = true;
         }
         if told.is_error() || told.is_write_closed() {
+            if let Ok(Some(e)) = self.stream.take_error() {
+                self.turned_away = e.kind() == ErrorKind::ConnectionRefused;
+            }
             self.broken = true;
             self.readable = true;
         } else if told.is_writable() {
@@ -189,6 +200,18 @@ impl Duplex for Peer {
         let _ = self.stream.shutdown(Shutdown::Write);
     }
 
+    fn reset(&self) {
+        reset(&self.stream);
+    }
+
+    fn has_given(&self) -> bool {
+        self.given
+    }
+
+    fn is_turned_away(&self) -> bool {
+        self.turned_away
+    }
+
     fn read(&mut self, room: &mut Room) -> Heard {
         match self.stream.read(room.bytes.as_mut_slice()) {
             Ok(0) => self.end(),
@@ -197,6 +220,7 @@ impl Duplex for Peer {
                 if n < MOST_BYTES && !self.ending {
                     self.readable = false;
                 }
+                self.given = true;
                 Heard::Bytes(n)
             }
             Err(e) if e.kind() == ErrorKind::WouldBlock => self.blocked(),

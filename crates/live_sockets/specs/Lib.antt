@@ -4,4 +4,5 @@ pub mod Looks
 pub mod Moments
 pub mod Numbers
 pub mod Origins
+pub mod Places
 pub mod Spent

@@ -24,7 +24,7 @@ pub record MayHear (old new : Looks) : Type 0 where
   pub some : 1 ≤ new.turns
   pub few : (new.turns ≡ old.turns) ⊎ (new.turns ≡ 64)
 
--- An event of a line was given less than half a millisecond, by the clock as it was read in that call, behind the last question to the system. It took one of the turns that there were before, or the system was
+-- An event of a line was given less than half a millisecond, by the clock as it was read in that call, after the last question to the system. It took one of the turns that there were before, or the system was
 -- asked in that call, and 63 are left.
 pub record WasAsked (old new : Looks) : Type 0 where
   pub recent : new.seen < new.asked + look_after

@@ -5,7 +5,7 @@ use Rattle.std.specs.Prelude.{◌≡◌, ◌⊎◌, ℕ, ◌+◌, ◌*◌, ◌/�
 abbrev pub hour : ℕ
 hour = 3600000000000
 
--- Where so much time has passed behind the last moment, the next one is what the system's clock tells, where that went on at half to twice the pace of that time, or is more than an hour further. Else it went on
+-- Where so much time has passed after the last moment, the next one is what the system's clock tells, where that went on at half to twice the pace of that time, or is more than an hour further. Else it went on
 -- at half that pace, towards a clock that was set back, or at twice that pace, towards one that was set forward. (No moment is beyond the last that a 64-bit count of nanoseconds has, some five hundred years from now.)
 pub record GoesOn (last went since now : ℕ) : Type 0 where
   pub rises : last ≤ now

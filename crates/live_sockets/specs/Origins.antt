@@ -1,20 +1,21 @@
 -- Where a worker's lines come from.
-use Rattle.std.specs.Prelude.{◌≡◌, ℕ, ◌+◌, ◌<◌, ◌≤◌, Bool, nat_le, IsTrue, Option, IfSome, IsSomeAnd, vec_len}
+use Rattle.std.specs.Prelude.{◌≡◌, ◌⊎◌, ℕ, ◌+◌, ◌<◌, ◌≤◌, Bool, ◌||◌, nat_le, IsTrue, Option, IfSome, IsSomeAnd, vec_len}
 use Rattle.live_sockets.specs.Homes.{AreHome}
 use Rattle.live_sockets.specs.Numbers.{home_of}
+use Rattle.live_sockets.specs.Places.{HasWaited, most_places}
 use Rattle.live_sockets.specs.declared.origin.Acceptor.{Acceptor}
 use Rattle.live_sockets.specs.declared.origin.Guest.{Guest}
 use Rattle.live_sockets.specs.declared.origin.Origin.{Origin}
 use Rattle.live_sockets.specs.declared.origin.Origin.TheVariants.{Listener, Mailbox}
 
--- no line comes any more: all were accepted that may be, or all were taken that are ever handed over
+-- no line comes any more: all were accepted that may be, or the last number was given, or all were taken that are ever handed over
 abbrev pub is_done : Origin → Bool
-is_done (Listener acceptor) = nat_le acceptor.most acceptor.accepted
+is_done (Listener acceptor) = nat_le acceptor.most acceptor.accepted || nat_le 4294967295 acceptor.number
 is_done (Mailbox mailbox) = mailbox.empty
 
 -- lines are accepted, so many at most, of which none was so far, and no other worker was offered one
 abbrev pub Accepts : ℕ → Origin → Type 0
-Accepts most (Listener acceptor) = (acceptor.most ≡ most) × ((acceptor.accepted ≡ 0) × AreHome 0 acceptor.others.items)
+Accepts most (Listener acceptor) = (acceptor.most ≡ most) × ((acceptor.accepted ≡ 0) × ((acceptor.number ≡ 0) × AreHome 0 acceptor.others.items))
 Accepts most (Mailbox mailbox) = ⊥
 
 -- a worker that accepts accepts none any more
@@ -22,20 +23,22 @@ abbrev pub HasEnded : Origin → Type 0
 HasEnded (Listener acceptor) = IsTrue (is_done (Listener acceptor))
 HasEnded (Mailbox mailbox) = Unit {0}
 
--- Lines were accepted: each that is of this worker's place is what comes, so that there is one at most. The others were of other workers, of whom each was
+-- Lines were accepted, while the worker that accepts keeps so many, at a moment: each of which the number is of this worker's place is what comes, so that there is one at most, and no number of
+-- this place was passed over while it had a place for a line. None comes to this worker where it has none, but for one that waited for a second. The others were of other workers, of whom each was
 -- offered lines of its place alone.
-pub record Accepted (old : Acceptor) (guest : Option Guest) (new : Acceptor) : Type 0 where
+pub record Accepted (kept now : ℕ) (old : Acceptor) (guest : Option Guest) (new : Acceptor) : Type 0 where
   pub most : new.most ≡ old.most
   pub within : old.accepted ≤ old.most → new.accepted ≤ new.most
   pub few : new.accepted + new.left ≤ old.accepted + old.left
-  pub number : IfSome guest (λ guest. (old.accepted < guest.number) × (guest.number ≡ new.accepted))
+  pub number : IfSome guest (λ guest. (old.number < guest.number) × (guest.number ≡ new.number))
   pub home : IfSome guest (λ guest. home_of guest.number (vec_len new.others) ≡ 0)
-  pub all : (k : ℕ) → old.accepted < k → k ≤ new.accepted → home_of k (vec_len new.others) ≡ 0 → IsSomeAnd guest (λ guest. guest.number ≡ k)
-  pub offered : AreHome old.accepted old.others.items → AreHome new.accepted new.others.items
+  pub all : (k : ℕ) → old.number < k → k ≤ new.number → home_of k (vec_len new.others) ≡ 0 → IsSomeAnd guest (λ guest. guest.number ≡ k) ⊎ (most_places ≤ kept)
+  pub place : IfSome guest (λ guest. (kept < most_places) ⊎ HasWaited new.waits now)
+  pub offered : AreHome old.number old.others.items → AreHome new.number new.others.items
 
 -- the next line of a worker: one that was accepted, or one that was handed over, of which fewer may come then
-abbrev pub GivesNext : Origin → Option Guest → Origin → Type 0
-GivesNext (Listener old) guest (Listener new) = Accepted old guest new
-GivesNext (Listener old) guest (Mailbox new) = ⊥
-GivesNext (Mailbox old) guest (Listener new) = ⊥
-GivesNext (Mailbox old) guest (Mailbox new) = IfSome guest (λ guest. new.left < old.left)
+abbrev pub GivesNext : ℕ → ℕ → Origin → Option Guest → Origin → Type 0
+GivesNext kept now (Listener old) guest (Listener new) = Accepted kept now old guest new
+GivesNext kept now (Listener old) guest (Mailbox new) = ⊥
+GivesNext kept now (Mailbox old) guest (Listener new) = ⊥
+GivesNext kept now (Mailbox old) guest (Mailbox new) = IfSome guest (λ guest. new.left < old.left)

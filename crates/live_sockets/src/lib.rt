@@ -1,14 +1,18 @@
 //! The sockets of one worker: the lines that come to it, what is heard of each in turn, and what goes to them.
 #![tactic(auto)]
 
+mod desk;
 mod laws;
 mod looks;
 mod moments;
+mod notices;
 mod origin;
 mod sockets;
 
+pub use desk::Stage;
 pub use laws::worked_moments;
 pub use looks::Looks;
 pub use moments::Moments;
+pub use notices::{KINDS, LEVEL, Notice, Notices, TEXTS};
 pub use origin::{Acceptor, Guest, Mailbox, Neighbor, Origin, join_queue};
 pub use sockets::{Buffers, ORIGIN, Sockets};

@@ -4,7 +4,7 @@ ghost use Rattle.std.specs.Prelude.{◌≡◌, ◌+◌, ◌-◌, ◌<◌, ◌≤
 /// So many events of lines are given before the system is asked what else there is.
 const TURNS: u32 = 64;
 
-/// So many nanoseconds behind the last question the system is asked again, before anything else is heard: a turn of the worker may take longer than that.
+/// So many nanoseconds after the last question the system is asked again, before anything else is heard: a turn of the worker may take longer than that.
 const LOOK_AFTER: u64 = 500_000;
 
 /// When the system was asked what is ready, and how much was heard since.

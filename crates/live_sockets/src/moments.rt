@@ -27,8 +27,8 @@ fn nanos(time: io::Result<Duration>) -> Result<u64, WorldEnd> {
     }
 }
 
-/// The moment behind the last one, where so much time has passed and the system's clock tells this.
-fn moment_behind(last: u64, went: u64, since: u64) -> u64
+/// The moment after the last one, where so much time has passed and the system's clock tells this.
+fn next_moment(last: u64, went: u64, since: u64) -> u64
     ensures { GoesOn last went since result }
 {
     let low = last.saturating_add(went / 2);
@@ -53,7 +53,7 @@ impl Moments {
     {
         let since = nanos(rt.since_1970())?;
         let passed = nanos(rt.monotonic())?;
-        self.last = moment_behind(self.last, passed.saturating_sub(self.passed), since);
+        self.last = next_moment(self.last, passed.saturating_sub(self.passed), since);
         self.passed = passed;
         Ok(self.last)
     }

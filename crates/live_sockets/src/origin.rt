@@ -1,20 +1,40 @@
 // Where a worker's lines come from.
-ghost use Rattle.std.specs.Prelude.{◌≡◌, ℕ, ◌+◌, ◌<◌, ◌≤◌, ◌⊎◌, [], ◌∷◌, ◌++◌, length, nat_le, vec_len, IfOk, IfSome, IfNone, IsSome, IsSomeAnd};
+ghost use Rattle.std.specs.Prelude.{◌≡◌, ℕ, ◌+◌, ◌<◌, ◌≤◌, ◌⊎◌, ◌||◌, [], ◌∷◌, ◌++◌, length, nat_le, vec_len, IsTrue, IfOk, IfSome, IfNone, IsSome, IsSomeAnd};
 ghost use Rattle.std.specs.Arc.{arc_value};
 ghost use Rattle.live_sockets.specs.Numbers.{MayGain, home_of};
+ghost use Rattle.live_sockets.specs.Places.{HasWaited, most_places};
 
+use crate::desk::{Desk, Stage};
+use crate::notices::{Notice, Notices};
 use gate_base::{LineNo, OutOfMemory};
 use handoff::{Giver, Handoff, HasLine, Taker};
 use mio::Waker;
 use mio::net::{TcpListener, TcpStream};
 use std::alloc::Global;
 use std::io;
-use std::sync::atomic::{AtomicU64, Ordering};
 use std::sync::{Arc, Wait};
 
 /// So many lines may come in front of what is told of open ones. Once they came, one more may for each event of an open line, and as many again once
 /// none is told of any.
 const ARRIVALS: u32 = 32;
+
+/// So many lines a worker has open at most. Where it keeps as many, with those that wait to be closed, it has no place for a further one.
+const PLACES: u64 = 128;
+
+/// So many nanoseconds pass until a line that the system refused is asked for again.
+const REFUSED: u64 = 100_000_000;
+
+/// So many nanoseconds pass until a place is looked for again for a line that waits for one.
+const FULL: u64 = 10_000_000;
+
+/// So many nanoseconds pass until it is looked again whether the worker that accepts asks for events.
+const BEGINS: u64 = 1_000_000_000;
+
+/// So many nanoseconds a line waits where no worker has a place for one, before it is accepted all the same.
+const PATIENCE: u64 = 1_000_000_000;
+
+/// So many nanoseconds behind the beginning of a life the worker that accepts may take until it asks for events.
+const GIVE_UP: u64 = 10_000_000_000;
 
 /// A line that was accepted.
 #[derive(Drop)]
@@ -33,6 +53,10 @@ pub struct Neighbor {
     queue: Arc<Handoff<Guest>>,
     giver: Giver<Guest>,
     waker: Waker,
+    /// What the worker tells.
+    desk: Arc<Desk>,
+    /// How many lines were handed over.
+    given: u64,
     ghost same: { giver.queue ≡ arc_value queue },
 }
 
@@ -45,10 +69,18 @@ pub struct Mailbox {
     ready: bool,
     /// So many may be taken before an open line is heard.
     left: u32,
-    /// Not 0 once no line is offered any more.
-    ended: Arc<AtomicU64>,
+    /// What this worker tells the one that accepts.
+    desk: Arc<Desk>,
+    /// How many lines were taken.
+    taken: u64,
+    /// How far the worker that accepts is.
+    stage: Arc<Stage>,
+    /// Since when that worker was seen to begin a life and not to ask for events, where it does.
+    begins: Option<u64>,
     /// All lines were taken that are ever offered.
     empty: bool,
+    /// How often it was given up that the worker that accepts asks for events, since that was told.
+    given_up: u32,
     ghost same: { taker.queue ≡ arc_value queue },
 }
 
@@ -63,11 +95,19 @@ pub struct Acceptor {
     left: u32,
     /// How many lines were accepted.
     accepted: u32,
+    /// The number of the last of them.
+    number: u32,
     /// How many are to be accepted.
     most: u32,
+    /// Since when no worker had a place for the next line, where none has.
+    waits: Option<u64>,
+    /// How many lines were accepted for which no worker had a place, since that was told.
+    forced: u32,
+    /// How often the system refused a line, since that was told.
+    refusals: u32,
     others: Vec<Neighbor>,
-    /// Not 0 once no line is offered any more.
-    ended: Arc<AtomicU64>,
+    /// How far this worker is.
+    stage: Arc<Stage>,
 }
 
 /// Where a worker's lines come from.
@@ -81,7 +121,7 @@ pub enum Origin {
 pub fn join_queue(
     alloc: Global,
     waker: Waker,
-    ended: Arc<AtomicU64>,
+    stage: Arc<Stage>,
 ) -> Result<(Neighbor, Mailbox), OutOfMemory>
     ensures { IfOk result (λ ends. ends.0.giver.lines ≡ []) }
 {
@@ -91,19 +131,27 @@ pub fn join_queue(
         giver,
         taker,
     } = queue_of(alloc)?;
+    let desk = Arc::new(alloc, Desk::new())?;
+    let told = Arc::try_clone(&desk)?;
     Ok((
         Neighbor {
             queue,
             giver,
             waker,
+            desk: told,
+            given: 0,
         },
         Mailbox {
             queue: theirs,
             taker,
             ready: true,
             left: ARRIVALS,
-            ended,
+            desk,
+            taken: 0,
+            stage,
+            begins: None,
             empty: false,
+            given_up: 0,
         },
     ))
 }
@@ -141,8 +189,14 @@ impl Neighbor {
         ensures full { (self.new.giver.lines ≡ self.old.giver.lines ++ guest.number ∷ []) ⊎ (128 ≤ length self.old.giver.lines) }
     {
         if self.queue.offer(rt, &mut self.giver, guest).is_ok() {
+            self.given = self.given.wrapping_add(1);
             let _ = self.waker.wake();
         }
+    }
+
+    /// Whether its worker has a place for one line more. One that began a life and did not ask for events in it has none.
+    fn has_place(&self) -> bool {
+        self.desk.asks() && self.given.wrapping_sub(self.desk.over()) < PLACES
     }
 }
 
@@ -157,14 +211,43 @@ impl Mailbox {
             return None;
         }
         self.left -= 1;
-        // Read first: where it is set, nothing comes behind what the queue holds.
-        let ended = self.ended.load(Ordering::SeqCst) != 0;
+        // Read first: where it is so, nothing comes behind what the queue holds.
+        let ended = self.stage.has_ended();
         let guest = self.queue.take(rt, &mut self.taker);
         if guest.is_none() {
             self.ready = false;
             self.empty = ended;
+        } else {
+            self.taken = self.taken.wrapping_add(1);
         }
         guest
+    }
+
+    /// So many lines are kept: the others that were taken are over.
+    fn note_kept(&self, kept: usize) {
+        self.desk.note_over(self.taken.wrapping_sub(kept as u64));
+    }
+
+    /// Looks at this moment whether the worker that accepts asks for events. One that began a life and did not for ten seconds never will: then no line
+    /// comes any more. True where it began one and does not yet.
+    fn watch(&mut self, now: u64) -> bool
+        ensures { self.new.taker ≡ self.old.taker }
+    {
+        if self.stage.has_ended() {
+            self.ready = !self.empty;
+        }
+        if !self.stage.is_beginning() {
+            self.begins = None;
+            return false;
+        }
+        let since = self.begins.unwrap_or(now);
+        self.begins = Some(since);
+        if now.saturating_sub(since) >= GIVE_UP {
+            self.stage.end();
+            self.given_up = 1;
+            self.ready = true;
+        }
+        true
     }
 }
 
@@ -179,13 +262,9 @@ impl Acceptor {
     ghost use Rattle.live_sockets.specs.Homes.{AreHome};
 
     /// Accepts at a listener so many lines, for this worker and the others.
-    pub fn new(
-        listener: TcpListener,
-        most: u32,
-        others: Vec<Neighbor>,
-        ended: Arc<AtomicU64>,
-    ) -> Self
+    pub fn new(listener: TcpListener, most: u32, others: Vec<Neighbor>, stage: Arc<Stage>) -> Self
         ensures none { result.accepted ≡ 0 }
+        ensures number { result.number ≡ 0 }
         ensures most { result.most ≡ most }
         ensures others { result.others ≡ others }
     {
@@ -195,74 +274,142 @@ impl Acceptor {
             refused: false,
             left: ARRIVALS,
             accepted: 0,
+            number: 0,
             most,
+            waits: None,
+            forced: 0,
+            refusals: 0,
             others,
-            ended,
+            stage,
         }
     }
 
-    /// Whether all lines were accepted.
+    /// Whether all lines were accepted, or all numbers given.
     fn is_done(&self) -> bool
-        ensures { result ≡ nat_le self.now.most self.now.accepted }
+        ensures { result ≡ (nat_le self.now.most self.now.accepted || nat_le 4294967295 self.now.number) }
     {
-        self.accepted >= self.most
+        self.accepted >= self.most || self.number >= u32::MAX
     }
 
     /// Tells the other workers that no line comes any more.
     fn end(&self) {
-        self.ended.store(1, Ordering::SeqCst);
+        self.stage.end();
+        self.wake_others();
+    }
+
+    /// Has the other workers look at what they were told.
+    fn wake_others(&self) {
         for other in &self.others {
             let _ = other.waker.wake();
         }
     }
 
-    /// The next line of this worker. Those of others that came before it are handed over. Lines are numbered as they come. None comes once as many
-    /// were accepted as may be before an open line is heard.
-    fn accept<R: Wait>(&mut self, rt: &R) -> Option<Guest>
-        ensures grows { self.old.accepted ≤ self.new.accepted }
+    /// The next line of this worker, which keeps so many, at this moment. Those of others that came before it are handed over. Lines are numbered as they
+    /// come; numbers of workers that have no place are passed over, and where none has one no line is accepted before it has waited for a second. None
+    /// comes once as many were accepted as may be before an open line is heard.
+    #[tactic(auto, using(crate::proofs::Homes::next_home))]
+    fn accept<R: Wait>(&mut self, rt: &R, kept: usize, now: u64) -> Option<Guest>
         ensures most { self.new.most ≡ self.old.most }
         ensures within { self.old.accepted ≤ self.old.most → self.new.accepted ≤ self.new.most }
         ensures few { self.new.accepted + self.new.left ≤ self.old.accepted + self.old.left }
-        ensures number { IfSome result (λ guest. (self.old.accepted < guest.number) × (guest.number ≡ self.new.accepted)) }
+        ensures number { IfSome result (λ guest. (self.old.number < guest.number) × (guest.number ≡ self.new.number)) }
         ensures home { IfSome result (λ guest. home_of guest.number (vec_len self.new.others) ≡ 0) }
-        ensures all { (k : ℕ) → self.old.accepted < k → k ≤ self.new.accepted → home_of k (vec_len self.new.others) ≡ 0 → IsSomeAnd result (λ guest. guest.number ≡ k) }
-        ensures offered { AreHome self.old.accepted self.old.others.items → AreHome self.new.accepted self.new.others.items }
+        ensures all { (k : ℕ) → self.old.number < k → k ≤ self.new.number → home_of k (vec_len self.new.others) ≡ 0 → IsSomeAnd result (λ guest. guest.number ≡ k) ⊎ (most_places ≤ kept) }
+        ensures place { IfSome result (λ _. (kept < most_places) ⊎ HasWaited self.new.waits now) }
+        ensures offered { AreHome self.old.number self.old.others.items → AreHome self.new.number self.new.others.items }
     {
         for _ in 0..u32::MAX {
             if !self.ready || self.left == 0 || self.is_done() {
                 return None;
             }
+            let number = self.choose(kept, now)?;
             self.left -= 1;
             match self.listener.accept() {
                 Ok((stream, _)) => {
-                    if let Some(guest) = self.place(rt, stream) {
+                    if let Some(guest) = self.place(rt, number, stream) {
                         return Some(guest);
                     }
                 }
                 Err(e) if e.kind() == io::ErrorKind::ConnectionAborted => {}
                 Err(e) => {
                     self.ready = false;
+                    self.waits = None;
                     self.refused = e.kind() != io::ErrorKind::WouldBlock;
+                    self.refusals = self.refusals.saturating_add(u32::from(self.refused));
                 }
             }
         }
         None
     }
 
-    /// Numbers a line, and hands it over where it is another worker's.
-    fn place<R: Wait>(&mut self, rt: &R, stream: TcpStream) -> Option<Guest>
-        requires { self.old.accepted < self.old.most }
+    /// The number of the next line, where this worker keeps so many: the next one whose worker has a place for it. Where none has one, the line waits for a
+    /// second, and then has the next number all the same: so long none comes.
+    fn choose(&mut self, kept: usize, now: u64) -> Option<LineNo>
+        ensures rest { self.new ≡ record self.old { waits = self.new.waits; forced = self.new.forced } }
+        ensures next { IfSome result (λ number. self.old.number < number) }
+        ensures passed { IfSome result (λ number. (k : ℕ) → self.old.number < k → k < number → home_of k (vec_len self.old.others) ≡ 0 → most_places ≤ kept) }
+        ensures place { IfSome result (λ number. home_of number (vec_len self.old.others) ≡ 0 → (kept < most_places) ⊎ HasWaited self.new.waits now) }
+    {
+        if let Some(number) = self.free_number(kept) {
+            self.waits = None;
+            return Some(number);
+        }
+        let since = self.waits.unwrap_or(now);
+        self.waits = Some(since);
+        if now.saturating_sub(since) < PATIENCE {
+            return None;
+        }
+        self.forced = self.forced.saturating_add(1);
+        LineNo::new(self.number.checked_add(1)?)
+    }
+
+    /// The next number of a worker that has a place, where this worker keeps so many lines.
+    fn free_number(&self, kept: usize) -> Option<LineNo>
+        ensures next { IfSome result (λ number. self.now.number < number) }
+        ensures passed { IfSome result (λ number. (k : ℕ) → self.now.number < k → k < number → home_of k (vec_len self.now.others) ≡ 0 → most_places ≤ kept) }
+        ensures place { IfSome result (λ number. home_of number (vec_len self.now.others) ≡ 0 → kept < most_places) }
+    {
+        let mut number = self.number;
+        for _ in 0..=self.others.len() {
+            number = number.checked_add(1)?;
+            let next = LineNo::new(number)?;
+            if self.has_place(next, kept) {
+                return Some(next);
+            }
+        }
+        None
+    }
+
+    /// Whether the worker of a number has a place, where this one keeps so many lines.
+    fn has_place(&self, number: LineNo, kept: usize) -> bool
+        ensures own { IsTrue result → home_of number (vec_len self.now.others) ≡ 0 → kept < most_places }
+        ensures none { home_of number (vec_len self.now.others) ≡ 0 → kept < most_places → IsTrue result }
+    {
+        let place = home_of(number, self.others.len());
+        if place == 0 {
+            (kept as u64) < PLACES
+        } else {
+            self.others[place - 1].has_place()
+        }
+    }
+
+    /// Gives a line a number behind the last, and hands it over where it is another worker's.
+    fn place<R: Wait>(&mut self, rt: &R, number: LineNo, stream: TcpStream) -> Option<Guest>
+        requires few { self.old.accepted < self.old.most }
+        requires next { self.old.number < number }
         ensures next { self.new.accepted ≡ self.old.accepted + 1 }
+        ensures last { self.new.number ≡ number }
         ensures most { self.new.most ≡ self.old.most }
         ensures left { self.new.left ≡ self.old.left }
-        ensures number { IfSome result (λ guest. guest.number ≡ self.new.accepted) }
+        ensures waits { self.new.waits ≡ self.old.waits }
+        ensures number { IfSome result (λ guest. guest.number ≡ number) }
         ensures home { IfSome result (λ guest. home_of guest.number (vec_len self.new.others) ≡ 0) }
-        ensures keeps { home_of self.new.accepted (vec_len self.new.others) ≡ 0 → IsSome result }
+        ensures keeps { home_of number (vec_len self.new.others) ≡ 0 → IsSome result }
         ensures others { vec_len self.new.others ≡ vec_len self.old.others }
-        ensures offered { AreHome self.old.accepted self.old.others.items → AreHome self.new.accepted self.new.others.items }
+        ensures offered { AreHome self.old.number self.old.others.items → AreHome self.new.number self.new.others.items }
     {
         self.accepted += 1;
-        let number = LineNo::new(self.accepted)?;
+        self.number = number.get();
         let own = self.route(rt, Guest { number, stream });
         if self.is_done() {
             self.end();
@@ -276,9 +423,9 @@ impl Acceptor {
         ensures home { IfSome result (λ own. home_of guest.number (vec_len self.new.others) ≡ 0) }
         ensures keeps { home_of guest.number (vec_len self.new.others) ≡ 0 → IsSome result }
         ensures others { vec_len self.new.others ≡ vec_len self.old.others }
-        ensures stays { (self.new.accepted ≡ self.old.accepted) × (self.new.most ≡ self.old.most) }
+        ensures stays { (self.new.accepted ≡ self.old.accepted) × (self.new.most ≡ self.old.most) × (self.new.number ≡ self.old.number) × (self.new.waits ≡ self.old.waits) }
         ensures left { self.new.left ≡ self.old.left }
-        ensures offered { (last : ℕ) → guest.number ≡ last + 1 → AreHome last self.old.others.items → AreHome (last + 1) self.new.others.items }
+        ensures offered { (last : ℕ) → last < guest.number → AreHome last self.old.others.items → AreHome guest.number self.new.others.items }
     {
         let place = home_of(guest.number, self.others.len());
         if place == 0 {
@@ -292,13 +439,75 @@ impl Acceptor {
 impl Origin {
     ghost use Rattle.live_sockets.specs.Origins.{GivesNext, HasEnded, is_done};
 
-    /// The next line.
-    pub fn next<R: Wait>(&mut self, rt: &R) -> Option<Guest>
-        ensures { GivesNext self.old result self.new }
+    /// The next line, where so many are kept, at this moment.
+    pub fn next<R: Wait>(&mut self, rt: &R, kept: usize, now: u64) -> Option<Guest>
+        ensures { GivesNext kept now self.old result self.new }
     {
         match self {
-            Origin::Listener(acceptor) => acceptor.accept(rt),
-            Origin::Mailbox(mailbox) => mailbox.take(rt),
+            Origin::Listener(acceptor) => acceptor.accept(rt, kept, now),
+            Origin::Mailbox(mailbox) => {
+                mailbox.note_kept(kept);
+                mailbox.take(rt)
+            }
+        }
+    }
+
+    /// The worker begins a life: it is told to the others where it asks for events in it.
+    pub fn begin_life(&self) {
+        match self {
+            Origin::Listener(acceptor) => {
+                acceptor.stage.begin();
+                acceptor.wake_others();
+            }
+            Origin::Mailbox(mailbox) => mailbox.desk.begin(),
+        }
+    }
+
+    /// Tells what happened where lines come from.
+    pub fn tell(&mut self, notices: &mut Notices) {
+        match self {
+            Origin::Listener(acceptor) => {
+                notices.add(Notice::NoPlace, acceptor.forced);
+                notices.add(Notice::NotAccepted, acceptor.refusals);
+                notices.add(Notice::BeginsAnew, acceptor.stage.further_lives());
+                acceptor.forced = 0;
+                acceptor.refusals = 0;
+            }
+            Origin::Mailbox(mailbox) => {
+                notices.add(Notice::NeverAsked, mailbox.given_up);
+                notices.add(Notice::BeginsAnew, mailbox.desk.further_lives());
+                mailbox.given_up = 0;
+            }
+        }
+    }
+
+    /// The worker asks for an event. Where the others gave up that the one that accepts ever would, it accepts no line.
+    pub fn ask(&mut self) {
+        match self {
+            Origin::Listener(acceptor) => {
+                if !acceptor.stage.ask() {
+                    acceptor.most = 0;
+                }
+            }
+            Origin::Mailbox(mailbox) => mailbox.desk.ask(),
+        }
+    }
+
+    /// For how many nanoseconds the system is waited for at most, at this moment, where nothing is told meanwhile: not for long where the worker that accepts
+    /// begins a life, and where a line waits for a place or was refused.
+    pub fn looks_again(&mut self, now: u64) -> Option<u64> {
+        match self {
+            Origin::Listener(acceptor) if acceptor.is_done() => None,
+            Origin::Listener(acceptor) if acceptor.refused => Some(REFUSED),
+            Origin::Listener(acceptor) if acceptor.waits.is_some() => Some(FULL),
+            Origin::Listener(_) => None,
+            Origin::Mailbox(mailbox) => {
+                if mailbox.watch(now) {
+                    Some(BEGINS)
+                } else {
+                    None
+                }
+            }
         }
     }
 
@@ -332,7 +541,9 @@ impl Origin {
     /// Whether lines may be there of which the system tells nothing more: not all were taken that were told of.
     pub fn is_waiting(&self) -> bool {
         match self {
-            Origin::Listener(acceptor) => acceptor.ready && !acceptor.is_done(),
+            Origin::Listener(acceptor) => {
+                acceptor.ready && acceptor.waits.is_none() && !acceptor.is_done()
+            }
             Origin::Mailbox(mailbox) => mailbox.ready,
         }
     }

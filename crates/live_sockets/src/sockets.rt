@@ -9,11 +9,12 @@ ghost use Rattle.live_lines.specs.Turns.{LineIsStill};
 
 use crate::looks::Looks;
 use crate::moments::Moments;
+use crate::notices::{KINDS, Notice, Notices};
 use crate::origin::{Guest, Origin};
 use gate_base::{LineNo, OutOfMemory};
 use gate_io::{Side, Wants, What, WorldEnd};
 use live_lines::{
-    Duplex, LINGER, LINGER_MOST, Line, Lingering, MOST_LEFT, MOST_LINGERING, Room, Upstream,
+    Duplex, Fault, LINGER, LINGER_MOST, Line, Lingering, MOST_LEFT, MOST_LINGERING, Room, Upstream,
     Waiting,
 };
 use mio::event::Event as Readiness;
@@ -34,8 +35,8 @@ const CLOSED: usize = 1_099_511_627_776;
 /// read. A further one is closed at once, or else a client that opens lines and reads nothing would take descriptors and memory without end.
 const MOST_LINES: usize = 256;
 
-/// Nanoseconds until a line that the system refused is asked for again.
-const AGAIN: u64 = 100_000_000;
+/// So many nanoseconds pass at most until an operator is told of what happened.
+const NOTICES: u64 = 1_000_000_000;
 
 /// The sockets of one worker.
 #[derive(Drop)]
@@ -62,6 +63,8 @@ pub struct Sockets<P> {
     closed: u32,
     /// The clock of events.
     pub moments: Moments,
+    /// What an operator is to be told of.
+    pub notices: Notices,
 }
 
 /// What is read into: the events of the system, and the bytes of connections.
@@ -205,6 +208,7 @@ impl<P: Duplex> Sockets<P> {
             looks: Looks::new(),
             closed: 0,
             moments: Moments::new(),
+            notices: Notices::new(),
         }
     }
 
@@ -223,6 +227,7 @@ impl<P: Duplex> Sockets<P> {
         ensures heard { IfOk result (λ what. WasHeard P.gave P.took self.old.lines.items what self.new.lines.items) }
         ensures asked { IfOk result (λ what. AsksFirst what self.old.looks self.new.looks) }
     {
+        self.origin.ask();
         self.look_first(rt)?;
         // No run waits so often.
         for _ in 0..u64::MAX {
@@ -307,17 +312,36 @@ impl<P: Duplex> Sockets<P> {
         Ok(false)
     }
 
-    /// How long the system is waited for, at most. It is not where something may be there of which it tells nothing more, and not for long where it
-    /// refused a line: nothing is told when another connection, of whatever worker, gives its descriptor back.
-    fn timeout(&self, wanted: Option<Duration>) -> Option<Duration> {
+    /// How long the system is waited for, at most, at the last moment that was seen. It is not where something may be there of which it tells nothing more, and
+    /// not for long where the origin of lines looks again.
+    fn timeout(&mut self, wanted: Option<Duration>) -> Option<Duration>
+        ensures lines { self.new.lines ≡ self.old.lines }
+        ensures looks { self.new.looks ≡ self.old.looks }
+    {
+        let again = self.looks_again();
         if self.origin.is_waiting() || self.lingering.iter().any(|closed| closed.is_waiting()) {
             return Some(Duration::ZERO);
         }
-        if self.origin.is_refused() {
-            let again = Duration::from_nanos(AGAIN);
-            return Some(wanted.unwrap_or(again).min(again));
+        match again {
+            Some(nanos) => {
+                let again = Duration::from_nanos(nanos);
+                Some(wanted.unwrap_or(again).min(again))
+            }
+            None => wanted,
         }
-        wanted
+    }
+
+    /// For how many nanoseconds the system is waited for at most where nothing is told meanwhile.
+    fn looks_again(&mut self) -> Option<u64>
+        ensures lines { self.new.lines ≡ self.old.lines }
+        ensures looks { self.new.looks ≡ self.old.looks }
+    {
+        let again = self.origin.looks_again(self.looks.seen);
+        if self.notices.has_some() {
+            Some(again.unwrap_or(NOTICES).min(NOTICES))
+        } else {
+            again
+        }
     }
 
     /// Asks the system what is ready. A line that it refused is asked for again behind that.
@@ -434,6 +458,9 @@ impl<P: Duplex> Sockets<P> {
         ensures looks { self.new.looks ≡ self.old.looks }
     {
         let told = self.lines[at].heard(alloc, wants, &mut self.room)?;
+        if let Some(fault) = fault_told(&told, self.lines[at].fault) {
+            self.notices.note(Notice::Upstream(fault));
+        }
         self.forget(at);
         Ok(told)
     }
@@ -445,7 +472,7 @@ impl<P: Duplex> Sockets<P> {
         ensures looks { self.new.looks ≡ self.old.looks }
     {
         for _ in 0..u32::MAX {
-            let Guest { number, stream } = self.origin.next(rt)?;
+            let Guest { number, stream } = self.origin.next(rt, self.lines.len(), self.looks.seen)?;
             if self.begin(number, stream) {
                 return Some(number);
             }
@@ -497,6 +524,7 @@ impl<P: Duplex> Sockets<P> {
             up: None,
             refused: false,
             server_first: false,
+            fault: None,
         };
         if self.lines.push(line).is_err() {
             return false;
@@ -513,6 +541,8 @@ impl<P: Duplex> Sockets<P> {
             return;
         };
         let peer = connected(rt, self.poll.registry(), self.upstream, number);
+        self.notices
+            .add(Notice::Undialled, u32::from(peer.is_none()));
         self.join_at(alloc, at, peer);
     }
 
@@ -587,16 +617,19 @@ impl<P: Duplex> Sockets<P> {
         }
     }
 
-    /// Closes the connection to the client of the line at a place, and forgets the line.
+    /// Closes the connection to the client of the line at a place, and forgets the line. Where the server broke off in mid-answer the client is told so.
     fn close_down<R: Clock>(&mut self, alloc: Global, rt: &R, at: usize)
         requires { at < vec_len self.old.lines }
         ensures { self.new.lines.items ≡ remove self.old.lines.items at }
     {
         let number = self.lines[at].number;
+        let cut = self.lines[at].is_cut();
         let client = client_of(self.lines.remove(at));
         self.step_back(at);
-        if let Some(peer) = client {
-            self.finish(alloc, rt, number, peer);
+        match client {
+            Some(peer) if cut => peer.reset(),
+            Some(peer) => self.finish(alloc, rt, number, peer),
+            None => {}
         }
         // A descriptor came free.
         self.origin.note_free();
@@ -694,6 +727,16 @@ impl<P: Duplex> Sockets<P> {
         self.looks.seen
     }
 
+    /// How often each kind of what an operator is to be told of came, where it is time to tell.
+    pub fn take_notices(&mut self) -> Option<[u32; KINDS]>
+        ensures lines { self.new.lines ≡ self.old.lines }
+        ensures room { self.new.room ≡ self.old.room }
+        ensures looks { self.new.looks ≡ self.old.looks }
+    {
+        self.origin.tell(&mut self.notices);
+        self.notices.take(self.looks.seen)
+    }
+
     /// No line comes any more, and the other workers are told so.
     pub fn end(&mut self)
         ensures ended { HasEnded self.new.origin }
@@ -775,6 +818,18 @@ fn has_come(due: Option<u64>, now: u64) -> bool
     }
 }
 
+/// What went wrong with the connection to the server of a line, where this is told of it.
+fn fault_told(told: &Option<What>, fault: Option<Fault>) -> Option<Fault> {
+    match told {
+        Some(
+            What::Refused { .. }
+            | What::Gone { side: Side::Up, .. }
+            | What::End { side: Side::Up, .. },
+        ) => fault,
+        _ => None,
+    }
+}
+
 /// The connection to the client of a line, of which nothing else is kept.
 fn client_of<P: Duplex>(line: Line<P>) -> Option<P> {
     let Line {
@@ -783,6 +838,7 @@ fn client_of<P: Duplex>(line: Line<P>) -> Option<P> {
         up: _,
         refused: _,
         server_first: _,
+        fault: _,
     } = line;
     down
 }

@@ -5,15 +5,14 @@ use Rattle.live_sockets.proofs.Homes.{home_own, home_offered}
 use Rattle.live_sockets.proofs.origin.Acceptor.route.Goals as goal
 
 pub returns-then-place-eq0-clause-offered : goal.returns-then-place-eq0-clause-offered
-returns-then-place-eq0-clause-offered g c = λ last e h. home_own last c.args.self.now.others.items h
+returns-then-place-eq0-clause-offered g c = λ last low h. home_own last c.args.guest.number c.args.self.now.others.items (omega arith) h
 
 pub returns-clause-offered : goal.returns-clause-offered
-returns-clause-offered g c = λ last e h.
+returns-clause-offered g c = λ last low h.
     let others = c.args.self.now.others.items in let n = c.index_mut.result.now in let m = c.hand.new.self in let place = c.home_of-place.result in let number = c.args.guest.number in
     let one : place - 1 + 1 ≡ place = let z = c.if-place-eq0.false in omega arith in
     let all : c.len.result ≡ length others = let len = c.len.ensures in let ok = c.args.self.now.others.ok.0 in omega arith in
     let is : place ≡ home_of number (length others) = c.home_of-place.ensures ∙ ap (home_of number) all in
     let below : home_of number (length others) < length others + 1 = mod-lt (number - 1) (omega arith) in
     let inside : place - 1 < length others = omega arith in
-    let home : home_of (last + 1) (length others) ≡ place - 1 + 1 = ap (λ k. home_of k (length others)) (sym e) ∙ (sym is ∙ sym one) in
-    home_offered last (place - 1) others n m inside (sym c.index_mut.ensures.value) home (subst (λ k. MayGain n.giver.lines k m.giver.lines) e c.hand.ensures.gains) h
+    home_offered last number (place - 1) others n m (omega arith) inside (sym c.index_mut.ensures.value) (sym is ∙ sym one) c.hand.ensures.gains h

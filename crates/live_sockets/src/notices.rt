@@ -1,0 +1,110 @@
+// What an operator is told of.
+ghost use Rattle.std.specs.Prelude.{◌<◌};
+
+use gate_base::Level;
+use live_lines::Fault;
+
+/// So many kinds of notices there are.
+pub const KINDS: usize = 10;
+
+/// So many nanoseconds pass between two times at which an operator is told.
+const PAUSE: u64 = 1_000_000_000;
+
+/// What happened that an operator is told of.
+#[derive(Clone, Copy)]
+pub enum Notice {
+    /// This went wrong with a connection to the server.
+    Upstream(Fault),
+    /// A connection to the server could not be begun: the system has no descriptor or no port left.
+    Undialled,
+    /// No worker had a place for a line, which waited for a second.
+    NoPlace,
+    /// The system refused to hand over a line.
+    NotAccepted,
+    /// The worker begins anew.
+    BeginsAnew,
+    /// The worker that accepts began a life and never asked for events in it.
+    NeverAsked,
+    /// A line of the log was dropped, since standard error did not take it.
+    Dropped,
+}
+
+/// How often each of the notices came since an operator was told.
+#[derive(Drop)]
+pub struct Notices {
+    counts: [u32; KINDS],
+    /// The moment at which an operator was told last.
+    told: u64,
+}
+
+/// The place of a kind of notice.
+fn place_of(notice: Notice) -> usize
+    ensures { result < 10 }
+{
+    match notice {
+        Notice::Upstream(Fault::Refused) => 0,
+        Notice::Upstream(Fault::Unreachable) => 1,
+        Notice::Upstream(Fault::EndedEarly) => 2,
+        Notice::Upstream(Fault::BrokeOff) => 3,
+        Notice::Undialled => 4,
+        Notice::NoPlace => 5,
+        Notice::NotAccepted => 6,
+        Notice::BeginsAnew => 7,
+        Notice::NeverAsked => 8,
+        Notice::Dropped => 9,
+    }
+}
+
+/// How the notices of each kind are told, in front of how many came.
+pub const TEXTS: [&str; KINDS] = [
+    "upstream refused",
+    "upstream unreachable",
+    "upstream ended before its answer",
+    "upstream broke off in its answer",
+    "upstream not dialled, no descriptor or port is left",
+    "no place for a line",
+    "line not accepted, the system refused it",
+    "worker begins anew",
+    "first worker never began, no line is accepted any more",
+    "log lines dropped",
+];
+
+/// The level of all notices.
+pub const LEVEL: Level = Level::Warn;
+
+impl Notices {
+    /// Nothing happened.
+    pub fn new() -> Notices {
+        Notices {
+            counts: [0; KINDS],
+            told: 0,
+        }
+    }
+
+    /// This happened.
+    pub fn note(&mut self, notice: Notice) {
+        self.add(notice, 1);
+    }
+
+    /// This happened so often.
+    pub fn add(&mut self, notice: Notice, count: u32) {
+        let at = place_of(notice);
+        self.counts[at] = self.counts[at].saturating_add(count);
+    }
+
+    /// Whether something is to be told.
+    pub fn has_some(&self) -> bool {
+        self.counts.iter().any(|count| *count > 0)
+    }
+
+    /// What is told at this moment: how often each kind came, once a second at most.
+    pub fn take(&mut self, now: u64) -> Option<[u32; KINDS]> {
+        if now.saturating_sub(self.told) < PAUSE || !self.has_some() {
+            return None;
+        }
+        self.told = now;
+        let counts = self.counts;
+        self.counts = [0; KINDS];
+        Some(counts)
+    }
+}
