@@ -33,7 +33,7 @@ const BEGINS: u64 = 1_000_000_000;
 /// So many nanoseconds a line waits where no worker has a place for one, before it is accepted all the same.
 const PATIENCE: u64 = 1_000_000_000;
 
-/// So many nanoseconds behind the beginning of a life the worker that accepts may take until it asks for events.
+/// So many nanoseconds after the beginning of a life the worker that accepts may take until it asks for events.
 const GIVE_UP: u64 = 10_000_000_000;
 
 /// A line that was accepted.
@@ -309,6 +309,8 @@ impl Acceptor {
     /// comes once as many were accepted as may be before an open line is heard.
     #[tactic(auto, using(crate::proofs::Homes::next_home))]
     fn accept<R: Wait>(&mut self, rt: &R, kept: usize, now: u64) -> Option<Guest>
+        ensures grows { self.old.accepted ≤ self.new.accepted }
+        ensures rises { self.old.number ≤ self.new.number }
         ensures most { self.new.most ≡ self.old.most }
         ensures within { self.old.accepted ≤ self.old.most → self.new.accepted ≤ self.new.most }
         ensures few { self.new.accepted + self.new.left ≤ self.old.accepted + self.old.left }
@@ -393,7 +395,7 @@ impl Acceptor {
         }
     }
 
-    /// Gives a line a number behind the last, and hands it over where it is another worker's.
+    /// Gives a line a number after the last, and hands it over where it is another worker's.
     fn place<R: Wait>(&mut self, rt: &R, number: LineNo, stream: TcpStream) -> Option<Guest>
         requires few { self.old.accepted < self.old.most }
         requires next { self.old.number < number }

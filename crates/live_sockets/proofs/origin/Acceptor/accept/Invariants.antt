@@ -8,7 +8,8 @@ use Rattle.live_sockets.proofs.origin.Acceptor.accept.Given as goal
 abbrev pub invariant-loop : goal.invariant-loop
 invariant-loop g l =
     record {
-      grows : l.fn.self.number ≤ l.self.number;
+      grows : l.fn.self.accepted ≤ l.self.accepted;
+      rises : l.fn.self.number ≤ l.self.number;
       most : l.self.most ≡ l.fn.self.most;
       within : l.fn.self.accepted ≤ l.fn.self.most → l.self.accepted ≤ l.self.most;
       few : l.self.accepted + l.self.left ≤ l.fn.self.accepted + l.fn.self.left;
