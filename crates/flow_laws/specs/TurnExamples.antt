@@ -60,6 +60,12 @@ asked_of calls vm context h callbacks.ResponseTrailers = returns None calls h
 asked_of calls vm context h callbacks.Done = returns None calls h
 asked_of calls vm context h callbacks.Log = returns None calls h
 asked_of calls vm context h callbacks.Delete = returns None calls h
+asked_of calls vm context h callbacks.CallAnswered = returns None calls h
+asked_of calls vm context h callbacks.NewConnection = returns None calls h
+asked_of calls vm context h callbacks.DownstreamData = returns None calls h
+asked_of calls vm context h callbacks.UpstreamData = returns None calls h
+asked_of calls vm context h callbacks.DownstreamClose = returns None calls h
+asked_of calls vm context h callbacks.UpstreamClose = returns None calls h
 
 abbrev pub holding : Calling ℕ
 holding calls vm name context first second now h = done (asked_of calls vm context h name)
