@@ -50,6 +50,12 @@ asked_of c calls h callbacks.ResponseTrailers = called_of [] c (usual callbacks.
 asked_of c calls h callbacks.Done = called_of [] c (usual callbacks.Done) calls h
 asked_of c calls h callbacks.Log = called_of [] c (usual callbacks.Log) calls h
 asked_of c calls h callbacks.Delete = called_of [] c (usual callbacks.Delete) calls h
+asked_of c calls h callbacks.CallAnswered = called_of [] c (usual callbacks.CallAnswered) calls h
+asked_of c calls h callbacks.NewConnection = called_of [] c (usual callbacks.NewConnection) calls h
+asked_of c calls h callbacks.DownstreamData = called_of [] c (usual callbacks.DownstreamData) calls h
+asked_of c calls h callbacks.UpstreamData = called_of [] c (usual callbacks.UpstreamData) calls h
+asked_of c calls h callbacks.DownstreamClose = called_of [] c (usual callbacks.DownstreamClose) calls h
+asked_of c calls h callbacks.UpstreamClose = called_of [] c (usual callbacks.UpstreamClose) calls h
 
 abbrev pub shouting : List Call → ℕ → Callback → ℕ → ℕ → ℕ → ℕ → Contexts → Program (Called (List Call))
 shouting calls vm name context first second now h = done (asked_of (call_of vm name context first second) calls h name)

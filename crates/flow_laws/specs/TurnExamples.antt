@@ -60,6 +60,12 @@ asked_of calls vm context h callbacks.ResponseTrailers = returns None calls h
 asked_of calls vm context h callbacks.Done = returns None calls h
 asked_of calls vm context h callbacks.Log = returns None calls h
 asked_of calls vm context h callbacks.Delete = returns None calls h
+asked_of calls vm context h callbacks.CallAnswered = returns None calls h
+asked_of calls vm context h callbacks.NewConnection = returns None calls h
+asked_of calls vm context h callbacks.DownstreamData = returns None calls h
+asked_of calls vm context h callbacks.UpstreamData = returns None calls h
+asked_of calls vm context h callbacks.DownstreamClose = returns None calls h
+asked_of calls vm context h callbacks.UpstreamClose = returns None calls h
 
 abbrev pub holding : Calling ℕ
 holding calls vm name context first second now h = done (asked_of calls vm context h name)
@@ -67,7 +73,7 @@ holding calls vm name context first second now h = done (asked_of calls vm conte
 -- ---- the worker
 
 abbrev pub one_vm : Plan
-one_vm = record { routes = []; plugins = []; vms = 1; deadline = 0; bodies = []; registers = [] }
+one_vm = record { routes = []; plugins = []; vms = 1; deadline = 0; bodies = []; registers = []; tcp = [] }
 
 -- context 2 is the stream of VM 0 on line 1
 abbrev pub its_filter : Filter
@@ -94,6 +100,8 @@ begins = both 0 (record {
   waits = [];
   dead = [];
   is_begun = true;
+  calls = [];
+  tcp = [];
 })
 
 -- ---- what its steps come to

@@ -37,6 +37,12 @@ exporting vm callbacks.ResponseTrailers = true
 exporting vm callbacks.Done = true
 exporting vm callbacks.Log = true
 exporting vm callbacks.Delete = true
+exporting vm callbacks.CallAnswered = true
+exporting vm callbacks.NewConnection = true
+exporting vm callbacks.DownstreamData = true
+exporting vm callbacks.UpstreamData = true
+exporting vm callbacks.DownstreamClose = true
+exporting vm callbacks.UpstreamClose = true
 
 -- the machines, of which nothing else is asked; the modules of VMs 0 and 1 register queues
 abbrev pub exported_in : Unit {0} → ℕ → Callback → Bool

@@ -46,6 +46,12 @@ usual callbacks.ResponseTrailers = None
 usual callbacks.Done = Some (Some 1)
 usual callbacks.Log = Some None
 usual callbacks.Delete = Some None
+usual callbacks.CallAnswered = None
+usual callbacks.NewConnection = None
+usual callbacks.DownstreamData = None
+usual callbacks.UpstreamData = None
+usual callbacks.DownstreamClose = None
+usual callbacks.UpstreamClose = None
 
 abbrev pub number_of : Callback → ℕ
 number_of callbacks.Begin = 0
@@ -63,6 +69,12 @@ number_of callbacks.ResponseTrailers = 11
 number_of callbacks.Done = 12
 number_of callbacks.Log = 13
 number_of callbacks.Delete = 14
+number_of callbacks.CallAnswered = 15
+number_of callbacks.NewConnection = 16
+number_of callbacks.DownstreamData = 17
+number_of callbacks.UpstreamData = 18
+number_of callbacks.DownstreamClose = 19
+number_of callbacks.UpstreamClose = 20
 
 -- a row of the table: how a callback of a context ends, and its effects in the order of its calls
 pub record Deed : Type 0 where

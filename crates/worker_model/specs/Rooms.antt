@@ -169,6 +169,7 @@ is_own (Stage c own) context response = c == context && same own response
 abbrev pub does : ℕ → Own → ℕ → What → Room → Room
 does vm own context (what.Continue response) room = if is_own own context response then room else on_context (resumes vm context response) vm context room
 does vm own context what.Close room = on_context closed vm context room
+does vm own context (what.Call request) room = room
 does vm own context (what.Answer status fields body) room = on_context (changed (changes.Answer status fields body)) vm context room
 
 -- in the order of the calls; an effect on an exchange that has ended does nothing
