@@ -208,6 +208,7 @@ module _ {H : Type 0} (calling : Calling H) (plan : Plan) (response : Bool) (n c
       by_bool (λ (k : Course (Both H)). Reaches k ms (ends b) → Comes response n count x room b.room) (may_stream vm at room.hub.contexts)
       (tells calling vm callbacks.QueueReady at queue host room) (ends (both host room)) (λ e r. told x host room vm callbacks.QueueReady at queue b ms on may r)
       (λ e r. ended_as x x room room host b ms (stays response n x room on whole) r) reaches
+  job_comes x host room _ b ms on whole (other step) reaches = ended_as x x room room host b ms (stays response n x room on whole) reaches
   job_comes x host room _ b ms on whole (dies_at_work job q is may) reaches =
       job_died calling plan response n count x host room job q b ms on whole is (λ c y reached there. may c y reached there) reaches
   job_comes x host room _ b ms on whole (start_refused vm at may) reaches =

@@ -37,6 +37,7 @@ abbrev pub MayDo : Bool → ℕ → Option Ask → ℕ → ℕ → What → Exch
 MayDo response count due vm context (what.Continue of_response) x room = MayResume response of_response count due vm context x room
 MayDo response count due vm context what.Close x room = ⊥
 MayDo response count due vm context (what.Answer status fields body) x room = ⊥
+MayDo response count due vm context (what.Call request) x room = Unit {0}
 
 -- An effect that may be: the contexts of the direction's stages are there, no stage is in the chains of two lines, and what it does to the exchange may
 -- be done.

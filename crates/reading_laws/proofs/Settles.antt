@@ -215,6 +215,7 @@ module _ (w : What) (P Q : List Line → Type 0) (spans : Spans w P Q) where
         by_job (jobs.Close number stays) is = plain (jobs.Close number stays) is refl
         by_job (jobs.Notice vm left) is = plain (jobs.Notice vm left) is refl
         by_job (jobs.Ready vm root queue) is = plain (jobs.Ready vm root queue) is refl
+        by_job (jobs.Other step) is = plain (jobs.Other step) is refl
 
     work_stays : (js : List Job) (host : H) (room : Room) → room.jobs ≡ js → InTurn room → Stays (works_first calling plan js host room)
     work_stays [] host room is in_turn = in_turn

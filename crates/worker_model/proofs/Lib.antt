@@ -1,3 +1,4 @@
 pub mod More
 pub mod Alone
 pub mod TurnLaws
+pub mod Events
