@@ -1,9 +1,10 @@
 -- The calls on buffers: 0 is the request body and 1 the response body of the effective context's stage, 6 the configuration of its
--- VM, 7 that of its plug-in. 2 to 5 and 8 are not there.
-use Rattle.std.specs.Prelude.{ℕ, ◌==◌, ◌||◌, Bool, false, cond, nat_lt, List, length, Option, None, Some, Result, Ok, Err, if◌then◌else◌}
+-- VM, 7 that of its plug-in; 4 is the body of what came back for a callout, while that is told. 2, 3, 5 and 8 are not there.
+use Rattle.std.specs.Prelude.{ℕ, ◌==◌, ◌||◌, ◌&&◌, is_some, Bool, false, cond, nat_lt, List, length, Option, None, Some, Result, Ok, Err, if◌then◌else◌}
 use Rattle.body_buffers.specs.Bodies.{body_limit, spliced, part_of, IsOver}
 use Rattle.contexts.specs.declared.parts.Contexts.{Contexts}
 use Rattle.contexts.specs.declared.parts.Own.{Own as OwnParts}
+use Rattle.contexts.specs.declared.parts.CallAnswer.{CallAnswer}
 use Rattle.contexts.specs.declared.parts.Stage.{Stage}
 use Rattle.contexts.specs.declared.parts.Plugin.{Plugin}
 use Rattle.contexts.specs.Reached.{Seen, Reach, no_changes, put, seen}
@@ -38,9 +39,18 @@ plugin_bytes (Some p) = Some p.configuration
 abbrev pub body_at : ℕ → Option OwnParts → Option (List ℕ)
 body_at n o = cond (n == 0) (request_bytes o) (response_bytes o)
 
--- the configurations
+-- what came back for a callout, while that is told
+abbrev pub answer_in : Option CallAnswer → Option (List ℕ)
+answer_in None = None
+answer_in (Some a) = Some a.body
+
+abbrev pub answer_bytes : Option OwnParts → Option (List ℕ)
+answer_bytes None = None
+answer_bytes (Some o) = answer_in o.answer
+
+-- the answer of a callout, and the configurations
 abbrev pub configuration_at : ℕ → Reach → Option (List ℕ)
-configuration_at n r = cond (n == 6) (vm_bytes r.vm_configuration r.own) (cond (n == 7) (plugin_bytes r.plugin) None)
+configuration_at n r = cond (n == 4) (answer_bytes r.own) (cond (n == 6) (vm_bytes r.vm_configuration r.own) (cond (n == 7) (plugin_bytes r.plugin) None))
 
 -- what the buffer of a number holds, where it is there
 abbrev pub held_at : ℕ → Reach → Option (List ℕ)
@@ -124,10 +134,13 @@ IsOverIn n start size bytes (Some o) = IsOver (spliced (bytes_in n o) start size
 abbrev pub is_kept : ℕ → Bool
 is_kept n = nat_lt 8 n || ((n == 6) || (n == 7))
 
+abbrev pub is_answer : ℕ → Reach → Bool
+is_answer n r = (n == 4) && is_some (answer_bytes r.own)
+
 -- what the buffer becomes, or the status why it does not
 abbrev pub held_after : (n start size : ℕ) → List ℕ → Reach → Result (List ℕ) ℕ
 held_after n start size bytes r =
-    if is_kept n then Err 2 else (if nat_lt 1 n then Err 1 else spliced_in start size bytes (body_at n r.own))
+    if is_kept n || is_answer n r then Err 2 else (if nat_lt 1 n then Err 1 else spliced_in start size bytes (body_at n r.own))
 
 abbrev pub buffered : ℕ → Option OwnParts → Result (List ℕ) ℕ → Made
 buffered n o (Err status) = answers status
@@ -138,13 +151,21 @@ buffered n (Some o) (Ok bytes) = changing (record no_changes { own = Some (with_
 abbrev pub setting_bytes : (n start size : ℕ) → List ℕ → Seen → Made
 setting_bytes n start size bytes s = buffered n s.reach.own (held_after n start size bytes s.reach)
 
+-- ---- numbers: where the lines are streams of bytes, the stage's buffers are 2 and 3, and 0 and 1 are never there
+
+abbrev pub stream_buffer : ℕ → ℕ
+stream_buffer n = cond (n == 2) 0 (cond (n == 3) 1 (cond (nat_lt n 2) 5 n))
+
+abbrev pub buffer_no : Seen → ℕ → ℕ
+buffer_no s n = if s.common.is_tcp then stream_buffer n else n
+
 -- ---- the calls
 
 abbrev pub own_get_buffer_bytes : Own
-own_get_buffer_bytes args inputs s = reads (getting_bytes (arg args 0) (arg args 1) (arg args 2) s)
+own_get_buffer_bytes args inputs s = reads (getting_bytes (buffer_no s (arg args 0)) (arg args 1) (arg args 2) s)
 
 abbrev pub own_get_buffer_status : Own
-own_get_buffer_status args inputs s = reads (getting_status (arg args 0) s)
+own_get_buffer_status args inputs s = reads (getting_status (buffer_no s (arg args 0)) s)
 
 abbrev pub own_set_buffer_bytes : Own
-own_set_buffer_bytes args inputs s = setting_bytes (arg args 0) (arg args 1) (arg args 2) inputs.first s
+own_set_buffer_bytes args inputs s = setting_bytes (buffer_no s (arg args 0)) (arg args 1) (arg args 2) inputs.first s

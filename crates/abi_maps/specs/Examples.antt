@@ -49,8 +49,8 @@ pub record MapExamples : Type 0 where
 pub record StreamExamples : Type 0 where
   pub no_such_stream : (s : Seen) → continuing 4 s ≡ answers 2
   pub none_closed : (s : Seen) → closing 4 s ≡ answers 2
-  pub no_stream_context : (s : Seen) → on_stream 2 what.Close s None ≡ answers 2
-  pub of_tcp : (s : Seen) (v : ExchangeView) → on_stream 2 what.Close s (Some v) ≡ answers 12
+  pub no_stream_context : (s : Seen) → on_stream 2 what.Close s false ≡ answers 2
+  pub of_tcp : (s : Seen) → on_stream 2 what.Close s true ≡ answers 12
   pub status_below : (s : Seen) → answering 199 [] [] s ≡ answers 2
   pub status_above : (s : Seen) → answering 600 [] [] s ≡ answers 2
   pub no_exchange : (s : Seen) → answering_in 200 [] [] None s ≡ answers 2

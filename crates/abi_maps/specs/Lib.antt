@@ -1,4 +1,5 @@
 pub mod Buffers
+pub mod Callouts
 pub mod Examples
 pub mod Maps
 pub mod Streams

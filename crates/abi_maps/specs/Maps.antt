@@ -1,6 +1,6 @@
 -- The calls on maps: 0 and 2 are the request and response fields of the effective context's exchange, 1 and 3 their trailers. 4 to
 -- 7 are not there.
-use Rattle.std.specs.Prelude.{◌≡◌, ℕ, ◌==◌, cond, nat_lt, List, Option, None, Some, Result, Ok, Err, if◌then◌else◌}
+use Rattle.std.specs.Prelude.{◌≡◌, ℕ, ◌==◌, ◌&&◌, not, is_some, cond, nat_lt, List, Option, None, Some, Result, Ok, Err, if◌then◌else◌}
 use Rattle.header_maps.specs.declared.end.HeaderEnd.{HeaderEnd}
 use Rattle.header_maps.specs.declared.end.HeaderEnd.TheVariants.{BadName, BadValue, TooMany, OutOfMemory}
 use Rattle.header_maps.specs.Headers.{Headers}
@@ -9,6 +9,8 @@ use Rattle.header_maps.specs.Operations.{get_of, added, replaced, removed, all_s
 use Rattle.header_maps.specs.Pairs.{Pair}
 use Rattle.pair_codec.specs.Reading.{pairs_in}
 use Rattle.pair_codec.specs.Serialised.{pairs_bytes}
+use Rattle.contexts.specs.declared.parts.CallAnswer.{CallAnswer}
+use Rattle.contexts.specs.declared.parts.Own.{Own as OwnParts}
 use Rattle.contexts.specs.declared.parts.Maps.{Maps}
 use Rattle.contexts.specs.declared.parts.ExchangeView.{ExchangeView}
 use Rattle.contexts.specs.Reached.{Seen, no_changes}
@@ -24,13 +26,22 @@ abbrev pub map_in : ℕ → Option ExchangeView → Option Headers
 map_in n None = None
 map_in n (Some v) = map_at n v.maps
 
+-- the fields and the trailers of what came back for a callout, while that is told
+abbrev pub answer_map_in : ℕ → Option CallAnswer → Option Headers
+answer_map_in n None = None
+answer_map_in n (Some a) = Some (if n == 6 then a.fields else a.trailers)
+
+abbrev pub answer_map : ℕ → Option OwnParts → Option Headers
+answer_map n None = None
+answer_map n (Some o) = answer_map_in n o.answer
+
 abbrev pub there : Option Headers → Result Headers ℕ
 there None = Err 1
 there (Some l) = Ok l
 
 -- the map of a number, or the status why it is none
 abbrev pub map_for : ℕ → Seen → Result Headers ℕ
-map_for n s = if nat_lt 7 n then Err 2 else there (map_in n s.reach.exchange)
+map_for n s = if nat_lt 7 n then Err 2 else there (if nat_lt 5 n then answer_map n s.reach.own else map_in n s.reach.exchange)
 
 -- ---- reading
 
@@ -107,7 +118,7 @@ abbrev pub set_from : List ℕ → Headers → Result Headers ℕ
 set_from bytes l = set_by (pairs_in bytes) l
 
 abbrev pub changing_map : ℕ → (Headers → Result Headers ℕ) → Seen → Made
-changing_map n f s = mapped n s.reach.exchange (on_map (map_for n s) f)
+changing_map n f s = if nat_lt 5 n && (not (nat_lt 7 n) && is_some (answer_map n s.reach.own)) then answers 2 else mapped n s.reach.exchange (on_map (map_for n s) f)
 
 -- ---- the calls
 

@@ -1,5 +1,5 @@
 -- The calls on streams, and the local response. What they ask for comes after the callback has returned.
-use Rattle.std.specs.Prelude.{ℕ, ◌==◌, ◌||◌, Bool, true, nat_lt, List, [], ◌∷◌, length, Option, None, Some, Result, Ok, Err, if◌then◌else◌}
+use Rattle.std.specs.Prelude.{ℕ, ◌==◌, ◌||◌, ◌+◌, ◌-◌, not, is_some, false, Bool, true, nat_lt, List, [], ◌∷◌, length, Option, None, Some, Result, Ok, Err, if◌then◌else◌}
 use Rattle.body_buffers.specs.Bodies.{body_limit}
 use Rattle.header_maps.specs.Headers.{Headers}
 use Rattle.header_maps.specs.Faults.{set_fault}
@@ -20,16 +20,31 @@ use Rattle.abi_maps.specs.Maps.{unless}
 abbrev pub effect_of : What → Seen → Changes
 effect_of w s = record no_changes { effects = record { context = s.common.effective; what = w } ∷ [] }
 
-abbrev pub on_stream : ℕ → What → Seen → Option ExchangeView → Made
-on_stream n w s None = answers 2
-on_stream n w s (Some v) = if nat_lt 1 n then answers 12 else changing (effect_of w s)
+abbrev pub on_stream : ℕ → What → Seen → (is_stream : Bool) → Made
+on_stream n w s false = answers 2
+on_stream n w s true = if nat_lt 1 n then answers 12 else changing (effect_of w s)
+
+-- The effective context is a stream: it has an exchange; or, where the lines are streams of bytes, a root that is another.
+abbrev pub is_other : ℕ → Option ℕ → Bool
+is_other e None = false
+is_other e (Some root) = not (root == e)
+
+abbrev pub is_stream : Seen → Bool
+is_stream s = if s.common.is_tcp then is_other s.common.effective s.reach.root else is_some s.reach.exchange
+
+-- where the lines are streams of bytes, 2 and 3 are its directions, and 0 and 1 are of HTTP
+abbrev pub swapped : ℕ → ℕ
+swapped n = if nat_lt n 2 then n + 2 else if nat_lt n 4 then n - 2 else n
+
+abbrev pub stream_no : Seen → ℕ → ℕ
+stream_no s n = if s.common.is_tcp then swapped n else n
 
 -- the streams 0 and 1 are the request and the response; 2 and 3 are of TCP connections
 abbrev pub continuing : ℕ → Seen → Made
-continuing n s = if nat_lt 3 n then answers 2 else on_stream n (what.Continue (n == 1)) s s.reach.exchange
+continuing n s = if nat_lt 3 n then answers 2 else on_stream n (what.Continue (n == 1)) s (is_stream s)
 
 abbrev pub closing : ℕ → Seen → Made
-closing n s = if nat_lt 3 n then answers 2 else on_stream n what.Close s s.reach.exchange
+closing n s = if nat_lt 3 n then answers 2 else on_stream n what.Close s (is_stream s)
 
 -- ---- a local response
 
@@ -70,17 +85,26 @@ abbrev pub answering_in : (status : ℕ) → (body headers : List ℕ) → Optio
 answering_in status body headers None s = answers 2
 answering_in status body headers (Some v) s = if is_too_late v then answers 2 else answering_with status body (fields_from headers) v s
 
+-- where the lines are streams of bytes there is none, once its values were judged
+abbrev pub judging : List ℕ → Result Headers ℕ → Made
+judging body (Err n) = answers n
+judging body (Ok fields) = if nat_lt body_limit (length body) then answers 10 else answers 12
+
+abbrev pub answering_stream : (body headers : List ℕ) → Seen → Made
+answering_stream body headers s = if is_stream s then judging body (fields_from headers) else answers 2
+
 abbrev pub answering : (status : ℕ) → (body headers : List ℕ) → Seen → Made
 answering status body headers s =
-    if nat_lt status 200 || nat_lt 599 status then answers 2 else answering_in status body headers s.reach.exchange s
+    if nat_lt status 200 || nat_lt 599 status then answers 2
+    else if s.common.is_tcp then answering_stream body headers s else answering_in status body headers s.reach.exchange s
 
 -- ---- the calls
 
 abbrev pub own_continue_stream : Own
-own_continue_stream args inputs s = continuing (arg args 0) s
+own_continue_stream args inputs s = continuing (stream_no s (arg args 0)) s
 
 abbrev pub own_close_stream : Own
-own_close_stream args inputs s = closing (arg args 0) s
+own_close_stream args inputs s = closing (stream_no s (arg args 0)) s
 
 -- the first bytes, its details, are not used
 abbrev pub own_send_local_response : Own

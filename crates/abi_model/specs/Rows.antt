@@ -52,6 +52,7 @@ taken m row args = record {
   first = bytes_in m (slice_get (ranges row 0 args) 0);
   second = bytes_in m (slice_get (ranges row 0 args) 1);
   third = bytes_in m (slice_get (ranges row 0 args) 2);
+  fourth = bytes_in m (slice_get (ranges row 0 args) 3);
 }
 
 abbrev pub places_of : List Param → List ℕ → Places
@@ -66,3 +67,4 @@ pub record AreInputs (inputs : Inputs) : Type 0 where
   pub first : length inputs.first ≤ 16777216
   pub second : length inputs.second ≤ 16777216
   pub third : length inputs.third ≤ 16777216
+  pub fourth : length inputs.fourth ≤ 16777216

@@ -28,6 +28,7 @@ name_of call.RemoveHeaderMapValue = codes "proxy_remove_header_map_value"
 name_of call.ContinueStream = codes "proxy_continue_stream"
 name_of call.CloseStream = codes "proxy_close_stream"
 name_of call.SendLocalResponse = codes "proxy_send_local_response"
+name_of call.HttpCall = codes "proxy_http_call"
 name_of call.GetSharedData = codes "proxy_get_shared_data"
 name_of call.SetSharedData = codes "proxy_set_shared_data"
 name_of call.RegisterSharedQueue = codes "proxy_register_shared_queue"
@@ -61,6 +62,7 @@ row_of call.RemoveHeaderMapValue = Number ∷ Input ∷ []
 row_of call.ContinueStream = Number ∷ []
 row_of call.CloseStream = Number ∷ []
 row_of call.SendLocalResponse = Number ∷ Input ∷ Input ∷ Input ∷ Number ∷ []
+row_of call.HttpCall = Input ∷ Input ∷ Input ∷ Input ∷ Number ∷ Result ∷ []
 row_of call.GetSharedData = Input ∷ Result ∷ Result ∷ Result ∷ []
 row_of call.SetSharedData = Input ∷ Input ∷ Number ∷ []
 row_of call.RegisterSharedQueue = Input ∷ Result ∷ []
@@ -75,7 +77,7 @@ row_of call.RecordMetric = Number ∷ Wide ∷ []
 row_of call.GetMetric = Number ∷ WideResult ∷ []
 
 abbrev pub all_calls : List HostCall
-all_calls = call.Log ∷ call.GetLogLevel ∷ call.GetCurrentTimeNanoseconds ∷ call.SetTickPeriodMilliseconds ∷ call.SetEffectiveContext ∷ call.Done ∷ call.GetBufferBytes ∷ call.GetBufferStatus ∷ call.SetBufferBytes ∷ call.GetHeaderMapPairs ∷ call.SetHeaderMapPairs ∷ call.GetHeaderMapSize ∷ call.GetHeaderMapValue ∷ call.AddHeaderMapValue ∷ call.ReplaceHeaderMapValue ∷ call.RemoveHeaderMapValue ∷ call.ContinueStream ∷ call.CloseStream ∷ call.SendLocalResponse ∷ call.GetSharedData ∷ call.SetSharedData ∷ call.RegisterSharedQueue ∷ call.ResolveSharedQueue ∷ call.DequeueSharedQueue ∷ call.EnqueueSharedQueue ∷ call.GetProperty ∷ call.SetProperty ∷ call.DefineMetric ∷ call.IncrementMetric ∷ call.RecordMetric ∷ call.GetMetric ∷ []
+all_calls = call.Log ∷ call.GetLogLevel ∷ call.GetCurrentTimeNanoseconds ∷ call.SetTickPeriodMilliseconds ∷ call.SetEffectiveContext ∷ call.Done ∷ call.GetBufferBytes ∷ call.GetBufferStatus ∷ call.SetBufferBytes ∷ call.GetHeaderMapPairs ∷ call.SetHeaderMapPairs ∷ call.GetHeaderMapSize ∷ call.GetHeaderMapValue ∷ call.AddHeaderMapValue ∷ call.ReplaceHeaderMapValue ∷ call.RemoveHeaderMapValue ∷ call.ContinueStream ∷ call.CloseStream ∷ call.SendLocalResponse ∷ call.HttpCall ∷ call.GetSharedData ∷ call.SetSharedData ∷ call.RegisterSharedQueue ∷ call.ResolveSharedQueue ∷ call.DequeueSharedQueue ∷ call.EnqueueSharedQueue ∷ call.GetProperty ∷ call.SetProperty ∷ call.DefineMetric ∷ call.IncrementMetric ∷ call.RecordMetric ∷ call.GetMetric ∷ []
 
 -- THE CALL of a name
 abbrev pub call_named : List ℕ → Option HostCall

@@ -16,6 +16,7 @@ pub struct Inputs {
     pub first: Octets,
     pub second: Octets,
     pub third: Octets,
+    pub fourth: Octets,
 }
 
 /// The argument at a place.
@@ -157,10 +158,12 @@ pub(crate) fn take_inputs<G: Guest>(
     let first = take_range(alloc, guest, row, args, 0)?;
     let second = take_range(alloc, guest, row, args, 1)?;
     let third = take_range(alloc, guest, row, args, 2)?;
+    let fourth = take_range(alloc, guest, row, args, 3)?;
     Ok(Inputs {
         first,
         second,
         third,
+        fourth,
     })
 }
 

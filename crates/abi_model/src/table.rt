@@ -43,6 +43,7 @@ pub enum HostCall {
     ContinueStream,
     CloseStream,
     SendLocalResponse,
+    HttpCall,
     GetSharedData,
     SetSharedData,
     RegisterSharedQueue,
@@ -58,7 +59,7 @@ pub enum HostCall {
 }
 
 /// All of them.
-const ALL_CALLS: [HostCall; 31] = [
+const ALL_CALLS: [HostCall; 32] = [
     HostCall::Log,
     HostCall::GetLogLevel,
     HostCall::GetCurrentTimeNanoseconds,
@@ -78,6 +79,7 @@ const ALL_CALLS: [HostCall; 31] = [
     HostCall::ContinueStream,
     HostCall::CloseStream,
     HostCall::SendLocalResponse,
+    HostCall::HttpCall,
     HostCall::GetSharedData,
     HostCall::SetSharedData,
     HostCall::RegisterSharedQueue,
@@ -116,6 +118,7 @@ pub fn call_name(call: HostCall) -> &'static [u8]
         HostCall::ContinueStream => b"proxy_continue_stream",
         HostCall::CloseStream => b"proxy_close_stream",
         HostCall::SendLocalResponse => b"proxy_send_local_response",
+        HostCall::HttpCall => b"proxy_http_call",
         HostCall::GetSharedData => b"proxy_get_shared_data",
         HostCall::SetSharedData => b"proxy_set_shared_data",
         HostCall::RegisterSharedQueue => b"proxy_register_shared_queue",
@@ -166,6 +169,14 @@ pub fn call_row(call: HostCall) -> &'static [Param]
             Param::Input,
             Param::Input,
             Param::Number,
+        ],
+        HostCall::HttpCall => &[
+            Param::Input,
+            Param::Input,
+            Param::Input,
+            Param::Input,
+            Param::Number,
+            Param::Result,
         ],
         HostCall::GetSharedData => &[Param::Input, Param::Result, Param::Result, Param::Result],
         HostCall::SetSharedData => &[Param::Input, Param::Input, Param::Number],

@@ -26,6 +26,7 @@ meant = record {
       ∷ record { name = codes "audit"; vm = 0; configuration = codes "all"; fail_open = false }
       ∷ [];
   routes = record { path = codes "/users/{id}"; filters = 2 ∷ 0 ∷ 1 ∷ [] } ∷ record { path = codes "/health"; filters = [] } ∷ [];
+  tcp = [];
 }
 
 pub record TextExample : Type 0 where

@@ -30,7 +30,7 @@ abbrev pub no_stage : Stage
 no_stage = record { held = []; is_asked = false; has_end = false }
 
 abbrev pub no_own : Own
-no_own = record { request = no_stage; response = no_stage; properties = [] }
+no_own = record { request = no_stage; response = no_stage; properties = []; answer = None }
 
 abbrev pub root_context : (id plugin : ℕ) → Context
 root_context id plugin = record { id = id; plugin = plugin; root = id; exchange = None; own = no_own; tick = None }

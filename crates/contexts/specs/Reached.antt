@@ -5,6 +5,7 @@ use Rattle.std.specs.List.{list_any}
 use Rattle.contexts.specs.Keyed.{found, changed}
 use Rattle.gate_base.specs.declared.level.Level.{Level}
 use Rattle.gate_base.specs.declared.level.Level.TheVariants as levels
+use Rattle.contexts.specs.declared.parts.Calls.{Calls}
 use Rattle.contexts.specs.declared.parts.Own.{Own}
 use Rattle.contexts.specs.declared.parts.Tick.{Tick}
 use Rattle.contexts.specs.declared.parts.Context.{Context}
@@ -29,6 +30,9 @@ pub record Common : Type 0 where
   pub effects : List Effect
   pub random_key : List ℕ
   pub random_place : ℕ
+  -- of the worker: how many callouts are under way, and the last id drawn; and whether its lines are streams of bytes
+  pub calls : Calls
+  pub is_tcp : Bool
 
 -- ---- REACH: what belongs to one context. Where it is not there, all of it is none, but for its VM's name and configuration.
 pub record Reach : Type 0 where
@@ -102,6 +106,8 @@ common_of h v = record {
   effects = h.effects;
   random_key = h.random_key;
   random_place = h.random_place;
+  calls = h.calls;
+  is_tcp = h.is_tcp;
 }
 
 abbrev pub reach_by : Contexts → VmContexts → Option Context → Reach

@@ -57,6 +57,7 @@ impl Own {
             request: Stage::new(alloc),
             response: Stage::new(alloc),
             properties: Properties::new(alloc),
+            answer: None,
         }
     }
 }

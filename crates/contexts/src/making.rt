@@ -2,7 +2,7 @@
 ghost use Rattle.std.specs.Prelude.{◌≡◌, [], ◌∷◌, ◌++◌, ◌<◌, length, OnOk, OnErr};
 ghost use Rattle.contexts.specs.Making.{no_contexts, with_vm, with_plugin};
 
-use crate::{Configuration, Contexts, Plugin, Roster, ShortName, VmContexts};
+use crate::{Calls, Configuration, Contexts, Plugin, Roster, ShortName, VmContexts};
 use gate_base::{ContextId, Level, Members, OutOfMemory, VmNo};
 use std::alloc::Global;
 
@@ -19,6 +19,11 @@ impl Contexts {
             effects: Members::new(alloc),
             random_key: key,
             random_place: 0,
+            calls: Calls {
+                under_way: 0,
+                last: 0,
+            },
+            is_tcp: false,
         }
     }
 

@@ -16,6 +16,14 @@ pub struct Stage {
     pub has_end: bool,
 }
 
+/// What came back for a callout.
+#[derive(Drop)]
+pub struct CallAnswer {
+    pub fields: HeaderList,
+    pub body: Body,
+    pub trailers: HeaderList,
+}
+
 /// What a context has for itself.
 #[derive(Drop)]
 pub struct Own {
@@ -24,6 +32,8 @@ pub struct Own {
     /// Of the direction from the upstream.
     pub response: Stage,
     pub properties: Properties,
+    /// What came back for the callout of which it is told, while that callback runs.
+    pub answer: Option<CallAnswer>,
 }
 
 /// When a root is to be called, and how often, in nanoseconds.
@@ -87,6 +97,24 @@ pub struct Plugin {
     pub root: Option<ContextId>,
 }
 
+/// A request of a filter's own, which goes to the upstream.
+#[derive(Drop)]
+pub struct Request {
+    pub vm: VmNo,
+    pub context: ContextId,
+    pub fields: HeaderList,
+    pub body: Body,
+    pub trailers: HeaderList,
+    pub timeout_ms: u32,
+}
+
+/// How many callouts are under way, and the last id that was drawn for one.
+#[derive(Clone, Copy)]
+pub struct Calls {
+    pub under_way: u32,
+    pub last: u32,
+}
+
 /// What a callback asks for, which comes when it has returned.
 #[derive(Drop)]
 pub enum What {
@@ -102,6 +130,8 @@ pub enum What {
         fields: HeaderList,
         body: Octets,
     },
+    /// A callout.
+    Call { request: Request },
 }
 
 /// An effect, with the context that was effective.
@@ -139,4 +169,7 @@ pub struct Contexts {
     /// The key of the random stream, and the number of the next word in it.
     pub random_key: [u8; 32],
     pub random_place: u64,
+    pub calls: Calls,
+    /// Its lines are streams of bytes, and not HTTP.
+    pub is_tcp: bool,
 }

@@ -44,6 +44,18 @@ pub enum Callback {
     Log,
     /// `proxy_on_delete`.
     Delete,
+    /// `proxy_on_http_call_response`: the call. The counts behind it are those of what the context has of the answer.
+    CallAnswered,
+    /// `proxy_on_new_connection`.
+    NewConnection,
+    /// `proxy_on_downstream_data`: how many bytes there are, and whether they are the last.
+    DownstreamData,
+    /// `proxy_on_upstream_data`, given as that of the client's side.
+    UpstreamData,
+    /// `proxy_on_downstream_connection_close`: which side ended it.
+    DownstreamClose,
+    /// `proxy_on_upstream_connection_close`: which side ended it.
+    UpstreamClose,
 }
 
 /// Why a VM died.

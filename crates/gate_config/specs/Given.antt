@@ -16,13 +16,14 @@ pub record Given : Type 0 where
   pub vms : List VmEntry
   pub plugins : List PluginEntry
   pub routes : List RouteEntry
+  pub tcp : List ℕ
 
 abbrev pub given : Config → Given
-given c = record { workers = c.workers; listen = c.listen; upstream = c.upstream; deadline_ms = c.deadline_ms; log_level = c.log_level; vms = c.vms; plugins = c.plugins; routes = c.routes }
+given c = record { workers = c.workers; listen = c.listen; upstream = c.upstream; deadline_ms = c.deadline_ms; log_level = c.log_level; vms = c.vms; plugins = c.plugins; routes = c.routes; tcp = c.tcp }
 
--- without VMs, plug-ins and routes
+-- without VMs, plug-ins and routes, and of HTTP
 abbrev pub bare : ℕ → List ℕ → List ℕ → ℕ → Level → Given
-bare workers listen upstream deadline_ms log_level = record { workers = workers; listen = listen; upstream = upstream; deadline_ms = deadline_ms; log_level = log_level; vms = []; plugins = []; routes = [] }
+bare workers listen upstream deadline_ms log_level = record { workers = workers; listen = listen; upstream = upstream; deadline_ms = deadline_ms; log_level = log_level; vms = []; plugins = []; routes = []; tcp = [] }
 
 -- with one more entry behind the others
 abbrev pub with_vm : VmEntry → Given → Given

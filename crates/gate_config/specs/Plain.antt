@@ -43,3 +43,4 @@ pub record IsPlain (n : ℕ) (config : Config) : Type 0 where
   pub vms : config.vms ≡ first_n plain_vm n
   pub plugins : config.plugins ≡ first_n plain_plugin n
   pub routes : config.routes ≡ plain_routes n
+  pub tcp : config.tcp ≡ []

@@ -44,6 +44,7 @@ impl Config {
             vms: Members::new(alloc),
             plugins: Members::new(alloc),
             routes: Members::new(alloc),
+            tcp: Members::new(alloc),
             router: Router::new(alloc),
         }
     }

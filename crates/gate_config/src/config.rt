@@ -4,7 +4,7 @@ ghost use Rattle.std.specs.Str.{IsAscii};
 ghost use Rattle.gate_config.specs.Kept.{IsKept};
 ghost use Rattle.gate_config.specs.Routes.{route_of, table_of};
 
-use crate::{PluginList, RouteList, VmList};
+use crate::{PluginList, PluginNos, RouteList, VmList};
 use gate_base::{Level, Text};
 use matchit::Router;
 use std::str;
@@ -28,6 +28,8 @@ pub struct Config {
     pub plugins: PluginList,
     /// The routes, at most 256.
     pub routes: RouteList,
+    /// The plug-ins of streams of bytes; none where the lines are HTTP.
+    pub tcp: PluginNos,
     pub(crate) router: Router<u16>,
     pub ghost kept: { IsKept workers vms plugins routes },
     ghost routed: { router ≡ table_of routes },

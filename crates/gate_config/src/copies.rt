@@ -22,6 +22,7 @@ impl Config {
             vms: copy_vms(alloc, &self.vms)?,
             plugins: copy_plugins(alloc, &self.plugins)?,
             routes: copy_routes(alloc, &self.routes)?,
+            tcp: copy_numbers(alloc, &self.tcp)?,
             router: copy_router(&self.router)?,
         })
     }

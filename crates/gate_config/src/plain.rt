@@ -27,6 +27,7 @@ impl Config {
             plugins: plain_plugin_list(alloc, vms)?,
             router: plain_router(alloc)?,
             routes,
+            tcp: Members::new(alloc),
         })
     }
 }

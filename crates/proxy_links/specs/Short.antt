@@ -78,6 +78,7 @@ rows_are_short call.RemoveHeaderMapValue = omega arith
 rows_are_short call.ContinueStream = omega arith
 rows_are_short call.CloseStream = omega arith
 rows_are_short call.SendLocalResponse = omega arith
+rows_are_short call.HttpCall = omega arith
 rows_are_short call.GetSharedData = omega arith
 rows_are_short call.SetSharedData = omega arith
 rows_are_short call.RegisterSharedQueue = omega arith

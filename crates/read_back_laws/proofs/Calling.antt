@@ -4,6 +4,7 @@ use Rattle.std.specs.Prelude.{Option, None, Some, Result, Ok, Err, cond, nat_lt,
 use Rattle.abi_calls.specs.Hosting.{Hosted, hosting, wasi_hosting, of_called, asking}
 use Rattle.abi_maps.specs.Maps.{map_at, map_in, there, on_map, with_map, mapped, changing_map, added_to, replaced_in, removed_from, set_from, own_get_header_map_pairs, own_get_header_map_size, own_get_header_map_value, own_set_header_map_pairs, own_add_header_map_value, own_replace_header_map_value, own_remove_header_map_value}
 use Rattle.abi_maps.specs.Buffers.{own_get_buffer_bytes, own_get_buffer_status, own_set_buffer_bytes, buffered, held_after}
+use Rattle.abi_maps.specs.Callouts.{own_http_call}
 use Rattle.abi_maps.specs.Streams.{continuing, closing, on_stream, is_too_late, fields_from, answering, answering_in, answering_with, answer_changes, own_continue_stream, own_close_stream, own_send_local_response}
 use Rattle.abi_model.specs.Asking.{Asking, asks}
 use Rattle.abi_model.specs.Calls as model
@@ -180,6 +181,7 @@ hosted_leaves call.RemoveHeaderMapValue now vm args g s =
 hosted_leaves call.ContinueStream now vm args g s = does_leaves 6 (row_of call.ContinueStream) own_continue_stream args g s (λ inputs. continuing_leaves (arg args 0) s)
 hosted_leaves call.CloseStream now vm args g s = does_leaves 6 (row_of call.CloseStream) own_close_stream args g s (λ inputs. closing_leaves (arg args 0) s)
 hosted_leaves call.SendLocalResponse now vm args g s = does_leaves 6 (row_of call.SendLocalResponse) own_send_local_response args g s (λ inputs. answering_leaves (arg args 0) inputs.second inputs.third s)
+hosted_leaves call.HttpCall now vm args g s = does_leaves 6 (row_of call.HttpCall) own_http_call args g s (λ inputs. tt)
 hosted_leaves call.GetSharedData now vm args g s = asking_leaves (row_of call.GetSharedData) own_get_shared_data vm args g s
 hosted_leaves call.SetSharedData now vm args g s = asking_leaves (row_of call.SetSharedData) own_set_shared_data vm args g s
 hosted_leaves call.RegisterSharedQueue now vm args g s = asking_leaves (row_of call.RegisterSharedQueue) own_register_shared_queue vm args g s

@@ -26,7 +26,7 @@ use Rattle.vm_host.specs.declared.roles.Role.TheVariants as role
 use Rattle.vm_host.specs.Roles.{role_name, role_row, role_named}
 use Rattle.vm_host.specs.Fits.{function_in, exported, type_in, role_results, fits_type, misfits_role, is_misfit, unlinked, no_marker, a_misfit, fit_fault}
 use Rattle.vm_host.specs.Seeing.{IsAllocator}
-use Rattle.vm_host.specs.RoleTypes.{functions_for, function_for, allocator_in, beginner_in, HasRole, AreFunctions, numbers_for, TakesNothing}
+use Rattle.vm_host.specs.RoleTypes.{Counts, functions_for, function_for, allocator_in, beginner_in, HasRole, AreFunctions, numbers_for, TakesNothing}
 
 -- ---- nothing stands against it
 
@@ -74,6 +74,12 @@ named role.ResponseBody = refl
 named role.RequestTrailers = refl
 named role.ResponseTrailers = refl
 named role.Done = refl
+named role.CallAnswered = refl
+named role.NewConnection = refl
+named role.DownstreamData = refl
+named role.UpstreamData = refl
+named role.DownstreamClose = refl
+named role.UpstreamClose = refl
 
 not_false : (b : Bool) → not b ≡ false → b ≡ true
 not_false true is = refl
@@ -141,6 +147,12 @@ function_at exports role.ResponseBody = refl
 function_at exports role.RequestTrailers = refl
 function_at exports role.ResponseTrailers = refl
 function_at exports role.Done = refl
+function_at exports role.CallAnswered = refl
+function_at exports role.NewConnection = refl
+function_at exports role.DownstreamData = refl
+function_at exports role.UpstreamData = refl
+function_at exports role.DownstreamClose = refl
+function_at exports role.UpstreamClose = refl
 
 -- THE TIE of what is exported to what is called
 pub are_functions : (m : Module) (pages : ℕ) → IsValid m → fit_fault m pages ≡ None → AreFunctions (program_of m pages) (functions_for m.exports)
@@ -152,25 +164,31 @@ are_functions m pages valid none r f is =
 pub takes_of : (p : Program) (r : Role) (f : ℕ) → HasRole p r f → (args : List Value) → types_of args ≡ types_in (role_row r) → Takes p f args
 takes_of p r f h args is = (h.type, h.has, is ∙ sym h.takes)
 
-pub numbers_typed : (r : Role) (a b c : ℕ) → types_of (numbers_for r a b c) ≡ types_in (role_row r)
-numbers_typed role.Initialize a b c = refl
-numbers_typed role.Start a b c = refl
-numbers_typed role.MemoryAllocate a b c = refl
-numbers_typed role.Malloc a b c = refl
-numbers_typed role.ContextCreate a b c = refl
-numbers_typed role.VmStart a b c = refl
-numbers_typed role.Configure a b c = refl
-numbers_typed role.Tick a b c = refl
-numbers_typed role.Log a b c = refl
-numbers_typed role.Delete a b c = refl
-numbers_typed role.QueueReady a b c = refl
-numbers_typed role.RequestHeaders a b c = refl
-numbers_typed role.ResponseHeaders a b c = refl
-numbers_typed role.RequestBody a b c = refl
-numbers_typed role.ResponseBody a b c = refl
-numbers_typed role.RequestTrailers a b c = refl
-numbers_typed role.ResponseTrailers a b c = refl
-numbers_typed role.Done a b c = refl
+pub numbers_typed : (r : Role) (a b c : ℕ) (d : Counts) → types_of (numbers_for r a b c d) ≡ types_in (role_row r)
+numbers_typed role.Initialize a b c d = refl
+numbers_typed role.Start a b c d = refl
+numbers_typed role.MemoryAllocate a b c d = refl
+numbers_typed role.Malloc a b c d = refl
+numbers_typed role.ContextCreate a b c d = refl
+numbers_typed role.VmStart a b c d = refl
+numbers_typed role.Configure a b c d = refl
+numbers_typed role.Tick a b c d = refl
+numbers_typed role.Log a b c d = refl
+numbers_typed role.Delete a b c d = refl
+numbers_typed role.QueueReady a b c d = refl
+numbers_typed role.RequestHeaders a b c d = refl
+numbers_typed role.ResponseHeaders a b c d = refl
+numbers_typed role.RequestBody a b c d = refl
+numbers_typed role.ResponseBody a b c d = refl
+numbers_typed role.RequestTrailers a b c d = refl
+numbers_typed role.ResponseTrailers a b c d = refl
+numbers_typed role.Done a b c d = refl
+numbers_typed role.CallAnswered a b c d = refl
+numbers_typed role.NewConnection a b c d = refl
+numbers_typed role.DownstreamData a b c d = refl
+numbers_typed role.UpstreamData a b c d = refl
+numbers_typed role.DownstreamClose a b c d = refl
+numbers_typed role.UpstreamClose a b c d = refl
 
 results_there : (p : Program) (f : ℕ) (t : FunctionType) → HasType p f t → results_of p f ≡ t.results
 results_there p f t (g, is, same) = ap results_in is ∙ ap (λ (u : FunctionType). u.results) same

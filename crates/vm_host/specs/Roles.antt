@@ -25,6 +25,12 @@ role_name role.ResponseBody = codes "proxy_on_response_body"
 role_name role.RequestTrailers = codes "proxy_on_request_trailers"
 role_name role.ResponseTrailers = codes "proxy_on_response_trailers"
 role_name role.Done = codes "proxy_on_done"
+role_name role.CallAnswered = codes "proxy_on_http_call_response"
+role_name role.NewConnection = codes "proxy_on_new_connection"
+role_name role.DownstreamData = codes "proxy_on_downstream_data"
+role_name role.UpstreamData = codes "proxy_on_upstream_data"
+role_name role.DownstreamClose = codes "proxy_on_downstream_connection_close"
+role_name role.UpstreamClose = codes "proxy_on_upstream_connection_close"
 
 abbrev pub role_row : Role → List Param
 role_row role.Initialize = []
@@ -45,6 +51,12 @@ role_row role.ResponseBody = Number ∷ Number ∷ Number ∷ []
 role_row role.RequestTrailers = Number ∷ Number ∷ []
 role_row role.ResponseTrailers = Number ∷ Number ∷ []
 role_row role.Done = Number ∷ []
+role_row role.CallAnswered = Number ∷ Number ∷ Number ∷ Number ∷ Number ∷ []
+role_row role.NewConnection = Number ∷ []
+role_row role.DownstreamData = Number ∷ Number ∷ Number ∷ []
+role_row role.UpstreamData = Number ∷ Number ∷ Number ∷ []
+role_row role.DownstreamClose = Number ∷ Number ∷ []
+role_row role.UpstreamClose = Number ∷ Number ∷ []
 
 abbrev pub gives_number : Role → Bool
 gives_number role.Initialize = false
@@ -65,6 +77,12 @@ gives_number role.ResponseBody = true
 gives_number role.RequestTrailers = true
 gives_number role.ResponseTrailers = true
 gives_number role.Done = true
+gives_number role.CallAnswered = false
+gives_number role.NewConnection = true
+gives_number role.DownstreamData = true
+gives_number role.UpstreamData = true
+gives_number role.DownstreamClose = false
+gives_number role.UpstreamClose = false
 
 abbrev pub place_of : Role → ℕ
 place_of role.Initialize = 0
@@ -85,9 +103,15 @@ place_of role.ResponseBody = 14
 place_of role.RequestTrailers = 15
 place_of role.ResponseTrailers = 16
 place_of role.Done = 17
+place_of role.CallAnswered = 18
+place_of role.NewConnection = 19
+place_of role.DownstreamData = 20
+place_of role.UpstreamData = 21
+place_of role.DownstreamClose = 22
+place_of role.UpstreamClose = 23
 
 abbrev pub all_roles : List Role
-all_roles = role.Initialize ∷ role.Start ∷ role.MemoryAllocate ∷ role.Malloc ∷ role.ContextCreate ∷ role.VmStart ∷ role.Configure ∷ role.Tick ∷ role.Log ∷ role.Delete ∷ role.QueueReady ∷ role.RequestHeaders ∷ role.ResponseHeaders ∷ role.RequestBody ∷ role.ResponseBody ∷ role.RequestTrailers ∷ role.ResponseTrailers ∷ role.Done ∷ []
+all_roles = role.Initialize ∷ role.Start ∷ role.MemoryAllocate ∷ role.Malloc ∷ role.ContextCreate ∷ role.VmStart ∷ role.Configure ∷ role.Tick ∷ role.Log ∷ role.Delete ∷ role.QueueReady ∷ role.RequestHeaders ∷ role.ResponseHeaders ∷ role.RequestBody ∷ role.ResponseBody ∷ role.RequestTrailers ∷ role.ResponseTrailers ∷ role.Done ∷ role.CallAnswered ∷ role.NewConnection ∷ role.DownstreamData ∷ role.UpstreamData ∷ role.DownstreamClose ∷ role.UpstreamClose ∷ []
 
 -- THE ONE of a name
 unfoldable pub role_named : List ℕ → Option Role

@@ -38,6 +38,12 @@ role_of callback.ResponseTrailers = Some role.ResponseTrailers
 role_of callback.Done = Some role.Done
 role_of callback.Log = Some role.Log
 role_of callback.Delete = Some role.Delete
+role_of callback.CallAnswered = Some role.CallAnswered
+role_of callback.NewConnection = Some role.NewConnection
+role_of callback.DownstreamData = Some role.DownstreamData
+role_of callback.UpstreamData = Some role.UpstreamData
+role_of callback.DownstreamClose = Some role.DownstreamClose
+role_of callback.UpstreamClose = Some role.UpstreamClose
 
 -- ---- slots
 

@@ -21,7 +21,7 @@ use Rattle.vm_host.specs.Seeing.{RestsAt}
 use Rattle.vm_host.specs.HostStates.{HostState, host_state}
 use Rattle.vm_host.specs.Calling.{Returned, returned, run_trapped, run_spent, run_open, calling_back}
 use Rattle.vm_host.specs.Targets.{targets_of, closings_of}
-use Rattle.vm_host.specs.RoleTypes.{functions_for, function_for, allocator_in, beginner_in, AreFunctions, numbers_for, TakesNothing}
+use Rattle.vm_host.specs.RoleTypes.{functions_for, function_for, allocator_in, beginner_in, AreFunctions, numbers_for, counts_at, TakesNothing}
 use Rattle.vm_host.specs.Dispatching.{dispatching, LinksTo}
 
 -- A VM that lives: its guest, which rests; the calls of its host; the functions that it exports, by their roles; the start function of
@@ -39,7 +39,7 @@ pub record IsVm (guest : MachineGuest) (calls : Dispatcher) (functions : List (O
   pub idle : guest.machine.pending ≡ []
   pub links : LinksTo calls (program_at guest.machine)
   pub start_takes : TakesNothing (program_at guest.machine) start
-  pub count : length functions ≡ 18
+  pub count : length functions ≡ 24
   pub typed : AreFunctions (program_at guest.machine) functions
 
 -- ---- THE FIRST ONE: the instance of a module, on which nothing has run
@@ -129,9 +129,9 @@ made_effective place context h = if contains context (seen h place).common.ids t
 
 abbrev pub calling_if : VmAt → (now : ℕ) → Option ℕ → Role → (context first second : ℕ) → HostState → Program Ran
 calling_if v now None r context first second s = done (ran (ended.Returned None) (Some v) s)
-calling_if v now (Some f) r context first second s = running v now f (numbers_for r context first second) (host_state (made_effective v.calls.place context s.contexts) s.lines)
+calling_if v now (Some f) r context first second s = running v now f (numbers_for r context first second (counts_at v.calls.place context s.contexts)) (host_state (made_effective v.calls.place context s.contexts) s.lines)
 
--- THE CALLBACK of a role, by its context and two numbers more, of which it is given as many as it has parameters. One that is not
--- exported does nothing.
+-- THE CALLBACK of a role, by its context, two numbers more, and the counts of what came back for its callout: it is given as many of them as it has
+-- parameters. One that is not exported does nothing.
 abbrev pub calling_role : VmAt → (now : ℕ) → Role → (context first second : ℕ) → HostState → Program Ran
 calling_role v now r context first second s = calling_if v now (function_for v.functions r) r context first second s

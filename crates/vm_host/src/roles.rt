@@ -45,13 +45,25 @@ pub enum Role {
     ResponseTrailers,
     /// `proxy_on_done`.
     Done,
+    /// `proxy_on_http_call_response`.
+    CallAnswered,
+    /// `proxy_on_new_connection`.
+    NewConnection,
+    /// `proxy_on_downstream_data`.
+    DownstreamData,
+    /// `proxy_on_upstream_data`.
+    UpstreamData,
+    /// `proxy_on_downstream_connection_close`.
+    DownstreamClose,
+    /// `proxy_on_upstream_connection_close`.
+    UpstreamClose,
 }
 
 /// How many there are.
-pub const ROLE_COUNT: usize = 18;
+pub const ROLE_COUNT: usize = 24;
 
 /// All of them.
-pub const ROLES: [Role; 18] = [
+pub const ROLES: [Role; 24] = [
     Role::Initialize,
     Role::Start,
     Role::MemoryAllocate,
@@ -70,6 +82,12 @@ pub const ROLES: [Role; 18] = [
     Role::RequestTrailers,
     Role::ResponseTrailers,
     Role::Done,
+    Role::CallAnswered,
+    Role::NewConnection,
+    Role::DownstreamData,
+    Role::UpstreamData,
+    Role::DownstreamClose,
+    Role::UpstreamClose,
 ];
 
 /// The name under which it is exported.
@@ -95,13 +113,19 @@ pub fn role_name(role: Role) -> &'static [u8]
         Role::RequestTrailers => b"proxy_on_request_trailers",
         Role::ResponseTrailers => b"proxy_on_response_trailers",
         Role::Done => b"proxy_on_done",
+        Role::CallAnswered => b"proxy_on_http_call_response",
+        Role::NewConnection => b"proxy_on_new_connection",
+        Role::DownstreamData => b"proxy_on_downstream_data",
+        Role::UpstreamData => b"proxy_on_upstream_data",
+        Role::DownstreamClose => b"proxy_on_downstream_connection_close",
+        Role::UpstreamClose => b"proxy_on_upstream_connection_close",
     }
 }
 
 /// What it takes.
 pub fn role_row(role: Role) -> &'static [Param]
     ensures row { result.now ≡ row_of role }
-    ensures short { length result.now ≤ 3 }
+    ensures short { length result.now ≤ 5 }
 {
     match role {
         Role::Initialize => &[],
@@ -122,6 +146,12 @@ pub fn role_row(role: Role) -> &'static [Param]
         Role::RequestTrailers => &[Param::Number, Param::Number],
         Role::ResponseTrailers => &[Param::Number, Param::Number],
         Role::Done => &[Param::Number],
+        Role::CallAnswered => &[Param::Number, Param::Number, Param::Number, Param::Number, Param::Number],
+        Role::NewConnection => &[Param::Number],
+        Role::DownstreamData => &[Param::Number, Param::Number, Param::Number],
+        Role::UpstreamData => &[Param::Number, Param::Number, Param::Number],
+        Role::DownstreamClose => &[Param::Number, Param::Number],
+        Role::UpstreamClose => &[Param::Number, Param::Number],
     }
 }
 
@@ -140,21 +170,27 @@ pub fn gives_number(role: Role) -> bool
         | Role::ResponseBody
         | Role::RequestTrailers
         | Role::ResponseTrailers
-        | Role::Done => true,
+        | Role::Done
+        | Role::NewConnection
+        | Role::DownstreamData
+        | Role::UpstreamData => true,
         Role::Initialize
         | Role::Start
         | Role::ContextCreate
         | Role::Tick
         | Role::Log
         | Role::Delete
-        | Role::QueueReady => false,
+        | Role::QueueReady
+        | Role::CallAnswered
+        | Role::DownstreamClose
+        | Role::UpstreamClose => false,
     }
 }
 
 /// Its place among all of them.
 pub fn role_place(role: Role) -> usize
     ensures is { result ≡ place_in role }
-    ensures there { result < 18 }
+    ensures there { result < 24 }
 {
     match role {
         Role::Initialize => 0,
@@ -175,6 +211,12 @@ pub fn role_place(role: Role) -> usize
         Role::RequestTrailers => 15,
         Role::ResponseTrailers => 16,
         Role::Done => 17,
+        Role::CallAnswered => 18,
+        Role::NewConnection => 19,
+        Role::DownstreamData => 20,
+        Role::UpstreamData => 21,
+        Role::DownstreamClose => 22,
+        Role::UpstreamClose => 23,
     }
 }
 

@@ -68,6 +68,12 @@ fn role(name: Callback) -> Option<Role>
         Callback::Done => Some(Role::Done),
         Callback::Log => Some(Role::Log),
         Callback::Delete => Some(Role::Delete),
+        Callback::CallAnswered => Some(Role::CallAnswered),
+        Callback::NewConnection => Some(Role::NewConnection),
+        Callback::DownstreamData => Some(Role::DownstreamData),
+        Callback::UpstreamData => Some(Role::UpstreamData),
+        Callback::DownstreamClose => Some(Role::DownstreamClose),
+        Callback::UpstreamClose => Some(Role::UpstreamClose),
     }
 }
 

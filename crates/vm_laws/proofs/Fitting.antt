@@ -7,6 +7,7 @@ use Rattle.abi_maps.specs.Buffers.{own_set_buffer_bytes, buffered, held_after}
 use Rattle.body_buffers.specs.Bodies.{body_limit}
 use Rattle.abi_maps.specs.Maps.{mapped, changing_map, on_map, map_for, set_from, added_to, replaced_in, removed_from, own_set_header_map_pairs, own_add_header_map_value, own_replace_header_map_value, own_remove_header_map_value, own_get_header_map_pairs, own_get_header_map_size, own_get_header_map_value}
 use Rattle.abi_maps.specs.Buffers.{own_get_buffer_bytes, own_get_buffer_status}
+use Rattle.abi_maps.specs.Callouts.{own_http_call}
 use Rattle.abi_maps.specs.Streams.{effect_of, on_stream, answer_changes, is_too_late, fields_from, answering_with, answering_in, own_continue_stream, own_close_stream, own_send_local_response}
 use Rattle.abi_model.specs.Asking.{Asking, asks}
 use Rattle.abi_model.specs.Calls.{called, Made, Own, Does, does_made, answers, changing, only, given}
@@ -251,6 +252,7 @@ env_good call.RemoveHeaderMapValue now vm args g s = local_good 6 (row_of call.R
 env_good call.ContinueStream now vm args g s = local_good 6 (row_of call.ContinueStream) own_continue_stream continue_fits args g s
 env_good call.CloseStream now vm args g s = local_good 6 (row_of call.CloseStream) own_close_stream close_fits args g s
 env_good call.SendLocalResponse now vm args g s = local_good 6 (row_of call.SendLocalResponse) own_send_local_response answer_fits args g s
+env_good call.HttpCall now vm args g s = local_good 6 (row_of call.HttpCall) own_http_call (λ a i t. nothing_fits t) args g s
 env_good call.GetSharedData now vm args g s = asking_good (row_of call.GetSharedData) own_get_shared_data vm args g s
 env_good call.SetSharedData now vm args g s = asking_good (row_of call.SetSharedData) own_set_shared_data vm args g s
 env_good call.RegisterSharedQueue now vm args g s = asking_good (row_of call.RegisterSharedQueue) own_register_shared_queue vm args g s

@@ -124,6 +124,7 @@ module _ (vm : ℕ) (h : Contexts) where
     env_asks call.ContinueStream now args g = tt
     env_asks call.CloseStream now args g = tt
     env_asks call.SendLocalResponse now args g = tt
+    env_asks call.HttpCall now args g = tt
     env_asks call.GetSharedData now args g = row_asks (row_of call.GetSharedData) own_get_shared_data args g (seen k vm) (refl, λ r. tt)
     env_asks call.SetSharedData now args g = row_asks (row_of call.SetSharedData) own_set_shared_data args g (seen k vm) (refl, λ r. tt)
     env_asks call.RegisterSharedQueue now args g = row_asks (row_of call.RegisterSharedQueue) own_register_shared_queue args g (seen k vm) (registers (taken g.config.store.memory (row_of call.RegisterSharedQueue) args).first (seen k vm).reach.root root_of)

@@ -5,6 +5,7 @@ use Rattle.abi_model.specs.Calls.{called}
 use Rattle.abi_model.specs.declared.table.HostCall.{HostCall}
 use Rattle.abi_model.specs.declared.table.WasiCall.{WasiCall}
 use Rattle.abi_types.specs.GuestAt.{GuestAt}
+use Rattle.contexts.specs.Making.{no_calls}
 use Rattle.contexts.specs.Reached.{Seen, Changes, no_changes}
 use Rattle.contexts.specs.declared.parts.ExchangeView.{ExchangeView}
 use Rattle.contexts.specs.declared.parts.Maps.{Maps}
@@ -93,6 +94,7 @@ own = record {
   request = record { held = codes "request"; is_asked = true; has_end = true };
   response = record { held = codes "answer"; is_asked = false; has_end = false };
   properties = (codes "bc", codes "set") ∷ [];
+  answer = None;
 }
 
 abbrev pub seen : Seen
@@ -106,6 +108,8 @@ seen = record {
     effects = [];
     random_key = replicate 32 0;
     random_place = 7;
+    calls = no_calls;
+    is_tcp = false;
   };
   reach = record {
     root = Some 1;

@@ -327,6 +327,10 @@ impl Room {
                 };
                 self.on_context(alloc, vm, context, what)
             }
+            What::Call { request } => {
+                let _ = request;
+                Ok(())
+            }
         }
     }
 
