@@ -2,3 +2,4 @@ pub mod More
 pub mod Alone
 pub mod TurnLaws
 pub mod Events
+pub mod Examples
