@@ -10,7 +10,8 @@ use abi_maps::{
     proxy_add_header_map_value, proxy_close_stream, proxy_continue_stream, proxy_get_buffer_bytes,
     proxy_get_buffer_status, proxy_get_header_map_pairs, proxy_get_header_map_size,
     proxy_get_header_map_value, proxy_http_call, proxy_remove_header_map_value,
-    proxy_replace_header_map_value, proxy_send_local_response, proxy_set_buffer_bytes, proxy_set_header_map_pairs,
+    proxy_replace_header_map_value, proxy_send_local_response, proxy_set_buffer_bytes,
+    proxy_set_header_map_pairs,
 };
 use abi_model::{HostCall, HostEnd};
 use abi_services::{

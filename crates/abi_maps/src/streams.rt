@@ -50,11 +50,7 @@ fn swapped(stream: u64) -> u64
 fn stream_no(is_tcp: bool, stream: u64) -> u64
     ensures { result ≡ stream_no_of is_tcp stream }
 {
-    if is_tcp {
-        swapped(stream)
-    } else {
-        stream
-    }
+    if is_tcp { swapped(stream) } else { stream }
 }
 
 /// Asks that a stream goes on.

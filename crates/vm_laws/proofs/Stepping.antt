@@ -272,8 +272,8 @@ module _ (d : Dispatcher) where
   calling_if_same v now None r context first second s t same are = stays_same v s t same are
   calling_if_same v now (Some f) r context first second s t same are =
       subst (λ (q : Counts). InStep RanSame
-        (running v now f (numbers_for r context first second (counts_at v.calls.place context s.contexts)) (host_state (made_effective v.calls.place context s.contexts) s.lines))
-        (running v now f (numbers_for r context first second q) (host_state (made_effective v.calls.place context t.contexts) t.lines)))
+      (running v now f (numbers_for r context first second (counts_at v.calls.place context s.contexts)) (host_state (made_effective v.calls.place context s.contexts) s.lines))
+      (running v now f (numbers_for r context first second q) (host_state (made_effective v.calls.place context t.contexts) t.lines)))
       (counts_same v.calls context s t same are)
       (running_same v now f (numbers_for r context first second (counts_at v.calls.place context s.contexts)) (host_state (made_effective v.calls.place context s.contexts) s.lines) (host_state (made_effective v.calls.place context t.contexts) t.lines)
       same (effective_same v.calls context s t same are))
