@@ -65,7 +65,7 @@ pub record ReportExamples : Type 0 where
       ≡ codes "export 5f7374617274 func - -\nexport 5f696e697469616c697a65 func - -\ncallback _initialize\ncallback _start\nabi none\n"
   pub all : report_of all_kinds
       ≡ codes "import 65 - func iI I\nimport - 0a table\nimport 65 6d memory\nimport 65 67 global\n"
-        ++ (codes "export 7a memory\nexport 70726f78795f6f6e5f646f6e65 func i i\n"
-        ++ (codes "export 70726f78795f6f6e5f7469636b func i -\nexport 70726f78795f6f6e5f6c6f67 func - -\n"
-        ++ (codes "export 70726f78795f6f6e5f64656c657465 memory\nexport - table\nexport 61 global\nexport 69 func iI I\n"
-        ++ codes "callback proxy_on_tick\ncallback proxy_on_done\nabi none\n")))
+      ++ (codes "export 7a memory\nexport 70726f78795f6f6e5f646f6e65 func i i\n"
+      ++ (codes "export 70726f78795f6f6e5f7469636b func i -\nexport 70726f78795f6f6e5f6c6f67 func - -\n"
+      ++ (codes "export 70726f78795f6f6e5f64656c657465 memory\nexport - table\nexport 61 global\nexport 69 func iI I\n"
+      ++ codes "callback proxy_on_tick\ncallback proxy_on_done\nabi none\n")))
