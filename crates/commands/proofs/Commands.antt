@@ -4,11 +4,12 @@ use Rattle.std.specs.Prelude.{◌&&◌, option_map, Ok, Err}
 use Rattle.std.proofs.lemmas.Bool.{and_parts}
 use Rattle.gate_io.specs.Told.{gains_nothing}
 use Rattle.statuses.specs.declared.status.Status.TheVariants.{Usage, OutOfMemory}
-use Rattle.words.specs.Forms.{Command, replay, replay_config, serve, check, invoke, generate, form_of, others_of, is_replay, is_replay_config, is_serve, is_serve_until, is_check, is_invoke, is_generate, names_script, are_plain, second, third, fourth, behind_two, behind_three, number_of}
+use Rattle.words.specs.Forms.{Command, replay, replay_config, serve, check, invoke, generate, report, form_of, others_of, is_replay, is_replay_config, is_serve, is_serve_until, is_check, is_invoke, is_generate, is_report, names_script, are_plain, second, third, fourth, behind_two, behind_three, number_of}
 use Rattle.commands.specs.Call.{Calls}
 use Rattle.commands.specs.Generated.{Generated}
 use Rattle.generating.specs.declared.running.GenerateEnd.TheVariants as generating
 use Rattle.commands.specs.Doing.{IsForm, Checks, LoadsFile, LoadsPlain, ServesFile, Obeys}
+use Rattle.commands.specs.Report.{Reports}
 use Rattle.commands.specs.Scripts.{Replays}
 use Rattle.config_files.specs.Plain.{IsNoPlain}
 use Rattle.statuses.specs.declared.status.Status.{Status}
@@ -44,7 +45,8 @@ few_of_two false o p f g = g
 few_others : (ws : List (List ℕ)) → AreFew (others_of ws)
 few_others ws =
     few_of (is_invoke ws) (invoke (second ws) (third ws) (behind_three ws)) _ (λ e. tt)
-    (few_of_two (is_generate ws) (option_map generate (number_of (second ws))) None (few_of_number (number_of (second ws))) tt)
+    (few_of_two (is_generate ws) (option_map generate (number_of (second ws))) _ (few_of_number (number_of (second ws)))
+    (few_of (is_report ws) (report (second ws)) None (λ e. tt) tt))
 
 pub few_of_form : (ws : List (List ℕ)) → AreFew (form_of ws)
 few_of_form ws =
@@ -66,6 +68,7 @@ no_memory eyes files (replay_config config script) site old = (refl, inl (tt, ga
 no_memory eyes files (serve config stop_after) site old = inl (record { why = tt; site_is = refl; nothing = gains_nothing old })
 no_memory eyes files (check config) site old = (refl, gains_nothing old)
 no_memory eyes files (invoke file export arguments) site old = (refl, record { may = gains_nothing old; there = tt; called = λ text e. gains_nothing old })
+no_memory eyes files (report file) site old = (refl, record { may = gains_nothing old; there = tt; reported = λ text e. gains_nothing old })
 no_memory eyes files (generate n) site old = (refl, record { end = generating.OutOfMemory; status_is = refl; generates = gains_nothing old })
 
 -- words of no form are refused
@@ -103,6 +106,11 @@ pub obeys_invoke : {W : Type 0} (eyes : Eyes W) (files : Told) (file export : Li
     → Calls files file export arguments status old new → Obeys eyes files (Some (invoke file export arguments)) status site site old new
 unfolding Obeys
 obeys_invoke eyes files file export arguments status site old new h = (refl, h)
+
+pub obeys_report : {W : Type 0} (eyes : Eyes W) (files : Told) (file : List ℕ) (status : Status) (site : Seen W) (old new : Option (List ℕ))
+    → Reports files file status old new → Obeys eyes files (Some (report file)) status site site old new
+unfolding Obeys
+obeys_report eyes files file status site old new h = (refl, h)
 
 pub obeys_generate : {W : Type 0} (eyes : Eyes W) (files : Told) (n : ℕ) (status : Status) (site : Seen W) (old new : Option (List ℕ))
     → Generated n status old new → Obeys eyes files (Some (generate n)) status site site old new

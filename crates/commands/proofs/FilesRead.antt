@@ -21,7 +21,7 @@ use Rattle.serving.specs.declared.running.ServeEnd.TheVariants as serving
 use Rattle.statuses.specs.Statuses.{of_load}
 use Rattle.statuses.specs.declared.status.Status.{Status}
 use Rattle.statuses.specs.declared.status.Status.TheVariants.{Done, Usage, Config, Module, Refused, FileFault, SiteFault, OutFault, OutOfMemory, Script, Invoke}
-use Rattle.words.specs.Forms.{Command, replay, replay_config, serve, check, invoke, generate}
+use Rattle.words.specs.Forms.{Command, replay, replay_config, serve, check, invoke, generate, report}
 use Rattle.commands.specs.Doing.{serve_status}
 use Rattle.commands.specs.Generated.{generate_status}
 use Rattle.commands.specs.Reading.{IsJudgedFor, NoneRefused, Reaches, ReadsFor, ReadsOne, behind_config, config_path, paths_of}
@@ -40,6 +40,7 @@ none_yet files (Some (serve config stop_after)) judged = tt
 none_yet files (Some (check config)) judged = tt
 none_yet files (Some (invoke file export arguments)) judged = tt
 none_yet files (Some (generate n)) judged = tt
+none_yet files (Some (report file)) judged = tt
 
 reads_nothing : (files : Told) (command : Option Command) (status : Status) (old : Option (List (List ℕ)))
     → ((judged : Judged) → Reaches files command judged status old old) → ReadsFor files command status old old
@@ -91,6 +92,30 @@ reads_invoke files file export arguments status old new a one = record {
   gained = a;
   none_refused = tt;
   reaches = invoke_reaches files file export arguments (Err (0, [])) status old new one;
+}
+
+report_reaches : (files : Told) (file : List ℕ) (judged : Judged) (status : Status) (old new : Option (List (List ℕ)))
+    → ReadsOne file status old new → Reaches files (Some (report file)) judged status old new
+report_reaches files file judged Done old new h = h
+report_reaches files file judged OutFault old new h = h
+report_reaches files file judged (Script line) old new h = h
+report_reaches files file judged (Refused refusal) old new h = h
+report_reaches files file judged (Invoke end) old new h = h
+report_reaches files file judged FileFault old new h = tt
+report_reaches files file judged OutOfMemory old new h = tt
+report_reaches files file judged Usage old new h = absurd h
+report_reaches files file judged (Config number key) old new h = absurd h
+report_reaches files file judged (Module vm fault) old new h = absurd h
+report_reaches files file judged SiteFault old new h = absurd h
+
+pub reads_report : (files : Told) (file : List ℕ) (status : Status) (old new : Option (List (List ℕ)))
+    → GainsFront old (file ∷ []) new → ReadsOne file status old new → ReadsFor files (Some (report file)) status old new
+reads_report files file status old new a one = record {
+  judged = Err (0, []);
+  of_file = tt;
+  gained = a;
+  none_refused = tt;
+  reaches = report_reaches files file (Err (0, [])) status old new one;
 }
 
 -- ---- modules, and what comes behind them

@@ -11,6 +11,7 @@ use Rattle.statuses.specs.declared.status.Status.TheVariants.{Done, Usage, Confi
 use Rattle.commands.specs.Call.{IsCalled, OfCall, WasRead}
 use Rattle.commands.specs.Files.{HasText, IsThere, OfText}
 use Rattle.commands.specs.Reading.{ReadsOne}
+use Rattle.commands.specs.Report.{IsReported, OfReport}
 use Rattle.commands.specs.Scripts.{IsCutShort, IsPlayed, IsRefusedAt, Plays, PlaysText, script_limit}
 
 -- what holds of the bytes that were read, where they are told
@@ -104,3 +105,23 @@ call_read path Usage before after old new p h = absurd p
 call_read path (Config number key) before after old new p h = absurd p
 call_read path (Module vm fault) before after old new p h = absurd p
 call_read path SiteFault before after old new p h = absurd p
+
+-- ---- a module that is reported
+
+-- a status of a report is one of a call
+pub of_call : (status : Status) (before after : Option (List ℕ)) → OfReport status before after → OfCall status before after
+of_call Done before after p = tt
+of_call OutFault before after p = tt
+of_call (Refused refusal) before after p = p
+of_call FileFault before after p = p
+of_call OutOfMemory before after p = p
+of_call Usage before after p = absurd p
+of_call (Config number key) before after p = absurd p
+of_call (Module vm fault) before after p = absurd p
+of_call SiteFault before after p = absurd p
+of_call (Script line) before after p = absurd p
+of_call (Invoke end) before after p = absurd p
+
+pub reported_text : (files : Told) (path text : List ℕ) (most : ℕ) (status : Status) (before after : Option (List ℕ)) → ReadsTold files path most (Ok text)
+    → IsReported text status before after → OfText files path (λ t. IsReported t status before after)
+reported_text files path text most status before after h p = of_text files path text most (λ t. IsReported t status before after) h p

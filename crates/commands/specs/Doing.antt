@@ -12,9 +12,10 @@ use Rattle.serving.specs.declared.running.ServeEnd.{ServeEnd}
 use Rattle.serving.specs.declared.running.ServeEnd.TheVariants as serving
 use Rattle.statuses.specs.declared.status.Status.{Status}
 use Rattle.statuses.specs.declared.status.Status.TheVariants.{Done, Usage, Config, Module, Refused, FileFault, SiteFault, OutFault, OutOfMemory, Script, Invoke}
-use Rattle.words.specs.Forms.{Command, replay, replay_config, serve, check, invoke, generate}
+use Rattle.words.specs.Forms.{Command, replay, replay_config, serve, check, invoke, generate, report}
 use Rattle.commands.specs.Call.{Calls}
 use Rattle.commands.specs.Generated.{Generated}
+use Rattle.commands.specs.Report.{Reports}
 use Rattle.commands.specs.Scripts.{IsUnloaded, Replays}
 
 -- the configuration of this file, with the modules of its VMs
@@ -47,6 +48,7 @@ IsForm (serve config stop_after) = Unit {0}
 IsForm (check config) = Unit {0}
 IsForm (invoke file export arguments) = Unit {0}
 IsForm (generate n) = Unit {0}
+IsForm (report file) = Unit {0}
 
 -- what is done at a command that opens no socket, and at words of no form, which are refused
 abbrev pub Does : Told → Option Command → Status → (old new : Option (List ℕ)) → Type 0
@@ -57,6 +59,7 @@ Does files (Some (serve config stop_after)) status old new = ⊥
 Does files (Some (check config)) status old new = Checks files config status old new
 Does files (Some (invoke file export arguments)) status old new = Calls files file export arguments status old new
 Does files (Some (generate n)) status old new = Generated n status old new
+Does files (Some (report file)) status old new = Reports files file status old new
 
 -- how serving ended, by the status
 abbrev pub serve_status : ServeEnd → Status
@@ -97,6 +100,7 @@ module _ {W : Type 0} (eyes : Eyes W) where
   Obeys files (Some (check config)) status site after old new = DoesAlone files (Some (check config)) status site after old new
   Obeys files (Some (invoke file export arguments)) status site after old new = DoesAlone files (Some (invoke file export arguments)) status site after old new
   Obeys files (Some (generate n)) status site after old new = DoesAlone files (Some (generate n)) status site after old new
+  Obeys files (Some (report file)) status site after old new = DoesAlone files (Some (report file)) status site after old new
 
 -- the line of a status was written, or a front of it where the faults rose
 abbrev pub TakesLine : Option (List ℕ) → List ℕ → Option (List ℕ) → ℕ → ℕ → Type 0

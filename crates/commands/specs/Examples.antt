@@ -9,7 +9,7 @@ use Rattle.read_config.specs.Whole.{Judged}
 use Rattle.statuses.specs.declared.status.Status.{Status}
 use Rattle.statuses.specs.declared.status.Status.TheVariants.{Config, Done, OutFault, OutOfMemory}
 use Rattle.wasm_syntax.specs.declared.module.Module.{Module}
-use Rattle.words.specs.Forms.{replay, replay_config, check, invoke, generate}
+use Rattle.words.specs.Forms.{replay, replay_config, check, invoke, generate, report}
 use Rattle.commands.specs.Call.{WasRead}
 use Rattle.commands.specs.Doing.{Checks, LoadsFile, LoadsPlain}
 use Rattle.commands.specs.Reading.{IsJudgedFor, NoneRefused, Reaches, paths_of}
@@ -34,6 +34,7 @@ pub record PathExamples : Type 0 where
   pub refused : (number : ℕ) (key : List ℕ) → paths_of (Some (replay_config c s)) (Err (number, key)) ≡ c ∷ []
   pub checked : paths_of (Some (check c)) (Ok (plain_over (a ∷ []))) ≡ c ∷ a ∷ []
   pub called : (judged : Judged) → paths_of (Some (invoke a (codes "f") [])) judged ≡ a ∷ []
+  pub reported : (judged : Judged) → paths_of (Some (report a)) judged ≡ a ∷ []
   pub generated : (judged : Judged) → paths_of (Some (generate 7)) judged ≡ []
 
 -- a file of no byte, which is no module, and a script

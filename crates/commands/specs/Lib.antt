@@ -1,5 +1,6 @@
 pub mod Files
 pub mod Call
+pub mod Report
 pub mod Scripts
 pub mod Generated
 pub mod Doing

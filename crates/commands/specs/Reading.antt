@@ -7,7 +7,7 @@ use Rattle.config_files.specs.declared.modules.ModuleFault.{ModuleFault}
 use Rattle.read_config.specs.Whole.{Judged}
 use Rattle.statuses.specs.declared.status.Status.{Status}
 use Rattle.statuses.specs.declared.status.Status.TheVariants.{Done, Usage, Config, Module, Refused, FileFault, SiteFault, OutFault, OutOfMemory, Script, Invoke}
-use Rattle.words.specs.Forms.{Command, replay, replay_config, serve, check, invoke, generate}
+use Rattle.words.specs.Forms.{Command, replay, replay_config, serve, check, invoke, generate, report}
 
 -- the path of the configuration, where a command names one
 abbrev pub config_path : Option Command → Option (List ℕ)
@@ -18,6 +18,7 @@ config_path (Some (serve config stop_after)) = Some config
 config_path (Some (check config)) = Some config
 config_path (Some (invoke file export arguments)) = None
 config_path (Some (generate n)) = None
+config_path (Some (report file)) = None
 
 -- behind the path of a configuration: where it is one, those of its modules, and then these
 abbrev pub behind_config : Judged → List (List ℕ) → List (List ℕ)
@@ -33,6 +34,7 @@ paths_of (Some (serve config stop_after)) judged = config ∷ behind_config judg
 paths_of (Some (check config)) judged = config ∷ behind_config judged []
 paths_of (Some (invoke file export arguments)) judged = file ∷ []
 paths_of (Some (generate n)) judged = []
+paths_of (Some (report file)) judged = file ∷ []
 
 -- this is what the file of this path, where a command names one, comes to as a configuration
 abbrev pub IsJudgedFor : Told → Option (List ℕ) → Judged → Type 0
@@ -49,6 +51,7 @@ NoneRefused files (Some (serve config stop_after)) judged reads = NoneBehindConf
 NoneRefused files (Some (check config)) judged reads = NoneBehindConfig files judged reads
 NoneRefused files (Some (invoke file export arguments)) judged reads = Unit {0}
 NoneRefused files (Some (generate n)) judged reads = Unit {0}
+NoneRefused files (Some (report file)) judged reads = Unit {0}
 
 -- the file of a command's configuration was read, and no other
 abbrev pub StopsAtConfig : Option (List ℕ) → (old new : Option (List (List ℕ))) → Type 0
@@ -64,6 +67,7 @@ StopsAtVm files (Some (serve config stop_after)) name fault old new = StopsAtMod
 StopsAtVm files (Some (check config)) name fault old new = StopsAtModule files config name fault old new
 StopsAtVm files (Some (invoke file export arguments)) name fault old new = ⊥
 StopsAtVm files (Some (generate n)) name fault old new = ⊥
+StopsAtVm files (Some (report file)) name fault old new = ⊥
 
 -- HOW FAR a command comes, by its status: to the refused file of a configuration or a module, and nowhere with words of no form. A read that
 -- failed, and want of memory, may have come behind any of its files. Else all of them were read.
@@ -90,7 +94,7 @@ pub record ReadsFor (files : Told) (command : Option Command) (status : Status) 
 
 -- ---- a step on the way
 
--- the one file of a script or a call was read, unless its read failed or memory ran out
+-- the one file of a script, a call or a report was read, unless its read failed or memory ran out
 abbrev pub ReadsOne : (path : List ℕ) → Status → (old new : Option (List (List ℕ))) → Type 0
 ReadsOne path Done old new = Gains old (path ∷ []) new
 ReadsOne path OutFault old new = Gains old (path ∷ []) new

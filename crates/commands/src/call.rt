@@ -11,7 +11,7 @@ use wasm_invoke::{End, Invoked, Refusal, invoke};
 use wasm_syntax::Value;
 
 /// How many bytes a module has at most: 4 MiB.
-const MAX_MODULE: usize = 4194304;
+pub(crate) const MAX_MODULE: usize = 4194304;
 
 /// Calls a function that the module of a file exports, and prints its result and the fuel that it used.
 pub fn call<F: Files, O: Sink>(

@@ -7,6 +7,7 @@ mod generate;
 pub mod laws;
 mod obeying;
 mod replay;
+mod report;
 mod serve;
 mod top_call;
 

@@ -1,7 +1,7 @@
 // Each command with all that the top call promises of it.
 ghost use Rattle.std.specs.Prelude.{◌≡◌, ◌≤◌, Some, length, map, string_bytes};
 ghost use Rattle.gate_io.specs.Told.{Rose};
-ghost use Rattle.words.specs.Forms.{replay as plain_replay, replay_config as config_replay, serve as serving, check as checking, invoke as invoking, generate as generating};
+ghost use Rattle.words.specs.Forms.{replay as plain_replay, replay_config as config_replay, serve as serving, check as checking, invoke as invoking, generate as generating, report as reporting};
 ghost use Rattle.commands.specs.Doing.{Obeys};
 ghost use Rattle.commands.specs.Reading.{ReadsFor};
 
@@ -9,6 +9,7 @@ use crate::call::call;
 use crate::check::check_file;
 use crate::generate::generate_load;
 use crate::replay::{replay_config, replay_plain};
+use crate::report::report_file;
 use crate::serve::serve_file;
 use gate_io::{Files, Gate, Sink, Site};
 use statuses::Status;
@@ -132,6 +133,28 @@ pub fn obey_invoke<F: Files, S: Site, O: Sink>(
     ensures out_fault { result ≡ Status.OutFault → Rose (O.faults out.old) (O.faults out.new) }
 {
     call(alloc, module, export, arguments, files, out)
+}
+
+/// Prints what the module of a file imports and exports. No socket is opened.
+pub fn obey_report<F: Files, S: Site, O: Sink>(
+    alloc: Global,
+    module: &str,
+    files: &mut F,
+    site: &mut S,
+    out: &mut O,
+) -> Status
+    ensures obeys { Obeys (record { trace = S.W.trace; last = S.W.last; nature = S.W.nature; faults = S.W.faults }) (F.holds files.old) (Some (reporting «module».now)) result
+        (record { started = S.started site.old; seeds = S.seeds site.old; returned = S.returned site.old; faults = S.faults site.old })
+        (record { started = S.started site.new; seeds = S.seeds site.new; returned = S.returned site.new; faults = S.faults site.new })
+        (O.taken out.old) (O.taken out.new) }
+    ensures reads { ReadsFor (F.holds files.old) (Some (reporting «module».now)) result (F.paths files.old) (F.paths files.new) }
+    ensures file_faults { F.faults files.old ≤ F.faults files.new }
+    ensures file_fault { result ≡ Status.FileFault → Rose (F.faults files.old) (F.faults files.new) }
+    ensures site_faults { S.faults site.old ≤ S.faults site.new }
+    ensures out_faults { O.faults out.old ≤ O.faults out.new }
+    ensures out_fault { result ≡ Status.OutFault → Rose (O.faults out.old) (O.faults out.new) }
+{
+    report_file(alloc, module, files, out)
 }
 
 /// Runs the generator's load of a number. No file is read and no socket opened.

@@ -7,7 +7,8 @@ ghost use Rattle.commands.specs.Doing.{IsForm, Obeys, TakesLine};
 ghost use Rattle.commands.specs.Reading.{ReadsFor};
 
 use crate::obeying::{
-    obey_check, obey_generate, obey_invoke, obey_replay, obey_replay_config, obey_serve,
+    obey_check, obey_generate, obey_invoke, obey_replay, obey_replay_config, obey_report,
+    obey_serve,
 };
 use gate_io::{Files, Gate, Sink, Site};
 use statuses::Status;
@@ -115,5 +116,6 @@ fn carry_out<R: Threads + Wait + Sync, F: Files, S: Site, O: Sink, G: Gate + Syn
             arguments,
         } => obey_invoke(alloc, module, export, arguments, files, site, out),
         Form::Generate { n } => obey_generate(rt, alloc, n, files, site, out, gate),
+        Form::Report { module } => obey_report(alloc, module, files, site, out),
     }
 }

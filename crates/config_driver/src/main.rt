@@ -83,6 +83,7 @@ fn told(alloc: Global, form: &Form) -> Result<String, OutOfMemory> {
             format!(in alloc; "invoke {module} {export} arguments {count}")
         }
         Form::Generate { n } => format!(in alloc; "generate {n}"),
+        Form::Report { module } => format!(in alloc; "report {module}"),
     }
 }
 

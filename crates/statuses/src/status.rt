@@ -26,7 +26,7 @@ pub enum Status {
     Config { number: u8, key: Text },
     /// The file of the VM of this name is no module that it can run.
     Module { vm: Text, fault: ModuleFault },
-    /// The module of a call, or the call itself, is refused.
+    /// The module of a call or a report, or the call itself, is refused.
     Refused { refusal: Refusal },
     /// A read failed.
     FileFault,

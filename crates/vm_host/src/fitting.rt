@@ -119,7 +119,7 @@ fn fits_type(m: &Module, role: Role, x: u32) -> bool
 }
 
 /// Whether a function is what the table wants.
-fn fits_function(m: &Module, role: Role, function: Option<u32>) -> bool
+pub fn fits_function(m: &Module, role: Role, function: Option<u32>) -> bool
     ensures { result ≡ fits_function_of m.now role function }
 {
     match function {

@@ -5,7 +5,7 @@ use Rattle.std.proofs.lemmas.Bool.{and_parts}
 use Rattle.std.proofs.lemmas.Bool.Decides.{nat_tests}
 use Rattle.std.proofs.lemmas.Slice.Eq.{bytes_eq-Decides}
 use Rattle.clap.specs.Words.{App, Text, takes, matches_of, first_of}
-use Rattle.words.specs.Forms.{is_plain, names_script, is_digit, is_number, number_of, is_within, is_between, is_one, is_two, is_replay_config, is_serve_until, is_serve, is_check, is_generate, second, third, fourth}
+use Rattle.words.specs.Forms.{is_plain, names_script, is_digit, is_number, number_of, is_within, is_between, is_one, is_two, is_replay_config, is_serve_until, is_serve, is_check, is_generate, is_report, second, third, fourth}
 use Rattle.words.proofs.Apps.{one_app, two_app, replay_app, serve_app, one_value, one_takes, one_value_input, one_takes_input, two_takes, two_module, two_export, replay_takes, replay_takes_input, replay_config, replay_script, replay_config_input, replay_script_input, serve_takes, serve_config, serve_stop}
 
 not_true : (b : Bool) → not b ≡ true → b ≡ false
@@ -139,6 +139,12 @@ check_one [] h = cc
 check_one (a ∷ []) h = cc
 check_one (a ∷ c ∷ []) h = plain_names c (and_parts (bytes_eq a (codes "check")) (is_plain c) h).1
 check_one (a ∷ b ∷ c ∷ more) h = cc
+
+pub report_one : (ws : List Text) → is_report ws ≡ true → is_one ws ≡ true
+report_one [] h = cc
+report_one (a ∷ []) h = cc
+report_one (a ∷ m ∷ []) h = plain_names m (and_parts (bytes_eq a (codes "report")) (is_plain m) h).1
+report_one (a ∷ b ∷ c ∷ more) h = cc
 
 pub generate_one : (ws : List Text) → is_generate ws ≡ true → is_one ws ≡ true
 generate_one [] h = cc

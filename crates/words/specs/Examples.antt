@@ -1,6 +1,6 @@
 -- Worked examples: lists of words, and what they ask for.
 use Rattle.std.specs.Prelude.{◌≡◌, ℕ, List, [], ◌∷◌, Option, None, Some, codes}
-use Rattle.words.specs.Forms.{Command, replay, replay_config, serve, check, invoke, generate, form_of}
+use Rattle.words.specs.Forms.{Command, replay, replay_config, serve, check, invoke, generate, report, form_of}
 
 pub record WordExamples : Type 0 where
   pub nothing : form_of [] ≡ None
@@ -21,6 +21,9 @@ pub record WordExamples : Type 0 where
   pub signed : form_of (codes "invoke" ∷ codes "m" ∷ codes "f" ∷ codes "+1" ∷ []) ≡ None
   pub generated : form_of (codes "generate" ∷ codes "4294967295" ∷ []) ≡ Some (generate 4294967295)
   pub generated_too_much : form_of (codes "generate" ∷ codes "4294967296" ∷ []) ≡ None
+  pub reported : form_of (codes "report" ∷ codes "m" ∷ []) ≡ Some (report (codes "m"))
+  pub reported_input : form_of (codes "report" ∷ codes "-" ∷ []) ≡ None
+  pub reported_twice : form_of (codes "report" ∷ codes "m" ∷ codes "n" ∷ []) ≡ None
   pub help : form_of (codes "--help" ∷ []) ≡ None
   pub abbreviation : form_of (codes "rep" ∷ codes "s" ∷ []) ≡ None
   pub empty_word : form_of (codes "replay" ∷ [] ∷ []) ≡ None

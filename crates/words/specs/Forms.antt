@@ -50,6 +50,7 @@ pub data Command : Type 0 where
   check : (config : List ℕ) → Command
   invoke : (file export : List ℕ) (arguments : List (List ℕ)) → Command
   generate : ℕ → Command
+  report : (file : List ℕ) → Command
 
 -- ---- the forms, one by one
 
@@ -80,6 +81,10 @@ is_invoke _ = false
 abbrev pub is_generate : List (List ℕ) → Bool
 is_generate (a ∷ (n ∷ [])) = bytes_eq a (codes "generate") && is_between 0 4294967295 n
 is_generate _ = false
+
+abbrev pub is_report : List (List ℕ) → Bool
+is_report (a ∷ (m ∷ [])) = bytes_eq a (codes "report") && is_plain m
+is_report _ = false
 
 abbrev pub second : List (List ℕ) → List ℕ
 second (a ∷ (b ∷ more)) = b
@@ -114,7 +119,8 @@ is_two _ = false
 abbrev pub others_of : List (List ℕ) → Option Command
 others_of ws =
     if is_invoke ws then Some (invoke (second ws) (third ws) (behind_three ws))
-    else (if is_generate ws then option_map generate (number_of (second ws)) else None)
+    else (if is_generate ws then option_map generate (number_of (second ws))
+    else (if is_report ws then Some (report (second ws)) else None))
 
 -- THE COMMAND OF A LIST OF WORDS, and none where they are of no form
 abbrev pub form_of : List (List ℕ) → Option Command
@@ -134,3 +140,4 @@ seen (form.Serve config n) = serve config.now n
 seen (form.Check config) = check config.now
 seen (form.Invoke file export arguments) = invoke file.now export.now (map string_bytes arguments.now)
 seen (form.Generate n) = generate n
+seen (form.Report file) = report file.now

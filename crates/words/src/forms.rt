@@ -1,7 +1,7 @@
 // The plain definition of the forms, as tests.
 ghost use Rattle.std.specs.Prelude.{◌≡◌, map, string_bytes};
 ghost use Rattle.std.specs.List.{list_all};
-ghost use Rattle.words.specs.Forms.{is_plain, names_script, is_digit, is_number, number_of, is_between, are_plain, are_numbers, is_replay, is_replay_config, is_serve, is_serve_until, is_check, is_invoke, is_generate};
+ghost use Rattle.words.specs.Forms.{is_plain, names_script, is_digit, is_number, number_of, is_between, are_plain, are_numbers, is_replay, is_replay_config, is_serve, is_serve_until, is_check, is_invoke, is_generate, is_report};
 
 /// What a list of words asks for.
 #[derive(Drop)]
@@ -34,6 +34,10 @@ pub enum Form<'a> {
     /// `generate N`: runs the built-in load of this number.
     Generate {
         n: u32,
+    },
+    /// `report MODULE`: says what a module imports and exports.
+    Report {
+        module: &'a str,
     },
 }
 
@@ -222,6 +226,16 @@ pub(crate) fn is_generate(words: &[String]) -> bool
 {
     match words {
         [command, n] => command.as_str() == "generate" && is_between(0, u32::MAX, n.as_str()),
+        _ => false,
+    }
+}
+
+/// Whether the words are `report MODULE`.
+pub(crate) fn is_report(words: &[String]) -> bool
+    ensures { result ≡ is_report (map string_bytes words.now) }
+{
+    match words {
+        [command, module] => command.as_str() == "report" && is_plain(module.as_bytes()),
         _ => false,
     }
 }

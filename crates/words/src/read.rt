@@ -1,11 +1,11 @@
 // The forms, read by `clap`: one simple command for each of them.
 ghost use Rattle.std.specs.Prelude.{◌≡◌, ◌≢◌, true, false, IfOk, IfErr, Ok, Some, None, codes, map, option_map, string_bytes};
 ghost use Rattle.clap.specs.Words.{HasMatchesOf, first_value, found_of, kind_of, new_app, new_rule, rule_of, takes, with_rule};
-ghost use Rattle.words.specs.Forms.{is_replay, is_replay_config, is_serve, is_serve_until, is_check, is_invoke, is_generate, replay, replay_config, serve, check, invoke, generate, second, third, fourth, behind_two, behind_three, number_of, form_of, is_one, is_two, others_of, seen};
+ghost use Rattle.words.specs.Forms.{is_replay, is_replay_config, is_serve, is_serve_until, is_check, is_invoke, is_generate, is_report, replay, replay_config, serve, check, invoke, generate, report, second, third, fourth, behind_two, behind_three, number_of, form_of, is_one, is_two, others_of, seen};
 
 use crate::forms::{
-    Form, is_check, is_generate, is_invoke, is_replay, is_replay_config, is_serve, is_serve_until,
-    number_of,
+    Form, is_check, is_generate, is_invoke, is_replay, is_replay_config, is_report, is_serve,
+    is_serve_until, number_of,
 };
 use clap::error::ErrorKind;
 use clap::{Arg, ArgAction, ArgMatches, Command, Error};
@@ -45,6 +45,9 @@ fn read_others<'a>(alloc: Global, words: &'a [String]) -> Result<Option<Form<'a>
     }
     if is_generate(words) {
         return read_generate(alloc, words);
+    }
+    if is_report(words) {
+        return Ok(Some(read_report(alloc, words)?));
     }
     Ok(None)
 }
@@ -135,6 +138,16 @@ fn read_generate<'a>(alloc: Global, words: &'a [String]) -> Result<Option<Form<'
         Some(n) => Ok(Some(Form::Generate { n })),
         None => Ok(None),
     }
+}
+
+/// Reads `report MODULE`.
+fn read_report<'a>(alloc: Global, words: &'a [String]) -> Result<Form<'a>, OutOfMemory>
+    requires { is_report (map string_bytes words.now) ≡ true }
+    ensures { IfOk result (λ f. seen f ≡ report (second (map string_bytes words.entry.now))) }
+{
+    Ok(Form::Report {
+        module: read_one(alloc, "report", words)?,
+    })
 }
 
 /// What `clap` reads of `invoke MODULE EXPORT`.
