@@ -116,7 +116,7 @@ fn read_held(
     start: u64,
     most: u64,
 ) -> Result<Outcome, OutOfMemory>
-    ensures made { IfOk result (λ o. o ≡ read_in start most (option_copied body)) }
+    ensures made { IfOk result (λ o. o ≡ read_in start most (option_copied body.entry)) }
     ensures short { IfOk result (λ o. AreShort o.gives) }
 {
     match body {
@@ -171,7 +171,7 @@ fn get_bytes(
 
 /// How many bytes a body has, where it is there.
 fn body_size(body: Option<&Body>) -> Option<u32>
-    ensures { result ≡ option_map length_of (option_copied body) }
+    ensures { result ≡ option_map length_of (option_copied body.entry) }
 {
     match body {
         Some(body) => Some(body.len() as u32),

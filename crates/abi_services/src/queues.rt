@@ -369,6 +369,7 @@ impl AskingCall for ResolveSharedQueue {
             first,
             second,
             third: _,
+            fourth: _,
         } = inputs;
         resolve_named(alloc, contexts, shared, vm, first.as_slice(), second)
     }

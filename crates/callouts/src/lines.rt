@@ -1,6 +1,6 @@
 // Which lines are those of callouts.
-ghost use Rattle.std.specs.Prelude.{◌≡◌, option_copied};
-ghost use Rattle.callouts.specs.Callouts.{callout_at, callout_in, is_call_line, is_of_call, line_in};
+ghost use Rattle.std.specs.Prelude.{◌≡◌, Some, option_copied};
+ghost use Rattle.callouts.specs.Callouts.{callout_at, callout_in, is_call_line, line_in};
 
 use crate::types::Callout;
 use gate_base::LineNo;
@@ -27,13 +27,10 @@ pub fn line_in(what: &What) -> Option<LineNo>
 }
 
 /// Whether it is the line of a callout.
-pub fn is_of_call(line: Option<LineNo>) -> bool
-    ensures { result ≡ is_of_call line }
+pub fn is_call_line(line: LineNo) -> bool
+    ensures { result ≡ is_call_line line }
 {
-    match line {
-        None => false,
-        Some(line) => line.get() >= FIRST_LINE,
-    }
+    line.get() >= FIRST_LINE
 }
 
 /// The callout of an id.
@@ -44,11 +41,8 @@ fn callout_in(calls: &[Callout], id: u32) -> Option<&Callout>
 }
 
 /// The callout whose line it is.
-pub fn callout_at(calls: &[Callout], line: Option<LineNo>) -> Option<&Callout>
-    ensures { option_copied result ≡ callout_at line calls.now }
+pub fn callout_at(calls: &[Callout], line: LineNo) -> Option<&Callout>
+    ensures { option_copied result ≡ callout_at (Some line) calls.now }
 {
-    match line {
-        None => None,
-        Some(line) => callout_in(calls, line.get().saturating_sub(FIRST_LINE)),
-    }
+    callout_in(calls, line.get().saturating_sub(FIRST_LINE))
 }

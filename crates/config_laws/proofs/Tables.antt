@@ -318,4 +318,5 @@ gateway_says g ms h =
       workers = workers_is g (get_member workers.name ms) d.0;
       deadline_ms = deadline_is g (get_member deadline_ms.name ms) e.0;
       log_level = level_is g (get_member log_level.name ms) f.0;
+      tcp = refl;
     }

@@ -152,6 +152,7 @@ record SameGateway (g h : Given) : Type 0 where
   upstream : g.upstream ≡ h.upstream
   deadline_ms : g.deadline_ms ≡ h.deadline_ms
   log_level : g.log_level ≡ h.log_level
+  tcp : g.tcp ≡ h.tcp
 
 gateway_same : (g h : Given) (ms : Members) → GatewaySays g ms → GatewaySays h ms → SameGateway g h
 gateway_same g h ms p q = record {
@@ -160,6 +161,7 @@ gateway_same g h ms p q = record {
   upstream = text_or_same (codes "127.0.0.1:9000") g.upstream h.upstream (get_member (codes "upstream") ms) p.upstream q.upstream;
   deadline_ms = number_or_same 0 g.deadline_ms h.deadline_ms (get_member (codes "deadline_ms") ms) p.deadline_ms q.deadline_ms;
   log_level = level_same g.log_level h.log_level (text_or_same (codes "info") (level_word g.log_level) (level_word h.log_level) (get_member (codes "log_level") ms) p.log_level q.log_level);
+  tcp = p.tcp ∙ sym q.tcp;
 }
 
 found_same : (g h : Given) (o : Option Data) → TableOr (GatewaySays g) o → TableOr (GatewaySays h) o → SameGateway g h
@@ -188,4 +190,5 @@ one_configuration ms g h p q names =
       vms = vms i;
       plugins = plugins i;
       routes = routes i;
+      tcp = gateway.tcp i;
     })

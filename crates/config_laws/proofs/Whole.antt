@@ -48,7 +48,7 @@ of_found (Some d) g e = of_data d g e
 
 -- what `gateway` says stays so with the entries
 also_with : (a : Given) (vms : List VmEntry) (plugins : List PluginEntry) (routes : List RouteEntry) (ms : Members) → GatewaySays a ms → GatewaySays (record a { vms = vms; plugins = plugins; routes = routes }) ms
-also_with a vms plugins routes ms s = record { keys = s.keys; listen = s.listen; upstream = s.upstream; workers = s.workers; deadline_ms = s.deadline_ms; log_level = s.log_level }
+also_with a vms plugins routes ms s = record { keys = s.keys; listen = s.listen; upstream = s.upstream; workers = s.workers; deadline_ms = s.deadline_ms; log_level = s.log_level; tcp = s.tcp }
 
 also_found : (a : Given) (vms : List VmEntry) (plugins : List PluginEntry) (routes : List RouteEntry) (o : Option Data) → TableOr (GatewaySays a) o → TableOr (GatewaySays (record a { vms = vms; plugins = plugins; routes = routes })) o
 also_found a vms plugins routes None s = also_with a vms plugins routes no_members s

@@ -32,7 +32,7 @@ meant = record {
 pub record TextExample : Type 0 where
   pub whole : config_of text ≡ Ok meant
   -- a text without a byte has the defaults
-  pub empty : config_of [] ≡ Ok (record { workers = 1; listen = codes "127.0.0.1:8080"; upstream = codes "127.0.0.1:9000"; deadline_ms = 0; log_level = Info; vms = []; plugins = []; routes = [] })
+  pub empty : config_of [] ≡ Ok (record { workers = 1; listen = codes "127.0.0.1:8080"; upstream = codes "127.0.0.1:9000"; deadline_ms = 0; log_level = Info; vms = []; plugins = []; routes = []; tcp = [] })
 
 -- a text is refused with this number at this key
 abbrev pub Refuses : List ℕ → ℕ → List ℕ → Type 0

@@ -54,6 +54,8 @@ pub record GatewaySays (g : Given) (ms : Members) : Type 0 where
   pub workers : IsNumberOr 1 ms (codes "workers") g.workers
   pub deadline_ms : IsNumberOr 0 ms (codes "deadline_ms") g.deadline_ms
   pub log_level : IsTextOr (codes "info") ms (codes "log_level") (level_word g.log_level)
+  -- no key says that lines are streams of bytes
+  pub tcp : g.tcp ≡ []
 
 -- what is there is a table of which this holds; where nothing is, it holds of a table without keys
 abbrev pub TableOr : (Members → Type 0) → Option Data → Type 0

@@ -111,6 +111,7 @@ module _ (dead : DeadVmsAreSilent) (apart : CallbacksAreApart) (change : Callbac
   works_same plan (jobs.Done c) host room is = live_same c.vm callbacks.Done c.context 0 0 (done_with c) host room is
   works_same plan (jobs.Log c) host room is = tells_same c.vm callbacks.Log c.context 0 host room is
   works_same plan (jobs.Delete c) host room is = live_same c.vm callbacks.Delete c.context 0 0 (deletes c) host room is
+  works_same plan (jobs.Other step) host room is = refl
   works_same plan jobs.Expire host room is = refl
   works_same plan (jobs.Happen what) host room is = refl
   works_same plan (jobs.Enter number) host room is = refl

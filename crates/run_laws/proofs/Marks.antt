@@ -178,6 +178,7 @@ module _ {H : Type 0} (calling : Calling H) (n : ℕ) (none : AskNone calling n)
   works_still plan (jobs.Done c) host room is = live_still c.vm callbacks.Done c.context 0 0 (done_with c) (done_keeps IsUnasked unasked n Nobody c) host room is
   works_still plan (jobs.Log c) host room is = tells_still c.vm callbacks.Log c.context 0 host room is
   works_still plan (jobs.Delete c) host room is = live_still c.vm callbacks.Delete c.context 0 0 (deletes c) (deletes_keeps IsUnasked unasked n Nobody c) host room is
+  works_still plan (jobs.Other step) host room is = to_quietly IsUnasked unasked n Nobody (jobs.Other step) room is
   works_still plan jobs.Expire host room is = to_quietly IsUnasked unasked n Nobody jobs.Expire room is
   works_still plan (jobs.Happen what) host room is = to_quietly IsUnasked unasked n Nobody (jobs.Happen what) room is
   works_still plan (jobs.Enter number) host room is = to_quietly IsUnasked unasked n Nobody (jobs.Enter number) room is

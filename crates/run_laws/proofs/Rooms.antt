@@ -359,6 +359,7 @@ module _ (Has : ℕ → Contexts → Type 0) (closed : IsClosed Has) (m : ℕ) (
   to_line_ends (Some line) number stays room s = pick (Stands Has m D) line.is_gone _ _ s (pick (Stands Has m D) stays _ _ s s)
 
   pub to_quietly : (job : Job) (room : Room) → Stands Has m D room → Stands Has m D (quietly job room)
+  to_quietly (jobs.Other step) room s = s
   to_quietly (jobs.Begin vm) room s = s
   to_quietly (jobs.Root vm plugin first) room s = s
   to_quietly (jobs.Start vm root) room s = s

@@ -154,6 +154,7 @@ module _ (apart : CallbacksAreApart) (change : CallbacksChangeTheirOwn) (stay : 
   works_fine plan (jobs.Done c) host room is = live_fine c.vm callbacks.Done c.context 0 0 (done_with c) (λ D. done_keeps Counted counted m D c) host room is
   works_fine plan (jobs.Log c) host room is = tells_fine c.vm callbacks.Log c.context 0 host room is
   works_fine plan (jobs.Delete c) host room is = live_fine c.vm callbacks.Delete c.context 0 0 (deletes c) (λ D. deletes_keeps Counted counted m D c) host room is
+  works_fine plan (jobs.Other step) host room is = quiet_fine (jobs.Other step) host room is
   works_fine plan jobs.Expire host room is = quiet_fine jobs.Expire host room is
   works_fine plan (jobs.Happen what) host room is = quiet_fine (jobs.Happen what) host room is
   works_fine plan (jobs.Enter number) host room is = quiet_fine (jobs.Enter number) host room is

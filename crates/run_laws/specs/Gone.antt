@@ -52,6 +52,8 @@ with_one x = record {
   waits = [];
   dead = [];
   is_begun = true;
+  calls = [];
+  tcp = [];
 }
 
 abbrev pub GoneExamples : Type 0

@@ -109,6 +109,7 @@ module _ {H : Type 0} (calling : Calling H) (P : H → Type 0) (kept : KeptBy ca
   works_so plan (jobs.Done c) host room is = live_so c.vm callbacks.Done c.context 0 0 (done_with c) host room is
   works_so plan (jobs.Log c) host room is = live_so c.vm callbacks.Log c.context 0 0 nothing_more host room is
   works_so plan (jobs.Delete c) host room is = live_so c.vm callbacks.Delete c.context 0 0 (deletes c) host room is
+  works_so plan (jobs.Other step) host room is = is
   works_so plan jobs.Expire host room is = is
   works_so plan (jobs.Happen what) host room is = is
   works_so plan (jobs.Enter number) host room is = is

@@ -52,6 +52,8 @@ room_of h = record {
   waits = [];
   dead = [];
   is_begun = true;
+  calls = [];
+  tcp = [];
 }
 
 abbrev pub filter_of : (plugin vm : ℕ) → Filter

@@ -1,14 +1,15 @@
 // The parts of a turn, in order.
 ghost use Rattle.worker_model.specs.Plan.{plan_of};
 ghost use Rattle.std.specs.List.{list_any};
-ghost use Rattle.std.specs.Prelude.{◌≡◌, ◌≤◌, true, [], ◌∷◌, ◌++◌, length, OnOk, IfOk, slice_get};
-ghost use Rattle.worker_model.specs.Turn.{is_of, roots_from, start_of, starts_of, first_vms, vms_in, starts, is_due_now, ticks_in, ticks_of, ticks_due, deadlines, registers_at, notice_of, notices_of, happening, agenda_of};
+ghost use Rattle.std.specs.Prelude.{◌≡◌, ◌≤◌, true, [], ◌∷◌, ◌++◌, length, OnOk, IfOk, Some, slice_get};
+ghost use Rattle.worker_model.specs.Turn.{is_of, roots_from, start_of, starts_of, first_vms, vms_in, starts, is_due_now, ticks_in, ticks_of, ticks_due, deadlines, registers_at, notice_of, notices_of, comes_if, happening, agenda_of};
+ghost use Rattle.callouts.specs.Callouts.{callout_at};
 ghost use Rattle.contexts.specs.Reached.{vm_in};
 ghost use Rattle.worker_model.specs.Steps.{is_due_tick};
 
-use callouts::{CallStep, callout_at, is_of_call, line_in};
+use callouts::{CallStep, callout_at, is_call_line, line_in};
 use contexts::{Context, Contexts, Plugin, Tick};
-use gate_base::{OutOfMemory, VmNo};
+use gate_base::{LineNo, OutOfMemory, VmNo};
 use gate_io::What;
 use queue::Queue;
 use std::alloc::Global;
@@ -194,22 +195,34 @@ fn parts_before(alloc: Global, rules: &Rules, room: &Room) -> Result<Queue<Job>,
     Ok(jobs)
 }
 
+/// What comes of the line of a callout, if one is under way there.
+fn push_coming(
+    jobs: &mut Queue<Job>,
+    line: LineNo,
+    what: What,
+    room: &Room,
+) -> Result<(), OutOfMemory>
+    ensures { OnOk result (jobs.new ≡ jobs.old ++ comes_if (callout_at (Some line) room.now.calls) what) }
+{
+    match callout_at(room.calls.as_slice(), line) {
+        None => Ok(()),
+        Some(_) => {
+            let step = CallStep::Comes { what };
+            jobs.push(Job::Other {
+                step: OtherStep::Call { step },
+            })
+        }
+    }
+}
+
 /// The event, if it is of the lines or of a callout under way.
 fn push_event(jobs: &mut Queue<Job>, what: What, room: &Room) -> Result<(), OutOfMemory>
     ensures { OnOk result (jobs.new ≡ jobs.old ++ happening what room.now) }
 {
-    let line = line_in(&what);
-    if !is_of_call(line) {
-        return jobs.push(Job::Happen { what });
+    match line_in(&what) {
+        Some(line) if is_call_line(line) => push_coming(jobs, line, what, room),
+        _ => jobs.push(Job::Happen { what }),
     }
-    if let Some(_) = callout_at(room.calls.as_slice(), line) {
-        jobs.push(Job::Other {
-            step: OtherStep::Call {
-                step: CallStep::Comes { what },
-            },
-        })?;
-    }
-    Ok(())
 }
 
 /// The parts of a turn, in order.
