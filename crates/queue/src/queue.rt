@@ -74,14 +74,20 @@ impl<M> Queue<M> {
         Ok(())
     }
 
-    /// A member stands in the place of all others, in the memory that they had.
+    /// A member stands in the place of all others, in the memory that they had: so it is refused only where there are none.
     pub fn restart(&mut self, member: M) -> Result<(), OutOfMemory>
     where
         M: Drop,
-        ensures { OnOk result (self.new ≡ member ∷ []) }
+        ensures ok { OnOk result (self.new ≡ member ∷ []) }
+        ensures err { OnErr result (self.new ≡ self.old) }
+        ensures sure { OnErr result (self.old ≡ []) }
     {
-        self.items.clear();
-        self.items.push(member)?;
+        if self.items.is_empty() {
+            self.items.push(member)?;
+        } else {
+            self.items.truncate(1);
+            self.items[0] = member;
+        }
         Ok(())
     }
 
