@@ -1,6 +1,6 @@
 """The program where memory is refused, one allocation in turn, or one and all later ones.
 
-python3 memory.py PROGRAM SHIM [--all]: SHIM is refuse.c as a library. A row is a command. It runs once with no allocation refused, which gives the whole
+python3 memory.py PROGRAM SHIM [--all] [--only TEXT]: SHIM is refuse.c as a library. A row is a command; with --only those alone whose names have TEXT. It runs once with no allocation refused, which gives the whole
 answer and how many allocations it asks for, and then once for each of them that is refused (of many: for some, unless --all is given). Then
 either the run ends with status 8 and the line `wasmgate: memory`, and what it wrote is a front of the whole, or what it wrote is the whole. Past the last
 allocation it is the whole. No run takes longer than PATIENCE.
@@ -21,6 +21,7 @@ import time
 
 PROGRAM, SHIM = (os.path.abspath(it) for it in sys.argv[1:3])
 ALL = "--all" in sys.argv[3:]
+ONLY = sys.argv[sys.argv.index("--only") + 1] if "--only" in sys.argv[3:-1] else ""
 HERE = os.path.dirname(os.path.abspath(__file__))
 CASES = os.path.join(os.path.dirname(HERE), "cases")
 FILTERS = os.path.join(os.path.dirname(os.path.dirname(HERE)), "examples", "filters")
@@ -189,6 +190,8 @@ harmless = 0
 def judge(name, once, judged, numbers):
     """Tries a row: each of these allocations refused alone, and that and all later ones."""
     global passed, harmless
+    if ONLY not in name:
+        return 0
     whole, asked = once(0, False)
     if whole is None:
         failed.append(f"{name}: it does not end")
