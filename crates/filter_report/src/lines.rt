@@ -1,6 +1,7 @@
 // The lines of a report.
 ghost use Rattle.std.specs.Prelude.{◌≡◌, ◌++◌, ◌∷◌, [], OnOk, map, slice_get};
 ghost use Rattle.wasm_syntax.specs.Validity.{functions_of};
+ghost use Rattle.hex.specs.Hex.{encode_lower};
 ghost use Rattle.std.specs.Option.{option_copied};
 ghost use Rattle.vm_host.specs.Fits.{type_in};
 ghost use Rattle.filter_report.specs.Report.{hex_name, letter, letters, typed_func, func_kind, import_kind, export_kind, import_line, export_line, has_callback, callback_line};
@@ -70,10 +71,17 @@ pub(crate) fn put_callback(out: &mut Octets, m: &Module, role: Role) -> Result<(
 fn put_hex(alloc: Global, out: &mut Octets, name: &[u8]) -> Result<(), OutOfMemory>
     ensures { OnOk result (out.new ≡ out.old ++ hex_name name.now) }
 {
-    if name.is_empty() {
-        return out.push(b'-');
+    match name {
+        [] => out.push(b'-'),
+        [_, ..] => put_digits(alloc, out, name),
     }
-    let digits = hex::encode(alloc, name)?;
+}
+
+/// Puts the digits of bytes at the end.
+fn put_digits(alloc: Global, out: &mut Octets, bytes: &[u8]) -> Result<(), OutOfMemory>
+    ensures { OnOk result (out.new ≡ out.old ++ encode_lower bytes.now) }
+{
+    let digits = hex::encode(alloc, bytes)?;
     out.extend_from_slice(digits.as_bytes())
 }
 
@@ -141,10 +149,10 @@ fn letter(t: ValueType) -> u8
 fn put_letters(out: &mut Octets, types: &[ValueType]) -> Result<(), OutOfMemory>
     ensures { OnOk result (out.new ≡ out.old ++ letters types.now) }
 {
-    if types.is_empty() {
-        return out.push(b'-');
+    match types {
+        [] => out.push(b'-'),
+        [_, ..] => put_each(out, types),
     }
-    put_each(out, types)
 }
 
 /// Puts the letter of each type at the end.
