@@ -9,8 +9,9 @@ ghost use Rattle.abi_calls.specs.Hosting.{hosting, HostedEnds};
 use abi_maps::{
     proxy_add_header_map_value, proxy_close_stream, proxy_continue_stream, proxy_get_buffer_bytes,
     proxy_get_buffer_status, proxy_get_header_map_pairs, proxy_get_header_map_size,
-    proxy_get_header_map_value, proxy_remove_header_map_value, proxy_replace_header_map_value,
-    proxy_send_local_response, proxy_set_buffer_bytes, proxy_set_header_map_pairs,
+    proxy_get_header_map_value, proxy_http_call, proxy_remove_header_map_value,
+    proxy_replace_header_map_value, proxy_send_local_response, proxy_set_buffer_bytes,
+    proxy_set_header_map_pairs,
 };
 use abi_model::{HostCall, HostEnd};
 use abi_services::{
@@ -78,6 +79,7 @@ pub fn host_call<G: Guest, S: Shared>(
         HostCall::ContinueStream => proxy_continue_stream(alloc, guest, contexts, vm, args),
         HostCall::CloseStream => proxy_close_stream(alloc, guest, contexts, vm, args),
         HostCall::SendLocalResponse => proxy_send_local_response(alloc, guest, contexts, vm, args),
+        HostCall::HttpCall => proxy_http_call(alloc, guest, contexts, vm, args),
         HostCall::GetSharedData => proxy_get_shared_data(alloc, guest, contexts, shared, vm, args),
         HostCall::SetSharedData => proxy_set_shared_data(alloc, guest, contexts, shared, vm, args),
         HostCall::RegisterSharedQueue => proxy_register_shared_queue(

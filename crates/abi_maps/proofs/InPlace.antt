@@ -17,7 +17,7 @@ use Rattle.contexts.specs.Reached.{no_changes, vm_in, no_vm, context_in, exchang
 use Rattle.contexts.proofs.Places.{none_is, from_some, nothing_behind, set_same}
 use Rattle.abi_model.specs.Calls.{Made, answers}
 use Rattle.abi_model.specs.declared.ends.Outcome.{Outcome}
-use Rattle.abi_maps.specs.Maps.{map_at, map_in, there, with_map, without_map, IsTold, unless, on_map, mapped, changing_map}
+use Rattle.abi_maps.specs.Maps.{map_at, map_in, there, with_map, without_map, IsTold, unless, on_map, mapped, no_change, changing_map}
 
 -- ---- an exchange whose view is put in as it was, and contexts of which nothing is changed
 
@@ -105,15 +105,15 @@ gone_by false false false false m is = refl
 
 -- ---- what each call sees of the map
 
-abbrev by_view : ℕ → Option ExchangeView → Bool → (Headers → Result Headers ℕ) → Made
-by_view n e b g = mapped n e (on_map (if b then Err 2 else there (map_in n e)) g)
+abbrev by_view : (none n : ℕ) → Option ExchangeView → Bool → (Headers → Result Headers ℕ) → Made
+by_view none n e b g = if b then answers none else mapped n e (on_map (there (map_in n e)) g)
 
-module _ (h : Contexts) (vm n : ℕ) (g : Headers → Result Headers ℕ) (within : vm < length h.vms) (bound : n ≤ 7) (v : ExchangeView) (is : (seen h vm).reach.exchange ≡ Some v) where
+module _ (h : Contexts) (vm n : ℕ) (g : Headers → Result Headers ℕ) (within : vm < length h.vms) (bound : n ≤ 5) (v : ExchangeView) (is : (seen h vm).reach.exchange ≡ Some v) where
   abbrev with_maps : Maps → Contexts
   with_maps m = put (record no_changes { exchange = Some (record v { maps = m }) }) vm h
 
   viewed : changing_map n g (seen h vm) ≡ mapped n (Some v) (on_map (there (map_at n v.maps)) g)
-  viewed = λ j. by_view n (is j) (le-ltb 7 n bound j) g
+  viewed = λ j. by_view (no_change n (seen h vm)) n (is j) (le-ltb 5 n bound j) g
 
   -- the map is not there
   absent : map_at n v.maps ≡ None → changing_map n g (seen h vm) ≡ answers 1

@@ -48,13 +48,13 @@ abbrev pub answer_bytes : Option OwnParts → Option (List ℕ)
 answer_bytes None = None
 answer_bytes (Some o) = answer_in o.answer
 
--- the answer of a callout, and the configurations
+-- the configurations
 abbrev pub configuration_at : ℕ → Reach → Option (List ℕ)
-configuration_at n r = cond (n == 4) (answer_bytes r.own) (cond (n == 6) (vm_bytes r.vm_configuration r.own) (cond (n == 7) (plugin_bytes r.plugin) None))
+configuration_at n r = cond (n == 6) (vm_bytes r.vm_configuration r.own) (cond (n == 7) (plugin_bytes r.plugin) None)
 
 -- what the buffer of a number holds, where it is there
 abbrev pub held_at : ℕ → Reach → Option (List ℕ)
-held_at n r = if nat_lt 1 n then configuration_at n r else body_at n r.own
+held_at n r = if n == 4 then answer_bytes r.own else if nat_lt 1 n then configuration_at n r else body_at n r.own
 
 abbrev pub request_end : Option OwnParts → Bool
 request_end None = false
@@ -156,16 +156,16 @@ setting_bytes n start size bytes s = buffered n s.reach.own (held_after n start 
 abbrev pub stream_buffer : ℕ → ℕ
 stream_buffer n = cond (n == 2) 0 (cond (n == 3) 1 (cond (nat_lt n 2) 5 n))
 
-abbrev pub buffer_no : Seen → ℕ → ℕ
-buffer_no s n = if s.common.is_tcp then stream_buffer n else n
+abbrev pub buffer_no : (is_tcp : Bool) → ℕ → ℕ
+buffer_no is_tcp n = if is_tcp then stream_buffer n else n
 
 -- ---- the calls
 
 abbrev pub own_get_buffer_bytes : Own
-own_get_buffer_bytes args inputs s = reads (getting_bytes (buffer_no s (arg args 0)) (arg args 1) (arg args 2) s)
+own_get_buffer_bytes args inputs s = reads (getting_bytes (buffer_no s.common.is_tcp (arg args 0)) (arg args 1) (arg args 2) s)
 
 abbrev pub own_get_buffer_status : Own
-own_get_buffer_status args inputs s = reads (getting_status (buffer_no s (arg args 0)) s)
+own_get_buffer_status args inputs s = reads (getting_status (buffer_no s.common.is_tcp (arg args 0)) s)
 
 abbrev pub own_set_buffer_bytes : Own
-own_set_buffer_bytes args inputs s = setting_bytes (buffer_no s (arg args 0)) (arg args 1) (arg args 2) inputs.first s
+own_set_buffer_bytes args inputs s = setting_bytes (buffer_no s.common.is_tcp (arg args 0)) (arg args 1) (arg args 2) inputs.first s

@@ -1,6 +1,6 @@
--- The calls on maps: 0 and 2 are the request and response fields of the effective context's exchange, 1 and 3 their trailers. 4 to
--- 7 are not there.
-use Rattle.std.specs.Prelude.{◌≡◌, ℕ, ◌==◌, ◌&&◌, not, is_some, cond, nat_lt, List, Option, None, Some, Result, Ok, Err, if◌then◌else◌}
+-- The calls on maps: 0 and 2 are the request and response fields of the effective context's exchange, 1 and 3 their trailers. 6 and 7 are
+-- the fields and the trailers of what came back for a callout, while that is told. 4 and 5 are not there.
+use Rattle.std.specs.Prelude.{◌≡◌, ℕ, ◌==◌, ◌||◌, is_some, cond, nat_lt, List, Option, None, Some, Result, Ok, Err, if◌then◌else◌}
 use Rattle.header_maps.specs.declared.end.HeaderEnd.{HeaderEnd}
 use Rattle.header_maps.specs.declared.end.HeaderEnd.TheVariants.{BadName, BadValue, TooMany, OutOfMemory}
 use Rattle.header_maps.specs.Headers.{Headers}
@@ -117,8 +117,12 @@ removed_from name l = unless (remove_fault name) (removed l name)
 abbrev pub set_from : List ℕ → Headers → Result Headers ℕ
 set_from bytes l = set_by (pairs_in bytes) l
 
+-- the status of a change of a map that is none of an exchange: the maps of an answer are read alone
+abbrev pub no_change : ℕ → Seen → ℕ
+no_change n s = if nat_lt 7 n || is_some (answer_map n s.reach.own) then 2 else 1
+
 abbrev pub changing_map : ℕ → (Headers → Result Headers ℕ) → Seen → Made
-changing_map n f s = if nat_lt 5 n && (not (nat_lt 7 n) && is_some (answer_map n s.reach.own)) then answers 2 else mapped n s.reach.exchange (on_map (map_for n s) f)
+changing_map n f s = if nat_lt 5 n then answers (no_change n s) else mapped n s.reach.exchange (on_map (there (map_in n s.reach.exchange)) f)
 
 -- ---- the calls
 

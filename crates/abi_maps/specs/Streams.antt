@@ -12,8 +12,9 @@ use Rattle.contexts.specs.declared.parts.What.{What}
 use Rattle.contexts.specs.declared.parts.What.TheVariants as what
 use Rattle.contexts.specs.declared.parts.Contexts.{Contexts}
 use Rattle.contexts.specs.Reached.{Seen, Changes, no_changes, seen, put}
-use Rattle.abi_model.specs.Calls.{Made, Own, answers, changing}
+use Rattle.abi_model.specs.Calls.{Made, Own, answers, changing, reads, only}
 use Rattle.abi_model.specs.Table.{arg}
+use Rattle.abi_model.specs.declared.ends.Outcome.{Outcome}
 use Rattle.abi_maps.specs.Maps.{unless}
 
 -- one more effect of the effective context
@@ -36,8 +37,8 @@ is_stream s = if s.common.is_tcp then is_other s.common.effective s.reach.root e
 abbrev pub swapped : ℕ → ℕ
 swapped n = if nat_lt n 2 then n + 2 else if nat_lt n 4 then n - 2 else n
 
-abbrev pub stream_no : Seen → ℕ → ℕ
-stream_no s n = if s.common.is_tcp then swapped n else n
+abbrev pub stream_no : (is_tcp : Bool) → ℕ → ℕ
+stream_no is_tcp n = if is_tcp then swapped n else n
 
 -- the streams 0 and 1 are the request and the response; 2 and 3 are of TCP connections
 abbrev pub continuing : ℕ → Seen → Made
@@ -86,25 +87,25 @@ answering_in status body headers None s = answers 2
 answering_in status body headers (Some v) s = if is_too_late v then answers 2 else answering_with status body (fields_from headers) v s
 
 -- where the lines are streams of bytes there is none, once its values were judged
-abbrev pub judging : List ℕ → Result Headers ℕ → Made
-judging body (Err n) = answers n
-judging body (Ok fields) = if nat_lt body_limit (length body) then answers 10 else answers 12
+abbrev pub judged : List ℕ → Result Headers ℕ → Outcome
+judged body (Err n) = only n
+judged body (Ok fields) = if nat_lt body_limit (length body) then only 10 else only 12
 
-abbrev pub answering_stream : (body headers : List ℕ) → Seen → Made
-answering_stream body headers s = if is_stream s then judging body (fields_from headers) else answers 2
+abbrev pub refusing : (body headers : List ℕ) → Seen → Outcome
+refusing body headers s = if is_stream s then judged body (fields_from headers) else only 2
 
 abbrev pub answering : (status : ℕ) → (body headers : List ℕ) → Seen → Made
 answering status body headers s =
     if nat_lt status 200 || nat_lt 599 status then answers 2
-    else if s.common.is_tcp then answering_stream body headers s else answering_in status body headers s.reach.exchange s
+    else if s.common.is_tcp then reads (refusing body headers s) else answering_in status body headers s.reach.exchange s
 
 -- ---- the calls
 
 abbrev pub own_continue_stream : Own
-own_continue_stream args inputs s = continuing (stream_no s (arg args 0)) s
+own_continue_stream args inputs s = continuing (stream_no s.common.is_tcp (arg args 0)) s
 
 abbrev pub own_close_stream : Own
-own_close_stream args inputs s = closing (stream_no s (arg args 0)) s
+own_close_stream args inputs s = closing (stream_no s.common.is_tcp (arg args 0)) s
 
 -- the first bytes, its details, are not used
 abbrev pub own_send_local_response : Own

@@ -7,7 +7,7 @@ ghost use Rattle.abi_model.specs.Table.{Are, row_of};
 ghost use Rattle.abi_model.specs.declared.table.HostCall.TheVariants as call;
 ghost use Rattle.body_buffers.specs.declared.end.BodyEnd.TheVariants as body_end;
 ghost use Rattle.std.specs.Option.{option_map};
-ghost use Rattle.abi_maps.specs.Buffers.{staged as staged_of, body_at as body_at_of, configuration_at as configuration_at_of, held_at, has_end_at, part_read, length_of, getting_bytes, getting_status, buffer_put, IsOverIn, setting_bytes, own_get_buffer_bytes, own_get_buffer_status, own_set_buffer_bytes};
+ghost use Rattle.abi_maps.specs.Buffers.{staged as staged_of, body_at as body_at_of, answer_bytes, configuration_at as configuration_at_of, held_at, has_end_at, part_read, read_in, length_of, getting_bytes, getting_status, buffer_put, IsOverIn, is_kept as is_kept_of, setting_bytes, stream_buffer as stream_buffer_of, buffer_no as buffer_no_of, own_get_buffer_bytes, own_get_buffer_status, own_set_buffer_bytes};
 
 use crate::reached::{plugin, vm_configuration};
 use abi_model::{
@@ -46,6 +46,20 @@ fn body_at(contexts: &Contexts, vm: VmNo, number: u64) -> Option<&Body>
         staged(&own.request)
     } else {
         staged(&own.response)
+    }
+}
+
+/// What came back for a callout, while that is told.
+fn answer_body(contexts: &Contexts, vm: VmNo) -> Option<&Body>
+    requires { vm < length contexts.now.vms }
+    ensures { option_copied result ≡ answer_bytes (seen contexts.now vm).reach.own }
+{
+    let Some(own) = contexts.own(vm) else {
+        return None;
+    };
+    match &own.answer {
+        Some(answer) => Some(&answer.body),
+        None => None,
     }
 }
 
@@ -95,6 +109,22 @@ fn read_body(alloc: Global, body: &Body, start: u64, most: u64) -> Result<Outcom
     Ok(given(Gives::Bytes { bytes }))
 }
 
+/// A part of a body, where it is there.
+fn read_held(
+    alloc: Global,
+    body: Option<&Body>,
+    start: u64,
+    most: u64,
+) -> Result<Outcome, OutOfMemory>
+    ensures made { IfOk result (λ o. o ≡ read_in start most (option_copied body)) }
+    ensures short { IfOk result (λ o. AreShort o.gives) }
+{
+    match body {
+        Some(body) => read_body(alloc, body, start, most),
+        None => Ok(answer(1)),
+    }
+}
+
 /// A part of a configuration.
 fn read_slice(alloc: Global, held: &[u8], start: u64, most: u64) -> Result<Outcome, OutOfMemory>
     requires { most < 2 ^ 32 }
@@ -127,15 +157,25 @@ fn get_bytes(
     if number > 8 {
         return Ok(answer(2));
     }
+    if number == 4 {
+        return read_held(alloc, answer_body(contexts, vm), start, most);
+    }
     if number > 1 {
         return match configuration_at(contexts, vm, number) {
             Some(held) => read_slice(alloc, held, start, most),
             None => Ok(answer(1)),
         };
     }
-    match body_at(contexts, vm, number) {
-        Some(body) => read_body(alloc, body, start, most),
-        None => Ok(answer(1)),
+    read_held(alloc, body_at(contexts, vm, number), start, most)
+}
+
+/// How many bytes a body has, where it is there.
+fn body_size(body: Option<&Body>) -> Option<u32>
+    ensures { result ≡ option_map length_of (option_copied body) }
+{
+    match body {
+        Some(body) => Some(body.len() as u32),
+        None => None,
     }
 }
 
@@ -144,17 +184,16 @@ fn size_of(contexts: &Contexts, vm: VmNo, number: u64) -> Option<u32>
     requires { vm < length contexts.now.vms }
     ensures { result ≡ option_map length_of (held_at number (seen contexts.now vm).reach) }
 {
+    if number == 4 {
+        return body_size(answer_body(contexts, vm));
+    }
     if number > 1 {
-        match configuration_at(contexts, vm, number) {
+        return match configuration_at(contexts, vm, number) {
             Some(held) => Some(held.len() as u32),
             None => None,
-        }
-    } else {
-        match body_at(contexts, vm, number) {
-            Some(body) => Some(body.len() as u32),
-            None => None,
-        }
+        };
     }
+    body_size(body_at(contexts, vm, number))
 }
 
 /// The size of a buffer, and whether the end is with it.
@@ -202,6 +241,36 @@ fn splice(
     }
 }
 
+/// Whether there is no such buffer, or one that is always read alone.
+fn is_kept(number: u64) -> bool
+    ensures { result ≡ is_kept_of number }
+{
+    number > 8 || number == 6 || number == 7
+}
+
+/// The number here of a buffer of a stream of bytes, whose stage's buffers are 2 and 3; 5 is never there.
+fn stream_buffer(number: u64) -> u64
+    ensures { result ≡ stream_buffer_of number }
+{
+    match number {
+        2 => 0,
+        3 => 1,
+        0 | 1 => 5,
+        _ => number,
+    }
+}
+
+/// The number here of a buffer.
+fn buffer_no(is_tcp: bool, number: u64) -> u64
+    ensures { result ≡ buffer_no_of is_tcp number }
+{
+    if is_tcp {
+        stream_buffer(number)
+    } else {
+        number
+    }
+}
+
 /// Puts bytes in place of some of a buffer.
 fn set_bytes(
     alloc: Global,
@@ -218,7 +287,7 @@ fn set_bytes(
     ensures changes { IfOk result (λ _. contexts.new ≡ put (setting_bytes number start size bytes.now (seen contexts.old vm)).changes vm contexts.old) }
     ensures err { OnErr result (contexts.new ≡ contexts.old) }
 {
-    if number > 8 || number == 6 || number == 7 {
+    if is_kept(number) || (number == 4 && answer_body(contexts, vm).is_some()) {
         return Ok(answer(2));
     }
     if number > 1 || body_at(contexts, vm, number).is_none() {
@@ -251,7 +320,8 @@ impl LocalCall for GetBufferBytes {
         args: &[u64],
         inputs: &Inputs,
     ) -> Result<Outcome, OutOfMemory> {
-        let outcome = get_bytes(alloc, contexts, vm, args[0], args[1], args[2])?;
+        let number = buffer_no(contexts.is_tcp, args[0]);
+        let outcome = get_bytes(alloc, contexts, vm, number, args[1], args[2])?;
         Ok(outcome)
     }
 }
@@ -295,7 +365,7 @@ impl LocalCall for GetBufferStatus {
         args: &[u64],
         inputs: &Inputs,
     ) -> Result<Outcome, OutOfMemory> {
-        Ok(get_status(contexts, vm, args[0]))
+        Ok(get_status(contexts, vm, buffer_no(contexts.is_tcp, args[0])))
     }
 }
 
@@ -337,11 +407,12 @@ impl LocalCall for SetBufferBytes {
         args: &[u64],
         inputs: &Inputs,
     ) -> Result<Outcome, OutOfMemory> {
+        let number = buffer_no(contexts.is_tcp, args[0]);
         set_bytes(
             alloc,
             contexts,
             vm,
-            args[0],
+            number,
             args[1],
             args[2],
             inputs.first.as_slice(),

@@ -2,14 +2,14 @@
 ghost use Rattle.std.specs.Prelude.{◌≡◌, ◌≤◌, ◌<◌, length, IfOk, OnErr, IsErr};
 ghost use Rattle.abi_types.specs.GuestAt.{Keeps, StillWaits};
 ghost use Rattle.contexts.specs.Reached.{seen, put};
-ghost use Rattle.abi_model.specs.Calls.{does, told, Ends, RestsAfterCall, AreShort};
+ghost use Rattle.abi_model.specs.Calls.{does, told, only, Ends, RestsAfterCall, AreShort};
 ghost use Rattle.abi_model.specs.Table.{Are, row_of};
 ghost use Rattle.abi_model.specs.declared.table.HostCall.TheVariants as call;
 ghost use Rattle.header_maps.specs.Kept.{byte_limit};
-ghost use Rattle.abi_maps.specs.Maps.{map_at, map_for as map_for_of, with_map, without_map, IsTold, on_map, mapped, added_to, replaced_in, removed_from, set_from, changing_map, own_add_header_map_value, own_replace_header_map_value, own_remove_header_map_value, own_set_header_map_pairs};
+ghost use Rattle.abi_maps.specs.Maps.{map_at, map_in, there, no_change as no_change_of, with_map, without_map, IsTold, on_map, mapped, added_to, replaced_in, removed_from, set_from, changing_map, own_add_header_map_value, own_replace_header_map_value, own_remove_header_map_value, own_set_header_map_pairs};
 
 use crate::given::set;
-use crate::maps::map_for;
+use crate::maps::{answer_map, exchange_map};
 use abi_model::{
     HostCall, HostEnd, Inputs, LocalCall, Outcome, Param, answer, call_row, local_call,
 };
@@ -30,6 +30,18 @@ fn ended(end: Result<(), HeaderEnd>) -> Result<Outcome, OutOfMemory>
         Err(HeaderEnd::BadName | HeaderEnd::BadValue) => Ok(answer(2)),
         Err(HeaderEnd::TooMany) => Ok(answer(10)),
         Err(HeaderEnd::OutOfMemory) => Err(AllocError),
+    }
+}
+
+/// The status of a change of a map that is none of an exchange: the maps of an answer are read alone.
+fn no_change(contexts: &Contexts, vm: VmNo, number: u64) -> Outcome
+    requires { vm < length contexts.now.vms }
+    ensures { result ≡ only (no_change_of number (seen contexts.now vm)) }
+{
+    if number > 7 || answer_map(contexts, vm, number).is_some() {
+        answer(2)
+    } else {
+        answer(1)
     }
 }
 
@@ -92,8 +104,8 @@ fn add_in(
     ensures changes { IfOk result (λ _. contexts.new ≡ put (changing_map number (added_to name.now value.now) (seen contexts.old vm)).changes vm contexts.old) }
     ensures err { OnErr result (contexts.new ≡ contexts.old) }
 {
-    if number > 7 {
-        return Ok(answer(2));
+    if number > 5 {
+        return Ok(no_change(contexts, vm, number));
     }
     let Some(exchange) = contexts.exchange_mut(vm) else {
         return Ok(answer(1));
@@ -122,8 +134,8 @@ fn replace_in(
     ensures changes { IfOk result (λ _. contexts.new ≡ put (changing_map number (replaced_in name.now value.now) (seen contexts.old vm)).changes vm contexts.old) }
     ensures err { OnErr result (contexts.new ≡ contexts.old) }
 {
-    if number > 7 {
-        return Ok(answer(2));
+    if number > 5 {
+        return Ok(no_change(contexts, vm, number));
     }
     let Some(exchange) = contexts.exchange_mut(vm) else {
         return Ok(answer(1));
@@ -149,8 +161,8 @@ fn remove_in(
     ensures changes { IfOk result (λ _. contexts.new ≡ put (changing_map number (removed_from name.now) (seen contexts.old vm)).changes vm contexts.old) }
     ensures err { OnErr result (contexts.new ≡ contexts.old) }
 {
-    if number > 7 {
-        return Ok(answer(2));
+    if number > 5 {
+        return Ok(no_change(contexts, vm, number));
     }
     let Some(exchange) = contexts.exchange_mut(vm) else {
         return Ok(answer(1));
@@ -173,11 +185,11 @@ fn set_in(
 ) -> Result<Result<HeaderList, u32>, OutOfMemory>
     requires vm { vm < length contexts.now.vms }
     requires bytes { length bytes.now ≤ byte_limit }
-    ensures { IfOk result (λ r. r ≡ on_map (map_for_of number (seen contexts.now vm)) (set_from bytes.now)) }
+    ensures { IfOk result (λ r. r ≡ on_map (there (map_in number (seen contexts.now vm).reach.exchange)) (set_from bytes.now)) }
 {
-    match map_for(contexts, vm, number) {
-        Err(status) => Ok(Err(status)),
-        Ok(list) => set(alloc, list, bytes),
+    match exchange_map(contexts, vm, number) {
+        None => Ok(Err(1)),
+        Some(list) => set(alloc, list, bytes),
     }
 }
 
@@ -201,6 +213,9 @@ impl LocalCall for SetHeaderMapPairs {
         args: &[u64],
         inputs: &Inputs,
     ) -> Result<Outcome, OutOfMemory> {
+        if args[0] > 5 {
+            return Ok(no_change(contexts, vm, args[0]));
+        }
         let list = set_in(alloc, contexts, vm, args[0], inputs.first.as_slice())?;
         Ok(put_map(contexts, vm, args[0], list))
     }

@@ -7,7 +7,7 @@ ghost use Rattle.abi_model.specs.Reading.{bytes_given, Measures};
 ghost use Rattle.abi_model.specs.Table.{Are, arg, row_of};
 ghost use Rattle.abi_model.specs.declared.table.HostCall.TheVariants as call;
 ghost use Rattle.pair_codec.specs.Serialised.{pairs_bytes};
-ghost use Rattle.abi_maps.specs.Maps.{map_at as map_at_of, map_for as map_for_of, value_in, pairs_as, size_as, own_get_header_map_value, own_get_header_map_pairs, own_get_header_map_size};
+ghost use Rattle.abi_maps.specs.Maps.{map_at as map_at_of, map_in as map_in_of, answer_map as answer_map_of, map_for as map_for_of, value_in, pairs_as, size_as, own_get_header_map_value, own_get_header_map_pairs, own_get_header_map_size};
 
 use abi_model::{
     Gives, GivingCall, HostCall, HostEnd, Inputs, LocalCall, Outcome, Param, answer, call_row,
@@ -33,18 +33,52 @@ fn map_at(maps: &Maps, number: u64) -> Option<&HeaderList>
     }
 }
 
-/// The map of a number of the effective context's exchange, or the status why it is none.
-pub(crate) fn map_for(contexts: &Contexts, vm: VmNo, number: u64) -> Result<&HeaderList, u32>
+/// The map of a number of the effective context's exchange, where it is there.
+pub(crate) fn exchange_map(contexts: &Contexts, vm: VmNo, number: u64) -> Option<&HeaderList>
+    requires { vm < length contexts.now.vms }
+    ensures { option_copied result ≡ map_in_of number (seen contexts.now vm).reach.exchange }
+{
+    match contexts.exchange(vm) {
+        Some(exchange) => map_at(&exchange.maps, number),
+        None => None,
+    }
+}
+
+/// The fields, of the number 6, or the trailers of what came back for a callout, while that is told.
+pub(crate) fn answer_map(contexts: &Contexts, vm: VmNo, number: u64) -> Option<&HeaderList>
+    requires { vm < length contexts.now.vms }
+    ensures { option_copied result ≡ answer_map_of number (seen contexts.now vm).reach.own }
+{
+    let Some(own) = contexts.own(vm) else {
+        return None;
+    };
+    match &own.answer {
+        Some(answer) => {
+            if number == 6 {
+                Some(&answer.fields)
+            } else {
+                Some(&answer.trailers)
+            }
+        }
+        None => None,
+    }
+}
+
+/// The map of a number, or the status why it is none.
+fn map_for(contexts: &Contexts, vm: VmNo, number: u64) -> Result<&HeaderList, u32>
     requires { vm < length contexts.now.vms }
     ensures { MatchResult result (λ list. map_for_of number (seen contexts.now vm) ≡ Ok list.now) (λ status. map_for_of number (seen contexts.now vm) ≡ Err status) }
 {
     if number > 7 {
         return Err(2);
     }
-    let Some(exchange) = contexts.exchange(vm) else {
-        return Err(1);
-    };
-    match map_at(&exchange.maps, number) {
+    if number > 5 {
+        return match answer_map(contexts, vm, number) {
+            Some(list) => Ok(list),
+            None => Err(1),
+        };
+    }
+    match exchange_map(contexts, vm, number) {
         Some(list) => Ok(list),
         None => Err(1),
     }

@@ -6,7 +6,7 @@ ghost use Rattle.abi_model.specs.Calls.{does, told, Ends, RestsAfterCall, AreSho
 ghost use Rattle.abi_model.specs.Table.{Are, row_of};
 ghost use Rattle.abi_model.specs.declared.table.HostCall.TheVariants as call;
 ghost use Rattle.header_maps.specs.Kept.{byte_limit};
-ghost use Rattle.abi_maps.specs.Streams.{is_too_late as is_too_late_of, fields_from as fields_from_of, asked_with, continuing, closing, answering, own_continue_stream, own_close_stream, own_send_local_response};
+ghost use Rattle.abi_maps.specs.Streams.{is_too_late as is_too_late_of, fields_from as fields_from_of, asked_with, is_stream as is_stream_of, swapped as swapped_of, stream_no as stream_no_of, continuing, closing, judged, refusing, answering, own_continue_stream, own_close_stream, own_send_local_response};
 
 use crate::given::set;
 use abi_model::{
@@ -21,6 +21,38 @@ use std::alloc::Global;
 /// How many bytes the body of a local response may have.
 const BODY_LIMIT: usize = 1_048_576;
 
+/// Whether the effective context is a stream: it has an exchange; or, where lines are streams of bytes, its root is another.
+fn is_stream(contexts: &Contexts, vm: VmNo) -> bool
+    requires { vm < length contexts.now.vms }
+    ensures { result ≡ is_stream_of (seen contexts.now vm) }
+{
+    if !contexts.is_tcp {
+        return contexts.exchange(vm).is_some();
+    }
+    match contexts.root(vm) {
+        Some(root) => root != contexts.effective(vm),
+        None => false,
+    }
+}
+
+/// The number here of a stream where lines are streams of bytes: 2 and 3 are their directions.
+fn swapped(stream: u64) -> u64
+    ensures { result ≡ swapped_of stream }
+{
+    match stream {
+        0 | 1 => stream + 2,
+        2 | 3 => stream - 2,
+        _ => stream,
+    }
+}
+
+/// The number here of a stream.
+fn stream_no(is_tcp: bool, stream: u64) -> u64
+    ensures { result ≡ stream_no_of is_tcp stream }
+{
+    if is_tcp { swapped(stream) } else { stream }
+}
+
 /// Asks that a stream goes on.
 fn continue_stream(contexts: &mut Contexts, vm: VmNo, stream: u64) -> Result<Outcome, OutOfMemory>
     requires { vm < length contexts.old.vms }
@@ -29,7 +61,7 @@ fn continue_stream(contexts: &mut Contexts, vm: VmNo, stream: u64) -> Result<Out
     ensures changes { IfOk result (λ _. contexts.new ≡ put (continuing stream (seen contexts.old vm)).changes vm contexts.old) }
     ensures err { OnErr result (contexts.new ≡ contexts.old) }
 {
-    if stream > 3 || contexts.exchange(vm).is_none() {
+    if stream > 3 || !is_stream(contexts, vm) {
         return Ok(answer(2));
     }
     if stream > 1 {
@@ -52,7 +84,7 @@ fn close_stream(contexts: &mut Contexts, vm: VmNo, stream: u64) -> Result<Outcom
     ensures changes { IfOk result (λ _. contexts.new ≡ put (closing stream (seen contexts.old vm)).changes vm contexts.old) }
     ensures err { OnErr result (contexts.new ≡ contexts.old) }
 {
-    if stream > 3 || contexts.exchange(vm).is_none() {
+    if stream > 3 || !is_stream(contexts, vm) {
         return Ok(answer(2));
     }
     if stream > 1 {
@@ -105,6 +137,42 @@ fn answer_with(
     Ok(())
 }
 
+/// Whether the body of a local response is not too long, where there is none to answer; or the status why its fields are none.
+fn judge(fields: Result<HeaderList, u32>, body: &[u8]) -> Outcome
+    ensures made { result ≡ judged body.now fields }
+    ensures short { AreShort result.gives }
+{
+    match fields {
+        Err(n) => answer(n),
+        Ok(_) => {
+            if body.len() > BODY_LIMIT {
+                answer(10)
+            } else {
+                answer(12)
+            }
+        }
+    }
+}
+
+/// Judges a local response where lines are streams of bytes, which have none.
+fn refuse_response(
+    alloc: Global,
+    contexts: &Contexts,
+    vm: VmNo,
+    body: &[u8],
+    headers: &[u8],
+) -> Result<Outcome, OutOfMemory>
+    requires vm { vm < length contexts.now.vms }
+    requires headers { length headers.now ≤ byte_limit }
+    ensures made { IfOk result (λ o. o ≡ refusing body.now headers.now (seen contexts.now vm)) }
+    ensures short { IfOk result (λ o. AreShort o.gives) }
+{
+    if !is_stream(contexts, vm) {
+        return Ok(answer(2));
+    }
+    Ok(judge(fields_from(alloc, headers)?, body))
+}
+
 /// Asks for a local response.
 fn send_response(
     alloc: Global,
@@ -123,6 +191,9 @@ fn send_response(
 {
     if !(200..=599).contains(&status) {
         return Ok(answer(2));
+    }
+    if contexts.is_tcp {
+        return refuse_response(alloc, contexts, vm, body, headers);
     }
     match contexts.exchange(vm) {
         None => return Ok(answer(2)),
@@ -164,7 +235,8 @@ impl LocalCall for ContinueStream {
         args: &[u64],
         inputs: &Inputs,
     ) -> Result<Outcome, OutOfMemory> {
-        continue_stream(contexts, vm, args[0])
+        let stream = stream_no(contexts.is_tcp, args[0]);
+        continue_stream(contexts, vm, stream)
     }
 }
 
@@ -206,7 +278,8 @@ impl LocalCall for CloseStream {
         args: &[u64],
         inputs: &Inputs,
     ) -> Result<Outcome, OutOfMemory> {
-        close_stream(contexts, vm, args[0])
+        let stream = stream_no(contexts.is_tcp, args[0]);
+        close_stream(contexts, vm, stream)
     }
 }
 

@@ -23,7 +23,7 @@ all_four = 0 ∷ 1 ∷ 2 ∷ 3 ∷ []
 
 -- one route, with all four
 abbrev pub plan : Bool → Plan
-plan opens = record { routes = record { path = codes "/"; filters = all_four } ∷ []; plugins = plugins opens; vms = 4; deadline = 0; bodies = []; registers = [] }
+plan opens = record { routes = record { path = codes "/"; filters = all_four } ∷ []; plugins = plugins opens; vms = 4; deadline = 0; bodies = []; registers = []; tcp = [] }
 
 -- `GET / HTTP/1.1`, `Host: a`
 abbrev pub get : Head

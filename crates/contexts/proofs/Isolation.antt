@@ -242,6 +242,8 @@ all_else_stays s vm e h within = record {
   plugins = refl;
   level = refl;
   random_key = refl;
+  calls = refl;
+  is_tcp = refl;
 }
 
 pub maps_are_shared : MapsAreShared

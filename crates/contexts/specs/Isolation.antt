@@ -30,6 +30,8 @@ pub record Stays (s : Changes) (vm e : ℕ) (h : Contexts) : Type 0 where
   pub plugins : (put_of s vm e h).plugins ≡ h.plugins
   pub level : (put_of s vm e h).level ≡ h.level
   pub random_key : (put_of s vm e h).random_key ≡ h.random_key
+  pub calls : (put_of s vm e h).calls ≡ h.calls
+  pub is_tcp : (put_of s vm e h).is_tcp ≡ h.is_tcp
 
 abbrev pub AllElseStays : Type 0
 AllElseStays = (s : Changes) (vm e : ℕ) (h : Contexts) → vm < length h.vms → Stays s vm e h

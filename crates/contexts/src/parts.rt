@@ -131,7 +131,9 @@ pub enum What {
         body: Octets,
     },
     /// A callout.
-    Call { request: Request },
+    Call {
+        request: Request,
+    },
 }
 
 /// An effect, with the context that was effective.

@@ -205,6 +205,7 @@ does_goes vm own context (what.Continue response) room =
     by_bool (Goes room) (is_own own context response) room (on_context (passing.resumes vm context response) vm context room) (λ e. goes_itself room)
     (λ e. context_goes (passing.resumes vm context response) vm context room (λ m x hub. own_quiet m (resumes vm context response) x hub tt))
 does_goes vm own context what.Close room = context_goes passing.closed vm context room (λ m x hub. own_quiet m closes x hub tt)
+does_goes vm own context (what.Call request) room = goes_itself room
 does_goes vm own context (what.Answer status fields body) room =
     context_goes (changed (changes.Answer status fields body)) vm context room (λ m x hub. own_quiet m (answers false status fields.pairs body) x hub tt)
 
@@ -428,3 +429,4 @@ module _ {H : Type 0} (calling : Calling H) (logs : WriteLogs calling) where
   works_goes plan (jobs.Close number stays) host room is = absurd is
   works_goes plan (jobs.Notice vm left) host room is = notices_go plan vm left host room
   works_goes plan (jobs.Ready vm root queue) host room is = ready_goes vm root queue host room
+  works_goes plan (jobs.Other step) host room is = goes_itself room

@@ -183,6 +183,7 @@ module _ {H : Type 0} (calling : Calling H) (logs : WriteLogs calling) (plan : P
         by_job (jobs.Close number stays) o f s l = plainly (close_step n (record room { jobs = later }) k.once plan past number stays l o)
         by_job (jobs.Notice vm left) o f s l = calm (jobs.Notice vm left) tt o
         by_job (jobs.Ready vm root queue) o f s l = calm (jobs.Ready vm root queue) tt o
+        by_job (jobs.Other step) o f s l = calm (jobs.Other step) tt o
 
     none_closing : room.jobs ≡ [] → Closing n room.jobs → ⊥
     none_closing jobless c = subst (Closing n) jobless c

@@ -94,6 +94,7 @@ module _ {H : Type 0} (calling : Calling H) (logs : WriteLogs calling) (plan : P
           by_job (jobs.Close number stays) ok w f = close_under plan n past (record room { jobs = later }) k.once quiet number stays ok w
           by_job (jobs.Notice vm left) ok w f = simple (jobs.Notice vm left) tt w
           by_job (jobs.Ready vm root queue) ok w f = simple (jobs.Ready vm root queue) tt w
+          by_job (jobs.Other step) ok w f = simple (jobs.Other step) tt w
 
       -- what becomes of the line's text, of what is in hand and of what is sent is nothing
       frees_under : (at : ℕ) → room.jobs ≡ [] → Under plan n past (frees at room)

@@ -3,6 +3,7 @@ use Rattle.std.proofs.Common.{◌≡◌, ℕ, zero, suc, ◌+◌, ◌==◌, Bool
 use Rattle.std.proofs.lemmas.List.{append-nil, append_assoc}
 use Rattle.std.specs.List.{list_any}
 use Rattle.std.specs.Prelude.{Option, None, Some, is_some, slice_get, position, if◌then◌else◌}
+use Rattle.callouts.specs.Callouts.{is_call_line, is_of_call, line_in as event_line}
 use Rattle.contexts.specs.declared.parts.Context.{Context}
 use Rattle.contexts.specs.declared.parts.Contexts.{Contexts}
 use Rattle.contexts.specs.declared.parts.Plugin.{Plugin}
@@ -14,6 +15,7 @@ use Rattle.exchange.specs.declared.types.Exchange.{Exchange}
 use Rattle.gate_io.specs.Events.{is_stop}
 use Rattle.gate_io.specs.declared.event.Event.{Event}
 use Rattle.gate_io.specs.declared.event.Sent.{Sent}
+use Rattle.gate_io.specs.declared.event.Side.TheVariants.{Down, Up}
 use Rattle.gate_io.specs.declared.event.What.{What}
 use Rattle.gate_io.specs.declared.event.What.TheVariants as whats
 use Rattle.outbox.specs.Joined.{joined}
@@ -33,19 +35,20 @@ use Rattle.worker_model.specs.Rooms.{moves, moves_or, frees_or, ends_or, begins_
 use Rattle.worker_model.specs.Settling.{settling, rests}
 use Rattle.worker_model.specs.State.{Standing, rules_of}
 use Rattle.worker_model.specs.Steps.{Both, both}
-use Rattle.worker_model.specs.Turn.{Outcome, outcome, turn, turn_by, facing, agenda_of, starts, starts_of, start_of, roots_from, vms_in, is_of, ticks_in, ticks_of, ticks_due, deadlines, notice_of, notices_of, is_due_now, registers_at, at_moment, most_steps, comes_to, emptied}
+use Rattle.worker_model.specs.Turn.{Outcome, outcome, turn, turn_by, facing, happening, agenda_of, starts, starts_of, start_of, roots_from, vms_in, is_of, ticks_in, ticks_of, ticks_due, deadlines, notice_of, notices_of, is_due_now, registers_at, at_moment, most_steps, comes_to, emptied}
+use Rattle.worker_model.proofs.Events.{by_event}
 use Rattle.line_laws.specs.Logs.{WriteLogs}
 use Rattle.line_laws.specs.Turns.{Done, Turns, new_room, sent_in}
 use Rattle.line_laws.proofs.Happening.{found_fails}
 use Rattle.line_laws.proofs.Kept.{by_bool}
-use Rattle.line_laws.proofs.Looks.{is_n, look, line_in_is}
+use Rattle.line_laws.proofs.Looks.{is_n, look, line_in_is, equal_by}
 use Rattle.line_laws.proofs.Machines.{machines_write_logs}
 use Rattle.line_laws.proofs.Stepping.{none_found}
 use Rattle.line_laws.proofs.Story.{Known}
 use Rattle.line_laws.proofs.Turning.{facing_known, emptied_known, new_known, turns_empty}
 use Rattle.line_laws.proofs.Wholly.{Run, worked_run}
 use Rattle.down_laws.specs.Examples.{OrderExamples}
-use Rattle.down_laws.specs.InOrder.{State, stands, lost, faced, runs, has_up, lost_or_shut, state_in, state_of, IsTurn, IsAtRest, ConnectionsGoInOrder, WorkersGoInOrder, ConnectionsOfTheProductGoInOrder}
+use Rattle.down_laws.specs.InOrder.{State, stands, lost, opened, left, faced, runs, has_up, lost_or_shut, state_in, state_of, IsTurn, IsAtRest, ConnectionsGoInOrder, WorkersGoInOrder, ConnectionsOfTheProductGoInOrder}
 use Rattle.down_laws.proofs.Under.{Under}
 use Rattle.down_laws.proofs.Cutting.{parted}
 use Rattle.down_laws.proofs.Goings.{happens_in, happens_join}
@@ -88,13 +91,23 @@ notices_none plan (suc k) =
 behind_none : (a b : List Job) (w : List What) → happens_in a ≡ [] → happens_in b ≡ w → happens_in (a ++ b) ≡ w
 behind_none a b w none is = happens_join a b ∙ (λ i. none i ++ is i)
 
-one_event : (plan : Plan) (what : What) (room : Room) → happens_in (agenda_of plan what room) ≡ what ∷ []
-one_event plan what room =
-    behind_none (starts room) _ (what ∷ [])
+-- the event of a line, and none where that is of a callout
+event_one : (what : What) (room : Room) → is_of_call (event_line what) ≡ false → happens_in (happening what room) ≡ what ∷ []
+event_one what room low =
+    by_event (λ (l : List Job). happens_in l ≡ what ∷ []) what room (λ e. refl) (λ e. let never : ◌≡◌ {A = Bool} true false = sym e ∙ low in absurd (cc)) (λ e. let never : ◌≡◌ {A = Bool} true false = sym e ∙ low in absurd (cc))
+
+event_none : (what : What) (room : Room) → is_of_call (event_line what) ≡ true → happens_in (happening what room) ≡ []
+event_none what room of_call =
+    by_event (λ (l : List Job). happens_in l ≡ []) what room (λ e. let never : ◌≡◌ {A = Bool} true false = sym of_call ∙ e in absurd (cc)) (λ e. refl) (λ e. refl)
+
+event_in : (plan : Plan) (what : What) (room : Room) (ws : List What) → happens_in (happening what room) ≡ ws → happens_in (agenda_of plan what room) ≡ ws
+event_in plan what room ws is =
+    behind_none (starts room) _ ws
     (by_bool (λ (l : List Job). happens_in l ≡ []) room.is_begun [] (starts_of (vms_in room) room.hub.contexts.plugins) (λ e. refl) (λ e. all_start_none (vms_in room) room.hub.contexts.plugins))
-    (behind_none (ticks_due room) _ (what ∷ []) (all_ticks_none room.hub.moment (vms_in room) room.hub.contexts)
-    (behind_none (deadlines plan) (jobs.Happen what ∷ notices_of plan (vms_in room)) (what ∷ [])
-    (by_bool (λ (l : List Job). happens_in l ≡ []) (plan.deadline == 0) [] (jobs.Expire ∷ []) (λ e. refl) (λ e. refl)) (ap (λ l. what ∷ l) (notices_none plan (vms_in room)))))
+    (behind_none (ticks_due room) _ ws (all_ticks_none room.hub.moment (vms_in room) room.hub.contexts)
+    (behind_none (deadlines plan) _ ws
+    (by_bool (λ (l : List Job). happens_in l ≡ []) (plan.deadline == 0) [] (jobs.Expire ∷ []) (λ e. refl) (λ e. refl))
+    (happens_join (happening what room) (notices_of plan (vms_in room)) ∙ ((λ i. is i ++ notices_none plan (vms_in room) i) ∙ append-nil ws))))
 
 -- ---- rest
 
@@ -152,9 +165,29 @@ stop_faces n (whats.Room line side) s is = absurd (cc)
 stop_faces n whats.Clock s is = absurd (cc)
 stop_faces n whats.Stop s is = refl
 
+-- on the line of a callout no client connects, nor is one gone
+face_same : (m n : ℕ) (face : State → State) (s : State) → is_call_line n ≡ false → is_call_line m ≡ true → (if m == n then face s else s) ≡ s
+face_same m n face s low high = by_test (m == n) refl
+  where
+    by_test : (b : Bool) → (m == n) ≡ b → (if b then face s else s) ≡ s
+    by_test false other = refl
+    by_test true here = let never : ◌≡◌ {A = Bool} true false = sym high ∙ (ap is_call_line (equal_by m n here) ∙ low) in absurd (cc)
+
+call_faces : (n : ℕ) (w : What) (s : State) → is_call_line n ≡ false → is_of_call (event_line w) ≡ true → faced n w s ≡ s
+call_faces n (whats.Opened m) s low of_call = face_same m n opened s low of_call
+call_faces n (whats.Gone m Down) s low of_call = face_same m n left s low of_call
+call_faces n (whats.Gone m Up) s low of_call = refl
+call_faces n (whats.Bytes m side bytes) s low of_call = refl
+call_faces n (whats.End m side) s low of_call = refl
+call_faces n (whats.Joined m) s low of_call = refl
+call_faces n (whats.Refused m) s low of_call = refl
+call_faces n (whats.Room m side) s low of_call = refl
+call_faces n whats.Clock s low of_call = refl
+call_faces n whats.Stop s low of_call = refl
+
 -- ---- a turn
 
-module _ {H : Type 0} (calling : Calling H) (logs : WriteLogs calling) (plan : Plan) (n : ℕ) where
+module _ {H : Type 0} (calling : Calling H) (logs : WriteLogs calling) (plan : Plan) (n : ℕ) (low : is_call_line n ≡ false) where
   -- what is known of the line between turns
   abbrev Stands : List Sent → Room → Type 0
   Stands past room = ((m : ℕ) → Known plan m past room × Under plan m past room) × GoneOk n room.jobs (look n room.lines)
@@ -185,9 +218,22 @@ module _ {H : Type 0} (calling : Calling H) (logs : WriteLogs calling) (plan : P
       )
 
       begins : (state.room.hub.sent ≡ []) × IsAtRest state.room → Turning n event.what (state_in (look n state.room.lines)) (facing plan event state.room)
-      begins s =
-          waits_for ((λ i. happens_in ((rested state.room s.1).jobless i) ++ one_event plan event.what (at_moment event.now state.room) i))
-          (ap (λ (l : List Sent). runs n l (state_in (look n state.room.lines))) s.0)
+      begins s = by_call (is_of_call (event_line event.what)) refl
+        where
+          now : Room
+          now = at_moment event.now state.room
+
+          hand : (ws : List What) → happens_in (happening event.what now) ≡ ws → due_in (facing plan event state.room).jobs (facing plan event state.room) ≡ ws
+          hand ws is = (λ i. happens_in ((rested state.room s.1).jobless i) ++ event_in plan event.what now ws is i)
+
+          none_sent : runs n state.room.hub.sent (state_in (look n state.room.lines)) ≡ Some (state_in (look n state.room.lines))
+          none_sent = ap (λ (l : List Sent). runs n l (state_in (look n state.room.lines))) s.0
+
+          by_call : (b : Bool) → is_of_call (event_line event.what) ≡ b → Turning n event.what (state_in (look n state.room.lines)) (facing plan event state.room)
+          by_call false e = waits_for (hand (event.what ∷ []) (event_one event.what now e)) none_sent
+          by_call true e =
+              has_faced (hand [] (event_none event.what now e)) state.room.hub.sent [] (state_in (look n state.room.lines)) (sym (append-nil state.room.hub.sent)) none_sent
+              (ap (λ (z : State). Some z) (call_faces n event.what (state_in (look n state.room.lines)) low e))
 
       ended : (room : Room) → IsAtRest (emptied room) → GoneOk n room.jobs (look n room.lines) → Turning n event.what (state_in (look n state.room.lines)) room → IsTurn n event.what (state_of n state.room) (joined room.hub.sent) (state_of n (emptied room))
       ended room is ok (waits_for due so) =
@@ -225,24 +271,24 @@ module _ {H : Type 0} (calling : Calling H) (logs : WriteLogs calling) (plan : P
       subst (λ (l : List Sent). Stands l to.room) (append_assoc past t.end.sent (sent_in ts)) (turns_stand (past ++ t.end.sent) t.end.state ts to one.0 turned.1)
 
 pub connections_go_in_order : (H : Type 0) → ConnectionsGoInOrder H
-connections_go_in_order H calling plan contexts host ts state event met end n logs turned at_rest reaches rested_so =
+connections_go_in_order H calling plan contexts host ts state event met end n low logs turned at_rest reaches rested_so =
     let past : List Sent = sent_in ts in
-    let all = turns_stand calling logs plan n [] (both host (new_room contexts)) ts state ((λ m. (new_known plan contexts m, new_under plan contexts m)), tt) turned in
-    let one = all_reached (Comes calling logs plan n past state event.what) met (turn calling plan state event) end (turn_orders calling logs plan n past state event all) reaches in
+    let all = turns_stand calling logs plan n low [] (both host (new_room contexts)) ts state ((λ m. (new_known plan contexts m, new_under plan contexts m)), tt) turned in
+    let one = all_reached (Comes calling logs plan n low past state event.what) met (turn calling plan state event) end (turn_orders calling logs plan n low past state event all) reaches in
     one.1 (turns_empty calling logs plan (both host (new_room contexts)) ts state refl turned) at_rest rested_so
 
 -- ---- of a worker, and of the product
 
 pub workers_go_in_order : (H S : Type 0) (performs : S → List Made → S → Type 0) → WorkersGoInOrder H S performs
-workers_go_in_order H S performs calling exported registering config who seed host sent stop s t old new from after n logs worked at_rest w rested_so =
+workers_go_in_order H S performs calling exported registering config who seed host sent stop s t old new from after n low logs worked at_rest w rested_so =
     let made : Standing H = new_worker exported registering config who seed host in
     let r : Run calling made sent from = worked_run calling performs made from sent worked in
-    connections_go_in_order H calling (rules_of from.setting) (contexts_of config seed) host r.turns from.state w.event w.goes.met (outcome after.state w.sent) n logs
+    connections_go_in_order H calling (rules_of from.setting) (contexts_of config seed) host r.turns from.state w.event w.goes.met (outcome after.state w.sent) n low logs
     (subst (λ (plan : Plan). Turns calling plan (both host (new_room (contexts_of config seed))) r.turns from.state) (sym (ap rules_of r.setting)) r.run) at_rest w.goes.reaches rested_so
 
 pub connections_of_the_product : (S : Type 0) (performs : S → List Made → S → Type 0) → ConnectionsOfTheProductGoInOrder S performs
-connections_of_the_product S performs config who seed host sent stop s t old new from after n worked at_rest w rested_so =
-    workers_go_in_order Vms S performs slots.calling slots.exported_in slots.registering_in config who seed host sent stop s t old new from after n machines_write_logs worked at_rest w rested_so
+connections_of_the_product S performs config who seed host sent stop s t old new from after n low worked at_rest w rested_so =
+    workers_go_in_order Vms S performs slots.calling slots.exported_in slots.registering_in config who seed host sent stop s t old new from after n low machines_write_logs worked at_rest w rested_so
 
 -- what is in order, and what is not
 pub order_examples : OrderExamples

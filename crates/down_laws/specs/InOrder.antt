@@ -1,5 +1,6 @@
 -- In which order connections, bytes and closes go on the two sides of a line.
 use Rattle.std.specs.Prelude.{◌≡◌, ℕ, ◌==◌, Bool, true, false, List, [], ◌∷◌, ◌++◌, Option, None, Some, is_some, if◌then◌else◌}
+use Rattle.callouts.specs.Callouts.{is_call_line}
 use Rattle.course.specs.Called.{Calling}
 use Rattle.course.specs.Course.{ends, Met, Reaches}
 use Rattle.course.specs.declared.host.Callback.{Callback}
@@ -135,11 +136,11 @@ pub record IsTurn (n : ℕ) (what : What) (from : State) (sent : List Sent) (aft
 abbrev pub IsAtRest : Room → Type 0
 IsAtRest room = rests (next_of room) ≡ true
 
--- EACH TURN IS IN ORDER ON EACH LINE: whatever turns a new worker has had, the last of them at rest, and whatever its machines do but that they send nothing but
--- logs, a further turn that comes to rest is so.
+-- EACH TURN IS IN ORDER ON EACH LINE of a client: whatever turns a new worker has had, the last of them at rest, and whatever its machines do but that they send
+-- nothing but logs, a further turn that comes to rest is so.
 abbrev pub ConnectionsGoInOrder : (H : Type 0) → Type 0
 ConnectionsGoInOrder H =
-    (calling : Calling H) (plan : Plan) (contexts : Contexts) (host : H) (turns : List (Done H)) (state : Both H) (event : Event) (met : List Met) (end : Outcome H) (n : ℕ) → WriteLogs calling
+    (calling : Calling H) (plan : Plan) (contexts : Contexts) (host : H) (turns : List (Done H)) (state : Both H) (event : Event) (met : List Met) (end : Outcome H) (n : ℕ) → is_call_line n ≡ false → WriteLogs calling
     → Turns calling plan (both host (new_room contexts)) turns state → IsAtRest state.room → Reaches (turn calling plan state event) met (ends end) → IsAtRest end.state.room
     → IsTurn n event.what (state_of n state.room) end.sent (state_of n end.state.room)
 
@@ -148,7 +149,7 @@ ConnectionsGoInOrder H =
 abbrev pub WorkersGoInOrder : (H S : Type 0) → (performs : S → List Made → S → Type 0) → Type 0
 WorkersGoInOrder H S performs =
     (calling : Calling H) (exported : H → ℕ → Callback → Bool) (registering : H → ℕ → Bool) (config : Config) (who : ℕ) (seed : List ℕ) (host : H)
-    (sent : List Sent) (stop : Bool) (s t : S) (old new : Option (List Passed)) (from after : Standing H) (n : ℕ) → WriteLogs calling
+    (sent : List Sent) (stop : Bool) (s t : S) (old new : Option (List Passed)) (from after : Standing H) (n : ℕ) → is_call_line n ≡ false → WriteLogs calling
     → Worked calling performs (new_worker exported registering config who seed host) sent from → IsAtRest from.state.room
     → (turn : Whole calling performs stop s old from after t new) → IsAtRest after.state.room
     → IsTurn n turn.event.what (state_of n from.state.room) turn.sent (state_of n after.state.room)
@@ -156,7 +157,7 @@ WorkersGoInOrder H S performs =
 -- THE SAME OF THE PRODUCT: with the machines of its VMs, whatever these are.
 abbrev pub ConnectionsOfTheProductGoInOrder : (S : Type 0) → (performs : S → List Made → S → Type 0) → Type 0
 ConnectionsOfTheProductGoInOrder S performs =
-    (config : Config) (who : ℕ) (seed : List ℕ) (host : Vms) (sent : List Sent) (stop : Bool) (s t : S) (old new : Option (List Passed)) (from after : Standing Vms) (n : ℕ)
+    (config : Config) (who : ℕ) (seed : List ℕ) (host : Vms) (sent : List Sent) (stop : Bool) (s t : S) (old new : Option (List Passed)) (from after : Standing Vms) (n : ℕ) → is_call_line n ≡ false
     → Worked slots.calling performs (new_worker slots.exported_in slots.registering_in config who seed host) sent from → IsAtRest from.state.room
     → (turn : Whole slots.calling performs stop s old from after t new) → IsAtRest after.state.room
     → IsTurn n turn.event.what (state_of n from.state.room) turn.sent (state_of n after.state.room)

@@ -32,7 +32,7 @@ pub fn what_is_refused()
     ensures { Refuses }
 {}
 
-/// Of both sides of a line together: what goes on them in a turn that begins and ends at rest is in order, whatever filters do and whatever servers send. What is sent
+/// Of both sides of a line below 2^31 together (lines from there on are those of callouts): what goes on them in a turn that begins and ends at rest is in order, whatever filters do and whatever servers send. What is sent
 /// falls into two parts, one before the turn's event and one behind it. In each of them a connection up is opened only where the client is connected and none is
 /// open; bytes go up, and it is closed, only while one is open; bytes go down only while the client is connected; and the client's connection is closed only
 /// while it is connected and nothing is open up: so behind that of its server, and once. No piece is empty. To a client that is gone nothing goes, and all that comes on

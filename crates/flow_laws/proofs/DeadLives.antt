@@ -145,6 +145,7 @@ module _ {H : Type 0} (calling : Calling H) (plan : Plan) where
   works_so (jobs.Tick vm root) host room good = ticks_so vm root host room (ticked vm root room) (ticked_kept vm root room good)
   works_so (jobs.Notice vm left) host room good = notices_so vm left host room good
   works_so (jobs.Ready vm root queue) host room good = ready_so vm root queue host room good
+  works_so (jobs.Other step) host room good = quiet host room room (here_kept room good)
   works_so (jobs.Begin vm) host room good = tells_so vm callbacks.Begin 0 0 host room good
   works_so (jobs.Start vm root) host room good =
       live_so vm callbacks.VmStart root (vm_length vm room.hub.contexts) 0 (unless_zero vm deaths.Start) host room good (λ value r here. zero_kept vm deaths.Start value r here)

@@ -162,6 +162,7 @@ does_good vm own context (what.Continue response) room good =
     of_if (λ (r : Room). RoomGood r × (r.dead ≡ room.dead)) (is_own own context response) _ _ (λ is. (good, refl))
     (λ is. (on_context_good (resumes vm context response) vm context room (λ n x hub here. dead_are_spared.resuming vm context response room.dead n x hub here) good, refl))
 does_good vm own context what.Close room good = (on_context_good closed vm context room (λ n x hub here. dead_are_spared.closing room.dead n x hub here) good, refl)
+does_good vm own context (what.Call request) room good = (good, refl)
 does_good vm own context (what.Answer status fields body) room good =
     (on_context_good (changed (changes.Answer status fields body)) vm context room (λ n x hub here. dead_are_spared.answering false status fields.pairs body room.dead n x hub here) good, refl)
 
@@ -422,6 +423,7 @@ quietly_kept (jobs.Delete c) room good = here_kept room good
 quietly_kept (jobs.Close number stays) room good = line_ends_kept (line_in number room.lines) number stays room good
 quietly_kept (jobs.Notice vm left) room good = here_kept room good
 quietly_kept (jobs.Ready vm root queue) room good = here_kept room good
+quietly_kept (jobs.Other step) room good = here_kept room good
 
 -- ---- steps that call nothing
 

@@ -250,6 +250,7 @@ module _ {H : Type 0} (calling : Calling H) (plan : Plan) (response : Bool) (n c
           → Reaches (if m then tells calling vm callbacks.QueueReady root queue host room else ends (both host room)) ms (ends b) → Comes response n count x room b.room
       by_may true some r = tells_died x host room vm callbacks.QueueReady root queue b ms q on some may r
       by_may false none r = absurd (none_some q none)
+  job_died x host room (jobs.Other step) q b ms on whole is may reaches = absurd (none_some q is)
   job_died x host room jobs.Expire q b ms on whole is may reaches = absurd (none_some q is)
   job_died x host room (jobs.Happen w) q b ms on whole is may reaches = absurd (none_some q is)
   job_died x host room (jobs.Enter number) q b ms on whole is may reaches = absurd (none_some q is)

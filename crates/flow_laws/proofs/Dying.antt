@@ -336,6 +336,7 @@ module _ {H : Type 0} (calling : Calling H) where
       by_job (jobs.Notice vm left) here r =
           let so : AsBefore b.host room m = notice_goes plan vm left b.host room ms m r in plain (jobs.Notice vm left) here (silent refl so.0 so.1)
       by_job (jobs.Ready vm root queue) here r = plain (jobs.Ready vm root queue) here (ready_goes vm root queue b.host room ms m r)
+      by_job (jobs.Other step) here r = quiet (jobs.Other step) here refl _ (quietly_same (jobs.Other step) room) r
       by_job (jobs.Begin vm) here r = plain (jobs.Begin vm) here (tells_goes No vm callbacks.Begin 0 0 b.host room ms m r)
       by_job (jobs.Start vm root) here r =
           conv No (Zero vm) (jobs.Start vm root) here (λ v why. absurd why)

@@ -43,6 +43,7 @@ Same room after = after.dead ≡ room.dead
 does_same : (vm : ℕ) (own : Own) (context : ℕ) (w : EffectWhat) (room : Room) → Same room (does vm own context w room)
 does_same vm own context (what.Continue response) room = of_if (λ (r : Room). Same room r) (is_own own context response) _ _ (λ is. refl) (λ is. refl)
 does_same vm own context what.Close room = refl
+does_same vm own context (what.Call request) room = refl
 does_same vm own context (what.Answer status fields body) room = refl
 
 pub effects_same : (vm : ℕ) (own : Own) (es : List Effect) (room : Room) → Same room (effects_of vm own es room)
@@ -155,6 +156,7 @@ quietly_same (jobs.Delete c) room = refl
 quietly_same (jobs.Close number stays) room = line_ends_same (line_in number room.lines) number stays room
 quietly_same (jobs.Notice vm left) room = refl
 quietly_same (jobs.Ready vm root queue) room = refl
+quietly_same (jobs.Other step) room = refl
 
 -- ---- steps that call nothing
 

@@ -95,6 +95,7 @@ effect_seen response n count due vm own context what.Close x room m =
     (λ (away : place_of vm context room.lines ≡ Some m.on.place → ⊥).
     aside response n count due x room (on_context closed vm context room) (other_lines.by_context closed exchanges_pass_by.closing response n vm context x room m.on m.alien m.whole away))
     (here_or_not (place_of vm context room.lines) m.on.place)
+effect_seen response n count due vm own context (what.Call request) x room m = aside response n count due x room room (stays response n x room m.on m.whole)
 effect_seen response n count due vm own context (what.Answer status fields body) x room m =
     ⊎_elim
     (λ (here : place_of vm context room.lines ≡ Some m.on.place). absurd (m.may here))

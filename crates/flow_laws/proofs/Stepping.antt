@@ -24,7 +24,7 @@ use Rattle.flow_laws.specs.Besides.{IsWhole}
 use Rattle.chain_laws.specs.Acts.{NotOf}
 use Rattle.flow_laws.specs.Elsewhere.{behind_effects}
 use Rattle.flow_laws.specs.Rooms.{IsOn, Leaves, leaves, Meanwhile, nothing, other}
-use Rattle.flow_laws.specs.Stepping.{in_hand, Tells, TellsThen, OutlivesBeside, TellsZero, MayJob, begin, root, start, configure, tick, expire, happen, create, enter, put_across, put_elsewhere, refuse, done, log, delete, close, notice, ready, dies_at_work, start_refused, configure_refused, MayWork, no_job, first_job, MayBeside, reads, moves_across, moves_elsewhere, dies_elsewhere, works as works_on, frees, ends_other, begins, stops, StepsBeside}
+use Rattle.flow_laws.specs.Stepping.{in_hand, Tells, TellsThen, OutlivesBeside, TellsZero, MayJob, begin, root, start, configure, tick, expire, happen, create, enter, put_across, put_elsewhere, refuse, done, log, delete, close, notice, ready, other_step, dies_at_work, start_refused, configure_refused, MayWork, no_job, first_job, MayBeside, reads, moves_across, moves_elsewhere, dies_elsewhere, works as works_on, frees, ends_other, begins, stops, StepsBeside}
 use Rattle.body_laws.proofs.Apart.{exchanges_pass_by}
 use Rattle.flow_laws.proofs.Besides.{stays, other_lines, other_direction, quiet_steps}
 use Rattle.flow_laws.proofs.Contexts.{contexts_leave, calls_are}
@@ -208,6 +208,7 @@ module _ {H : Type 0} (calling : Calling H) (plan : Plan) (response : Bool) (n c
       by_bool (λ (k : Course (Both H)). Reaches k ms (ends b) → Comes response n count x room b.room) (may_stream vm at room.hub.contexts)
       (tells calling vm callbacks.QueueReady at queue host room) (ends (both host room)) (λ e r. told x host room vm callbacks.QueueReady at queue b ms on may r)
       (λ e r. ended_as x x room room host b ms (stays response n x room on whole) r) reaches
+  job_comes x host room _ b ms on whole (other_step s) reaches = ended_as x x room room host b ms (stays response n x room on whole) reaches
   job_comes x host room _ b ms on whole (dies_at_work job q is may) reaches =
       job_died calling plan response n count x host room job q b ms on whole is (λ c y reached there. may c y reached there) reaches
   job_comes x host room _ b ms on whole (start_refused vm at may) reaches =

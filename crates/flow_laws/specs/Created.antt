@@ -59,6 +59,8 @@ room = record {
   waits = [];
   dead = [];
   is_begun = true;
+  calls = [];
+  tcp = [];
 }
 
 -- VM 0 with a plug-in, and VM 1 with two

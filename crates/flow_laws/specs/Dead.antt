@@ -82,7 +82,7 @@ abbrev pub refusing : Calling ℕ
 refusing host vm name context first second now h = done (called_back (call_ends.Returned (Some 0)) [] host h)
 
 abbrev pub one_vm : Plan
-one_vm = record { routes = []; plugins = []; vms = 1; deadline = 0; bodies = []; registers = [] }
+one_vm = record { routes = []; plugins = []; vms = 1; deadline = 0; bodies = []; registers = []; tcp = [] }
 
 -- VM 0 starts at its root, context 1, and its plug-in is configured then
 abbrev pub begins : Both (Watched ℕ)
@@ -95,6 +95,8 @@ begins = both (watching 0 []) (record {
   waits = [];
   dead = [];
   is_begun = true;
+  calls = [];
+  tcp = [];
 })
 
 -- the next step, where that meets nothing

@@ -74,6 +74,7 @@ job_callee (jobs.Delete c) room = live_callee c.vm callbacks.Delete c.context 0 
 job_callee (jobs.Close number stays) room = None
 job_callee (jobs.Notice vm left) room = None
 job_callee (jobs.Ready vm root queue) room = ready_callee vm root queue room
+job_callee (jobs.Other step) room = None
 
 -- of the first job, which is in hand no more then
 abbrev pub first_callee : List Job → Room → Option Callee

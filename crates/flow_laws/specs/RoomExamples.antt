@@ -21,6 +21,8 @@ upload_room = record {
   waits = [];
   dead = [];
   is_begun = true;
+  calls = [];
+  tcp = [];
 }
 
 -- The head is put, and the filter lets it go on; a piece of two bytes is put, and the filter writes three in its place and lets it go on.

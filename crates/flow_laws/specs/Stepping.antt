@@ -23,6 +23,7 @@ use Rattle.worker_model.specs.declared.types.Line.{Line}
 use Rattle.worker_model.specs.declared.types.NewContext.{NewContext}
 use Rattle.worker_model.specs.declared.types.Next.{Next}
 use Rattle.worker_model.specs.declared.types.Next.TheVariants as next
+use Rattle.worker_model.specs.declared.types.OtherStep.{OtherStep}
 use Rattle.worker_model.specs.declared.types.Own.TheVariants as owns
 use Rattle.worker_model.specs.declared.types.Reads.{Reads}
 use Rattle.worker_model.specs.Moves.{asks_at}
@@ -119,6 +120,7 @@ pub data MayJob {H : Type 0} (calling : Calling H) (response : Bool) (n count : 
   close : (number : ℕ) (stays : Bool) → (number ≡ n → ⊥) → MayJob calling response n count x host ms room (jobs.Close number stays)
   notice : (vm left : ℕ) → MayJob calling response n count x host ms room (jobs.Notice vm left)
   ready : (vm at queue : ℕ) → Tells calling response n count x host ms room vm callbacks.QueueReady at queue → MayJob calling response n count x host ms room (jobs.Ready vm at queue)
+  other_step : (s : OtherStep) → MayJob calling response n count x host ms room (jobs.Other s)
   -- any one whose callback died
   dies_at_work : (job : Job) (q : Callee) → job_callee job room ≡ Some q
       → ((c : Called H) (y : Exchange) → Reaches (runs_then (program_of calling host q) ends) ms (ends c) → IsOn n q.room y → DiesBeside response n q.vm c y q.room)

@@ -73,7 +73,7 @@ holding calls vm name context first second now h = done (asked_of calls vm conte
 -- ---- the worker
 
 abbrev pub one_vm : Plan
-one_vm = record { routes = []; plugins = []; vms = 1; deadline = 0; bodies = []; registers = [] }
+one_vm = record { routes = []; plugins = []; vms = 1; deadline = 0; bodies = []; registers = []; tcp = [] }
 
 -- context 2 is the stream of VM 0 on line 1
 abbrev pub its_filter : Filter
@@ -100,6 +100,8 @@ begins = both 0 (record {
   waits = [];
   dead = [];
   is_begun = true;
+  calls = [];
+  tcp = [];
 })
 
 -- ---- what its steps come to

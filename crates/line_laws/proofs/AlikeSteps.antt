@@ -234,6 +234,7 @@ module _ (n : ℕ) where
   quietly_same (jobs.Delete c) a b is room fit = absurd (cc)
   quietly_same (jobs.Notice vm left) a b is room fit = absurd (cc)
   quietly_same (jobs.Ready vm root queue) a b is room fit = absurd (cc)
+  quietly_same (jobs.Other step) a b is room fit = absurd (cc)
 
 -- ---- what is read of the line
 
@@ -542,6 +543,7 @@ works_is calling plan n (jobs.Log c) host r is unmade = absurd (cc)
 works_is calling plan n (jobs.Delete c) host r is unmade = absurd (cc)
 works_is calling plan n (jobs.Notice vm left) host r is unmade = absurd (cc)
 works_is calling plan n (jobs.Ready vm root queue) host r is unmade = absurd (cc)
+works_is calling plan n (jobs.Other step) host r is unmade = absurd (cc)
 
 -- where a course ends at once, it ends there
 at_once : {H : Type 0} (e c : Both H) (ms : List Met) → Reaches (ends e) ms (ends c) → e.room ≡ c.room

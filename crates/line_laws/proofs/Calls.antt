@@ -308,6 +308,7 @@ IsCalm (jobs.Delete c) = Unit {0}
 IsCalm (jobs.Close number stays) = ⊥
 IsCalm (jobs.Notice vm left) = Unit {0}
 IsCalm (jobs.Ready vm root queue) = Unit {0}
+IsCalm (jobs.Other step) = Unit {0}
 
 module _ {H : Type 0} (calling : Calling H) (logs : WriteLogs calling) (n : ℕ) where
   -- ---- callbacks
@@ -463,3 +464,4 @@ module _ {H : Type 0} (calling : Calling H) (logs : WriteLogs calling) (n : ℕ)
   works_calm plan (jobs.Close number stays) host room is once = absurd is
   works_calm plan (jobs.Notice vm left) host room is once = notices_calm plan vm left host room once
   works_calm plan (jobs.Ready vm root queue) host room is once = ready_calm vm root queue host room once
+  works_calm plan (jobs.Other step) host room is once = calm_itself n room once

@@ -124,6 +124,7 @@ module _ {H : Type 0} (calling : Calling H) (logs : WriteLogs calling) (plan : P
   works_spare (jobs.Close m stays) host room other free = quietly_spared n (jobs.Close m stays) room other free
   works_spare (jobs.Notice vm left) host room other free = notices_spare vm left host room free
   works_spare (jobs.Ready vm root queue) host room other free = ready_spares vm root queue host room free
+  works_spare (jobs.Other step) host room other free = spared_itself n room free
 
   -- one that is not of the line is not among its jobs
   work_is : (room : Room) (job : Job) → is_work_of n room job ≡ false → is_job_of n job ≡ false
@@ -144,6 +145,7 @@ module _ {H : Type 0} (calling : Calling H) (logs : WriteLogs calling) (plan : P
   work_is room (jobs.Close m stays) other = other
   work_is room (jobs.Notice vm left) other = refl
   work_is room (jobs.Ready vm root queue) other = refl
+  work_is room (jobs.Other step) other = refl
 
   -- whether a job is of the line depends on no other job
   work_in : (room : Room) (later : List Job) (job : Job) → is_work_of n room job ≡ false → is_work_of n (record room { jobs = later }) job ≡ false
@@ -164,6 +166,7 @@ module _ {H : Type 0} (calling : Calling H) (logs : WriteLogs calling) (plan : P
   work_in room later (jobs.Close m stays) other = other
   work_in room later (jobs.Notice vm left) other = other
   work_in room later (jobs.Ready vm root queue) other = other
+  work_in room later (jobs.Other step) other = other
 
   first_spares : (js : List Job) (host : H) (room : Room) → room.jobs ≡ js → is_first_of n room js ≡ false → Free n room → Spares room (works_first calling plan js host room)
   first_spares [] host room is other free = spared_itself n room free

@@ -26,7 +26,8 @@ use Rattle.worker_model.specs.Plan.{Plan}
 use Rattle.worker_model.specs.Rooms.{next_of, next_part, moves, moves_or, frees_or, ends_or, begins_or_rests, is_any, is_over, is_released}
 use Rattle.worker_model.specs.Settling.{settling, settling_none, settling_rest, settling_step, rests}
 use Rattle.worker_model.specs.Steps.{Both, is_late, step}
-use Rattle.worker_model.specs.Turn.{is_of, roots_from, start_of, starts_of, vms_in, starts, is_due_now, ticks_in, ticks_of, ticks_due, deadlines, registers_at, notice_of, notices_of, agenda_of, at_moment, facing, most_steps, Outcome, comes_to, turned, turn_by, turn}
+use Rattle.worker_model.specs.Turn.{is_of, roots_from, start_of, starts_of, vms_in, starts, is_due_now, ticks_in, ticks_of, ticks_due, deadlines, registers_at, notice_of, notices_of, happening, agenda_of, at_moment, facing, most_steps, Outcome, comes_to, turned, turn_by, turn}
+use Rattle.worker_model.proofs.Events.{by_event}
 use Rattle.line_laws.specs.Isolation.{lines_on, IsFree, is_event_of, is_job_of, jobs_on, is_read_of, is_sent_on, sent_on, is_at, is_late_on, is_work_of, is_first_of, is_step_of, IsUntouched, IsAsBefore, TurnsOfOthersLeaveTheLine}
 use Rattle.line_laws.specs.Logs.{WriteLogs}
 use Rattle.line_laws.proofs.Finding.{Seeks, missing, first, seeks}
@@ -67,12 +68,15 @@ module _ (n : ℕ) where
   notices_else plan (suc k) =
       else_join n (notices_of plan k) (notice_of plan k) (notices_else plan k) (by_bool (AllElse n) (registers_at (slice_get plan.registers k)) (jobs.Notice k 16 ∷ []) [] (λ e. (refl, tt)) (λ e. tt))
 
+  event_else : (what : What) (room : Room) → is_event_of n what ≡ false → AllElse n (happening what room)
+  event_else what room other = by_event (AllElse n) what room (λ e. (other, tt)) (λ e. tt) (λ e. (refl, tt))
+
   agenda_else : (plan : Plan) (what : What) (room : Room) → is_event_of n what ≡ false → AllElse n (agenda_of plan what room)
   agenda_else plan what room other =
       else_join n (starts room) _ (by_bool (AllElse n) room.is_begun [] (starts_of (vms_in room) room.hub.contexts.plugins) (λ e. tt) (λ e. starts_else (vms_in room) room.hub.contexts.plugins))
       (else_join n (ticks_due room) _ (all_ticks_else room.hub.moment (vms_in room) room.hub.contexts)
-      (else_join n (deadlines plan) (jobs.Happen what ∷ notices_of plan (vms_in room)) (by_bool (AllElse n) (plan.deadline == 0) [] (jobs.Expire ∷ []) (λ e. tt) (λ e. (refl, tt)))
-      (other, notices_else plan (vms_in room))))
+      (else_join n (deadlines plan) _ (by_bool (AllElse n) (plan.deadline == 0) [] (jobs.Expire ∷ []) (λ e. tt) (λ e. (refl, tt)))
+      (else_join n (happening what room) (notices_of plan (vms_in room)) (event_else what room other) (notices_else plan (vms_in room)))))
 
 -- ---- what is sent, with neighbours joined
 
@@ -202,6 +206,7 @@ idle_step n room idle = by_reading (is_some room.reading)
     work_else (jobs.Close m stays) is = is
     work_else (jobs.Notice vm left) is = is
     work_else (jobs.Ready vm root queue) is = is
+    work_else (jobs.Other step) is = is
 
     first_else : (js : List Job) → filter (is_job_of n) (js ++ room.agenda) ≡ [] → is_first_of n room js ≡ false
     first_else [] is = refl

@@ -316,6 +316,7 @@ module _ {H : Type 0} (calling other : Calling H) (plan : Plan) (n : ℕ) (host 
   own_works (jobs.Close m stays) later is = own_ends _ (line_ends_free n m (line_in m room.lines) stays (record room { jobs = later }) free)
   own_works (jobs.Notice vm left) later is = absurd (cc)
   own_works (jobs.Ready vm root queue) later is = absurd (cc)
+  own_works (jobs.Other step) later is = absurd (cc)
 
   own_first : (js : List Job) → is_first_of n room js ≡ true → Own (works_first calling plan js host room) (works_first other plan js host room)
   own_first [] is = absurd (cc)

@@ -62,6 +62,7 @@ IsFree (jobs.Delete c) = Unit {0}
 IsFree (jobs.Close number stays) = ⊥
 IsFree (jobs.Notice vm left) = Unit {0}
 IsFree (jobs.Ready vm root queue) = Unit {0}
+IsFree (jobs.Other step) = Unit {0}
 
 abbrev pub AllFree : List Job → Type 0
 AllFree [] = Unit {0}
@@ -86,6 +87,7 @@ IsPart (jobs.Delete c) = Unit {0}
 IsPart (jobs.Close number stays) = ⊥
 IsPart (jobs.Notice vm left) = Unit {0}
 IsPart (jobs.Ready vm root queue) = Unit {0}
+IsPart (jobs.Other step) = Unit {0}
 
 abbrev pub AllParts : List Job → Type 0
 AllParts [] = Unit {0}
@@ -179,6 +181,7 @@ does_calm n vm own context (what.Continue response) room once =
     by_bool (Calm n room) (is_own own context response) room (on_context (passing.resumes vm context response) vm context room) (λ e. calm_itself n room once)
     (λ e. calm_context n (passing.resumes vm context response) vm context room once (does_deed (passing.resumes vm context response) (resumes vm context response) tt (λ m x hub. refl)))
 does_calm n vm own context what.Close room once = calm_context n passing.closed vm context room once (does_deed passing.closed closes tt (λ m x hub. refl))
+does_calm n vm own context (what.Call request) room once = calm_itself n room once
 does_calm n vm own context (what.Answer status fields body) room once =
     calm_context n (changed (changes.Answer status fields body)) vm context room once
     (does_deed (changed (changes.Answer status fields body)) (answers false status fields.pairs body) tt (λ m x hub. refl))

@@ -146,6 +146,7 @@ line_else n m (job ∷ later) other are = (one job are.0, line_else n m later ot
     one (jobs.Close k stays) is = absurd is
     one (jobs.Notice vm left) is = absurd is
     one (jobs.Ready vm root queue) is = absurd is
+    one (jobs.Other step) is = absurd is
 
 pub in_front_spared : (n : ℕ) (more : List Job) (room : Room) → Free n room → AllElse n more → Spared n room (in_front more room)
 in_front_spared n more room free are = record { lines = aside_itself n room.lines room.hub free; jobs = jobs_front n more room are; unread = λ e. e }
@@ -182,6 +183,7 @@ does_spared n vm own context (what.Continue response) room free =
     by_bool (Spared n room) (is_own own context response) room (on_context (passing.resumes vm context response) vm context room) (λ e. spared_itself n room free)
     (λ e. context_spared n vm context (passing.resumes vm context response) room free (by_deed (resumes vm context response) tt))
 does_spared n vm own context what.Close room free = context_spared n vm context passing.closed room free (by_deed closes tt)
+does_spared n vm own context (what.Call request) room free = spared_itself n room free
 does_spared n vm own context (what.Answer status fields body) room free =
     context_spared n vm context (changed (changes.Answer status fields body)) room free (by_deed (answers false status fields.pairs body) tt)
 
@@ -427,6 +429,7 @@ quietly_spared n (jobs.Delete c) room other free = spared_itself n room free
 quietly_spared n (jobs.Close m stays) room other free = line_ends_spared n m (line_in m room.lines) stays room other free
 quietly_spared n (jobs.Notice vm left) room other free = spared_itself n room free
 quietly_spared n (jobs.Ready vm root queue) room other free = spared_itself n room free
+quietly_spared n (jobs.Other step) room other free = spared_itself n room free
 
 -- ---- steps that call nothing
 

@@ -139,6 +139,7 @@ module _ {H : Type 0} (calling : Calling H) (logs : WriteLogs calling) (plan : P
         by_job (jobs.Close number stays) p f s = close_works plan n past number stays (record room { jobs = later }) p s
         by_job (jobs.Notice vm left) p f s = simple (jobs.Notice vm left) tt p
         by_job (jobs.Ready vm root queue) p f s = simple (jobs.Ready vm root queue) tt p
+        by_job (jobs.Other step) p f s = simple (jobs.Other step) tt p
 
     idle_ok : room.reading ≡ None → room.jobs ≡ [] → LineOk plan n past None [] room.lines (look n room.lines) room.hub
     idle_ok quiet jobless =

@@ -37,7 +37,8 @@ use Rattle.worker_model.specs.declared.types.Reads.{Reads}
 use Rattle.worker_model.specs.Plan.{Plan}
 use Rattle.worker_model.specs.Settling.{settling}
 use Rattle.worker_model.specs.Steps.{Both, both, exchange_of_line, exchange_on, line_in, line_reading}
-use Rattle.worker_model.specs.Turn.{Outcome, turn, turn_by, facing, agenda_of, starts, starts_of, start_of, roots_from, vms_in, is_of, ticks_in, ticks_of, ticks_due, deadlines, notice_of, notices_of, is_due_now, registers_at, most_steps, comes_to, emptied}
+use Rattle.worker_model.specs.Turn.{Outcome, turn, turn_by, facing, happening, agenda_of, starts, starts_of, start_of, roots_from, vms_in, is_of, ticks_in, ticks_of, ticks_due, deadlines, notice_of, notices_of, is_due_now, registers_at, most_steps, comes_to, emptied}
+use Rattle.worker_model.proofs.Events.{by_event}
 use Rattle.line_laws.specs.Laws.{ExchangesLive, RequestsGoUpOneByOne}
 use Rattle.line_laws.specs.Logs.{WriteLogs}
 use Rattle.line_laws.specs.Living.{requests_in, request_in, LivesBy}
@@ -87,11 +88,15 @@ notices_parts plan zero = tt
 notices_parts plan (suc k) =
     parts_join (notices_of plan k) (notice_of plan k) (notices_parts plan k) (by_bool AllParts (registers_at (slice_get plan.registers k)) (jobs.Notice k 16 ∷ []) [] (λ e. (tt, tt)) (λ e. tt))
 
+event_parts : (what : What) (room : Room) → AllParts (happening what room)
+event_parts what room = by_event AllParts what room (λ e. (tt, tt)) (λ e. tt) (λ e. (tt, tt))
+
 agenda_parts : (plan : Plan) (what : What) (room : Room) → AllParts (agenda_of plan what room)
 agenda_parts plan what room =
     parts_join (starts room) _ (by_bool AllParts room.is_begun [] (starts_of (vms_in room) room.hub.contexts.plugins) (λ e. tt) (λ e. all_start_parts (vms_in room) room.hub.contexts.plugins))
     (parts_join (ticks_due room) _ (all_ticks_parts room.hub.moment (vms_in room) room.hub.contexts)
-    (parts_join (deadlines plan) (jobs.Happen what ∷ notices_of plan (vms_in room)) (by_bool AllParts (plan.deadline == 0) [] (jobs.Expire ∷ []) (λ e. tt) (λ e. (tt, tt))) (tt, notices_parts plan (vms_in room))))
+    (parts_join (deadlines plan) _ (by_bool AllParts (plan.deadline == 0) [] (jobs.Expire ∷ []) (λ e. tt) (λ e. (tt, tt)))
+    (parts_join (happening what room) (notices_of plan (vms_in room)) (event_parts what room) (notices_parts plan (vms_in room)))))
 
 -- ---- what was sent is counted otherwise
 

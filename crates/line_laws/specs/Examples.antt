@@ -31,7 +31,7 @@ use Rattle.line_laws.specs.Turns.{Done, Turns, new_room, sent_in}
 
 -- one route, which takes every path and has no filters
 abbrev pub open_plan : Plan
-open_plan = record { routes = record { path = codes "/"; filters = [] } ∷ []; plugins = []; vms = 0; deadline = 0; bodies = []; registers = [] }
+open_plan = record { routes = record { path = codes "/"; filters = [] } ∷ []; plugins = []; vms = 0; deadline = 0; bodies = []; registers = []; tcp = [] }
 
 abbrev pub new_worker : Both NoMachines
 new_worker = both (record { none = true }) (new_room (no_contexts Info []))

@@ -75,6 +75,7 @@ is_job_of n (jobs.Delete c) = false
 is_job_of n (jobs.Close m stays) = m == n
 is_job_of n (jobs.Notice vm left) = false
 is_job_of n (jobs.Ready vm root queue) = false
+is_job_of n (jobs.Other step) = false
 
 -- those that are in hand or come later, in order
 abbrev pub jobs_on : ℕ → Room → List Job

@@ -57,6 +57,8 @@ two_lines = record {
   waits = [];
   dead = [];
   is_begun = true;
+  calls = [];
+  tcp = [];
 }
 
 -- the end of a course that meets nothing

@@ -28,6 +28,8 @@ new_room contexts = record {
   waits = [];
   dead = [];
   is_begun = false;
+  calls = [];
+  tcp = [];
 }
 
 -- so a worker begins of every configuration

@@ -124,7 +124,7 @@ stands_still waiting event wants is = record {
   wants = wants;
   taken = [];
   steps_are = refl;
-  delivered = record { goes_on = λ place. ap (marks_at place) (sym (append-nil waiting) ∙ ap (λ (w : What). cleared w waiting ++ []) (sym is)); no_event = refl; not_asked = refl };
+  delivered = record { goes_on = λ place. ap (marks_at place) (sym (append-nil waiting) ∙ ap (λ (w : What). cleared w waiting ++ []) (sym is)); stops = tt; waits_short = λ place h. absurd h; no_event = refl; not_asked = refl };
   offered = OnFalse_from (is_stop event.what) _ (λ e. absurd (let f : true ≡ false = ap is_stop (sym is) ∙ e in cc));
   stopped = OnTrue_from (is_stop event.what) _ (λ e. (refl, refl, refl));
 }

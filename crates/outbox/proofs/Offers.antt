@@ -13,13 +13,14 @@ use Rattle.gate_io.specs.declared.event.Sent.TheVariants.{Connect, Bytes, Close,
 use Rattle.gate_io.specs.declared.event.Side.{Side}
 use Rattle.gate_io.specs.declared.passed.Passed.{Passed}
 use Rattle.gate_io.specs.declared.passed.Passed.TheVariants.{Asked, Gave, Took, Short}
-use Rattle.outbox.specs.Delivery.{WasShort, NeverShort, solid, IsFilled, AreFilled, Delivered, WaitsOnlyShort, Prompt, Offered}
-use Rattle.outbox.specs.Places.{Mark, place_of, marks_of, marks_at}
+use Rattle.outbox.specs.Delivery.{WasShort, NeverShort, IsLeftAlone, StopsAtShort, WaitsWhereShort, WaitsBehind, solid, IsFilled, AreFilled, Delivered, WaitsOnlyShort, Prompt, Offered}
+use Rattle.outbox.specs.Places.{Mark, place_of, marks_in, marks_of, marks_at}
 use Rattle.outbox.specs.Sorted.{IsBehind}
 use Rattle.outbox.specs.Taking.{rest_of, none_left, WasOffered}
 use Rattle.outbox.specs.declared.place.Place.{Place}
 use Rattle.outbox.specs.declared.place.Place.TheVariants.{Peer}
-use Rattle.outbox.proofs.Marks.{cases_place, marks_elsewhere, marks_at-append, marks_at-push, marks_of-two, marks_of-none, append_empty}
+use Rattle.outbox.proofs.Marks.{cases_place, marks_here, marks_elsewhere, marks_at-append, marks_at-push, marks_of-two, marks_of-none, append_empty, append_not_empty}
+use Rattle.outbox.proofs.Sorting.{marks_in-filled}
 
 pub was_short-left : (place : Place) (a b : List Passed) → WasShort place a → WasShort place (a ++ b)
 was_short-left place [] b h = elim h [ ]
@@ -46,6 +47,31 @@ was_short-either place (Short line side ∷ a) b (inr h) = elim (was_short-eithe
 
 pub never_short-append : (a b : List Passed) → NeverShort a → NeverShort b → NeverShort (a ++ b)
 never_short-append a b first next = λ place h. elim (was_short-either place a b h) [ inl short ↦ first place short | inr short ↦ next place short ]
+
+-- a place that was left alone, in two shares
+left_alone-append : (place : Place) (a b : List Passed) → IsLeftAlone place a → IsLeftAlone place b → IsLeftAlone place (a ++ b)
+left_alone-append place [] b first next = next
+left_alone-append place (Asked wants ∷ a) b first next = left_alone-append place a b first next
+left_alone-append place (Gave event ∷ a) b first next = left_alone-append place a b first next
+left_alone-append place (Took member ∷ a) b first next = (first.0, left_alone-append place a b first.1 next)
+left_alone-append place (Short line side ∷ a) b first next = (first.0, left_alone-append place a b first.1 next)
+
+-- The second share leaves alone the places at which the first fell short.
+stops-append : (a b : List Passed) → StopsAtShort a → StopsAtShort b → ((place : Place) → WasShort place a → IsLeftAlone place b) → StopsAtShort (a ++ b)
+stops-append [] b first next apart = next
+stops-append (Asked wants ∷ a) b first next apart = stops-append a b first next apart
+stops-append (Gave event ∷ a) b first next apart = stops-append a b first next apart
+stops-append (Took member ∷ a) b first next apart = stops-append a b first next apart
+stops-append (Short line side ∷ a) b first next apart =
+    (left_alone-append (Peer line side) a b first.0 (apart (Peer line side) (inl refl)), stops-append a b first.1 next (λ place h. apart place (inr h)))
+
+-- nothing is received at a place that was left alone
+received-left_alone : (place : Place) (steps : List Passed) → IsLeftAlone place steps → marks_at place (received steps) ≡ []
+received-left_alone place [] alone = refl
+received-left_alone place (Asked wants ∷ steps) alone = received-left_alone place steps alone
+received-left_alone place (Gave event ∷ steps) alone = received-left_alone place steps alone
+received-left_alone place (Took member ∷ steps) alone = λ i. marks_elsewhere place member alone.0 i ++ received-left_alone place steps alone.1 i
+received-left_alone place (Short line side ∷ steps) alone = received-left_alone place steps alone.1
 
 pub solid-append : (a b : List Sent) → solid (a ++ b) ≡ solid a ++ solid b
 solid-append [] b = refl
@@ -115,12 +141,63 @@ never_short-front line side bytes n all = never_short-append (piece line side (t
     unnoted true e = absurd (cc)
     unnoted false e = λ place h. h
 
+-- a `send` leaves other places alone
+alone-piece : (place : Place) (line : ℕ) (side : Side) (bytes : List ℕ) → (Peer line side ≡ place → ⊥) → IsLeftAlone place (piece line side bytes)
+alone-piece place line side [] other = tt
+alone-piece place line side (b ∷ bytes) other = (other, tt)
+
+alone-note : (place : Place) (line : ℕ) (side : Side) (b : Bool) → (Peer line side ≡ place → ⊥) → IsLeftAlone place (if b then Short line side ∷ [] else [])
+alone-note place line side true other = (other, tt)
+alone-note place line side false other = tt
+
+alone-front : (place : Place) (line : ℕ) (side : Side) (bytes : List ℕ) (n : ℕ) → (Peer line side ≡ place → ⊥) → IsLeftAlone place (front line side bytes n)
+alone-front place line side bytes n other =
+    left_alone-append place (piece line side (take n bytes)) _ (alone-piece place line side (take n bytes) other) (alone-note place line side (nat_lt n (length bytes)) other)
+
+-- and a shortfall is the last of it
+stops-piece : (line : ℕ) (side : Side) (bytes : List ℕ) → StopsAtShort (piece line side bytes)
+stops-piece line side [] = tt
+stops-piece line side (b ∷ bytes) = tt
+
+stops-note : (line : ℕ) (side : Side) (b : Bool) → StopsAtShort (if b then Short line side ∷ [] else [])
+stops-note line side true = (tt, tt)
+stops-note line side false = tt
+
+stops-front : (line : ℕ) (side : Side) (bytes : List ℕ) (n : ℕ) → StopsAtShort (front line side bytes n)
+stops-front line side bytes n =
+    stops-append (piece line side (take n bytes)) _ (stops-piece line side (take n bytes)) (stops-note line side (nat_lt n (length bytes)))
+    (λ place h. absurd (never_short-piece line side (take n bytes) place h))
+
+-- only its place falls short
+short_here-front : (place : Place) (line : ℕ) (side : Side) (bytes : List ℕ) (n : ℕ) → WasShort place (front line side bytes n) → Peer line side ≡ place
+short_here-front place line side bytes n h = elim (was_short-either place (piece line side (take n bytes)) _ h) [
+  | inl first ↦ absurd (never_short-piece line side (take n bytes) place first)
+  | inr next ↦ noted (nat_lt n (length bytes)) next
+]
+  where
+    noted : (b : Bool) → WasShort place (if b then Short line side ∷ [] else []) → Peer line side ≡ place
+    noted true (inl is) = is
+    noted true (inr h) = absurd h
+    noted false h = absurd h
+
+-- Where nothing waited for the member's place, a step that leaves other places alone leaves alone those at which something waits.
+waits_behind : (left rest : List Sent) (place_is : Place) (steps : List Passed) (more : Place → List Mark) → marks_at place_is left ≡ [] → ((place : Place) → (place_is ≡ place → ⊥) → IsLeftAlone place steps)
+    → ((place : Place) → marks_at place rest ≡ marks_at place left ++ more place) → WaitsBehind left steps rest
+waits_behind left rest place_is steps more none alone waits = λ place some.
+    (alone place (λ is. some (ap (λ (p : Place). marks_at p left) (sym is) ∙ none)), λ empty. append_not_empty (marks_at place left) (more place) some (sym (waits place) ∙ empty))
+
+-- what waits is there still in front of a member that is not offered
+still_behind : (left : List Sent) (member : Sent) → WaitsBehind left [] (left ++ member ∷ [])
+still_behind left member = λ place some. (tt, λ empty. append_not_empty (marks_at place left) (marks_of place member) some (sym (marks_at-push place left member) ∙ empty))
+
 -- Of a member for whose place nothing waited some was taken, and the rest of it waits behind what waited.
 front_taken : (left : List Sent) (member : Sent) (steps : List Passed) (rest : List Sent) (more : Place → List Mark) → marks_at (place_of member) left ≡ []
     → ((place : Place) → marks_at place rest ≡ marks_at place left ++ more place) → ((place : Place) → marks_at place (received steps) ++ more place ≡ marks_of place member)
-    → happened steps ≡ [] → asked steps ≡ [] → Delivered (left ++ member ∷ []) steps rest
-front_taken left member steps rest more none waits taken no_event not_asked = record {
+    → StopsAtShort steps → WaitsWhereShort steps rest → happened steps ≡ [] → asked steps ≡ [] → Delivered (left ++ member ∷ []) steps rest
+front_taken left member steps rest more none waits taken stops waits_short no_event not_asked = record {
   goes_on = λ place. ap (λ (m : List Mark). marks_at place (received steps) ++ m) (waits place) ∙ go place (cases_place (place_of member) place);
+  stops = stops;
+  waits_short = waits_short;
   no_event = no_event;
   not_asked = not_asked;
 }
@@ -136,33 +213,47 @@ front_taken left member steps rest more none waits taken no_event not_asked = re
 
 -- nothing was offered
 pub none_taken : (before : List Sent) → Delivered before [] before
-none_taken before = record { goes_on = λ place. refl; no_event = refl; not_asked = refl }
+none_taken before = record { goes_on = λ place. refl; stops = tt; waits_short = λ place h. absurd h; no_event = refl; not_asked = refl }
 
 -- a member that is taken as a whole
 whole_taken : (left : List Sent) (member : Sent) → marks_at (place_of member) left ≡ [] → Delivered (left ++ member ∷ []) (Took member ∷ []) left
 whole_taken left member none =
-    front_taken left member (Took member ∷ []) left (λ place. []) none (λ place. sym (append-nil (marks_at place left))) (λ place. append-nil _ ∙ append-nil (marks_of place member)) refl refl
+    front_taken left member (Took member ∷ []) left (λ place. []) none (λ place. sym (append-nil (marks_at place left))) (λ place. append-nil _ ∙ append-nil (marks_of place member)) tt (λ place h. absurd h) refl refl
 
 -- a front of the bytes
 bytes_taken : (left rest : List Sent) (line : ℕ) (side : Side) (bytes : List ℕ) (n : ℕ) → marks_at (Peer line side) left ≡ []
-    → ((place : Place) → marks_at place rest ≡ marks_at place left ++ marks_of place (Bytes line side (drop n bytes))) → Delivered (left ++ Bytes line side bytes ∷ []) (front line side bytes n) rest
-bytes_taken left rest line side bytes n none waits =
+    → ((place : Place) → marks_at place rest ≡ marks_at place left ++ marks_of place (Bytes line side (drop n bytes))) → WaitsWhereShort (front line side bytes n) rest
+    → Delivered (left ++ Bytes line side bytes ∷ []) (front line side bytes n) rest
+bytes_taken left rest line side bytes n none waits waits_short =
     front_taken left (Bytes line side bytes) (front line side bytes n) rest (λ place. marks_of place (Bytes line side (drop n bytes))) none waits
     (λ place.
     ap (λ (m : List Mark). m ++ marks_of place (Bytes line side (drop n bytes))) (marks_at-front place line side bytes n)
     ∙ marks_of-two place line side (take n bytes) (drop n bytes)
     ∙ ap (λ (b : List ℕ). marks_of place (Bytes line side b)) (take-append-drop n bytes))
-    (happened-front line side bytes n) (asked-front line side bytes n)
+    (stops-front line side bytes n) waits_short (happened-front line side bytes n) (asked-front line side bytes n)
 
 pub all_taken : (left : List Sent) (line : ℕ) (side : Side) (bytes : List ℕ) (n : ℕ) → marks_at (Peer line side) left ≡ [] → length bytes ≤ n
     → Delivered (left ++ Bytes line side bytes ∷ []) (front line side bytes n) left
 all_taken left line side bytes n none all =
     bytes_taken left left line side bytes n none
     (λ place. sym (append-nil (marks_at place left)) ∙ ap (λ (m : List Mark). marks_at place left ++ m) (sym (ap (λ (b : List ℕ). marks_of place (Bytes line side b)) (drop_all n bytes all) ∙ marks_of-none place line side)))
+    (λ place h. absurd (never_short-front line side bytes n all place h))
 
-pub part_taken : (left rest : List Sent) (line : ℕ) (side : Side) (bytes : List ℕ) (n : ℕ) → marks_at (Peer line side) left ≡ [] → IsBehind left (Bytes line side (drop n bytes)) rest
+-- what is left of a piece of which not all was taken is no empty piece
+filled_rest : (line : ℕ) (side : Side) (bytes : List ℕ) (n : ℕ) → n < length bytes → IsFilled (Bytes line side (drop n bytes))
+filled_rest line side [] n less = absurd (omega (arith, less))
+filled_rest line side (b ∷ bytes) zero less = tt
+filled_rest line side (b ∷ bytes) (suc n) less = filled_rest line side bytes n (omega (arith, less))
+
+pub part_taken : (left rest : List Sent) (line : ℕ) (side : Side) (bytes : List ℕ) (n : ℕ) → n < length bytes → marks_at (Peer line side) left ≡ [] → IsBehind left (Bytes line side (drop n bytes)) rest
     → Delivered (left ++ Bytes line side bytes ∷ []) (front line side bytes n) rest
-part_taken left rest line side bytes n none is = bytes_taken left rest line side bytes n none is
+part_taken left rest line side bytes n less none is = bytes_taken left rest line side bytes n none is (λ place h. here place (short_here-front place line side bytes n h))
+  where
+    more : Sent
+    more = Bytes line side (drop n bytes)
+
+    here : (place : Place) → Peer line side ≡ place → marks_at place rest ≢ []
+    here place same = λ empty. marks_in-filled more (filled_rest line side bytes n less) (sym (marks_here place more same) ∙ (append_empty (marks_at place left) (marks_of place more) (sym (is place) ∙ empty)).1)
 
 -- what waits is at the member's place
 waits_here : (left rest : List Sent) (steps : List Passed) (member more : Sent) → place_of more ≡ place_of member → IsBehind left more rest
@@ -216,9 +307,9 @@ still_only_short waited left rest1 rest2 s1 s2 is first next = λ place none. go
     go place (inl empty) = elim (next place (ap (marks_at place) (sym is) ∙ empty)) [ inl gone ↦ inl gone | inr short ↦ inr (was_short-right place s1 s2 short) ]
     go place (inr short) = inr (was_short-left place s1 s2 short)
 
-delivered_more : (before left rest1 rest2 more : List Sent) (s1 s2 : List Passed) → rest1 ≡ left → Delivered before s1 rest1 → Delivered (left ++ more) s2 rest2
+delivered_more : (before left rest1 rest2 more : List Sent) (s1 s2 : List Passed) → rest1 ≡ left → Delivered before s1 rest1 → Delivered (left ++ more) s2 rest2 → WaitsBehind left s2 rest2
     → Delivered (before ++ more) (s1 ++ s2) rest2
-delivered_more before left rest1 rest2 more s1 s2 is first next = record {
+delivered_more before left rest1 rest2 more s1 s2 is first next behind = record {
   goes_on = λ place.
       ap (λ (l : List Sent). marks_at place l ++ marks_at place rest2) (received-append s1 s2)
       ∙ ap (λ (m : List Mark). m ++ marks_at place rest2) (marks_at-append place (received s1) (received s2))
@@ -227,9 +318,21 @@ delivered_more before left rest1 rest2 more s1 s2 is first next = record {
       ∙ sym (append_assoc (marks_at place (received s1)) (marks_at place left) (marks_at place more))
       ∙ ap (λ (m : List Mark). m ++ marks_at place more) (ap (λ (l : List Sent). marks_at place (received s1) ++ marks_at place l) (sym is) ∙ first.goes_on place)
       ∙ sym (marks_at-append place before more);
+  stops = stops-append s1 s2 first.stops next.stops (λ place h. (behind place (waited place h)).0);
+  waits_short = λ place h. elim (was_short-either place s1 s2 h) [ inl short ↦ (behind place (waited place short)).1 | inr short ↦ next.waits_short place short ];
   no_event = happened-append s1 s2 ∙ (λ i. first.no_event i ++ next.no_event i);
   not_asked = asked-append s1 s2 ∙ (λ i. first.not_asked i ++ next.not_asked i);
 }
+  where
+    -- where the first share fell short, something waits
+    waited : (place : Place) → WasShort place s1 → marks_at place left ≢ []
+    waited place short = λ empty. first.waits_short place short (ap (marks_at place) is ∙ empty)
+
+behind_more : (waited left rest1 rest2 : List Sent) (s1 s2 : List Passed) → rest1 ≡ left → WaitsBehind waited s1 rest1 → WaitsBehind left s2 rest2 → WaitsBehind waited (s1 ++ s2) rest2
+behind_more waited left rest1 rest2 s1 s2 is first next = λ place some.
+    let one = first place some in
+    let two = next place (λ empty. one.1 (ap (marks_at place) is ∙ empty)) in
+    (left_alone-append place s1 s2 one.0 two.0, two.1)
 
 still_prompt : (waited before left rest1 rest2 more : List Sent) (s1 s2 : List Passed) → rest1 ≡ left → Prompt waited before s1 rest1 → Prompt left (left ++ more) s2 rest2
     → Prompt waited (before ++ more) (s1 ++ s2) rest2
@@ -250,15 +353,11 @@ delivered_cut before steps rest more d = record {
       ∙ sym (append_assoc (marks_at place (received steps)) (marks_at place rest) (marks_at place more))
       ∙ ap (λ (m : List Mark). m ++ marks_at place more) (d.goes_on place)
       ∙ sym (marks_at-append place before more);
+  stops = d.stops;
+  waits_short = λ place h. λ empty. append_not_empty (marks_at place rest) (marks_at place more) (d.waits_short place h) (sym (marks_at-append place rest more) ∙ empty);
   no_event = d.no_event;
   not_asked = d.not_asked;
 }
-
--- what is left of a piece of which not all was taken is no empty piece
-filled_rest : (line : ℕ) (side : Side) (bytes : List ℕ) (n : ℕ) → n < length bytes → IsFilled (Bytes line side (drop n bytes))
-filled_rest line side [] n less = absurd (omega (arith, less))
-filled_rest line side (b ∷ bytes) zero less = tt
-filled_rest line side (b ∷ bytes) (suc n) less = filled_rest line side bytes n (omega (arith, less))
 
 pub filled_piece : {E : Type 0} (r : Result (Option ℕ) E) (line : ℕ) (side : Side) (bytes : List ℕ) → IfOk r (λ taken. IfSome taken (λ n. n < length bytes))
     → IfOk r (λ taken. IfSome taken (λ n. IsFilled (rest_of n (Bytes line side bytes))))
@@ -279,7 +378,8 @@ module _ {E : Type 0} (takes_whole : Bool) where
     steps = [];
     rest = new;
     told = gains_nothing world;
-    delivered = record { goes_on = λ place. is place ∙ sym (marks_at-push place left member); no_event = refl; not_asked = refl };
+    delivered = record { goes_on = λ place. is place ∙ sym (marks_at-push place left member); stops = tt; waits_short = λ place h. absurd h; no_event = refl; not_asked = refl };
+    behind = λ place waits. (tt, λ empty. append_not_empty (marks_at place left) (marks_of place member) waits (sym (is place) ∙ empty));
     taken_whole = λ t place h. h;
     waits = (refl, prompt_wait left new member some is);
   }
@@ -288,6 +388,7 @@ module _ {E : Type 0} (takes_whole : Bool) where
     rest = left ++ member ∷ [];
     told = gains_nothing world;
     delivered = none_taken _;
+    behind = still_behind left member;
     taken_whole = λ t place h. h;
     waits = tt;
   }
@@ -300,6 +401,7 @@ module _ {E : Type 0} (takes_whole : Bool) where
     rest = left;
     told = told;
     delivered = whole_taken left member none;
+    behind = waits_behind left left (place_of member) (Took member ∷ []) (λ place. []) none (λ place other. (other, tt)) (λ place. sym (append-nil (marks_at place left)));
     taken_whole = λ t place h. h;
     waits = (refl, prompt_all left member (Took member ∷ []) (solid_whole member other));
   }
@@ -308,17 +410,19 @@ module _ {E : Type 0} (takes_whole : Bool) where
     rest = left ++ member ∷ [];
     told = told;
     delivered = none_taken _;
+    behind = still_behind left member;
     taken_whole = λ t place h. h;
     waits = tt;
   }
 
   -- memory ran out before anything was offered
-  pub offered_early : (world : Option (List Passed)) (waited before after : List Sent) (r : Result (Unit {0}) E) → IsErr r → Offered takes_whole world waited before r world after
-  offered_early world waited before after r err = record {
+  pub offered_early : (world : Option (List Passed)) (before after : List Sent) (r : Result (Unit {0}) E) → IsErr r → Offered takes_whole world [] before r world after
+  offered_early world before after r err = record {
     steps = [];
     rest = before;
     told = gains_nothing world;
     delivered = none_taken before;
+    behind = λ place some. absurd (some refl);
     taken_whole = λ t place h. h;
     waits = IfOk-from_err r _ err;
   }
@@ -330,6 +434,7 @@ module _ {E : Type 0} (takes_whole : Bool) where
     rest = left;
     told = gains_nothing world;
     delivered = none_taken left;
+    behind = λ place some. (tt, some);
     taken_whole = λ t place h. h;
     waits = (refl, record { only_short = λ place none. inl none; whole = λ none never. (ap solid (sym none), none) });
   }
@@ -341,7 +446,8 @@ module _ {E : Type 0} (takes_whole : Bool) where
     steps = first.steps ++ next.steps;
     rest = next.rest;
     told = gains_more a first.steps b next.steps c first.told next.told;
-    delivered = delivered_more before left first.rest next.rest more first.steps next.steps first.waits.0 first.delivered next.delivered;
+    delivered = delivered_more before left first.rest next.rest more first.steps next.steps first.waits.0 first.delivered next.delivered next.behind;
+    behind = behind_more waited left first.rest next.rest first.steps next.steps first.waits.0 first.behind next.behind;
     taken_whole = λ t. never_short-append first.steps next.steps (first.taken_whole t) (next.taken_whole t);
     waits = (next.waits.0, still_prompt waited before left first.rest next.rest more first.steps next.steps first.waits.0 first.waits.1 next.waits.1);
   }
@@ -349,7 +455,8 @@ module _ {E : Type 0} (takes_whole : Bool) where
     steps = first.steps ++ next.steps;
     rest = next.rest;
     told = gains_more a first.steps b next.steps c first.told next.told;
-    delivered = delivered_more before left first.rest next.rest more first.steps next.steps first.waits.0 first.delivered next.delivered;
+    delivered = delivered_more before left first.rest next.rest more first.steps next.steps first.waits.0 first.delivered next.delivered next.behind;
+    behind = behind_more waited left first.rest next.rest first.steps next.steps first.waits.0 first.behind next.behind;
     taken_whole = λ t. never_short-append first.steps next.steps (first.taken_whole t) (next.taken_whole t);
     waits = tt;
   }
@@ -362,6 +469,7 @@ module _ {E : Type 0} (takes_whole : Bool) where
     rest = run.rest;
     told = run.told;
     delivered = run.delivered;
+    behind = run.behind;
     taken_whole = run.taken_whole;
     waits = IfOk-from_err r _ err;
   }
@@ -372,7 +480,7 @@ module _ {E : Type 0} (takes_whole : Bool) where
   offered_rest old new left after member n (Ok x) was none is = was left after none is
   offered_rest old new left after member n (Err e) was none is =
       let run = was left (left ++ rest_of n member ∷ []) none (λ place. marks_at-push place left (rest_of n member)) in
-      record { steps = run.steps; rest = run.rest; told = run.told; delivered = run.delivered; taken_whole = run.taken_whole; waits = tt }
+      record { steps = run.steps; rest = run.rest; told = run.told; delivered = run.delivered; behind = run.behind; taken_whole = run.taken_whole; waits = tt }
 
   -- memory ran out before anything was taken
   pub was_err : (old new : Option (List Passed)) (member : Sent) (r : Result (Option ℕ) E) → IsErr r → Gains old [] new → WasOffered takes_whole old member r new
@@ -383,6 +491,7 @@ module _ {E : Type 0} (takes_whole : Bool) where
     rest = left ++ member ∷ [];
     told = told;
     delivered = none_taken _;
+    behind = still_behind left member;
     taken_whole = λ t place h. h;
     waits = tt;
   }
@@ -394,7 +503,8 @@ module _ {E : Type 0} (takes_whole : Bool) where
     steps = front line side bytes n;
     rest = after;
     told = told;
-    delivered = part_taken left after line side bytes n none is;
+    delivered = part_taken left after line side bytes n less none is;
+    behind = waits_behind left after (Peer line side) (front line side bytes n) (λ place. marks_of place (Bytes line side (drop n bytes))) none (λ place other. alone-front place line side bytes n other) is;
     taken_whole = λ t. absurd (let all = whole t in omega (arith, all, less));
     waits = (refl, prompt_short left after line side bytes (drop n bytes) n less is);
   }
@@ -407,6 +517,7 @@ module _ {E : Type 0} (takes_whole : Bool) where
     rest = left;
     told = told;
     delivered = all_taken left line side bytes n none all;
+    behind = waits_behind left left (Peer line side) (front line side bytes n) (λ place. []) none (λ place other. alone-front place line side bytes n other) (λ place. sym (append-nil (marks_at place left)));
     taken_whole = λ t. never_short-front line side bytes n all;
     waits = (refl, prompt_bytes left line side bytes n all);
   }
@@ -420,6 +531,7 @@ module _ {E : Type 0} (takes_whole : Bool) where
     rest = left ++ member ∷ [];
     told = told;
     delivered = none_taken _;
+    behind = still_behind left member;
     taken_whole = λ t place h. h;
     waits = tt;
   }
@@ -433,6 +545,9 @@ module _ {E : Type 0} (takes_whole : Bool) where
     rest = run.rest ++ more;
     told = run.told;
     delivered = delivered_cut before run.steps run.rest more run.delivered;
+    behind = λ place some.
+        let so = run.behind place some in
+        (so.0, λ empty. append_not_empty (marks_at place run.rest) (marks_at place more) so.1 (sym (marks_at-append place run.rest more) ∙ empty));
     taken_whole = run.taken_whole;
     waits = tt;
   }

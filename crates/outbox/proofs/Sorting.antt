@@ -108,7 +108,7 @@ sorted-join least (s ∷ sent) zero last member below is sorted =
     (subst (λ (n : ℕ). least ≤ n) (sym same) sorted.0, IsFilled-as_one last member (subst IsFilled (sym is) sorted.1), subst (λ (n : ℕ). IsSortedFrom n sent) (sym same) sorted.2)
 sorted-join least (s ∷ sent) (suc at) last member below is sorted = (sorted.0, sorted.1, sorted-join (rank_of s) sent at last member (omega (arith, below)) is sorted.2)
 
-marks_in-filled : (member : Sent) → IsFilled member → marks_in member ≢ []
+pub marks_in-filled : (member : Sent) → IsFilled member → marks_in member ≢ []
 marks_in-filled (Connect line) filled = λ e. cc
 marks_in-filled (Bytes line side []) filled = absurd filled
 marks_in-filled (Bytes line side (b ∷ bytes)) filled = λ e. cc

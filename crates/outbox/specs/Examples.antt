@@ -54,14 +54,23 @@ pub record JoinedExamples : Type 0 where
 abbrev pub piece : List Sent
 piece = Bytes 1 Up (codes "ab") ∷ Close 1 Up ∷ []
 
+-- The world takes a byte, is offered the other one again in the same turn, and takes that too.
+abbrev pub again : List Passed
+again = Took (Bytes 1 Up (codes "a")) ∷ Short 1 Up ∷ Took (Bytes 1 Up (codes "b")) ∷ []
+
 -- Bytes of which the world takes some, and what may not be: nothing offered, a close before the bytes, the taken bytes in
--- place of the rest, a line of the log that waits.
+-- place of the rest, a line of the log that waits, an offer after a shortfall, a shortfall after which nothing waits.
 pub record DeliveryExamples : Type 0 where
   pub part : Delivered piece (Took (Bytes 1 Up (codes "a")) ∷ Short 1 Up ∷ []) (Bytes 1 Up (codes "b") ∷ Close 1 Up ∷ [])
   pub part_prompt : Prompt [] piece (Took (Bytes 1 Up (codes "a")) ∷ Short 1 Up ∷ []) (Bytes 1 Up (codes "b") ∷ Close 1 Up ∷ [])
   pub held_back : Prompt [] piece [] piece → ⊥
   pub overtaken : Delivered piece (Took (Close 1 Up) ∷ []) (Bytes 1 Up (codes "ab") ∷ []) → ⊥
   pub wrong_rest : Delivered piece (Took (Bytes 1 Up (codes "a")) ∷ Short 1 Up ∷ []) (Bytes 1 Up (codes "a") ∷ Close 1 Up ∷ []) → ⊥
+  pub again_prompt : Prompt [] piece again (Close 1 Up ∷ [])
+  pub offered_again : Delivered piece again (Close 1 Up ∷ []) → ⊥
+  pub nothing_waits : Delivered (Bytes 1 Up (codes "a") ∷ []) (Took (Bytes 1 Up (codes "a")) ∷ Short 1 Up ∷ []) [] → ⊥
+  pub other_side :
+      Delivered (Bytes 1 Up (codes "ab") ∷ Bytes 1 Down (codes "c") ∷ []) (Took (Bytes 1 Up (codes "a")) ∷ Short 1 Up ∷ Took (Bytes 1 Down (codes "c")) ∷ []) (Bytes 1 Up (codes "b") ∷ [])
   pub log_waits : Prompt [] (Log Info (codes "x") ∷ []) [] (Log Info (codes "x") ∷ []) → ⊥
 
 -- what happens at a moment

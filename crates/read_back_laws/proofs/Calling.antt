@@ -2,10 +2,10 @@
 use Rattle.std.proofs.Common.{◌≡◌, ℕ, ◌==◌, Bool, true, false, ◌||◌, ◌&&◌, List, length, refl, subst}
 use Rattle.std.specs.Prelude.{Option, None, Some, Result, Ok, Err, cond, nat_lt, if◌then◌else◌}
 use Rattle.abi_calls.specs.Hosting.{Hosted, hosting, wasi_hosting, of_called, asking}
-use Rattle.abi_maps.specs.Maps.{map_at, map_in, there, on_map, with_map, mapped, changing_map, added_to, replaced_in, removed_from, set_from, own_get_header_map_pairs, own_get_header_map_size, own_get_header_map_value, own_set_header_map_pairs, own_add_header_map_value, own_replace_header_map_value, own_remove_header_map_value}
-use Rattle.abi_maps.specs.Buffers.{own_get_buffer_bytes, own_get_buffer_status, own_set_buffer_bytes, buffered, held_after}
+use Rattle.abi_maps.specs.Maps.{map_at, map_in, there, on_map, with_map, mapped, no_change, changing_map, added_to, replaced_in, removed_from, set_from, own_get_header_map_pairs, own_get_header_map_size, own_get_header_map_value, own_set_header_map_pairs, own_add_header_map_value, own_replace_header_map_value, own_remove_header_map_value}
+use Rattle.abi_maps.specs.Buffers.{own_get_buffer_bytes, own_get_buffer_status, own_set_buffer_bytes, buffer_no, buffered, held_after}
 use Rattle.abi_maps.specs.Callouts.{own_http_call}
-use Rattle.abi_maps.specs.Streams.{continuing, closing, on_stream, is_too_late, fields_from, answering, answering_in, answering_with, answer_changes, own_continue_stream, own_close_stream, own_send_local_response}
+use Rattle.abi_maps.specs.Streams.{continuing, closing, on_stream, is_stream, stream_no, is_too_late, fields_from, refusing, answering, answering_in, answering_with, answer_changes, own_continue_stream, own_close_stream, own_send_local_response}
 use Rattle.abi_model.specs.Asking.{Asking, asks}
 use Rattle.abi_model.specs.Calls as model
 use Rattle.abi_model.specs.Calls.{Own, Made, Does, does, does_made}
@@ -74,37 +74,34 @@ of_map n f v l keeps has zeroth made =
     by_map (Some k) has_ e = keeps k l has_ e
 
 changing_leaves : (n : ℕ) (f : Headers → Result Headers ℕ) (s : Seen) → KeepsBy f → MadeLeaves s (changing_map n f s)
-changing_leaves n f s keeps = by_view s.reach.exchange
+changing_leaves n f s keeps =
+    by_bool (MadeLeaves s) (nat_lt 5 n) (model.answers (no_change n s)) (mapped n s.reach.exchange (on_map (there (map_in n s.reach.exchange)) f)) (λ e. tt) (λ e. by_view s.reach.exchange)
   where
     by_result : (v : ExchangeView) (r : Result Headers ℕ) → ((l : Headers) → r ≡ Ok l → HasList v.maps.request → (n == 0) ≡ true → IsFieldList l) → LeavesView (mapped n (Some v) r).changes.exchange (Some v)
     by_result v (Err status) of = tt
     by_result v (Ok l) of = λ has. with_lists n l v.maps has (λ zeroth. of l refl has zeroth)
 
-    by_view : (o : Option ExchangeView) → LeavesView (mapped n o (on_map (if nat_lt 7 n then Err 2 else there (map_in n o)) f)).changes.exchange o
-    by_view None = by_none (on_map (if nat_lt 7 n then Err 2 else there None) f)
-      where
-        by_none : (r : Result Headers ℕ) → LeavesView (mapped n None r).changes.exchange None
-        by_none (Err status) = tt
-        by_none (Ok l) = tt
-    by_view (Some v) =
-        by_bool (λ (m : Result Headers ℕ). LeavesView (mapped n (Some v) (on_map m f)).changes.exchange (Some v)) (nat_lt 7 n) (Err 2) (there (map_at n v.maps)) (λ e. tt)
-        (λ e. by_result v (on_map (there (map_at n v.maps)) f) (λ l made has zeroth. of_map n f v l keeps has zeroth made))
+    by_view : (o : Option ExchangeView) → LeavesView (mapped n o (on_map (there (map_in n o)) f)).changes.exchange o
+    by_view None = tt
+    by_view (Some v) = by_result v (on_map (there (map_at n v.maps)) f) (λ l made has zeroth. of_map n f v l keeps has zeroth made)
 
 -- ---- streams and local responses
 
-stream_leaves : (n : ℕ) (w : _) (s : Seen) (o : Option ExchangeView) (p : Option ExchangeView) → LeavesView (on_stream n w s o).changes.exchange p
-stream_leaves n w s None p = tt
-stream_leaves n w s (Some v) p = by_bool (λ (m : Made). LeavesView m.changes.exchange p) (nat_lt 1 n) (model.answers 12) _ (λ e. tt) (λ e. tt)
+stream_leaves : (n : ℕ) (w : _) (s : Seen) (b : Bool) (p : Option ExchangeView) → LeavesView (on_stream n w s b).changes.exchange p
+stream_leaves n w s false p = tt
+stream_leaves n w s true p = by_bool (λ (m : Made). LeavesView m.changes.exchange p) (nat_lt 1 n) (model.answers 12) _ (λ e. tt) (λ e. tt)
 
 continuing_leaves : (n : ℕ) (s : Seen) → MadeLeaves s (continuing n s)
-continuing_leaves n s = by_bool (MadeLeaves s) (nat_lt 3 n) (model.answers 2) (on_stream n _ s s.reach.exchange) (λ e. tt) (λ e. stream_leaves n _ s s.reach.exchange s.reach.exchange)
+continuing_leaves n s = by_bool (MadeLeaves s) (nat_lt 3 n) (model.answers 2) (on_stream n _ s (is_stream s)) (λ e. tt) (λ e. stream_leaves n _ s (is_stream s) s.reach.exchange)
 
 closing_leaves : (n : ℕ) (s : Seen) → MadeLeaves s (closing n s)
-closing_leaves n s = by_bool (MadeLeaves s) (nat_lt 3 n) (model.answers 2) (on_stream n _ s s.reach.exchange) (λ e. tt) (λ e. stream_leaves n _ s s.reach.exchange s.reach.exchange)
+closing_leaves n s = by_bool (MadeLeaves s) (nat_lt 3 n) (model.answers 2) (on_stream n _ s (is_stream s)) (λ e. tt) (λ e. stream_leaves n _ s (is_stream s) s.reach.exchange)
 
 answering_leaves : (status : ℕ) (body headers : List ℕ) (s : Seen) → MadeLeaves s (answering status body headers s)
 answering_leaves status body headers s =
-    by_bool (MadeLeaves s) (nat_lt status 200 || nat_lt 599 status) (model.answers 2) (answering_in status body headers s.reach.exchange s) (λ e. tt) (λ e. by_view s.reach.exchange)
+    by_bool (MadeLeaves s) (nat_lt status 200 || nat_lt 599 status) (model.answers 2)
+    (if s.common.is_tcp then model.reads (refusing body headers s) else answering_in status body headers s.reach.exchange s) (λ e. tt)
+    (λ e. by_bool (MadeLeaves s) s.common.is_tcp (model.reads (refusing body headers s)) (answering_in status body headers s.reach.exchange s) (λ d. tt) (λ d. by_view s.reach.exchange))
   where
     by_fields : (v : ExchangeView) (r : Result Headers ℕ) → LeavesView (answering_with status body r v s).changes.exchange (Some v)
     by_fields v (Err n) = tt
@@ -164,7 +161,8 @@ hosted_leaves call.GetBufferBytes now vm args g s = does_leaves 6 (row_of call.G
 hosted_leaves call.GetBufferStatus now vm args g s = does_leaves 6 (row_of call.GetBufferStatus) own_get_buffer_status args g s (λ inputs. tt)
 hosted_leaves call.SetBufferBytes now vm args g s =
     does_leaves 6 (row_of call.SetBufferBytes) own_set_buffer_bytes args g s
-    (λ inputs. buffer_leaves (arg args 0) s.reach.own (held_after (arg args 0) (arg args 1) (arg args 2) inputs.first s.reach) s.reach.exchange)
+    (λ inputs.
+    buffer_leaves (buffer_no s.common.is_tcp (arg args 0)) s.reach.own (held_after (buffer_no s.common.is_tcp (arg args 0)) (arg args 1) (arg args 2) inputs.first s.reach) s.reach.exchange)
 hosted_leaves call.GetHeaderMapPairs now vm args g s = does_leaves 6 (row_of call.GetHeaderMapPairs) own_get_header_map_pairs args g s (λ inputs. tt)
 hosted_leaves call.SetHeaderMapPairs now vm args g s =
     does_leaves 6 (row_of call.SetHeaderMapPairs) own_set_header_map_pairs args g s (λ inputs. changing_leaves (arg args 0) (set_from inputs.first) s (λ l m is made. setting_shapes inputs.first l m is made))
@@ -178,8 +176,8 @@ hosted_leaves call.ReplaceHeaderMapValue now vm args g s =
     (λ inputs. changing_leaves (arg args 0) (replaced_in inputs.first inputs.second) s (λ l m is made. replacing_shapes inputs.first inputs.second l m is made))
 hosted_leaves call.RemoveHeaderMapValue now vm args g s =
     does_leaves 6 (row_of call.RemoveHeaderMapValue) own_remove_header_map_value args g s (λ inputs. changing_leaves (arg args 0) (removed_from inputs.first) s (λ l m is made. removing_shapes inputs.first l m is made))
-hosted_leaves call.ContinueStream now vm args g s = does_leaves 6 (row_of call.ContinueStream) own_continue_stream args g s (λ inputs. continuing_leaves (arg args 0) s)
-hosted_leaves call.CloseStream now vm args g s = does_leaves 6 (row_of call.CloseStream) own_close_stream args g s (λ inputs. closing_leaves (arg args 0) s)
+hosted_leaves call.ContinueStream now vm args g s = does_leaves 6 (row_of call.ContinueStream) own_continue_stream args g s (λ inputs. continuing_leaves (stream_no s.common.is_tcp (arg args 0)) s)
+hosted_leaves call.CloseStream now vm args g s = does_leaves 6 (row_of call.CloseStream) own_close_stream args g s (λ inputs. closing_leaves (stream_no s.common.is_tcp (arg args 0)) s)
 hosted_leaves call.SendLocalResponse now vm args g s = does_leaves 6 (row_of call.SendLocalResponse) own_send_local_response args g s (λ inputs. answering_leaves (arg args 0) inputs.second inputs.third s)
 hosted_leaves call.HttpCall now vm args g s = does_leaves 6 (row_of call.HttpCall) own_http_call args g s (λ inputs. tt)
 hosted_leaves call.GetSharedData now vm args g s = asking_leaves (row_of call.GetSharedData) own_get_shared_data vm args g s

@@ -201,6 +201,7 @@ module _ (n : ℕ) where
       by_bool Good (is_own own context response) room (on_context (passing.resumes vm context response) vm context room) (λ e. fine)
       (λ e. context_fine (passing.resumes vm context response) vm context room (λ m x hub f. deed_fine n m (resumes vm context response) x hub tt f) fine)
   does_fine vm own context what.Close room fine = context_fine passing.closed vm context room (λ m x hub f. deed_fine n m closes x hub tt f) fine
+  does_fine vm own context (what.Call request) room fine = fine
   does_fine vm own context (what.Answer status fields body) room fine =
       context_fine (changed (changes.Answer status fields body)) vm context room (λ m x hub f. deed_fine n m (answers false status fields.pairs body) x hub tt f) fine
 
@@ -555,6 +556,7 @@ module _ {H : Type 0} (calling : Calling H) (logs : WriteLogs calling) (keeps : 
   works_fine (jobs.Notice vm more) host room fine = notices_fine vm more host room fine
   works_fine (jobs.Ready vm root queue) host room fine =
       by_bool Finely (may_stream vm root room.hub.contexts) (tells calling vm callbacks.QueueReady root queue host room) (ends (both host room)) (λ e. tells_fine vm callbacks.QueueReady root queue host room fine) (λ e. fine)
+  works_fine (jobs.Other step) host room fine = fine
 
   -- where no reader of a client awaits a response
   abbrev Awaits : Room → Type 0

@@ -71,6 +71,7 @@ filter_plan = record {
   deadline = 0;
   bodies = record { requests = true; responses = false } ∷ [];
   registers = false ∷ [];
+  tcp = [];
 }
 
 abbrev pub first : Exchange

@@ -1,6 +1,7 @@
 -- What an event does to the readers of one side.
 use Rattle.std.proofs.Common.{◌≡◌, inl, ℕ, ◌==◌, Bool, true, false, not, ◌&&◌, List, [], ◌∷◌, length, refl, ap, ◌∙◌, sym, subst}
 use Rattle.std.specs.Prelude.{Option, None, Some, is_some, nat_lt, insert, if◌then◌else◌}
+use Rattle.callouts.specs.Callouts.{is_call_line, is_of_call, line_in as event_line}
 use Rattle.exchange.specs.declared.types.Exchange.{Exchange}
 use Rattle.exchange.specs.Passing as passing
 use Rattle.gate_io.specs.declared.event.Sent.TheVariants as to
@@ -16,7 +17,7 @@ use Rattle.worker_model.specs.Wants.{is_up}
 use Rattle.reading_laws.specs.Lines.{AreAbove, AreRising}
 use Rattle.reading_laws.proofs.Readers.{refused_kept}
 use Rattle.reading_laws.proofs.Alike.{Alike, AreAlike, are_itself, place_alike, change_alike, on_alike}
-use Rattle.reading_laws.proofs.Lines.{by_if, found_in, set_in, without, with_new, line_in_found, on_line_set, drops_without, inserts_new, placed_found, equal_by, other_by}
+use Rattle.reading_laws.proofs.Lines.{by_if, found_in, set_in, without, with_new, line_in_found, on_line_set, drops_without, inserts_new, placed_found, equal_by, other_by, AreLow, none_low}
 use Rattle.reading_laws.proofs.Every.{OfLine, Every, Closed, every_alike, every_without, every_other, every_above, every_set, every_new}
 
 -- ---- what is done to the lines by an event, in one of these ways
@@ -25,7 +26,7 @@ pub data Comes (lines : List Line) : List Line → Type 0 where
   -- no reader is told of it
   aside : (later : List Line) → AreAlike lines later → Comes lines later
   -- a line is opened
-  new : (m : ℕ) → found_in m lines ≡ None → (nat_lt (length lines) most_lines ≡ true) → Comes lines (with_new m lines)
+  new : (m : ℕ) → found_in m lines ≡ None → (nat_lt (length lines) most_lines ≡ true) → is_call_line m ≡ false → Comes lines (with_new m lines)
   gone : (m : ℕ) → Comes lines (without m lines)
   -- a side has more, or has ended
   more : (side stops : Bool) (bytes : List ℕ) (m : ℕ) → (is_open (line_reading side (found_in m lines)) && not (side && is_answered_in (exchange_of_line (found_in m lines)))) ≡ true → Comes lines (set_in (further_on side stops bytes) m lines)
@@ -47,7 +48,7 @@ Says whats.Stop side stops bytes m = ⊥
 -- and by which event
 abbrev pub ComesBy : (w : What) (lines later : List Line) → Comes lines later → Type 0
 ComesBy w lines later (aside l alike) = (side stops : Bool) (bytes : List ℕ) (m : ℕ) → Says w side stops bytes m → ⊥
-ComesBy w lines later (new m none few) = w ≡ whats.Opened m
+ComesBy w lines later (new m none few low) = w ≡ whats.Opened m
 ComesBy w lines later (gone m) = (side stops : Bool) (bytes : List ℕ) (m : ℕ) → Says w side stops bytes m → ⊥
 ComesBy w lines later (more side stops bytes m listens) = Says w side stops bytes m
 ComesBy w lines later (less side stops bytes m shut) = Says w side stops bytes m
@@ -94,28 +95,53 @@ none_there m lines is = by_found (found_in m lines) (sym (placed_found m lines) 
     by_found None e = refl
     by_found (Some l) e = absurd (cc)
 
-opens_is : (m : ℕ) (room : Room) → Happens (whats.Opened m) room.lines (opens m room).lines
-opens_is m room =
+opens_is : (m : ℕ) (room : Room) → is_call_line m ≡ false → Happens (whats.Opened m) room.lines (opens m room).lines
+opens_is m room low =
     by_if (λ (r : Room). Happens (whats.Opened m) room.lines r.lines) (is_some (place_in m room.lines)) room
     (if nat_lt (length room.lines) most_lines then record room { lines = insert room.lines (place_for m room.lines) (new_line m) } else sending (to.Close m Down ∷ []) room)
     (λ e. nothing (whats.Opened m) room.lines (λ side stops bytes k is. is))
     (λ e. by_if (λ (r : Room). Happens (whats.Opened m) room.lines r.lines) (nat_lt (length room.lines) most_lines) (record room { lines = insert room.lines (place_for m room.lines) (new_line m) }) (sending (to.Close m Down ∷ []) room)
-    (λ d. subst (Happens (whats.Opened m) room.lines) (sym (inserts_new m room.lines)) (record { comes = new m (none_there m room.lines e) d; by = refl }))
+    (λ d. subst (Happens (whats.Opened m) room.lines) (sym (inserts_new m room.lines)) (record { comes = new m (none_there m room.lines e) d low; by = refl }))
     (λ d. nothing (whats.Opened m) room.lines (λ side stops bytes k is. is)))
 
-pub happens_is : (w : What) (room : Room) → Happens w room.lines (happens w room).lines
-happens_is (whats.Opened m) room = opens_is m room
-happens_is (whats.Bytes m Down bytes) room = comes_is (whats.Bytes m Down bytes) false false bytes m room (refl, refl, refl, refl)
-happens_is (whats.Bytes m Up bytes) room = comes_is (whats.Bytes m Up bytes) true false bytes m room (refl, refl, refl, refl)
-happens_is (whats.End m Down) room = comes_is (whats.End m Down) false true [] m room (refl, refl, refl, refl)
-happens_is (whats.End m Up) room = comes_is (whats.End m Up) true true [] m room (refl, refl, refl, refl)
-happens_is (whats.Gone m Down) room = down_is (whats.Gone m Down) m (line_in m room.lines) room (λ side stops bytes k is. is)
-happens_is (whats.Gone m Up) room = up_is (whats.Gone m Up) m (exchange_on m room) room (λ side stops bytes k is. is)
-happens_is (whats.Joined m) room = nothing (whats.Joined m) room.lines (λ side stops bytes k is. is)
-happens_is (whats.Refused m) room = up_is (whats.Refused m) m (exchange_on m room) room (λ side stops bytes k is. is)
-happens_is (whats.Room m side) room = nothing (whats.Room m side) room.lines (λ side stops bytes k is. is)
-happens_is whats.Clock room = nothing whats.Clock room.lines (λ side stops bytes k is. is)
-happens_is whats.Stop room = nothing whats.Stop room.lines (λ side stops bytes k is. is)
+pub happens_is : (w : What) (room : Room) → is_of_call (event_line w) ≡ false → Happens w room.lines (happens w room).lines
+happens_is (whats.Opened m) room low = opens_is m room low
+happens_is (whats.Bytes m Down bytes) room low = comes_is (whats.Bytes m Down bytes) false false bytes m room (refl, refl, refl, refl)
+happens_is (whats.Bytes m Up bytes) room low = comes_is (whats.Bytes m Up bytes) true false bytes m room (refl, refl, refl, refl)
+happens_is (whats.End m Down) room low = comes_is (whats.End m Down) false true [] m room (refl, refl, refl, refl)
+happens_is (whats.End m Up) room low = comes_is (whats.End m Up) true true [] m room (refl, refl, refl, refl)
+happens_is (whats.Gone m Down) room low = down_is (whats.Gone m Down) m (line_in m room.lines) room (λ side stops bytes k is. is)
+happens_is (whats.Gone m Up) room low = up_is (whats.Gone m Up) m (exchange_on m room) room (λ side stops bytes k is. is)
+happens_is (whats.Joined m) room low = nothing (whats.Joined m) room.lines (λ side stops bytes k is. is)
+happens_is (whats.Refused m) room low = up_is (whats.Refused m) m (exchange_on m room) room (λ side stops bytes k is. is)
+happens_is (whats.Room m side) room low = nothing (whats.Room m side) room.lines (λ side stops bytes k is. is)
+happens_is whats.Clock room low = nothing whats.Clock room.lines (λ side stops bytes k is. is)
+happens_is whats.Stop room low = nothing whats.Stop room.lines (λ side stops bytes k is. is)
+
+-- ---- on the line of a callout it comes to no reader of an open line
+
+shut_is : (w : What) (side stops : Bool) (bytes : List ℕ) (m : ℕ) (lines : List Line) → found_in m lines ≡ None → Says w side stops bytes m → Happens w lines lines
+shut_is w side stops bytes m lines none says = record {
+  comes = less side stops bytes m (ap (λ (o : Option Line). is_open (line_reading side o) && not (side && is_answered_in (exchange_of_line o))) none ∙ none_open side);
+  by = says;
+}
+  where
+    none_open : (s : Bool) → (is_open (line_reading s None) && not (s && is_answered_in (exchange_of_line None))) ≡ false
+    none_open true = refl
+    none_open false = refl
+
+pub unheard : (w : What) (lines : List Line) → is_of_call (event_line w) ≡ true → AreLow lines → Happens w lines lines
+unheard (whats.Opened m) lines is low = nothing (whats.Opened m) lines (λ side stops bytes k says. says)
+unheard (whats.Bytes m Down bytes) lines is low = shut_is (whats.Bytes m Down bytes) false false bytes m lines (none_low m is lines low) (refl, refl, refl, refl)
+unheard (whats.Bytes m Up bytes) lines is low = shut_is (whats.Bytes m Up bytes) true false bytes m lines (none_low m is lines low) (refl, refl, refl, refl)
+unheard (whats.End m Down) lines is low = shut_is (whats.End m Down) false true [] m lines (none_low m is lines low) (refl, refl, refl, refl)
+unheard (whats.End m Up) lines is low = shut_is (whats.End m Up) true true [] m lines (none_low m is lines low) (refl, refl, refl, refl)
+unheard (whats.Gone m side) lines is low = nothing (whats.Gone m side) lines (λ s stops bytes k says. says)
+unheard (whats.Joined m) lines is low = nothing (whats.Joined m) lines (λ side stops bytes k says. says)
+unheard (whats.Refused m) lines is low = nothing (whats.Refused m) lines (λ side stops bytes k says. says)
+unheard (whats.Room m side) lines is low = nothing (whats.Room m side) lines (λ s stops bytes k says. says)
+unheard whats.Clock lines is low = absurd (cc)
+unheard whats.Stop lines is low = absurd (cc)
 
 -- ---- and so what holds of the readers of one side
 
@@ -225,7 +251,7 @@ every_happens up P Q w closed f lines later rising h all = by_comes later h.come
 
     by_comes : (later : List Line) → (c : Comes lines later) → ComesBy w lines later c → Every up Q later
     by_comes later (aside _ alike) by = every_alike up Q closed lines later alike (every_other up P Q (silent by) lines all)
-    by_comes later (new m none few) by = every_new up Q m (λ down. f.new m by down) lines (every_other up P Q (silent (opened_says m by)) lines all)
+    by_comes later (new m none few low) by = every_new up Q m (λ down. f.new m by down) lines (every_other up P Q (silent (opened_says m by)) lines all)
     by_comes later (gone m) by = every_without up Q m lines (every_other up P Q (silent by) lines all)
     by_comes later (more side stops bytes m listens) by = every_set up P Q (further_on side stops bytes) m (told_line up P Q w f side stops bytes m by) (others side stops bytes m by) lines rising all
     by_comes later (less side stops bytes m e) by = shut up side stops bytes m refl e by

@@ -62,7 +62,7 @@ keeps_limits : (lines : List Line) → AreFew lines → KeepLimits lines
 keeps_limits lines f = record { rising = f.rising; apart = λ l there. line_in_found l.number lines ∙ apart lines l f.rising there; few = f.few }
 
 few_spans : (w : What) → Spans w AreFew AreFew
-few_spans w = record { before = few_invariant; behind = few_invariant; event = λ lines later h f. few_comes lines later h.comes f }
+few_spans w = record { before = few_invariant; behind = few_invariant; low = λ lines f. f.low; event = λ lines later h f. few_comes lines later h.comes f }
 
 few_turns : {H : Type 0} (calling : Calling H) (plan : Plan) (turns : List (OneTurn H)) (from to : Both H) → Turns calling plan from turns to → AreWhole turns → Ready AreFew from.room → Ready AreFew to.room
 few_turns {H} calling plan [] from to turned whole ready = subst (λ (b : Both H). Ready AreFew b.room) (sym turned) ready
@@ -71,7 +71,7 @@ few_turns calling plan (t ∷ turns) from to turned whole ready =
 
 pub lines_keep_limits : (H : Type 0) → LinesKeepLimits H
 lines_keep_limits H calling plan config seed host turns to turned whole =
-    keeps_limits to.room.lines (few_turns calling plan turns (both host (first_room config seed)) to turned whole (refl, record { rising = tt; few = omega arith })).1
+    keeps_limits to.room.lines (few_turns calling plan turns (both host (first_room config seed)) to turned whole (refl, record { rising = tt; few = omega arith; low = tt })).1
 
 -- ---- a line of a number that is asked for
 
@@ -237,8 +237,8 @@ every_there up P (m ∷ lines) l all (suc i, below, is) = every_there up P lines
 pub unread_stays_short : (H : Type 0) → UnreadStaysShort H
 unread_stays_short H calling plan config seed host turns to l turned whole wanted there =
     let start : Both H = both host (first_room config seed) in
-    let down = short_turns false calling plan turns start to turned whole wanted (refl, record { few = record { rising = tt; few = omega arith }; every = tt }) in
-    let up = short_turns true calling plan turns start to turned whole wanted (refl, record { few = record { rising = tt; few = omega arith }; every = tt }) in
+    let down = short_turns false calling plan turns start to turned whole wanted (refl, record { few = record { rising = tt; few = omega arith; low = tt }; every = tt }) in
+    let up = short_turns true calling plan turns start to turned whole wanted (refl, record { few = record { rising = tt; few = omega arith; low = tt }; every = tt }) in
     (every_there false Short to.room.lines l down.1.every there l.requests refl, by_reader (exchange_reading l.exchange) refl (every_there true Short to.room.lines l up.1.every there))
   where
     by_reader : (o : Option Reading) → exchange_reading l.exchange ≡ o → OfLine true Short l → IsShort o

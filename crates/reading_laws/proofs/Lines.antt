@@ -3,6 +3,7 @@ use Rattle.std.proofs.Common.{◌≡◌, ◌⊎◌, inl, inr, ℕ, suc, ◌+◌,
 use Rattle.std.proofs.lemmas.Bool.Decides.{leb_tells, eqb_tells}
 use Rattle.std.specs.Prelude.{Option, None, Some, is_some, option_map, slice_get, position, nat_lt, insert, if◌then◌else◌}
 use Rattle.std.specs.List.{position_or_len}
+use Rattle.callouts.specs.Callouts.{is_call_line}
 use Rattle.worker_model.specs.declared.types.Line.{Line}
 use Rattle.worker_model.specs.Rooms.{place_in}
 use Rattle.worker_model.specs.Steps.{on_line, line_at, line_at_place, in_place, line_in, drops_at, new_line, place_for}
@@ -227,3 +228,36 @@ pub length_new : (n : ℕ) (lines : List Line) → length (with_new n lines) ≡
 length_new n [] = refl
 length_new n (l ∷ lines) =
     by_if (λ (ls : List Line). length ls ≡ suc (suc (length lines))) (nat_lt n l.number) (new_line n ∷ l ∷ lines) (l ∷ with_new n lines) (λ e. refl) (λ e. ap suc (length_new n lines))
+
+-- ---- none of them is the line of a callout
+
+abbrev pub AreLow : List Line → Type 0
+AreLow [] = Unit {0}
+AreLow (l ∷ lines) = (is_call_line l.number ≡ false) × AreLow lines
+
+pub low_alike : (lines later : List Line) → AreAlike lines later → AreLow lines → AreLow later
+low_alike [] [] alike low = tt
+low_alike [] (m ∷ later) alike low = absurd alike
+low_alike (l ∷ lines) [] alike low = absurd alike
+low_alike (l ∷ lines) (m ∷ later) alike low = (ap is_call_line alike.0.number ∙ low.0, low_alike lines later alike.1 low.1)
+
+pub low_set : (f : Line → Line) → Numbered f → (n : ℕ) (lines : List Line) → AreLow lines → AreLow (set_in f n lines)
+low_set f same n [] low = tt
+low_set f same n (l ∷ lines) low =
+    by_if AreLow (l.number == n) (f l ∷ lines) (l ∷ set_in f n lines) (λ e. (ap is_call_line (same l) ∙ low.0, low.1)) (λ e. (low.0, low_set f same n lines low.1))
+
+pub low_without : (n : ℕ) (lines : List Line) → AreLow lines → AreLow (without n lines)
+low_without n [] low = tt
+low_without n (l ∷ lines) low = by_if AreLow (l.number == n) lines (l ∷ without n lines) (λ e. low.1) (λ e. (low.0, low_without n lines low.1))
+
+pub low_new : (n : ℕ) → is_call_line n ≡ false → (lines : List Line) → AreLow lines → AreLow (with_new n lines)
+low_new n is [] low = (is, tt)
+low_new n is (l ∷ lines) low = by_if AreLow (nat_lt n l.number) (new_line n ∷ l ∷ lines) (l ∷ with_new n lines) (λ e. (is, low)) (λ e. (low.0, low_new n is lines low.1))
+
+-- so the line of a callout is none of them
+pub none_low : (n : ℕ) → is_call_line n ≡ true → (lines : List Line) → AreLow lines → found_in n lines ≡ None
+none_low n is [] low = refl
+none_low n is (l ∷ lines) low =
+    by_if (λ (o : Option Line). o ≡ None) (l.number == n) (Some l) (found_in n lines)
+    (λ e. let never : ◌≡◌ {A = Bool} true false = sym is ∙ (ap is_call_line (sym (equal_by l.number n e)) ∙ low.0) in absurd (cc))
+    (λ e. none_low n is lines low.1)

@@ -71,6 +71,7 @@ happen_of (jobs.Delete c) = []
 happen_of (jobs.Close number stays) = []
 happen_of (jobs.Notice vm left) = []
 happen_of (jobs.Ready vm root queue) = []
+happen_of (jobs.Other step) = []
 
 abbrev pub happens_in : List Job → List What
 happens_in [] = []
@@ -113,6 +114,7 @@ does_quiet vm own context (what.Continue response) room =
     by_bool (Quiet room) (is_own own context response) room (on_context (passing.resumes vm context response) vm context room) (λ e. quiet_itself room)
     (λ e. quiet_context (passing.resumes vm context response) vm context room (λ n x hub. resumes_kept vm context response n x hub))
 does_quiet vm own context what.Close room = quiet_context passing.closed vm context room (λ n x hub. closed_kept n x hub)
+does_quiet vm own context (what.Call request) room = quiet_itself room
 does_quiet vm own context (what.Answer status fields body) room =
     quiet_context (changed (changes.Answer status fields body)) vm context room (λ n x hub. answer_kept n false status fields.pairs body x hub)
 

@@ -189,7 +189,7 @@ module _ (P Q : Kind) (w : What) (leads : Leads P Q w) where
 
   each_comes : Lasts Q → (lines later : List Line) → AreRising lines → (c : Comes lines later) → ComesBy w lines later c → EachServed P lines → EachServed Q later
   each_comes lasts lines later rising (aside _ alike) by all = each_alike Q lasts lines later alike (each_other P Q (silent by) lines all)
-  each_comes lasts lines later rising (new m none few) by all = each_new Q m lines (each_other P Q (silent (opened_says m by)) lines all)
+  each_comes lasts lines later rising (new m none few low) by all = each_new Q m lines (each_other P Q (silent (opened_says m by)) lines all)
   each_comes lasts lines later rising (gone m) by all = each_without Q m lines (each_other P Q (silent by) lines all)
   each_comes lasts lines later rising (more true stops bytes m listens) by all = told_lines stops bytes m by lines rising listens all
   each_comes lasts lines later rising (more false stops bytes m listens) by all = each_client stops bytes m (of_client stops bytes m by) lines all
@@ -212,6 +212,7 @@ served_spans : (P Q : Kind) (w : What) → Lasts P → Lasts Q → Leads P Q w �
 served_spans P Q w before behind leads = record {
   before = served_invariant P before;
   behind = served_invariant Q behind;
+  low = λ lines p. p.few.low;
   event = λ lines later h p. record { few = few_comes lines later h.comes p.few; each = each_comes P Q w leads behind lines later p.few.rising h.comes h.by p.each };
 }
 
@@ -279,7 +280,7 @@ found_served P n (k ∷ lines) l there all r is = by_test (λ found. found_serve
 pub servers_read : (H : Type 0) → ServersReadWhatCame H
 servers_read H calling plan config seed host turns to n l x r turned whole there some reads =
     let all : Ready (FewServed (Reads (happened turns))) to.room
-    = served_turns calling plan [] turns (both host (first_room config seed)) to turned whole (refl, record { few = record { rising = tt; few = omega arith }; each = tt }) in
+    = served_turns calling plan [] turns (both host (first_room config seed)) to turned whole (refl, record { few = record { rising = tt; few = omega arith; low = tt }; each = tt }) in
     subst (λ (o : Option Exchange). HasServed n (happened turns) (is_answered_in o) r) some
     (found_served (Reads (happened turns)) n to.room.lines l (sym (line_in_found n to.room.lines) ∙ there) all.1.each r (ap exchange_reading some ∙ reads))
 
@@ -342,7 +343,7 @@ nothing_heard n (l ∷ lines) rising nothing = by_test (λ h. nothing_heard n li
 pub servers_since : (H : Type 0) → ServersReadSince H
 servers_since H calling plan config seed host earlier later mid to n l x r before whole nothing turned whole_later there some reads =
     let first : Ready (FewServed (Reads (happened earlier))) mid.room
-    = served_turns calling plan [] earlier (both host (first_room config seed)) mid before whole (refl, record { few = record { rising = tt; few = omega arith }; each = tt }) in
+    = served_turns calling plan [] earlier (both host (first_room config seed)) mid before whole (refl, record { few = record { rising = tt; few = omega arith; low = tt }; each = tt }) in
     let few : AreFew mid.room.lines = first.1.few in
     let begins : Ready (FewServed (Only n [])) mid.room
     = (first.0, record { few = few; each = nothing_heard n mid.room.lines few.rising (subst (λ (o : Option Line). HasHeardNothing (line_reading true o)) (line_in_found n mid.room.lines) nothing) }) in

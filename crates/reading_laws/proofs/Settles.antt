@@ -3,6 +3,7 @@ use Rattle.std.proofs.Common.{◌≡◌, ℕ, zero, suc, ◌+◌, ◌==◌, Bool
 use Rattle.std.proofs.lemmas.List.{append-nil}
 use Rattle.std.specs.Prelude.{Option, None, Some, is_some, slice_get, position, nat_lt, length, insert, if◌then◌else◌}
 use Rattle.std.specs.List.{list_any}
+use Rattle.callouts.specs.Callouts.{is_of_call, line_in as event_line}
 use Rattle.contexts.specs.declared.parts.Context.{Context}
 use Rattle.contexts.specs.declared.parts.Contexts.{Contexts}
 use Rattle.contexts.specs.declared.parts.Plugin.{Plugin}
@@ -28,12 +29,14 @@ use Rattle.worker_model.specs.Plan.{Plan}
 use Rattle.worker_model.specs.Rooms.{next_of, next_part, moves, moves_or, frees_or, ends_or, begins_or_rests, is_any, is_released, is_over, place_in, on_number, sending}
 use Rattle.worker_model.specs.Settling.{settling, settling_none, settling_more, goes, rests}
 use Rattle.worker_model.specs.Steps.{Both, step, works, works_first, move_at, frees, ends_at, first_begun, happens, comes, on_lines, further_on, reads_side, is_open, is_read_in, is_answered_in, line_reading, line_in, exchange_of_line, exchange_on, opens, most_lines, new_line, place_for, loses_down, loses_up, lost, drops_line, is_missed}
-use Rattle.worker_model.specs.Turn.{Outcome, turn, turn_by, facing, agenda_of, starts, starts_of, start_of, roots_from, vms_in, is_of, ticks_in, ticks_of, ticks_due, deadlines, notice_of, notices_of, is_due_now, registers_at, most_steps, comes_to, emptied}
+use Rattle.worker_model.specs.Turn.{Outcome, turn, turn_by, facing, happening, agenda_of, starts, starts_of, start_of, roots_from, vms_in, is_of, ticks_in, ticks_of, ticks_due, deadlines, notice_of, notices_of, is_due_now, registers_at, most_steps, comes_to, emptied}
 use Rattle.reading_laws.specs.Turns.{IsAtRest}
 use Rattle.reading_laws.proofs.Readers.{by_bool}
 use Rattle.reading_laws.proofs.Alike.{AreAlike, are_itself}
-use Rattle.reading_laws.proofs.Quiet.{happen_of, happens_in, none_in_front, move_quiet}
-use Rattle.reading_laws.proofs.Events.{Happens, happens_is}
+use Rattle.reading_laws.proofs.Quiet.{happen_of, happens_in, happens_join, none_in_front, move_quiet}
+use Rattle.worker_model.proofs.Events.{by_event}
+use Rattle.reading_laws.proofs.Events.{Happens, happens_is, unheard}
+use Rattle.reading_laws.proofs.Lines.{AreLow}
 use Rattle.reading_laws.proofs.Steps.{Changed, same, in_hand, Goes, goes_quiet, Leads, all_weaker, quiet_leads, reading_leads, works_lead, frees_quiet, ends_quiet}
 
 -- ---- what is next
@@ -131,14 +134,27 @@ notices_none plan zero = refl
 notices_none plan (suc k) =
     both_none (notices_of plan k) (notice_of plan k) (notices_none plan k) (by_bool (λ (js : List Job). happens_in js ≡ []) (registers_at (slice_get plan.registers k)) (jobs.Notice k 16 ∷ []) [] (λ e. refl) (λ e. refl))
 
-agenda_one : (plan : Plan) (w : What) (room : Room) → happens_in (agenda_of plan w room) ≡ w ∷ []
-agenda_one plan w room =
+-- its event, and none where that is of a callout
+event_one : (w : What) (room : Room) → is_of_call (event_line w) ≡ false → happens_in (happening w room) ≡ w ∷ []
+event_one w room low =
+    by_event (λ (js : List Job). happens_in js ≡ w ∷ []) w room (λ e. refl) (λ e. let never : ◌≡◌ {A = Bool} true false = sym e ∙ low in absurd (cc)) (λ e. let never : ◌≡◌ {A = Bool} true false = sym e ∙ low in absurd (cc))
+
+event_none : (w : What) (room : Room) → is_of_call (event_line w) ≡ true → happens_in (happening w room) ≡ []
+event_none w room of_call =
+    by_event (λ (js : List Job). happens_in js ≡ []) w room (λ e. let never : ◌≡◌ {A = Bool} true false = sym of_call ∙ e in absurd (cc)) (λ e. refl) (λ e. refl)
+
+agenda_hand : (plan : Plan) (w : What) (room : Room) (ws : List What) → happens_in (happening w room) ≡ ws → happens_in (agenda_of plan w room) ≡ ws
+agenda_hand plan w room ws is =
     none_in_front (starts room) _ (by_bool (λ (js : List Job). happens_in js ≡ []) room.is_begun [] (starts_of (vms_in room) room.hub.contexts.plugins) (λ e. refl) (λ e. starts_none (vms_in room) room.hub.contexts.plugins))
     ∙ (none_in_front (ticks_due room) _ (all_ticks_none room.hub.moment (vms_in room) room.hub.contexts)
-    ∙ (none_in_front (deadlines plan) _ (by_bool (λ (js : List Job). happens_in js ≡ []) (plan.deadline == 0) [] (jobs.Expire ∷ []) (λ e. refl) (λ e. refl)) ∙ ap (λ l. w ∷ l) (notices_none plan (vms_in room))))
+    ∙ (none_in_front (deadlines plan) _ (by_bool (λ (js : List Job). happens_in js ≡ []) (plan.deadline == 0) [] (jobs.Expire ∷ []) (λ e. refl) (λ e. refl))
+    ∙ (happens_join (happening w room) (notices_of plan (vms_in room)) ∙ ((λ i. is i ++ notices_none plan (vms_in room) i) ∙ append-nil ws))))
 
-pub facing_hand : (plan : Plan) (event : Event) (room : Room) → room.jobs ≡ [] → in_hand (facing plan event room) ≡ event.what ∷ []
-facing_hand plan event room none = (λ i. happens_in (none i) ++ happens_in (agenda_of plan event.what (record room { hub = record room.hub { moment = event.now } }))) ∙ agenda_one plan event.what (record room { hub = record room.hub { moment = event.now } })
+pub facing_hand : (plan : Plan) (event : Event) (room : Room) (ws : List What) → room.jobs ≡ [] → happens_in (happening event.what (record room { hub = record room.hub { moment = event.now } })) ≡ ws
+    → in_hand (facing plan event room) ≡ ws
+facing_hand plan event room ws none is =
+    (λ i. happens_in (none i) ++ happens_in (agenda_of plan event.what (record room { hub = record room.hub { moment = event.now } })))
+    ∙ agenda_hand plan event.what (record room { hub = record room.hub { moment = event.now } }) ws is
 
 -- ---- what holds of lines whatever is done in steps in which no event happens
 
@@ -146,10 +162,11 @@ pub record Invariant (P : List Line → Type 0) : Type 0 where
   pub alike : (lines later : List Line) → AreAlike lines later → P lines → P later
   pub changed : (lines later : List Line) → Changed lines later → P lines → P later
 
--- what holds in front of an event, and what behind it
+-- what holds in front of an event, and what behind it; no line in front of it is of a callout
 pub record Spans (w : What) (P Q : List Line → Type 0) : Type 0 where
   pub before : Invariant P
   pub behind : Invariant Q
+  pub low : (lines : List Line) → P lines → AreLow lines
   pub event : (lines later : List Line) → Happens w lines later → P lines → Q later
 
 goes_keeps : (P : List Line → Type 0) → Invariant P → (room later : Room) → Goes room later → P room.lines → P later.lines
@@ -158,11 +175,11 @@ goes_keeps P inv room later g p = inv.alike g.mid later.lines g.alike (inv.chang
 module _ (w : What) (P Q : List Line → Type 0) (spans : Spans w P Q) where
   -- the event is still to come, or came
   pub data InTurn (room : Room) : Type 0 where
-    waits : in_hand room ≡ w ∷ [] → P room.lines → InTurn room
+    waits : is_of_call (event_line w) ≡ false → in_hand room ≡ w ∷ [] → P room.lines → InTurn room
     came : in_hand room ≡ [] → Q room.lines → InTurn room
 
   goes_in_turn : (room later : Room) → Goes room later → InTurn room → InTurn later
-  goes_in_turn room later g (waits hand p) = waits (g.hand ∙ hand) (goes_keeps P spans.before room later g p)
+  goes_in_turn room later g (waits low hand p) = waits low (g.hand ∙ hand) (goes_keeps P spans.before room later g p)
   goes_in_turn room later g (came hand q) = came (g.hand ∙ hand) (goes_keeps Q spans.behind room later g q)
 
   module _ {H : Type 0} (calling : Calling H) (plan : Plan) where
@@ -175,12 +192,12 @@ module _ (w : What) (P Q : List Line → Type 0) (spans : Spans w P Q) where
     -- the event happens
     event_stays : (v : What) (later : List Job) (room : Room) → room.jobs ≡ jobs.Happen v ∷ later → InTurn room → InTurn (happens v (record room { jobs = later }))
     event_stays v later room js (came hand q) = let e : ◌≡◌ {A = List What} (v ∷ (happens_in later ++ happens_in room.agenda)) [] = sym (ap (λ l. happens_in l ++ happens_in room.agenda) js) ∙ hand in absurd (cc)
-    event_stays v later room js (waits hand p) =
+    event_stays v later room js (waits low hand p) =
         let mid : Room = record room { jobs = later } in
         let e : ◌≡◌ {A = List What} (v ∷ (happens_in later ++ happens_in room.agenda)) (w ∷ []) = sym (ap (λ l. happens_in l ++ happens_in room.agenda) js) ∙ hand in
         let same : v ≡ w = cc in
         let none : happens_in later ++ happens_in room.agenda ≡ [] = cc in
-        came (happens_hand v mid ∙ none) (spans.event room.lines (happens v mid).lines (subst (λ (u : What). Happens u room.lines (happens v mid).lines) same (happens_is v mid)) p)
+        came (happens_hand v mid ∙ none) (spans.event room.lines (happens v mid).lines (subst (λ (u : What). Happens u room.lines (happens v mid).lines) same (happens_is v mid (subst (λ (u : What). is_of_call (event_line u) ≡ false) (sym same) low))) p)
 
     popped : (job : Job) (later : List Job) (room : Room) → room.jobs ≡ job ∷ later → happen_of job ≡ [] → InTurn room → InTurn (record room { jobs = later })
     popped job later room js none in_turn =
@@ -215,6 +232,7 @@ module _ (w : What) (P Q : List Line → Type 0) (spans : Spans w P Q) where
         by_job (jobs.Close number stays) is = plain (jobs.Close number stays) is refl
         by_job (jobs.Notice vm left) is = plain (jobs.Notice vm left) is refl
         by_job (jobs.Ready vm root queue) is = plain (jobs.Ready vm root queue) is refl
+        by_job (jobs.Other step) is = plain (jobs.Other step) is refl
 
     work_stays : (js : List Job) (host : H) (room : Room) → room.jobs ≡ js → InTurn room → Stays (works_first calling plan js host room)
     work_stays [] host room is in_turn = in_turn
@@ -276,12 +294,23 @@ stop_same (whats.Room m side) room is = absurd (cc)
 stop_same whats.Clock room is = absurd (cc)
 stop_same whats.Stop room is = refl
 
+stop_low : (w : What) → is_stop w ≡ true → is_of_call (event_line w) ≡ false
+stop_low (whats.Opened m) is = absurd (cc)
+stop_low (whats.Bytes m side bytes) is = absurd (cc)
+stop_low (whats.End m side) is = absurd (cc)
+stop_low (whats.Gone m side) is = absurd (cc)
+stop_low (whats.Joined m) is = absurd (cc)
+stop_low (whats.Refused m) is = absurd (cc)
+stop_low (whats.Room m side) is = absurd (cc)
+stop_low whats.Clock is = absurd (cc)
+stop_low whats.Stop is = refl
+
 -- nothing is in hand, and this holds of the lines
 abbrev pub Ready : (List Line → Type 0) → Room → Type 0
 Ready Q room = (room.jobs ≡ []) × Q room.lines
 
 came_to_rest : (w : What) (P Q : List Line → Type 0) (spans : Spans w P Q) (room : Room) → InTurn w P Q spans room → IsAtRest (emptied room) → Ready Q (emptied room)
-came_to_rest w P Q spans room (waits hand p) at_rest = let e : ◌≡◌ {A = List What} (w ∷ []) [] = sym hand ∙ (rest_empty (emptied room) at_rest).1 in absurd (cc)
+came_to_rest w P Q spans room (waits low hand p) at_rest = let e : ◌≡◌ {A = List What} (w ∷ []) [] = sym hand ∙ (rest_empty (emptied room) at_rest).1 in absurd (cc)
 came_to_rest w P Q spans room (came hand q) at_rest = ((rest_empty (emptied room) at_rest).0, q)
 
 pub turn_spans : {H : Type 0} (calling : Calling H) (plan : Plan) (state : Both H) (event : Event) (P Q : List Line → Type 0) → Spans event.what P Q → Ready P state.room
@@ -291,11 +320,20 @@ turn_spans {H} calling plan state event P Q spans ready = by_stop (is_stop event
     Goal : Outcome H → Type 0
     Goal o = IsAtRest o.state.room → Ready Q o.state.room
 
+    now : Room
+    now = record state.room { hub = record state.room.hub { moment = event.now } }
+
+    start : (b : Bool) → is_of_call (event_line event.what) ≡ b → InTurn event.what P Q spans (facing plan event state.room)
+    start false e = waits e (facing_hand plan event state.room (event.what ∷ []) ready.0 (event_one event.what now e)) ready.1
+    start true e =
+        came (facing_hand plan event state.room [] ready.0 (event_none event.what now e))
+        (spans.event state.room.lines state.room.lines (unheard event.what state.room.lines e (spans.low state.room.lines ready.1)) ready.1)
+
     by_stop : (b : Bool) → is_stop event.what ≡ b → AllEnds Goal (turn_by calling plan b state event)
-    by_stop true is = λ at_rest. (ready.0, subst Q (stop_same event.what state.room is) (spans.event state.room.lines (happens event.what state.room).lines (happens_is event.what state.room) ready.1))
+    by_stop true is = λ at_rest. (ready.0, subst Q (stop_same event.what state.room is) (spans.event state.room.lines (happens event.what state.room).lines (happens_is event.what state.room (stop_low event.what is)) ready.1))
     by_stop false is =
         all_then (λ (b : Both H). InTurn event.what P Q spans b.room) Goal (settling calling plan most_steps state.host (facing plan event state.room)) (λ b. ends (comes_to b))
-        (settling_stays event.what P Q spans calling plan most_steps state.host (facing plan event state.room) (waits (facing_hand plan event state.room ready.0) ready.1))
+        (settling_stays event.what P Q spans calling plan most_steps state.host (facing plan event state.room) (start (is_of_call (event_line event.what)) refl))
         (λ b in_turn at_rest. came_to_rest event.what P Q spans b.room in_turn at_rest)
 
 pub turn_reached : {H : Type 0} (calling : Calling H) (plan : Plan) (state : Both H) (event : Event) (met : List Met) (end : Outcome H) (P Q : List Line → Type 0) → Spans event.what P Q

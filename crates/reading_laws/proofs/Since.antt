@@ -20,25 +20,26 @@ use Rattle.reading_laws.specs.Turns.{OneTurn, Turns, AreWhole, happened, StaysOp
 use Rattle.reading_laws.proofs.Alike.{AreAlike}
 use Rattle.reading_laws.proofs.Every.{Every, Closed, reading_in, every_alike, every_without, every_read, read_number, found_of}
 use Rattle.reading_laws.proofs.Events.{Says, Comes, aside, new, gone, more, less, Follows, number_further, every_happens}
-use Rattle.reading_laws.proofs.Lines.{found_in, set_in, without, line_in_found, rising_alike, rising_set, rising_without, rising_new, length_alike, length_set, length_without, length_new, equal_is}
+use Rattle.reading_laws.proofs.Lines.{found_in, set_in, without, line_in_found, rising_alike, rising_set, rising_without, rising_new, length_alike, length_set, length_without, length_new, equal_is, AreLow, low_alike, low_set, low_without, low_new}
 use Rattle.reading_laws.proofs.Settles.{Invariant, Spans, Ready, turn_reached}
 use Rattle.reading_laws.proofs.Steps.{Changed, same, read, dropped}
 use Rattle.reading_laws.proofs.Told.{read_none, read_hears, read_aside, read_further, said, unsaid}
 
--- ---- lines whose numbers rise, and of which there are 128 at most
+-- ---- lines whose numbers rise, none of which is of a callout, and of which there are 128 at most
 
 pub record AreFew (lines : List Line) : Type 0 where
   pub rising : AreRising lines
   pub few : length lines ≤ 128
+  pub low : AreLow lines
 
 few_alike : (lines later : List Line) → AreAlike lines later → AreFew lines → AreFew later
-few_alike lines later alike f = record { rising = rising_alike lines later alike f.rising; few = omega (arith, f.few, length_alike lines later alike) }
+few_alike lines later alike f = record { rising = rising_alike lines later alike f.rising; few = omega (arith, f.few, length_alike lines later alike); low = low_alike lines later alike f.low }
 
 few_set : (g : Line → Line) → ((l : Line) → (g l).number ≡ l.number) → (n : ℕ) (lines : List Line) → AreFew lines → AreFew (set_in g n lines)
-few_set g numbered n lines f = record { rising = rising_set g numbered n lines f.rising; few = omega (arith, f.few, length_set g n lines) }
+few_set g numbered n lines f = record { rising = rising_set g numbered n lines f.rising; few = omega (arith, f.few, length_set g n lines); low = low_set g numbered n lines f.low }
 
 few_without : (n : ℕ) (lines : List Line) → AreFew lines → AreFew (without n lines)
-few_without n lines f = record { rising = rising_without n lines f.rising; few = omega (arith, f.few, length_without n lines) }
+few_without n lines f = record { rising = rising_without n lines f.rising; few = omega (arith, f.few, length_without n lines); low = low_without n lines f.low }
 
 few_changed : (lines later : List Line) → Changed lines later → AreFew lines → AreFew later
 few_changed lines later same f = f
@@ -50,7 +51,8 @@ few_invariant = record { alike = few_alike; changed = few_changed }
 
 pub few_comes : (lines later : List Line) → Comes lines later → AreFew lines → AreFew later
 few_comes lines later (aside _ alike) f = few_alike lines later alike f
-few_comes lines later (new m none few) f = record { rising = rising_new m lines none f.rising; few = omega (arith, ltb-true (length lines) most_lines few, length_new m lines) }
+few_comes lines later (new m none few low) f =
+    record { rising = rising_new m lines none f.rising; few = omega (arith, ltb-true (length lines) most_lines few, length_new m lines); low = low_new m low lines f.low }
 few_comes lines later (gone m) f = few_without m lines f
 few_comes lines later (more side stops bytes m listens) f = few_set _ (number_further side stops bytes) m lines f
 few_comes lines later (less side stops bytes m shut) f = f
@@ -76,6 +78,7 @@ pub with_spans : (up : Bool) (P Q : ℕ → Reading → Type 0) (w : What) → C
 with_spans up P Q w before behind f = record {
   before = with_invariant up P before;
   behind = with_invariant up Q behind;
+  low = λ lines p. p.few.low;
   event = λ lines later h p. record { few = few_comes lines later h.comes p.few; every = every_happens up P Q w behind f lines later p.few.rising h p.every };
 }
 
@@ -178,5 +181,5 @@ module _ {H : Type 0} (n : ℕ) where
 pub lines_read : (H : Type 0) → LinesReadWhatCame H
 lines_read H calling plan config seed host turns to n l turned whole there =
     let all : Ready (FewWith false (Since n turns)) to.room
-    = turns_since n calling plan [] turns (both host (first_room config seed)) to turned whole (refl, record { few = record { rising = tt; few = omega arith }; every = tt }) in
+    = turns_since n calling plan [] turns (both host (first_room config seed)) to turned whole (refl, record { few = record { rising = tt; few = omega arith; low = tt }; every = tt }) in
     found_of false (Since n turns) n to.room.lines l (sym (line_in_found n to.room.lines) ∙ there) all.1.every l.requests refl refl

@@ -237,6 +237,7 @@ works_lead calling plan (jobs.Delete c) host room none = quiet_leads room _ (cal
 works_lead calling plan (jobs.Close number stays) host room none = close_goes number stays (line_in number room.lines) room
 works_lead calling plan (jobs.Notice vm left) host room none = quiet_leads room _ (notices_quiet calling plan vm left host room)
 works_lead calling plan (jobs.Ready vm root queue) host room none = quiet_leads room _ (ready_quiet calling vm root queue host room)
+works_lead calling plan (jobs.Other step) host room none = goes_quiet room room (quiet_itself room)
 
 -- ---- a context is free, an exchange ends
 

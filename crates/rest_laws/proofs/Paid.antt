@@ -7,17 +7,16 @@ use Rattle.course.specs.Course.{ends, Met, Reaches}
 use Rattle.gate_io.specs.Events.{is_stop}
 use Rattle.gate_io.specs.declared.event.Event.{Event}
 use Rattle.worker_model.specs.Room.{Room}
-use Rattle.worker_model.specs.declared.types.Job.TheVariants as jobs
 use Rattle.worker_model.specs.Plan.{Plan}
 use Rattle.worker_model.specs.Settling.{settling}
 use Rattle.worker_model.specs.State.{Setting, rules_of}
 use Rattle.worker_model.specs.Steps.{Both, both}
-use Rattle.worker_model.specs.Turn.{vms_in, starts, starts_of, ticks_due, deadlines, notices_of, agenda_of, at_moment, Outcome, outcome, comes_to, turn, turn_by, turned, most_steps}
+use Rattle.worker_model.specs.Turn.{vms_in, starts, starts_of, ticks_due, deadlines, notices_of, happening, agenda_of, at_moment, Outcome, outcome, comes_to, turn, turn_by, turned, most_steps}
 use Rattle.rest_laws.specs.Left.{left, byte_cost, jobs_left, parts_left, reading_left, bytes_of}
 use Rattle.rest_laws.specs.Paid.{starting, brought, all_brought, TakesBy, TakeAll, LivesArePaid}
 use Rattle.rest_laws.specs.Sizes.{OneTurn, first_state, turn_start, IsReady, Follow}
 use Rattle.rest_laws.proofs.Settling.{rest_is_rest}
-use Rattle.rest_laws.proofs.Sizes.{bytes_small, starts_small, times_16, few_vms, ticks_small, deadlines_small, notices_small, parts_left-append, turn_ready, first_ready}
+use Rattle.rest_laws.proofs.Sizes.{bytes_small, starts_small, times_16, few_vms, ticks_small, deadlines_small, notices_small, event_small, parts_left-append, turn_ready, first_ready}
 use Rattle.rest_laws.proofs.Turns.{splits, pays, setting_fits}
 
 starting_small : (room : Room) → parts_left 16 (starts room) ≤ starting room
@@ -39,9 +38,11 @@ agenda_paid plan event room =
     let d = bytes_small (byte_cost 16) (bytes_of event.what) (omega arith) in
     let e = notices_small plan (vms_in room) in
     let f = times_16 (vms_in room) 50 (few_vms (length room.hub.contexts.vms)) in
-    let p = parts_left-append 16 (starts (at_moment event.now room)) (ticks_due (at_moment event.now room) ++ (deadlines plan ++ (jobs.Happen event.what ∷ notices_of plan (vms_in room)))) in
-    let q = parts_left-append 16 (ticks_due (at_moment event.now room)) (deadlines plan ++ (jobs.Happen event.what ∷ notices_of plan (vms_in room))) in
-    let r = parts_left-append 16 (deadlines plan) (jobs.Happen event.what ∷ notices_of plan (vms_in room)) in
+    let g = event_small event.what (at_moment event.now room) in
+    let p = parts_left-append 16 (starts (at_moment event.now room)) (ticks_due (at_moment event.now room) ++ (deadlines plan ++ (happening event.what (at_moment event.now room) ++ notices_of plan (vms_in room)))) in
+    let q = parts_left-append 16 (ticks_due (at_moment event.now room)) (deadlines plan ++ (happening event.what (at_moment event.now room) ++ notices_of plan (vms_in room))) in
+    let r = parts_left-append 16 (deadlines plan) (happening event.what (at_moment event.now room) ++ notices_of plan (vms_in room)) in
+    let s = parts_left-append 16 (happening event.what (at_moment event.now room)) (notices_of plan (vms_in room)) in
     omega arith
 
 start_paid : {H : Type 0} (setting : Setting) (state : Both H) (event : Event) → IsReady state → left 16 (turn_start setting state event) ≤ left 16 state.room + brought state.room event

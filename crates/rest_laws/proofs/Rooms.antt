@@ -71,6 +71,7 @@ does_most s m vm own context (what.Continue response) room a =
     of_if (λ (r : Room). AtMost s m r) (is_own own context response) _ _ (λ is. a)
     (λ is. on_context_same s m (resumes vm context response) vm context room a (λ n x hub. resumes_adds vm context response n x hub))
 does_most s m vm own context what.Close room a = on_context_same s m closed vm context room a (λ n x hub. closed_adds n x hub)
+does_most s m vm own context (what.Call request) room a = a
 does_most s m vm own context (what.Answer status fields body) room a =
     on_context_same s m (changed (changes.Answer status fields body)) vm context room a (λ n x hub. answer_adds n false status fields.pairs body x hub)
 

@@ -29,7 +29,8 @@ use Rattle.store_model.specs.Made.{Made}
 use Rattle.worker_model.specs.Settling.{settling}
 use Rattle.worker_model.specs.State.{Setting, rules_of}
 use Rattle.worker_model.specs.Steps.{Both, both}
-use Rattle.worker_model.specs.Turn.{is_of, roots_from, start_of, starts_of, first_vms, vms_in, starts, is_due_now, ticks_in, ticks_of, ticks_due, deadlines, registers_at, notice_of, notices_of, agenda_of, at_moment, Outcome, outcome, turn, turn_by, most_steps}
+use Rattle.worker_model.specs.Turn.{is_of, roots_from, start_of, starts_of, first_vms, vms_in, starts, is_due_now, ticks_in, ticks_of, ticks_due, deadlines, registers_at, notice_of, notices_of, happening, agenda_of, at_moment, Outcome, outcome, turn, turn_by, most_steps}
+use Rattle.worker_model.proofs.Events.{by_event}
 use Rattle.rest_laws.specs.Left.{byte_cost, left, lines_left, open_left, reader_left, jobs_left, parts_left, reading_left, bytes_of, OpenFits, AllFit}
 use Rattle.rest_laws.specs.Moves.{for_each, moves_of, spare, spare_of, chains_left}
 use Rattle.rest_laws.specs.Sizes.{stages_size, reader_size, open_size, lines_size, vms_size, OneTurn, first_state, turn_start, start_size, IsReady, Follow, WorkersComeToRest, WholeTurnsComeToRest}
@@ -177,6 +178,10 @@ notices_small plan (suc n) =
     let a = parts_left-append 16 (notices_of plan n) (notice_of plan n) in
     omega arith
 
+-- an event that is no line's brings less
+pub event_small : (what : What) (room : Room) → parts_left 16 (happening what room) ≤ parts_left 16 (jobs.Happen what ∷ [])
+event_small what room = by_event (λ (js : List Job). parts_left 16 js ≤ parts_left 16 (jobs.Happen what ∷ [])) what room (λ e. omega arith) (λ e. omega arith) (λ e. omega arith)
+
 agenda_small : (plan : Plan) (what : What) (room : Room)
     → parts_left 16 (agenda_of plan what room)
     ≤ 953 + 64 * length room.hub.contexts.plugins + 2 * vms_size (vms_in room) room.hub.contexts + 248 * length (bytes_of what)
@@ -187,9 +192,11 @@ agenda_small plan what room =
     let d = bytes_small (byte_cost 16) (bytes_of what) (omega arith) in
     let e = notices_small plan (vms_in room) in
     let f = times_16 (vms_in room) 50 (few_vms (length room.hub.contexts.vms)) in
-    let p = parts_left-append 16 (starts room) (ticks_due room ++ (deadlines plan ++ (jobs.Happen what ∷ notices_of plan (vms_in room)))) in
-    let q = parts_left-append 16 (ticks_due room) (deadlines plan ++ (jobs.Happen what ∷ notices_of plan (vms_in room))) in
-    let r = parts_left-append 16 (deadlines plan) (jobs.Happen what ∷ notices_of plan (vms_in room)) in
+    let p = parts_left-append 16 (starts room) (ticks_due room ++ (deadlines plan ++ (happening what room ++ notices_of plan (vms_in room)))) in
+    let q = parts_left-append 16 (ticks_due room) (deadlines plan ++ (happening what room ++ notices_of plan (vms_in room))) in
+    let r = parts_left-append 16 (deadlines plan) (happening what room ++ notices_of plan (vms_in room)) in
+    let s = parts_left-append 16 (happening what room) (notices_of plan (vms_in room)) in
+    let t = event_small what room in
     omega arith
 
 -- ---- the whole

@@ -105,6 +105,7 @@ module _ {H : Type 0} (calling : H → ℕ → Callback → ℕ → ℕ → ℕ 
       ticks_most n vm root host (ticked vm root room) (at_most_more s m n (ticked vm root room).1 (omega arith) (ticked_most s m vm root (tick_in (vm_in room.hub.contexts vm).contexts root) room a))
   works_most plan m n (jobs.Notice vm more) host room less a = notices_most plan m n vm more host room less a
   works_most plan m n (jobs.Ready vm root queue) host room less a = ready_most n vm root queue host room (at_most_more s m n room (omega arith) a)
+  works_most plan m n (jobs.Other step) host room less a = at_most_more s m n room (omega arith) a
   works_most plan m n (jobs.Begin vm) host room less a = tells_most n vm callbacks.Begin 0 0 host room (at_most_more s m n room (omega arith) a)
   works_most plan m n (jobs.Start vm root) host room less a =
       starts_most n vm callbacks.VmStart root (vm_length vm room.hub.contexts) deaths.Start host room (at_most_more s m n room (omega arith) a)
@@ -146,3 +147,4 @@ job_some s (jobs.Close number true) = omega arith
 job_some s (jobs.Close number false) = omega arith
 job_some s (jobs.Notice vm more) = omega arith
 job_some s (jobs.Ready vm root queue) = omega arith
+job_some s (jobs.Other step) = omega arith

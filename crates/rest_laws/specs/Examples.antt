@@ -94,6 +94,8 @@ room lines reading parts = record {
   waits = [];
   dead = [];
   is_begun = true;
+  calls = [];
+  tcp = [];
 }
 
 -- deadlines are still to be looked at in this turn
@@ -101,7 +103,7 @@ abbrev pub waiting : Room
 waiting = room (record { number = 1; requests = new_reading None; is_gone = false; exchange = Some exchange } ∷ []) None (jobs.Expire ∷ [])
 
 abbrev pub plan : Plan
-plan = record { routes = record { path = codes "/"; filters = [] } ∷ []; plugins = []; vms = 1; deadline = 1; bodies = []; registers = [] }
+plan = record { routes = record { path = codes "/"; filters = [] } ∷ []; plugins = []; vms = 1; deadline = 1; bodies = []; registers = []; tcp = [] }
 
 -- the room behind a step that asks and reads nothing
 abbrev room_behind : Course (Both ℕ) → Room → Room

@@ -87,6 +87,7 @@ job_left s (jobs.Delete c) = 1
 job_left s (jobs.Close number stays) = if stays then 1 + reading_cost s else 1
 job_left s (jobs.Notice vm left) = 1 + 3 * left
 job_left s (jobs.Ready vm root queue) = 1
+job_left s (jobs.Other step) = 1
 
 abbrev pub jobs_left : ℕ → List Job → ℕ
 jobs_left s [] = 0

@@ -11,7 +11,7 @@ use Rattle.store_model.specs.Program.{Program, done, ask, measure, bind}
 use Rattle.vm_host.specs.Calling.{Returned, returned, run_trapped, run_spent, run_open, calling_back}
 use Rattle.vm_host.specs.Dispatching.{dispatching}
 use Rattle.vm_host.specs.HostStates.{HostState, host_state}
-use Rattle.vm_host.specs.RoleTypes.{function_for, beginner_in, numbers_for}
+use Rattle.vm_host.specs.RoleTypes.{function_for, beginner_in, numbers_for, counts_at}
 use Rattle.vm_host.specs.Slots.{Came, came_of, silent, end_of, slot_in, no_slot, role_of, by_role, is_at_home, with_live, calling_live, calling_slot, calling}
 use Rattle.vm_host.specs.Vms.{VmAt, Ran, ran_as, with_budget, made_effective, running, running_if, begins_then, calling_if}
 use Rattle.vm_host.specs.declared.roles.Role.{Role}
@@ -65,7 +65,7 @@ begins_left now (Some v) r left = run_if_left v now (beginner_in v.functions) []
 
 call_left : (v : VmAt) (now : ℕ) (o : Option ℕ) (r : Role) (context first second : ℕ) (s : HostState) → AllEnds Left (calling_if v now o r context first second s)
 call_left v now None r context first second s = λ none. absurd (none-some v (sym none))
-call_left v now (Some f) r context first second s = run_left v now f (numbers_for r context first second) (host_state (made_effective v.calls.place context s.contexts) s.lines)
+call_left v now (Some f) r context first second s = run_left v now f (numbers_for r context first second (counts_at v.calls.place context s.contexts)) (host_state (made_effective v.calls.place context s.contexts) s.lines)
 
 role_left : (o : Option Role) (v : VmAt) (now context first second : ℕ) (s : HostState) → AllEnds Left (by_role o v now context first second s)
 role_left None v now context first second s = all_bind Left Left (running_if v now v.start [] s) (λ r. begins_then now r.vm r) (run_if_left v now v.start [] s) (λ r left. begins_left now r.vm r left)

@@ -16,7 +16,7 @@ use Rattle.store_model.specs.Runs.{bind_assoc}
 use Rattle.vm_host.specs.Calling.{Returned, returned, run_trapped, run_spent, run_open, calling_back, running}
 use Rattle.vm_host.specs.Dispatching.{dispatching}
 use Rattle.vm_host.specs.HostStates.{HostState, host_state}
-use Rattle.vm_host.specs.RoleTypes.{beginner_in, numbers_for}
+use Rattle.vm_host.specs.RoleTypes.{beginner_in, numbers_for, counts_at}
 use Rattle.vm_host.specs.Slots.{slot_in, calling, calling_live, calling_slot}
 use Rattle.vm_host.specs.Vms as vms
 use Rattle.vm_host.specs.Vms.{VmAt, Ran, ran_as, first_vm, running_if, begins_then, beginning}
@@ -122,21 +122,21 @@ begins_so v vm m pages fuel live context first second now h is home bound =
 
 -- what stands behind a run, in one piece or in two
 run_then : (v : Vms) (vm fuel : ℕ) (live : VmAt) (name : Callback) (f : HasFunction live name) (context first second now : ℕ) (h : Contexts)
-    → bind (calling_back (dispatching live.calls now) f.number (numbers_for f.role context first second) (record live.guest { fuel = fuel }) (begins_with live context h))
+    → bind (calling_back (dispatching live.calls now) f.number (numbers_for f.role context first second (counts_at live.calls.place context h)) (record live.guest { fuel = fuel }) (begins_with live context h))
     (λ x. done (comes_back v vm (ran_as live (begins_with live context h) x)))
-    ≡ bind (run_with fuel live now f.number (numbers_for f.role context first second) (begins_with live context h)) (λ r. done (comes_back v vm r))
+    ≡ bind (run_with fuel live now f.number (numbers_for f.role context first second (counts_at live.calls.place context h)) (begins_with live context h)) (λ r. done (comes_back v vm r))
 run_then v vm fuel live name f context first second now h =
-    sym (bind_assoc (calling_back (dispatching live.calls now) f.number (numbers_for f.role context first second) (record live.guest { fuel = fuel }) (begins_with live context h))
+    sym (bind_assoc (calling_back (dispatching live.calls now) f.number (numbers_for f.role context first second (counts_at live.calls.place context h)) (record live.guest { fuel = fuel }) (begins_with live context h))
     (λ x. done (ran_as live (begins_with live context h) x)) (λ r. done (comes_back v vm r)))
 
 calls_so : (v : Vms) (vm : ℕ) (m : Module) (pages fuel : ℕ) (live : VmAt) (name : Callback) (context first second now : ℕ) (h : Contexts)
     → IsLive v vm live → AreAtHome v h → IsBound vm m pages fuel live → (f : HasFunction live name)
     → calling v vm name context first second now h ≡
-    bind (run_with fuel live now f.number (numbers_for f.role context first second) (begins_with live context h)) (λ r. done (comes_back v vm r))
+    bind (run_with fuel live now f.number (numbers_for f.role context first second (counts_at live.calls.place context h)) (begins_with live context h)) (λ r. done (comes_back v vm r))
 calls_so v vm m pages fuel live name context first second now h is home bound f =
     runs_what_is_asked.function v vm live name context first second now h is home f
     ∙ (run_then v vm live.budget live name f context first second now h
-    ∙ ap (λ (n : ℕ). bind (run_with n live now f.number (numbers_for f.role context first second) (begins_with live context h)) (λ r. done (comes_back v vm r))) bound.budget)
+    ∙ ap (λ (n : ℕ). bind (run_with n live now f.number (numbers_for f.role context first second (counts_at live.calls.place context h)) (begins_with live context h)) (λ r. done (comes_back v vm r))) bound.budget)
 
 pub runs_have_their_fuel : VmsKeepTheirBounds → RunsHaveTheirFuel
 runs_have_their_fuel keep = record {

@@ -160,6 +160,7 @@ module _ (Has : ℕ → Contexts → Type 0) (closed : IsClosed Has) (m : ℕ) (
   to_does vm own context (what.Continue response) room s =
       pick (Stands Has m D) (is_own own context response) room (on_context (passing.resumes vm context response) vm context room) s
       (to_context (passing.resumes vm context response) (resumes_keeps Has closed vm context response) vm context room s)
+  to_does vm own context (what.Call request) room s = s
   to_does vm own context what.Close room s = to_context passing.closed (closed_keeps Has closed) vm context room s
   to_does vm own context (what.Answer status fields body) room s =
       to_context (changed (changes.Answer status fields body)) (answer_keeps Has closed status fields.pairs body) vm context room s

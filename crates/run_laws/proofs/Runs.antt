@@ -11,7 +11,7 @@ use Rattle.store_model.specs.Runs.{bind_assoc}
 use Rattle.vm_host.specs.Calling.{calling_back}
 use Rattle.vm_host.specs.Dispatching.{dispatching}
 use Rattle.vm_host.specs.HostStates.{host_state}
-use Rattle.vm_host.specs.RoleTypes.{function_for, numbers_for}
+use Rattle.vm_host.specs.RoleTypes.{function_for, numbers_for, counts_at}
 use Rattle.vm_host.specs.Slots.{Came, came_of, silent, slot_in, no_slot, role_of, exports_role, exported_in, by_role, is_at_home, with_live, calling_live, calling_slot, calling}
 use Rattle.vm_host.specs.Vms.{VmAt, ran_as, with_budget, calling_if, running}
 use Rattle.vm_host.specs.declared.roles.Role.{Role}
@@ -66,7 +66,7 @@ function_runs : (v : Vms) (vm : ℕ) (live : VmAt) (r : Role) (f context first s
     → bind (calling_if live now (Some f) r context first second (host_state h [])) (λ x. done (comes_back v vm x)) ≡ run_of v vm live r f context first second now h
 unfolding running
 function_runs v vm live r f context first second now h =
-    bind_assoc (calling_back (dispatching live.calls now) f (numbers_for r context first second) (with_budget live) (begins_with live context h))
+    bind_assoc (calling_back (dispatching live.calls now) f (numbers_for r context first second (counts_at live.calls.place context h)) (with_budget live) (begins_with live context h))
     (λ x. done (ran_as live (begins_with live context h) x)) (λ x. done (comes_back v vm x))
 
 has_runs : (v : Vms) (vm : ℕ) (live : VmAt) (name : Callback) (context first second now : ℕ) (h : Contexts) (f : HasFunction live name)

@@ -14,7 +14,7 @@ use Rattle.store_model.specs.Program.{Program, done, bind}
 use Rattle.vm_host.specs.Calling.{calling_back}
 use Rattle.vm_host.specs.Dispatching.{dispatching}
 use Rattle.vm_host.specs.HostStates.{HostState, host_state}
-use Rattle.vm_host.specs.RoleTypes.{functions_for, beginner_in, numbers_for}
+use Rattle.vm_host.specs.RoleTypes.{functions_for, beginner_in, numbers_for, counts_at}
 use Rattle.vm_host.specs.Slots.{slot_in, calling}
 use Rattle.vm_host.specs.Targets.{targets_of}
 use Rattle.vm_host.specs.Vms.{VmAt, Ran, ran, ran_as}
@@ -96,7 +96,7 @@ pub record RunsHaveTheirFuel : Type 0 where
   pub calls : (v : Vms) (vm : ℕ) (m : Module) (pages fuel : ℕ) (live : VmAt) (name : Callback) (context first second now : ℕ) (h : Contexts)
       → IsLive v vm live → AreAtHome v h → IsBound vm m pages fuel live → (f : HasFunction live name)
       → calling v vm name context first second now h ≡
-      bind (run_with fuel live now f.number (numbers_for f.role context first second) (begins_with live context h)) (λ r. done (comes_back v vm r))
+      bind (run_with fuel live now f.number (numbers_for f.role context first second (counts_at live.calls.place context h)) (begins_with live context h)) (λ r. done (comes_back v vm r))
   -- and what begins it
   pub begins : (v : Vms) (vm : ℕ) (m : Module) (pages fuel : ℕ) (live : VmAt) (context first second now : ℕ) (h : Contexts)
       → IsLive v vm live → AreAtHome v h → IsBound vm m pages fuel live

@@ -7,7 +7,7 @@ use Rattle.store_model.specs.Program.{Program, done, bind}
 use Rattle.vm_host.specs.Calling.{calling_back}
 use Rattle.vm_host.specs.Dispatching.{dispatching}
 use Rattle.vm_host.specs.HostStates.{HostState, host_state}
-use Rattle.vm_host.specs.RoleTypes.{function_for, numbers_for}
+use Rattle.vm_host.specs.RoleTypes.{function_for, numbers_for, counts_at}
 use Rattle.vm_host.specs.Slots.{slot_in, with_live, end_of, role_of, by_role, exported_in, calling}
 use Rattle.vm_host.specs.Vms.{VmAt, Ran, ran_as, with_budget, made_effective}
 use Rattle.vm_host.specs.declared.roles.Role.{Role}
@@ -38,7 +38,7 @@ begins_with live context h = host_state (made_effective live.calls.place context
 -- THE RUN of one function of the machine, with the whole fuel of a run and as many numbers as its role takes
 abbrev pub run_of : Vms → (vm : ℕ) → VmAt → Role → (f context first second now : ℕ) → Contexts → Program (Called Vms)
 run_of v vm live r f context first second now h =
-    bind (calling_back (dispatching live.calls now) f (numbers_for r context first second) (with_budget live) (begins_with live context h))
+    bind (calling_back (dispatching live.calls now) f (numbers_for r context first second (counts_at live.calls.place context h)) (with_budget live) (begins_with live context h))
     (λ x. done (comes_back v vm (ran_as live (begins_with live context h) x)))
 
 -- the function of a callback that the module of a machine exports

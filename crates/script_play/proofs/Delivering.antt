@@ -19,7 +19,7 @@ use Rattle.meaning.specs.Meaning.{meaning, run}
 use Rattle.outbox.proofs.Deliveries.{happened-of_turns, hands_over, stands_still}
 use Rattle.outbox.proofs.Offers.{marks_at-solid}
 use Rattle.outbox.specs.Cleared.{ended_by, without_ended}
-use Rattle.outbox.specs.Delivery.{Delivered, Prompt, solid}
+use Rattle.outbox.specs.Delivery.{Delivered, NeverShort, Prompt, StopsAtShort, solid}
 use Rattle.outbox.specs.Places.{marks_at}
 use Rattle.outbox.specs.Turns.{OneTurn, Delivers, HandsOver, events_of, to_go}
 use Rattle.outbox.specs.declared.place.Place.{Place}
@@ -87,9 +87,19 @@ goes_all turn = ap (λ (l : List Sent). l ++ turn.sent) (none_cleared (ended_by 
 abbrev passed_at : Wants → Event → List Sent → List Passed
 passed_at wants event sent = Asked wants ∷ Gave event ∷ map Took (solid sent)
 
+took_stops : (sent : List Sent) → StopsAtShort (map Took sent)
+took_stops [] = tt
+took_stops (s ∷ sent) = took_stops sent
+
+took_never_short : (sent : List Sent) → NeverShort (map Took sent)
+took_never_short [] = λ place h. h
+took_never_short (s ∷ sent) = took_never_short sent
+
 took_whole : (sent : List Sent) → Delivered sent (map Took (solid sent)) []
 took_whole sent = record {
   goes_on = λ place. append-nil (marks_at place (received (map Took (solid sent)))) ∙ ap (marks_at place) (took_all (solid sent)) ∙ marks_at-solid place sent;
+  stops = took_stops (solid sent);
+  waits_short = λ place h. absurd (took_never_short (solid sent) place h);
   no_event = took_no_event (solid sent);
   not_asked = took_not_asked (solid sent);
 }

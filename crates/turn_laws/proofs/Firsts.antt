@@ -3,6 +3,7 @@ use Rattle.std.proofs.Common.{◌≡◌, ℕ, suc, ◌+◌, ◌==◌, ◌≤◌,
 use Rattle.std.specs.Prelude.{is_some, if◌then◌else◌}
 use Rattle.std.specs.List.{list_any, position}
 use Rattle.std.specs.Fmt.{digits}
+use Rattle.callouts.specs.Callouts.{callout_at, is_of_call, line_in}
 use Rattle.course.specs.Called.{Calling}
 use Rattle.course.specs.Course.{Course, ends, then_do, heard}
 use Rattle.course.specs.Heard.{hands}
@@ -20,7 +21,7 @@ use Rattle.exchange.specs.Passing.{expires}
 use Rattle.worker_model.specs.Rooms.{all_lines, with_lines, is_any, is_over, is_released, moves, next_of, moves_or, frees_or, ends_or, begins_or_rests}
 use Rattle.worker_model.specs.Settling.{rests, settling, settling_step}
 use Rattle.worker_model.specs.Steps.{Both, works, happens, is_late, expires_all}
-use Rattle.worker_model.specs.Turn.{Outcome, turn_by, facing, at_moment, comes_to, deadlines, most_steps, notices_of, starts_of, vms_in}
+use Rattle.worker_model.specs.Turn.{Outcome, turn_by, facing, at_moment, comes_to, deadlines, most_steps, notices_of, starts_of, vms_in, comes_if}
 use Rattle.worker_model.specs.Room.{Room}
 use Rattle.worker_model.specs.declared.types.Job.{Job}
 use Rattle.worker_model.specs.declared.types.Job.TheVariants as jobs
@@ -107,8 +108,8 @@ module _ {H : Type 0} (calling : Calling H) (plan : Plan) where
     is = expired room calm none 18446744073709551613 host (jobs.Happen e.what ∷ later) ∙ one_part room calm 18446744073709551611 host (jobs.Happen e.what) later;
   }
 
-  pub event_first : (from : Both H) (e : Event) → is_stop e.what ≡ false → NothingIsDue e.now from.room → ComesFirst calling plan from e
-  event_first from e stop none =
+  pub event_first : (from : Both H) (e : Event) → is_stop e.what ≡ false → is_of_call (line_in e.what) ≡ false → NothingIsDue e.now from.room → ComesFirst calling plan from e
+  event_first from e stop low none =
       let room : Room = from.room in
       let r = rests_by (is_some room.reading) (position moves room.lines) (is_any room.jobs) (position (is_released room) room.waits) (position is_over room.lines) room.agenda none.at_rest in
       let calm : Room = record (at_moment e.now room) { is_begun = true } in
@@ -117,7 +118,7 @@ module _ {H : Type 0} (calling : Calling H) (plan : Plan) where
       let facing_is : facing plan e room ≡ record calm { jobs = []; agenda = deadlines plan ++ (jobs.Happen e.what ∷ later) } =
       (λ i. record calm {
         jobs = no_jobs room.jobs r.works_none i;
-        agenda = (if none.begun i then [] else starts_of (vms_in room) room.hub.contexts.plugins) ++ (none.no_tick i ++ (deadlines plan ++ (jobs.Happen e.what ∷ later)));
+        agenda = (if none.begun i then [] else starts_of (vms_in room) room.hub.contexts.plugins) ++ (none.no_tick i ++ (deadlines plan ++ ((if low i then comes_if (callout_at (line_in e.what) room.calls) e.what else jobs.Happen e.what ∷ []) ++ later)));
       }) in
       let l : Left calm from.host e later (settling calling plan most_steps from.host (record calm { jobs = []; agenda = deadlines plan ++ (jobs.Happen e.what ∷ later) })) =
       with_deadlines (plan.deadline == 0) calm is_calm none.no_deadline from.host e later in

@@ -1,6 +1,7 @@
 -- What an event finds: its line as the turn before it left it, where nothing is due at its moment; and what else it may find.
 use Rattle.std.specs.Prelude.{◌≡◌, ℕ, ◌+◌, ◌≤◌, true, false, List, [], ◌∷◌, ◌++◌, Some, codes}
 use Rattle.std.specs.List.{list_any}
+use Rattle.callouts.specs.Callouts.{is_of_call, line_in}
 use Rattle.contexts.specs.Creating.{opened}
 use Rattle.course.specs.Called.{Calling}
 use Rattle.course.specs.Course.{Course, ends, then_do, Met, heard}
@@ -45,10 +46,10 @@ pub record ComesFirst {H : Type 0} (calling : Calling H) (plan : Plan) (from : B
   pub many : most_steps ≤ left + 4
   pub course : turn calling plan from e ≡ then_do (settling calling plan left from.host (happens e.what (found_by plan e from.room))) (λ b. ends (comes_to b))
 
--- WHERE NOTHING IS DUE THE EVENT COMES FIRST: no callback is called, no line changes and nothing is sent in front of it.
+-- WHERE NOTHING IS DUE THE EVENT COMES FIRST, where it is not of a line from 2^31 on: no callback is called, no line changes and nothing is sent in front of it.
 abbrev pub EventsComeFirst : (H : Type 0) → Type 0
 EventsComeFirst H =
-    (calling : Calling H) (plan : Plan) (from : Both H) (e : Event) → is_stop e.what ≡ false → NothingIsDue e.now from.room → ComesFirst calling plan from e
+    (calling : Calling H) (plan : Plan) (from : Both H) (e : Event) → is_stop e.what ≡ false → is_of_call (line_in e.what) ≡ false → NothingIsDue e.now from.room → ComesFirst calling plan from e
 
 -- ---- something is due
 

@@ -110,6 +110,8 @@ room lines h = record {
   waits = [];
   dead = [];
   is_begun = true;
+  calls = [];
+  tcp = [];
 }
 
 -- nothing was called so far
@@ -120,7 +122,7 @@ abbrev pub event : ℕ → What → Event
 event now what = record { now = now; what = what }
 
 abbrev pub plan_of : List PluginEntry → Plan
-plan_of plugins = record { routes = []; plugins = plugins; vms = 1; deadline = 0; bodies = []; registers = [] }
+plan_of plugins = record { routes = []; plugins = plugins; vms = 1; deadline = 0; bodies = []; registers = []; tcp = [] }
 
 -- ---- a worker without filters
 

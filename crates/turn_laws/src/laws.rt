@@ -86,7 +86,7 @@ pub fn worked_leaving()
     ensures stop { StopExample }
 {}
 
-/// Where a worker has begun and is at rest, and at the moment of an event other than Stop no tick and no deadline is due, the event comes first: it finds the
+/// Where a worker has begun and is at rest, and at the moment of an event other than Stop, of no line from 2^31 on, no tick and no deadline is due, the event comes first: it finds the
 /// worker as the turn before left it, but for that moment and the notices that are left of its turn.
 pub fn events_come_first<H>()
     ensures { EventsComeFirst H }

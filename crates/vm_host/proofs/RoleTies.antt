@@ -26,7 +26,8 @@ use Rattle.vm_host.specs.declared.roles.Role.TheVariants as role
 use Rattle.vm_host.specs.Roles.{role_name, role_row, role_named}
 use Rattle.vm_host.specs.Fits.{function_in, exported, type_in, role_results, fits_type, misfits_role, is_misfit, unlinked, no_marker, a_misfit, fit_fault}
 use Rattle.vm_host.specs.Seeing.{IsAllocator}
-use Rattle.vm_host.specs.RoleTypes.{Counts, functions_for, function_for, allocator_in, beginner_in, HasRole, AreFunctions, numbers_for, TakesNothing}
+use Rattle.vm_host.specs.declared.vm.Counts.{Counts}
+use Rattle.vm_host.specs.RoleTypes.{functions_for, function_for, allocator_in, beginner_in, HasRole, AreFunctions, numbers_for, TakesNothing}
 
 -- ---- nothing stands against it
 

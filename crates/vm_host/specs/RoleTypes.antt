@@ -1,5 +1,5 @@
 -- The functions that a program has for the gateway, with their types.
-use Rattle.std.specs.Prelude.{◌≡◌, ℕ, List, [], ◌∷◌, map, length, take, Option, None, Some, slice_index_or}
+use Rattle.std.specs.Prelude.{◌≡◌, ℕ, ◌==◌, Bool, List, [], ◌∷◌, map, length, take, Option, None, Some, slice_index_or, if◌then◌else◌}
 use Rattle.std.specs.Option.{option_or}
 use Rattle.wasm_syntax.specs.declared.types.Value.{Value}
 use Rattle.wasm_syntax.specs.declared.types.Value.TheVariants.{I32}
@@ -14,6 +14,7 @@ use Rattle.contexts.specs.declared.parts.Own.{Own}
 use Rattle.contexts.specs.declared.parts.Contexts.{Contexts}
 use Rattle.contexts.specs.Reached.{seen_of}
 use Rattle.vm_host.specs.declared.roles.Role.{Role}
+use Rattle.vm_host.specs.declared.vm.Counts.{Counts}
 use Rattle.vm_host.specs.declared.roles.Role.TheVariants as role
 use Rattle.vm_host.specs.Roles.{role_name, role_row, place_of, all_roles}
 use Rattle.vm_host.specs.Fits.{exported, role_results}
@@ -43,12 +44,7 @@ pub record HasRole (p : Program) (r : Role) (f : ℕ) : Type 0 where
 abbrev pub AreFunctions : Program → List (Option ℕ) → Type 0
 AreFunctions p functions = (r : Role) (f : ℕ) → function_for functions r ≡ Some f → HasRole p r f
 
--- how much came back for the callout of which a context is told: fields, bytes and trailers
-pub record Counts : Type 0 where
-  pub fields : ℕ
-  pub bytes : ℕ
-  pub trailers : ℕ
-
+-- how much came back for the callout of which a context is told, and nothing where it is told of none
 abbrev pub counts_in : Option CallAnswer → Counts
 counts_in None = record { fields = 0; bytes = 0; trailers = 0 }
 counts_in (Some a) = record { fields = length a.fields.pairs; bytes = length a.body; trailers = length a.trailers.pairs }
@@ -60,36 +56,17 @@ counts_of (Some o) = counts_in o.answer
 abbrev pub counts_at : (vm e : ℕ) → Contexts → Counts
 counts_at vm e h = counts_of (seen_of h vm e).reach.own
 
--- all numbers that it may be given behind its context: the second one, or the counts
-abbrev pub behind_first : Role → ℕ → Counts → List Value
-behind_first role.CallAnswered second counts = I32 counts.fields ∷ I32 counts.bytes ∷ I32 counts.trailers ∷ []
-behind_first role.Initialize second counts = I32 second ∷ []
-behind_first role.Start second counts = I32 second ∷ []
-behind_first role.MemoryAllocate second counts = I32 second ∷ []
-behind_first role.Malloc second counts = I32 second ∷ []
-behind_first role.ContextCreate second counts = I32 second ∷ []
-behind_first role.VmStart second counts = I32 second ∷ []
-behind_first role.Configure second counts = I32 second ∷ []
-behind_first role.Tick second counts = I32 second ∷ []
-behind_first role.Log second counts = I32 second ∷ []
-behind_first role.Delete second counts = I32 second ∷ []
-behind_first role.QueueReady second counts = I32 second ∷ []
-behind_first role.RequestHeaders second counts = I32 second ∷ []
-behind_first role.ResponseHeaders second counts = I32 second ∷ []
-behind_first role.RequestBody second counts = I32 second ∷ []
-behind_first role.ResponseBody second counts = I32 second ∷ []
-behind_first role.RequestTrailers second counts = I32 second ∷ []
-behind_first role.ResponseTrailers second counts = I32 second ∷ []
-behind_first role.Done second counts = I32 second ∷ []
-behind_first role.NewConnection second counts = I32 second ∷ []
-behind_first role.DownstreamData second counts = I32 second ∷ []
-behind_first role.UpstreamData second counts = I32 second ∷ []
-behind_first role.DownstreamClose second counts = I32 second ∷ []
-behind_first role.UpstreamClose second counts = I32 second ∷ []
+-- the role of which a context is told so
+abbrev pub has_counts : Role → Bool
+has_counts r = place_of r == place_of role.CallAnswered
 
--- as many numbers as it takes
+abbrev pub third_for : Role → ℕ → Counts → ℕ
+third_for r second counts = if has_counts r then counts.fields else second
+
+-- as many numbers as it takes: its context and two more, or its context, one more and the counts
 abbrev pub numbers_for : Role → ℕ → ℕ → ℕ → Counts → List Value
-numbers_for r context first second counts = take (length (role_row r)) (I32 context ∷ I32 first ∷ behind_first r second counts)
+numbers_for r context first second counts =
+    take (length (role_row r)) (I32 context ∷ I32 first ∷ I32 (third_for r second counts) ∷ I32 counts.bytes ∷ I32 counts.trailers ∷ [])
 
 abbrev pub TakesNothing : Program → Option ℕ → Type 0
 TakesNothing p None = Unit {0}

@@ -18,4 +18,4 @@ pub use fitting::{FitEnd, exported, fits, fits_function};
 pub use machine_guest::MachineGuest;
 pub use roles::{ROLES, Role, gives_number, role_name, role_named, role_place, role_row};
 pub use slots::{Slot, Vms};
-pub use vm::{Numbers, Ran, Vm};
+pub use vm::{Counts, Numbers, Ran, Vm};

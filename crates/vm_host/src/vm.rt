@@ -11,7 +11,7 @@ ghost use Rattle.store_model.specs.Program.{Ends};
 ghost use Rattle.vm_host.specs.Fits.{fit_fault};
 ghost use Rattle.vm_host.specs.HostStates.{host_state};
 ghost use Rattle.vm_host.specs.Roles.{role_row as row_of};
-ghost use Rattle.vm_host.specs.RoleTypes.{functions_for, function_for, allocator_in, beginner_in, numbers_for, HasRole, TakesNothing};
+ghost use Rattle.vm_host.specs.RoleTypes.{functions_for, function_for, allocator_in, beginner_in, counts_in as counts_in_of, counts_at as counts_at_of, third_for, numbers_for, HasRole, TakesNothing};
 ghost use Rattle.vm_host.specs.Targets.{targets_of, closings_of, closing_of as closing_for, import_target as target_for};
 ghost use Rattle.vm_host.specs.Vms.{ran, number_of, first_vm, running, running_if, beginning, calling_role, made_effective, IsFirst, IsOutline, IsVm};
 ghost use Rattle.vm_host.specs.Seeing.{guest_at};
@@ -24,7 +24,7 @@ use crate::machine_guest::MachineGuest;
 use crate::roles::{ROLES, Role, role_name, role_place, role_row};
 use abi_model::WasiCall;
 use abi_types::Closing;
-use contexts::Contexts;
+use contexts::{CallAnswer, Contexts};
 use gate_base::{ContextId, Members, OutOfMemory, VmNo};
 use gate_io::SentList;
 use proxy_links::{ProxyLinks, Target, target_named};
@@ -77,20 +77,62 @@ pub struct Ran {
 }
 
 impl Numbers {
-    /// The three, as values.
-    fn values(self) -> [Value; 3]
-        ensures { result ≡ Value.I32 self.context ∷ Value.I32 self.first ∷ Value.I32 self.second ∷ [] }
+    /// All that a callback may be given: its context and two numbers more, or its context, one more and the counts.
+    fn values(self, role: Role, counts: Counts) -> [Value; 5]
+        ensures { result ≡ Value.I32 self.context ∷ Value.I32 self.first ∷ Value.I32 (third_for role self.second counts) ∷ Value.I32 counts.bytes ∷ Value.I32 counts.trailers ∷ [] }
     {
         [
             Value::I32(self.context),
             Value::I32(self.first),
-            Value::I32(self.second),
+            Value::I32(third(role, self.second, counts)),
+            Value::I32(counts.bytes),
+            Value::I32(counts.trailers),
         ]
     }
 }
 
-/// As many of three values as a role takes.
-fn first_of(all: &[Value; 3], role: Role) -> &[Value]
+/// What a callback is given after its context and the first number.
+fn third(role: Role, second: u32, counts: Counts) -> u32
+    ensures { result ≡ third_for role second counts }
+{
+    if role_place(role) == role_place(Role::CallAnswered) {
+        counts.fields
+    } else {
+        second
+    }
+}
+
+/// How much came back for a callout.
+fn counts_in(answer: &Option<CallAnswer>) -> Counts
+    ensures { result ≡ counts_in_of answer.now }
+{
+    match answer {
+        None => Counts {
+            fields: 0,
+            bytes: 0,
+            trailers: 0,
+        },
+        Some(a) => Counts {
+            fields: a.fields.len() as u32,
+            bytes: a.body.len() as u32,
+            trailers: a.trailers.len() as u32,
+        },
+    }
+}
+
+/// How much came back for the callout of which a context is told.
+fn counts_at(contexts: &Contexts, place: VmNo, context: u32) -> Counts
+    requires { place < length contexts.now.vms }
+    ensures { result ≡ counts_at_of place context contexts.now }
+{
+    match contexts.own_of(place, ContextId::new(context)) {
+        Some(own) => counts_in(&own.answer),
+        None => counts_in(&None),
+    }
+}
+
+/// As many of five values as a role takes.
+fn first_of(all: &[Value; 5], role: Role) -> &[Value]
     ensures { result.now ≡ take (length (row_of role)) all.now }
 {
     &all[..role_row(role).len()]
@@ -112,6 +154,14 @@ pub struct Numbers {
     pub context: u32,
     pub first: u32,
     pub second: u32,
+}
+
+/// How much came back for the callout of which a context is told, where it is told of one: fields, bytes and trailers.
+#[derive(Clone, Copy)]
+pub struct Counts {
+    pub fields: u32,
+    pub bytes: u32,
+    pub trailers: u32,
 }
 
 /// What an import stands for.
@@ -504,8 +554,8 @@ impl Vm {
         }
     }
 
-    /// Calls the function of a role with its context, which is the effective one then, and two numbers more, of which it is
-    /// given as many as it has parameters. One that is not exported does nothing.
+    /// Calls the function of a role with its context, which is the effective one then, two numbers more and the counts: it is
+    /// given as many of them as it has parameters. One that is not exported does nothing.
     pub(crate) fn call_role<S: Shared>(
         self,
         alloc: Global,
@@ -530,8 +580,9 @@ impl Vm {
                 });
             }
         };
+        let counts = counts_at(contexts, self.place(), numbers.context);
         make_effective(contexts, self.place(), numbers.context);
-        let all = numbers.values();
+        let all = numbers.values(role, counts);
         let args = first_of(&all, role);
         self.run(alloc, contexts, lines, shared, now, func, args)
     }

@@ -13,7 +13,7 @@ use Rattle.vm_host.specs.declared.slots.Vms.{Vms}
 use Rattle.vm_host.specs.Calling.{Returned, returned, run_trapped, run_spent, run_open, calling_back}
 use Rattle.vm_host.specs.Dispatching.{dispatching}
 use Rattle.vm_host.specs.HostStates.{HostState, host_state}
-use Rattle.vm_host.specs.RoleTypes.{function_for, beginner_in, numbers_for}
+use Rattle.vm_host.specs.RoleTypes.{function_for, beginner_in, numbers_for, counts_at}
 use Rattle.vm_host.specs.Slots.{Came, silent, came_of, end_of, by_role, role_of, calling_live, calling_slot, is_at_home, slot_in, no_slot, with_live, calling}
 use Rattle.vm_host.specs.Vms.{VmAt, Ran, ran_as, with_budget, running, running_if, begins_then, calling_if, made_effective}
 use Rattle.vm_laws.specs.Apart.{AllEnds, IsGone, IsApart, CallbacksAreApart}
@@ -49,7 +49,7 @@ begins_well fs now (Some v) r same is = subst (λ gs. AllEnds (RanWell gs) (runn
 
 calling_if_well : (v : VmAt) (now : ℕ) (o : Option ℕ) (r : Role) (context first second : ℕ) (s : HostState) → AllEnds (RanWell v.functions) (calling_if v now o r context first second s)
 calling_if_well v now None r context first second s = (tt, refl)
-calling_if_well v now (Some f) r context first second s = running_well v now f (numbers_for r context first second) (host_state (made_effective v.calls.place context s.contexts) s.lines)
+calling_if_well v now (Some f) r context first second s = running_well v now f (numbers_for r context first second (counts_at v.calls.place context s.contexts)) (host_state (made_effective v.calls.place context s.contexts) s.lines)
 
 by_role_well : (o : Option Role) (v : VmAt) (now context first second : ℕ) (s : HostState) → AllEnds (RanWell v.functions) (by_role o v now context first second s)
 by_role_well None v now context first second s =

@@ -45,7 +45,7 @@ use Rattle.store_model.specs.Program.{Program, done, bind}
 use Rattle.vm_host.specs.Calling.{Abi, Called, called, call_trapped, call_spent, call_open, Returned, returned, run_trapped, run_spent, run_open, asked_at, answered_at, begun_at, served, running_by, running as steps_of, calling_back}
 use Rattle.vm_host.specs.Dispatching.{ends_as, served_as, serving, wasi_call, by_target, by_found, dispatching}
 use Rattle.vm_host.specs.HostStates.{HostState, host_state}
-use Rattle.vm_host.specs.RoleTypes.{function_for, beginner_in, numbers_for}
+use Rattle.vm_host.specs.RoleTypes.{function_for, beginner_in, numbers_for, counts_at}
 use Rattle.vm_host.specs.Slots.{Came, silent, came_of, by_role, role_of, calling_live, calling_slot, is_at_home, slot_in, with_live, calling}
 use Rattle.vm_host.specs.Vms.{VmAt, Ran, ran_as, with_budget, running, running_if, begins_then, calling_if, made_effective}
 use Rattle.vm_host.specs.declared.dispatch.Dispatcher.{Dispatcher}
@@ -366,7 +366,7 @@ begins_same v now (Some w) r of is =
 
 calls_same : (v : VmAt) (now : ℕ) (o : Option ℕ) (r : Role) (context first second : ℕ) (s : HostState) → AllEnds (SameRan v) (calling_if v now o r context first second s)
 calls_same v now None r context first second s = as_it_is v
-calls_same v now (Some f) r context first second s = runs_same v now f (numbers_for r context first second) (host_state (made_effective v.calls.place context s.contexts) s.lines)
+calls_same v now (Some f) r context first second s = runs_same v now f (numbers_for r context first second (counts_at v.calls.place context s.contexts)) (host_state (made_effective v.calls.place context s.contexts) s.lines)
 
 role_same : (o : Option Role) (v : VmAt) (now context first second : ℕ) (s : HostState) → AllEnds (SameRan v) (by_role o v now context first second s)
 role_same None v now context first second s =

@@ -63,6 +63,8 @@ changed = record {
   plugins = refl;
   level = refl;
   random_key = refl;
+  calls = refl;
+  is_tcp = refl;
 }
 
 not_another : ChangesItsOwn 1 host set → ⊥
@@ -78,10 +80,14 @@ unseen = record {
   effects = refl;
   random_key = refl;
   random_place = refl;
+  calls = refl;
+  is_tcp = refl;
 }
 
 of_root : IsEffectOf host 0 (closes 1) → ⊥
-of_root is = none-some is.2 (ap (λ (c : Context). c.exchange) (from_some is.1) ∙ is.3)
+of_root is =
+    let on : (n : ℕ) × (is.0.exchange ≡ Some n) = is.2 in
+    none-some on.0 (ap (λ (c : Context). c.exchange) (from_some is.1) ∙ on.1)
 
 of_another : IsEffectOf host 1 (closes 3) → ⊥
 of_another is = none-some is.0 is.1
@@ -129,7 +135,7 @@ isolation_examples = record {
   not_another = not_another;
   unseen = unseen;
   seen = λ same. was_set (sym same.own);
-  of_stream = (stream_context 3 0 1 (Some 1), refl, 1, refl);
+  of_stream = (stream_context 3 0 1 (Some 1), refl, (1, refl));
   of_root = of_root;
   of_another = of_another;
   marks = refl;

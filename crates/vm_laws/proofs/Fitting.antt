@@ -1,16 +1,17 @@
 -- What each host call writes, asks for and changes of an exchange.
 use Rattle.std.proofs.Common.{◌≡◌, ℕ, ◌≤◌, ◌==◌, ◌||◌, ◌&&◌, ◌+◌, ◌-◌, ◌^◌, min, zero, suc, Bool, true, false, cond, length, Option, None, Some, refl, sym, subst, nat_lt, if◌then◌else◌, List, [], ◌∷◌, All, arith, Result, Ok, Err}
+use Rattle.std.specs.Prelude.{is_some}
 use Rattle.std.proofs.lemmas.Bool.{ltb-false, false≢true}
 use Rattle.std.proofs.lemmas.List.Elements.{All-nil, All-cons}
 use Rattle.abi_calls.specs.Hosting.{Hosted, of_does, of_writes, of_called, locally, writing, asking, hosting, wasi_hosting}
-use Rattle.abi_maps.specs.Buffers.{own_set_buffer_bytes, buffered, held_after}
+use Rattle.abi_maps.specs.Buffers.{own_set_buffer_bytes, buffered, held_after, buffer_no}
 use Rattle.body_buffers.specs.Bodies.{body_limit}
-use Rattle.abi_maps.specs.Maps.{mapped, changing_map, on_map, map_for, set_from, added_to, replaced_in, removed_from, own_set_header_map_pairs, own_add_header_map_value, own_replace_header_map_value, own_remove_header_map_value, own_get_header_map_pairs, own_get_header_map_size, own_get_header_map_value}
+use Rattle.abi_maps.specs.Maps.{mapped, changing_map, on_map, there, map_in, no_change, set_from, added_to, replaced_in, removed_from, own_set_header_map_pairs, own_add_header_map_value, own_replace_header_map_value, own_remove_header_map_value, own_get_header_map_pairs, own_get_header_map_size, own_get_header_map_value}
 use Rattle.abi_maps.specs.Buffers.{own_get_buffer_bytes, own_get_buffer_status}
 use Rattle.abi_maps.specs.Callouts.{own_http_call}
-use Rattle.abi_maps.specs.Streams.{effect_of, on_stream, answer_changes, is_too_late, fields_from, answering_with, answering_in, own_continue_stream, own_close_stream, own_send_local_response}
+use Rattle.abi_maps.specs.Streams.{effect_of, on_stream, is_other, is_stream, stream_no, refusing, answer_changes, is_too_late, fields_from, answering_with, answering_in, own_continue_stream, own_close_stream, own_send_local_response}
 use Rattle.abi_model.specs.Asking.{Asking, asks}
-use Rattle.abi_model.specs.Calls.{called, Made, Own, Does, does_made, answers, changing, only, given}
+use Rattle.abi_model.specs.Calls.{called, Made, Own, Does, does_made, answers, changing, reads, only, given}
 use Rattle.abi_model.specs.Rows.{all_inside, taken}
 use Rattle.abi_model.specs.Table.{arg, row_of, wasi_row_of}
 use Rattle.abi_model.specs.Writing.{Writes, Writing, writes_logged, quiet}
@@ -46,9 +47,9 @@ use Rattle.vm_laws.specs.OwnEffects.{IsLine}
 
 -- ---- what a call may ask for and change
 
--- an effect of the context that is effective, which is of an exchange
+-- an effect of the context that is effective, which is a stream
 abbrev pub IsEffectSeen : Seen → Effect → Type 0
-IsEffectSeen s e = (e.context ≡ s.common.effective) × (v : ExchangeView) × (s.reach.exchange ≡ Some v)
+IsEffectSeen s e = (e.context ≡ s.common.effective) × (is_stream s ≡ true)
 
 abbrev pub view_marks : ExchangeView → Bool × Bool × Bool
 view_marks v = (v.is_answered, v.has_ended, v.is_head_out)
@@ -182,7 +183,9 @@ buffered_fits n None (Ok bytes) s = nothing_fits s
 buffered_fits n (Some o) (Ok bytes) s = nothing_fits s
 
 buffer_fits : FitsAll own_set_buffer_bytes
-buffer_fits args inputs s = buffered_fits (arg args 0) s.reach.own (held_after (arg args 0) (arg args 1) (arg args 2) inputs.first s.reach) s
+buffer_fits args inputs s =
+    let n = buffer_no s.common.is_tcp (arg args 0) in
+    buffered_fits n s.reach.own (held_after n (arg args 1) (arg args 2) inputs.first s.reach) s
 
 mapped_fits : (n : ℕ) (o : Option ExchangeView) (r : Result Headers ℕ) (s : Seen) → s.reach.exchange ≡ o → Fits s (mapped n o r).changes
 mapped_fits n o (Err status) s is = nothing_fits s
@@ -190,39 +193,48 @@ mapped_fits n None (Ok l) s is = nothing_fits s
 mapped_fits n (Some v) (Ok l) s is = (All-nil (IsEffectSeen s), (v, is, refl))
 
 map_fits : (n : ℕ) (f : Headers → Result Headers ℕ) (s : Seen) → Fits s (changing_map n f s).changes
-map_fits n f s = mapped_fits n s.reach.exchange (on_map (map_for n s) f) s refl
+map_fits n f s =
+    made_if (nat_lt 5 n) (answers (no_change n s)) (mapped n s.reach.exchange (on_map (there (map_in n s.reach.exchange)) f)) s (nothing_fits s)
+    (mapped_fits n s.reach.exchange (on_map (there (map_in n s.reach.exchange)) f) s refl)
 
-one_effect : (w : What) (v : ExchangeView) (s : Seen) → s.reach.exchange ≡ Some v → All (IsEffectSeen s) (effect_of w s).effects
-one_effect w v s is = All-cons (IsEffectSeen s) (record { context = s.common.effective; what = w }) [] (refl, v, is) (All-nil (IsEffectSeen s))
+one_effect : (w : What) (s : Seen) → is_stream s ≡ true → All (IsEffectSeen s) (effect_of w s).effects
+one_effect w s is = All-cons (IsEffectSeen s) (record { context = s.common.effective; what = w }) [] (refl, is) (All-nil (IsEffectSeen s))
 
-stream_fits : (n : ℕ) (w : What) (s : Seen) (o : Option ExchangeView) → s.reach.exchange ≡ o → Fits s (on_stream n w s o).changes
-stream_fits n w s None is = nothing_fits s
-stream_fits n w s (Some v) is = made_if (nat_lt 1 n) (answers 12) (changing (effect_of w s)) s (nothing_fits s) (one_effect w v s is, tt)
+stream_fits : (n : ℕ) (w : What) (s : Seen) (b : Bool) → is_stream s ≡ b → Fits s (on_stream n w s b).changes
+stream_fits n w s false is = nothing_fits s
+stream_fits n w s true is = made_if (nat_lt 1 n) (answers 12) (changing (effect_of w s)) s (nothing_fits s) (one_effect w s is, tt)
 
 continue_fits : FitsAll own_continue_stream
 continue_fits args inputs s =
-    made_if (nat_lt 3 (arg args 0)) (answers 2) (on_stream (arg args 0) (what.Continue (arg args 0 == 1)) s s.reach.exchange) s
-    (nothing_fits s) (stream_fits (arg args 0) (what.Continue (arg args 0 == 1)) s s.reach.exchange refl)
+    let n = stream_no s.common.is_tcp (arg args 0) in
+    made_if (nat_lt 3 n) (answers 2) (on_stream n (what.Continue (n == 1)) s (is_stream s)) s (nothing_fits s) (stream_fits n (what.Continue (n == 1)) s (is_stream s) refl)
 
 close_fits : FitsAll own_close_stream
 close_fits args inputs s =
-    made_if (nat_lt 3 (arg args 0)) (answers 2) (on_stream (arg args 0) what.Close s s.reach.exchange) s (nothing_fits s) (stream_fits (arg args 0) what.Close s s.reach.exchange refl)
+    let n = stream_no s.common.is_tcp (arg args 0) in
+    made_if (nat_lt 3 n) (answers 2) (on_stream n what.Close s (is_stream s)) s (nothing_fits s) (stream_fits n what.Close s (is_stream s) refl)
 
-with_fits : (status : ℕ) (body : List ℕ) (r : Result Headers ℕ) (v : ExchangeView) (s : Seen) → s.reach.exchange ≡ Some v → Fits s (answering_with status body r v s).changes
-with_fits status body (Err n) v s is = nothing_fits s
-with_fits status body (Ok fields) v s is =
+with_fits : (status : ℕ) (body : List ℕ) (r : Result Headers ℕ) (v : ExchangeView) (s : Seen) → is_stream s ≡ true → s.reach.exchange ≡ Some v → Fits s (answering_with status body r v s).changes
+with_fits status body (Err n) v s on is = nothing_fits s
+with_fits status body (Ok fields) v s on is =
     made_if (nat_lt body_limit (length body)) (answers 10) (changing (answer_changes status fields body v s)) s (nothing_fits s)
-    (one_effect (what.Answer status fields body) v s is, (v, is, refl))
+    (one_effect (what.Answer status fields body) s on, (v, is, refl))
 
-in_fits : (status : ℕ) (body headers : List ℕ) (o : Option ExchangeView) (s : Seen) → s.reach.exchange ≡ o → Fits s (answering_in status body headers o s).changes
-in_fits status body headers None s is = nothing_fits s
-in_fits status body headers (Some v) s is =
-    made_if (is_too_late v) (answers 2) (answering_with status body (fields_from headers) v s) s (nothing_fits s) (with_fits status body (fields_from headers) v s is)
+in_fits : (status : ℕ) (body headers : List ℕ) (o : Option ExchangeView) (s : Seen) → s.common.is_tcp ≡ false → s.reach.exchange ≡ o → Fits s (answering_in status body headers o s).changes
+in_fits status body headers None s http is = nothing_fits s
+in_fits status body headers (Some v) s http is =
+    let on : is_stream s ≡ true = λ i. if http i then is_other s.common.effective s.reach.root else is_some (is i) in
+    made_if (is_too_late v) (answers 2) (answering_with status body (fields_from headers) v s) s (nothing_fits s) (with_fits status body (fields_from headers) v s on is)
+
+kind_fits : (b : Bool) (status : ℕ) (body headers : List ℕ) (s : Seen) → s.common.is_tcp ≡ b → Fits s (if b then reads (refusing body headers s) else answering_in status body headers s.reach.exchange s).changes
+kind_fits true status body headers s is = nothing_fits s
+kind_fits false status body headers s is = in_fits status body headers s.reach.exchange s is refl
 
 answer_fits : FitsAll own_send_local_response
 answer_fits args inputs s =
-    made_if (nat_lt (arg args 0) 200 || nat_lt 599 (arg args 0)) (answers 2) (answering_in (arg args 0) inputs.second inputs.third s.reach.exchange s) s
-    (nothing_fits s) (in_fits (arg args 0) inputs.second inputs.third s.reach.exchange s refl)
+    made_if (nat_lt (arg args 0) 200 || nat_lt 599 (arg args 0)) (answers 2)
+    (if s.common.is_tcp then reads (refusing inputs.second inputs.third s) else answering_in (arg args 0) inputs.second inputs.third s.reach.exchange s) s
+    (nothing_fits s) (kind_fits s.common.is_tcp (arg args 0) inputs.second inputs.third s refl)
 
 set_fits : (path value : List ℕ) (r : Reach) (o : Option OwnParts) (s : Seen) → Fits s (set_in path value r o).changes
 set_fits path value r None s = nothing_fits s

@@ -44,9 +44,11 @@ same_common vm h k same = λ i. record {
   effects = same.effects i;
   random_key = same.random_key i;
   random_place = same.random_place i;
+  calls = same.calls i;
+  is_tcp = same.is_tcp i;
 }
 
-seen_same_of : (vm e : ℕ) (h k : Contexts) → LookTheSame vm h k → seen_of h vm e ≡ seen_of k vm e
+pub seen_same_of : (vm e : ℕ) (h k : Contexts) → LookTheSame vm h k → seen_of h vm e ≡ seen_of k vm e
 seen_same_of vm e h k same =
     let reach : reach_by h (vm_in h vm) (context_in h vm e) ≡ reach_by k (vm_in k vm) (context_in k vm e) =
     same_reach vm e h k (vm_in h vm) (context_in h vm e) refl same ∙ ap (λ v. reach_by k v (found context_no e v.contexts)) same.own in
@@ -122,4 +124,6 @@ put_same s vm h k here there same =
       effects = ap (λ es. es ++ s.effects) same.effects;
       random_key = same.random_key;
       random_place = ap (λ n. or_old n s.random_place) same.random_place;
+      calls = same.calls;
+      is_tcp = same.is_tcp;
     }

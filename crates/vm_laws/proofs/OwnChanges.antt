@@ -77,6 +77,8 @@ own_same vm h = record {
   plugins = refl;
   level = refl;
   random_key = refl;
+  calls = refl;
+  is_tcp = refl;
 }
 
 pub own_then : (vm : ℕ) (h k l : Contexts) → ChangesItsOwn vm h k → ChangesItsOwn vm k l → ChangesItsOwn vm h l
@@ -93,6 +95,8 @@ own_then vm h k l a b = record {
   plugins = b.plugins ∙ a.plugins;
   level = b.level ∙ a.level;
   random_key = b.random_key ∙ a.random_key;
+  calls = b.calls ∙ a.calls;
+  is_tcp = b.is_tcp ∙ a.is_tcp;
 }
 
 -- ---- one host call
@@ -136,6 +140,8 @@ put_own s vm h there =
       plugins = stays.plugins;
       level = stays.level;
       random_key = stays.random_key;
+      calls = stays.calls;
+      is_tcp = stays.is_tcp;
     }
 
 -- ---- a callback

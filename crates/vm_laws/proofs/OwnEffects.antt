@@ -1,11 +1,12 @@
 -- What a callback asks of its worker is for its own VM.
 use Rattle.std.proofs.Common.{◌≡◌, ℕ, zero, suc, ◌<◌, Bool, true, false, length, Option, None, Some, refl, ap, ◌∙◌, subst, sym, nat_lt, nat_le, ◌++◌, if◌then◌else◌, List, [], ◌∷◌, All, get_or, append_assoc, append-nil}
-use Rattle.std.proofs.lemmas.Bool.{ltb-true}
+use Rattle.std.proofs.lemmas.Bool.{ltb-true, eqb-false, false≢true}
 use Rattle.std.proofs.lemmas.List.Elements.{All-nil, All-append}
 use Rattle.std.proofs.lemmas.Option.{none-some}
 use Rattle.std.specs.Option.{option_map}
-use Rattle.std.specs.Prelude.{slice_set}
+use Rattle.std.specs.Prelude.{slice_set, is_some, not, ◌==◌}
 use Rattle.abi_calls.specs.Hosting.{Hosted, hosting, wasi_hosting}
+use Rattle.abi_maps.specs.Streams.{is_other}
 use Rattle.contexts.proofs.Places.{from_some}
 use Rattle.contexts.specs.Reached.{Changes, seen, no_changes, vm_in, context_in, exchange_at, view_at, view_in, with_view, effective_of, level_no, reach_by, viewed_by, exchanges_by, exchanges_after, put}
 use Rattle.contexts.specs.declared.parts.Context.{Context}
@@ -25,11 +26,11 @@ use Rattle.vm_host.specs.Vms.{VmAt}
 use Rattle.vm_host.specs.declared.slots.Vms.{Vms}
 use Rattle.vm_laws.proofs.Ends.{AnyCall, AnyMeasure, along_ends, ends_along, all_then, all_weaker}
 use Rattle.vm_laws.proofs.Fitting.{IsEffectSeen, view_marks, KeepsMarks, Fits, IsGood, env_good, wasi_good}
-use Rattle.vm_laws.proofs.OwnChanges.{both_left, same_outline, exchange_kept, own_same, own_then, put_own}
+use Rattle.vm_laws.proofs.OwnChanges.{both_left, same_outline, own_same, own_then, put_own}
 use Rattle.vm_laws.proofs.Whole.{CameKeeps, live_keeps}
 use Rattle.vm_laws.specs.Apart.{AllEnds}
 use Rattle.vm_laws.specs.OwnChanges.{IsPlaced, ArePlaced, outline, ChangesItsOwn}
-use Rattle.vm_laws.specs.OwnEffects.{IsLine, IsEffectOf, GrowsBy, marks_of, marks_at, AsksForItsOwn, EffectsAreOwn}
+use Rattle.vm_laws.specs.OwnEffects.{IsLine, IsOnLine, IsEffectOf, GrowsBy, marks_of, marks_at, AsksForItsOwn, EffectsAreOwn}
 
 -- ---- the marks of exchanges
 
@@ -63,22 +64,37 @@ marks_after c h v (Some d) n keeps = marks_by c d.exchange h.exchanges n keeps
 
 -- ---- whose the effects are
 
-abbrev InExchange : Option Context → Type 0
-InExchange o = (c : Context) × (o ≡ Some c) × (n : ℕ) × (c.exchange ≡ Some n)
-
-in_view : (xs : List (Option Exchange)) (c : Context) (o : Option ℕ) → c.exchange ≡ o → (v : ExchangeView) → view_in xs o ≡ Some v → InExchange (Some c)
+in_view : (xs : List (Option Exchange)) (c : Context) (o : Option ℕ) → c.exchange ≡ o → (v : ExchangeView) → view_in xs o ≡ Some v → (n : ℕ) × (c.exchange ≡ Some n)
 in_view xs c None at v is = absurd (none-some v is)
-in_view xs c (Some n) at v is = (c, refl, n, at)
+in_view xs c (Some n) at v is = (n, at)
 
-in_reach : (h : Contexts) (w : VmContexts) (o : Option Context) (v : ExchangeView) → (reach_by h w o).exchange ≡ Some v → InExchange o
-in_reach h w None v is = absurd (none-some v is)
-in_reach h w (Some c) v is = in_view h.exchanges c c.exchange refl v is
+some_view : (o : Option ExchangeView) → is_some o ≡ true → (v : ExchangeView) × (o ≡ Some v)
+some_view None is = absurd (false≢true is)
+some_view (Some v) is = (v, refl)
+
+not_true : (b : Bool) → not b ≡ true → b ≡ false
+not_true false is = refl
+not_true true is = absurd (false≢true is)
+
+-- a stream is a context that is on a line
+on_line : (b : Bool) (h : Contexts) (w : VmContexts) (e : ℕ) (o : Option Context) → (if b then is_other e (reach_by h w o).root else is_some (reach_by h w o).exchange) ≡ true
+    → (c : Context) × (o ≡ Some c) × IsOnLine b e c
+on_line false h w e None is = absurd (false≢true is)
+on_line false h w e (Some c) is = let v = some_view (reach_by h w (Some c)).exchange is in (c, refl, in_view h.exchanges c c.exchange refl v.0 v.1)
+on_line true h w e None is = absurd (false≢true is)
+on_line true h w e (Some c) is = (c, refl, eqb-false c.root e (not_true (c.root == e) is))
+
+line_kept : (b : Bool) (e : ℕ) (o : Option Context) (c : Context) → option_map outline (Some c) ≡ option_map outline o → IsOnLine b e c → (d : Context) × (o ≡ Some d) × IsOnLine b e d
+line_kept b e None c is on = absurd (none-some (outline c) (sym is))
+line_kept false e (Some d) c is on = (d, refl, (on.0, sym (ap (λ (y : ℕ × ℕ × ℕ × Option ℕ). y.3) (from_some is)) ∙ on.1))
+line_kept true e (Some d) c is on = (d, refl, λ same. on (ap (λ (y : ℕ × ℕ × ℕ × Option ℕ). y.2) (from_some is) ∙ same))
 
 effect_of_own : (vm : ℕ) (h k : Contexts) → ChangesItsOwn vm h k → (e : Effect) → IsEffectSeen (seen k vm) e → IsEffectOf h vm e
 effect_of_own vm h k own e is =
-    let there = in_reach k (vm_in k vm) (context_in k vm (effective_of k vm)) is.1 is.2 in
-    let kept = exchange_kept (context_in h vm (effective_of k vm)) there.0 (ap (option_map outline) (sym there.1) ∙ same_outline h k vm (effective_of k vm) own.outlined) in
-    (kept.0, ap (context_in h vm) is.0 ∙ kept.1, there.2, sym kept.2 ∙ there.3)
+    let id = effective_of k vm in
+    let there = on_line k.is_tcp k (vm_in k vm) id (context_in k vm id) is.1 in
+    let kept = line_kept k.is_tcp id (context_in h vm id) there.0 (ap (option_map outline) (sym there.1) ∙ same_outline h k vm id own.outlined) there.2 in
+    (kept.0, ap (context_in h vm) is.0 ∙ kept.1, subst (λ b. IsOnLine b e.context kept.0) own.is_tcp (subst (λ n. IsOnLine k.is_tcp n kept.0) (sym is.0) kept.2))
 
 -- ---- one host call
 

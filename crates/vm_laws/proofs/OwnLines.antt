@@ -131,6 +131,7 @@ does_own vm own context (what.Continue response) room =
     done_if (is_own own context response) vm room (on_context (resumes vm context response) vm context room)
     (on_context_done (resumes vm context response) (λ n x hub. own_line n (deeds.resumes vm context response) x hub tt) vm context room)
 does_own vm own context what.Close room = on_context_done closed (λ n x hub. own_line n deeds.closes x hub tt) vm context room
+does_own vm own context (what.Call request) room = nothing_done vm room
 does_own vm own context (what.Answer status fields body) room =
     on_context_done (changed (changes.Answer status fields body)) (λ n x hub. own_line n (deeds.answers false status fields.pairs body) x hub tt) vm context room
 

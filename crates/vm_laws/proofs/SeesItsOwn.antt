@@ -106,6 +106,8 @@ unseen vm other h k apart none own = record {
   effects = refl;
   random_key = sym own.random_key;
   random_place = refl;
+  calls = sym own.calls;
+  is_tcp = sym own.is_tcp;
 }
 
 pub are_unseen : CallbacksAreUnseen

@@ -16,13 +16,14 @@ use Rattle.store_model.specs.Program.{Program, done, ask, measure, bind}
 use Rattle.vm_host.specs.Calling.{Called, called, call_trapped, call_spent, call_open, Returned, returned, run_trapped, run_spent, run_open, served, running_by, running as runs, calling_back, asked_at, answered_at, begun_at}
 use Rattle.vm_host.specs.Dispatching.{served_as, ends_as, serving, wasi_call, by_target, by_found, dispatching}
 use Rattle.vm_host.specs.HostStates.{HostState, host_state}
-use Rattle.vm_host.specs.RoleTypes.{function_for, beginner_in, numbers_for}
+use Rattle.vm_host.specs.RoleTypes.{function_for, beginner_in, numbers_for, counts_of, counts_at}
 use Rattle.vm_host.specs.Slots.{Came, came_of, end_of, by_role, role_of, calling_live}
 use Rattle.vm_host.specs.Vms.{VmAt, Ran, ran, ran_as, number_of as number_returned, with_budget, running, running_if, begins_then, calling_if, made_effective}
 use Rattle.vm_host.specs.declared.dispatch.Dispatcher.{Dispatcher}
 use Rattle.vm_host.specs.declared.ended.Ended.TheVariants as ended
 use Rattle.vm_host.specs.declared.roles.Role.{Role}
-use Rattle.vm_laws.proofs.Looking.{seen_same, put_same}
+use Rattle.vm_host.specs.declared.vm.Counts.{Counts}
+use Rattle.vm_laws.proofs.Looking.{seen_same_of, seen_same, put_same}
 use Rattle.vm_laws.proofs.OwnChanges.{put_own}
 use Rattle.vm_laws.proofs.Whole.{HasCalls}
 use Rattle.vm_laws.specs.OwnChanges.{ChangesItsOwn}
@@ -261,12 +262,21 @@ module _ (d : Dispatcher) where
       (ap by (seen_same d.place s.contexts t.contexts are.contexts))
       (effective_if (by (seen s.contexts d.place)) e s t are))
 
+  counts_same : (c : Dispatcher) (e : ℕ) (s t : HostState) → c ≡ d → AreSame d.place s t → counts_at c.place e s.contexts ≡ counts_at c.place e t.contexts
+  counts_same c e s t same are =
+      subst (λ (f : Dispatcher). counts_at f.place e s.contexts ≡ counts_at f.place e t.contexts) (sym same)
+      (ap (λ (x : Seen). counts_of x.reach.own) (seen_same_of d.place e s.contexts t.contexts are.contexts))
+
   calling_if_same : (v : VmAt) (now : ℕ) (o : Option ℕ) (r : Role) (context first second : ℕ) (s t : HostState) → v.calls ≡ d → AreSame d.place s t
       → InStep RanSame (calling_if v now o r context first second s) (calling_if v now o r context first second t)
   calling_if_same v now None r context first second s t same are = stays_same v s t same are
   calling_if_same v now (Some f) r context first second s t same are =
-      running_same v now f (numbers_for r context first second) (host_state (made_effective v.calls.place context s.contexts) s.lines) (host_state (made_effective v.calls.place context t.contexts) t.lines)
-      same (effective_same v.calls context s t same are)
+      subst (λ (q : Counts). InStep RanSame
+      (running v now f (numbers_for r context first second (counts_at v.calls.place context s.contexts)) (host_state (made_effective v.calls.place context s.contexts) s.lines))
+      (running v now f (numbers_for r context first second q) (host_state (made_effective v.calls.place context t.contexts) t.lines)))
+      (counts_same v.calls context s t same are)
+      (running_same v now f (numbers_for r context first second (counts_at v.calls.place context s.contexts)) (host_state (made_effective v.calls.place context s.contexts) s.lines) (host_state (made_effective v.calls.place context t.contexts) t.lines)
+      same (effective_same v.calls context s t same are))
 
   by_role_same : (o : Option Role) (v : VmAt) (now context first second : ℕ) (s t : HostState) → v.calls ≡ d → AreSame d.place s t
       → InStep RanSame (by_role o v now context first second s) (by_role o v now context first second t)

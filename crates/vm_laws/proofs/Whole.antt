@@ -18,7 +18,7 @@ use Rattle.store_model.specs.Program.{Program, done}
 use Rattle.vm_host.specs.Calling.{Called, called, call_trapped, call_spent, call_open, Returned, returned, run_trapped, run_spent, run_open, served, running_by, running as runs, calling_back, asked_at, answered_at, begun_at}
 use Rattle.vm_host.specs.Dispatching.{served_as, ends_as, serving, wasi_call, by_target, by_found, dispatching}
 use Rattle.vm_host.specs.HostStates.{HostState, host_state}
-use Rattle.vm_host.specs.RoleTypes.{function_for, beginner_in, numbers_for}
+use Rattle.vm_host.specs.RoleTypes.{function_for, beginner_in, numbers_for, counts_at}
 use Rattle.vm_host.specs.Slots.{Came, came_of, by_role, role_of, calling_live}
 use Rattle.vm_host.specs.Vms.{VmAt, Ran, ran_as, with_budget, running, running_if, begins_then, calling_if, made_effective}
 use Rattle.vm_host.specs.declared.dispatch.Dispatcher.{Dispatcher}
@@ -161,7 +161,7 @@ module _ (d : Dispatcher) (C : ℕ → Call → Type 0) (M : ℕ → MetricAsk �
   calling_if_keeps : (v : VmAt) (now : ℕ) (o : Option ℕ) (r : Role) (context first second : ℕ) (s : HostState) → v.calls ≡ d → I s → AllAlong C M RanKeeps (calling_if v now o r context first second s)
   calling_if_keeps v now None r context first second s same is = (is, same)
   calling_if_keeps v now (Some f) r context first second s same is =
-      running_keeps v now f (numbers_for r context first second) (host_state (made_effective v.calls.place context s.contexts) s.lines) same (effective_keeps v.calls context s same is)
+      running_keeps v now f (numbers_for r context first second (counts_at v.calls.place context s.contexts)) (host_state (made_effective v.calls.place context s.contexts) s.lines) same (effective_keeps v.calls context s same is)
 
   by_role_keeps : (o : Option Role) (v : VmAt) (now context first second : ℕ) (s : HostState) → v.calls ≡ d → I s → AllAlong C M RanKeeps (by_role o v now context first second s)
   by_role_keeps None v now context first second s same is =

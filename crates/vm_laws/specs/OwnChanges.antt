@@ -50,7 +50,8 @@ HasNoneAt h vm n = (e : ℕ) (c : Context) → context_in h vm e ≡ Some c → 
 
 -- From contexts to those that a VM made of them: every other VM has what it had, with all contexts, ids, ticks and properties, and so has an
 -- exchange of which the VM has no context. Of its own the name, the configuration, the last id and each context's outline stay. There are as
--- many VMs and as many places for exchanges, each exchange on its line; and the plug-ins, the log's level and the random key stay.
+-- many VMs and as many places for exchanges, each exchange on its line; and the plug-ins, the log's level, the random key, the
+-- callouts and the kind of the lines stay.
 pub record ChangesItsOwn (vm : ℕ) (before after : Contexts) : Type 0 where
   pub others : (other : ℕ) → other ≢ vm → vm_in after other ≡ vm_in before other
   pub exchanges : (n : ℕ) → HasNoneAt before vm n → exchange_at after.exchanges n ≡ exchange_at before.exchanges n
@@ -64,6 +65,8 @@ pub record ChangesItsOwn (vm : ℕ) (before after : Contexts) : Type 0 where
   pub plugins : after.plugins ≡ before.plugins
   pub level : after.level ≡ before.level
   pub random_key : after.random_key ≡ before.random_key
+  pub calls : after.calls ≡ before.calls
+  pub is_tcp : after.is_tcp ≡ before.is_tcp
 
 -- NO CALLBACK CHANGES WHAT ANOTHER VM HAS
 abbrev pub CallbacksChangeTheirOwn : Type 0

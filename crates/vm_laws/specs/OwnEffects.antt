@@ -1,5 +1,5 @@
 -- What a callback writes into the log, and what it asks of its worker.
-use Rattle.std.specs.Prelude.{◌≡◌, ◌≤◌, ℕ, Bool, List, ◌++◌, All, length, Option, Some}
+use Rattle.std.specs.Prelude.{◌≡◌, ◌≢◌, ◌≤◌, ℕ, Bool, true, false, List, ◌++◌, All, length, Option, Some}
 use Rattle.std.specs.Option.{option_map}
 use Rattle.abi_services.specs.Logging.{text_limit}
 use Rattle.contexts.specs.declared.parts.Context.{Context}
@@ -23,9 +23,14 @@ IsLine least (sent.Bytes line side bytes) = ⊥
 IsLine least (sent.Close line side) = ⊥
 IsLine least (sent.Log level text) = (least ≤ level_no level) × (length text ≤ text_limit)
 
--- an effect of a context of that VM, which is of an exchange
+-- a context of an exchange; or, where lines are streams of bytes, one whose root is another
+abbrev pub IsOnLine : (is_tcp : Bool) → (id : ℕ) → Context → Type 0
+IsOnLine false id c = (n : ℕ) × (c.exchange ≡ Some n)
+IsOnLine true id c = c.root ≢ id
+
+-- an effect of a context of that VM, which is of a line
 abbrev pub IsEffectOf : Contexts → (vm : ℕ) → Effect → Type 0
-IsEffectOf h vm e = (c : Context) × (context_in h vm e.context ≡ Some c) × (n : ℕ) × (c.exchange ≡ Some n)
+IsEffectOf h vm e = (c : Context) × (context_in h vm e.context ≡ Some c) × IsOnLine h.is_tcp e.context c
 
 -- some more behind those that were there, each of which is so
 abbrev pub GrowsBy : {A : Type 0} → (A → Type 0) → (old new : List A) → Type 0

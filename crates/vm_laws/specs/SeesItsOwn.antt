@@ -30,7 +30,8 @@ abbrev pub names_of : Contexts → List (List ℕ)
 names_of h = map (λ (w : VmContexts). w.name) h.vms
 
 -- Contexts look the same to a VM: they agree on what the VM has itself, on the plug-ins and on the exchanges of its contexts, and on what all VMs
--- have in common: their names, the log's level, what the callback asked for so far, and the random stream. Of what other VMs have they may differ
+-- have in common: their names, the log's level, what the callback asked for so far, the random stream, how many callouts are under way, and whether
+-- lines are HTTP. Of what other VMs have they may differ
 -- in everything but the name; and in exchanges and plug-ins of which the VM has no context.
 pub record LookTheSame (vm : ℕ) (h k : Contexts) : Type 0 where
   pub own : vm_in h vm ≡ vm_in k vm
@@ -41,6 +42,8 @@ pub record LookTheSame (vm : ℕ) (h k : Contexts) : Type 0 where
   pub effects : h.effects ≡ k.effects
   pub random_key : h.random_key ≡ k.random_key
   pub random_place : h.random_place ≡ k.random_place
+  pub calls : h.calls ≡ k.calls
+  pub is_tcp : h.is_tcp ≡ k.is_tcp
 
 -- two callbacks of a VM came to the same: the same end, the same lines, the same machine, and contexts that look the same to it
 pub record ComeToTheSame (vm : ℕ) (c d : Called Vms) : Type 0 where

@@ -2,6 +2,8 @@ mod Giving
 mod Buffers
 mod MapRows
 mod Streams
+mod Callouts
+mod Connections
 mod Stores
 mod Metrics
 mod Services

@@ -3,6 +3,8 @@ pub mod Giving
 pub mod Buffers
 pub mod MapRows
 pub mod Streams
+pub mod Callouts
+pub mod Connections
 pub mod Stores
 pub mod Metrics
 pub mod Services

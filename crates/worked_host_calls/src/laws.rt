@@ -3,6 +3,8 @@ ghost use Rattle.worked_host_calls.specs.Giving.{GivingExamples};
 ghost use Rattle.worked_host_calls.specs.Buffers.{BufferReads, BufferSizes, BufferWrites};
 ghost use Rattle.worked_host_calls.specs.MapRows.{MapReads, MapWrites, MapChanges};
 ghost use Rattle.worked_host_calls.specs.Streams.{StreamExamples, ResponseExamples};
+ghost use Rattle.worked_host_calls.specs.Callouts.{AnswerExamples, HttpCallExamples};
+ghost use Rattle.worked_host_calls.specs.Connections.{ConnectionBuffers, ConnectionStreams};
 ghost use Rattle.worked_host_calls.specs.Stores.{DataExamples, QueueExamples, ItemExamples};
 ghost use Rattle.worked_host_calls.specs.Metrics.{MetricNames, MetricWords};
 ghost use Rattle.worked_host_calls.specs.Services.{LocalExamples, ContextExamples, PropertyExamples, PathExamples};
@@ -57,6 +59,26 @@ pub fn worked_stream()
 /// Local responses.
 pub fn worked_response()
     ensures { ResponseExamples }
+{}
+
+/// What came back for a callout: read while it is told, and never written.
+pub fn worked_answer()
+    ensures { AnswerExamples }
+{}
+
+/// The call for a callout: its ranges, and that it is not built.
+pub fn worked_http_call()
+    ensures { HttpCallExamples }
+{}
+
+/// Buffers where lines are streams of bytes.
+pub fn worked_connection_buffers()
+    ensures { ConnectionBuffers }
+{}
+
+/// Streams that continue and close where lines are streams of bytes, and the local response that they have not.
+pub fn worked_connection()
+    ensures { ConnectionStreams }
 {}
 
 /// Shared data: what is asked of the store, and what is made of its reply.

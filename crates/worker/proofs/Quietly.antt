@@ -76,6 +76,7 @@ module _ {S : Type 0} (performs : S → List Made → S → Type 0) (s : S) (her
   life_quietly calling (jobs.Close number stays) host room new r a b c d e f is = quiet_ends host (quietly (jobs.Close number stays) room) new r is
   life_quietly calling (jobs.Notice vm left) host room new r a b c d e f is = quiet_ends host (quietly (jobs.Notice vm left) room) new r is
   life_quietly calling (jobs.Ready vm root queue) host room new r a b c d e f is = quiet_ends host (quietly (jobs.Ready vm root queue) room) new r is
+  life_quietly calling (jobs.Other step) host room new r a b c d e f is = quiet_ends host (quietly (jobs.Other step) room) new r is
 
 -- a job that makes no context, and calls for no tick and no item
 pub works_on : {H : Type 0} (calling : H → ℕ → Callback → ℕ → ℕ → ℕ → ℕ → Contexts → Program (Called H)) (plan : Plan) (job : Job) (host : H) (room : Room)
@@ -98,3 +99,4 @@ works_on calling plan (jobs.Delete x) host room a b c d e = refl
 works_on calling plan (jobs.Close number stays) host room a b c d e = refl
 works_on calling plan (jobs.Notice vm left) host room a b c d e = absurd (d vm left refl)
 works_on calling plan (jobs.Ready vm root queue) host room a b c d e = absurd (e vm root queue refl)
+works_on calling plan (jobs.Other step) host room a b c d e = refl

@@ -25,7 +25,8 @@ use Rattle.store_model.specs.Made.{Made}
 use Rattle.store_model.specs.Program.{Program}
 use Rattle.worker_model.specs.Room.{Room}
 use Rattle.worker.specs.Filled.{filled}
-use Rattle.worker_model.specs.Settling.{settling}
+use Rattle.worker_model.specs.Rooms.{next_of}
+use Rattle.worker_model.specs.Settling.{settling, rests}
 use Rattle.worker_model.specs.State.{Standing, rules_of}
 use Rattle.worker_model.specs.Steps.{Both, both}
 use Rattle.worker_model.specs.declared.types.Turn.{Turn}
@@ -114,15 +115,16 @@ module _ {H S : Type 0} (calling : H → ℕ → Callback → ℕ → ℕ → �
         asks = ap (λ (w : Wants). w ∷ []) wants_are;
         hands_over = stands_still from.waiting event wants is;
         took = refl;
+        rest = λ other. absurd (cc);
       })
 
-  -- another turn, in which all was offered
+  -- another turn, which came to rest, and in which all was offered
   unfoldable pub went : {E : Type 0} (s t : S) (takes_whole : Bool) (old mid new : Option (List Passed)) (from to : Standing H) (wants : Wants) (event : Event) (kept sent : List Sent)
-      → wants ≡ wanted from → (event.what ≡ Stop → ⊥) → to.took ≡ true → to.state.room.hub.sent ≡ [] → kept ≡ cleared event.what from.waiting
+      → wants ≡ wanted from → (event.what ≡ Stop → ⊥) → to.took ≡ true → to.state.room.hub.sent ≡ [] → rests (next_of to.state.room) ≡ true → kept ≡ cleared event.what from.waiting
       → Goes performs s (settling calling (rules_of from.setting) most_steps from.state.host (facing (rules_of from.setting) event from.state.room)) (ends (both to.state.host (filled sent to.state.room))) t
       → Gains old (asking wants (Ok event)) mid → Offered {E = E} takes_whole mid [] (kept ++ joined sent) (Ok tt) new to.waiting
       → Whole calling performs false s old from to t new
-  went {E = E} s t takes_whole old mid new from to wants event kept sent wants_are other took empty kept_is goes given offered_so =
+  went {E = E} s t takes_whole old mid new from to wants event kept sent wants_are other took empty at_rest kept_is goes given offered_so =
       let offered = subst (λ (w : List Sent). Offered {E = E} takes_whole mid [] (w ++ joined sent) (Ok tt) new to.waiting) kept_is offered_so in
       record {
         event = event;
@@ -134,6 +136,7 @@ module _ {H S : Type 0} (calling : H → ℕ → Callback → ℕ → ℕ → �
         asks = λ i. wants_are i ∷ offered.delivered.not_asked i;
         hands_over = handed_over takes_whole mid new from.waiting (one_turn event (joined sent)) wants (cleared event.what from.waiting ++ joined sent) to.waiting (is_no_stop event.what other) refl offered;
         took = took;
+        rest = λ no. at_rest;
       }
 
   -- memory ran out before anything was handed over

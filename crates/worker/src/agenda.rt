@@ -2,16 +2,17 @@
 ghost use Rattle.worker_model.specs.Plan.{plan_of};
 ghost use Rattle.std.specs.List.{list_any};
 ghost use Rattle.std.specs.Prelude.{◌≡◌, ◌≤◌, true, [], ◌∷◌, ◌++◌, length, OnOk, IfOk, slice_get};
-ghost use Rattle.worker_model.specs.Turn.{is_of, roots_from, start_of, starts_of, first_vms, vms_in, starts, is_due_now, ticks_in, ticks_of, ticks_due, deadlines, registers_at, notice_of, notices_of, agenda_of};
+ghost use Rattle.worker_model.specs.Turn.{is_of, roots_from, start_of, starts_of, first_vms, vms_in, starts, is_due_now, ticks_in, ticks_of, ticks_due, deadlines, registers_at, notice_of, notices_of, happening, agenda_of};
 ghost use Rattle.contexts.specs.Reached.{vm_in};
 ghost use Rattle.worker_model.specs.Steps.{is_due_tick};
 
+use callouts::{CallStep, callout_at, is_of_call, line_in};
 use contexts::{Context, Contexts, Plugin, Tick};
 use gate_base::{OutOfMemory, VmNo};
 use gate_io::What;
 use queue::Queue;
 use std::alloc::Global;
-use worker_model::{Job, Rules};
+use worker_model::{Job, OtherStep, Rules};
 use worker_room::Room;
 
 /// How many VMs there are, 16 at most.
@@ -193,6 +194,24 @@ fn parts_before(alloc: Global, rules: &Rules, room: &Room) -> Result<Queue<Job>,
     Ok(jobs)
 }
 
+/// The event, if it is of the lines or of a callout under way.
+fn push_event(jobs: &mut Queue<Job>, what: What, room: &Room) -> Result<(), OutOfMemory>
+    ensures { OnOk result (jobs.new ≡ jobs.old ++ happening what room.now) }
+{
+    let line = line_in(&what);
+    if !is_of_call(line) {
+        return jobs.push(Job::Happen { what });
+    }
+    if let Some(_) = callout_at(room.calls.as_slice(), line) {
+        jobs.push(Job::Other {
+            step: OtherStep::Call {
+                step: CallStep::Comes { what },
+            },
+        })?;
+    }
+    Ok(())
+}
+
 /// The parts of a turn, in order.
 pub(crate) fn agenda_of(
     alloc: Global,
@@ -203,7 +222,7 @@ pub(crate) fn agenda_of(
     ensures { IfOk result (λ jobs. jobs ≡ agenda_of (plan_of rules.now) what room.now) }
 {
     let mut jobs = parts_before(alloc, rules, room)?;
-    jobs.push(Job::Happen { what })?;
+    push_event(&mut jobs, what, room)?;
     push_notices(&mut jobs, rules, vms_in(room))?;
     Ok(jobs)
 }

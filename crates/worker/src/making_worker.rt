@@ -144,6 +144,8 @@ fn first_room(alloc: Global, config: &Config, seed: [u8; 32]) -> Result<Room, Ou
         waits: Queue::new(alloc),
         dead: Queue::new(alloc),
         is_begun: false,
+        calls: Queue::new(alloc),
+        tcp: Queue::new(alloc),
     })
 }
 

@@ -1,15 +1,16 @@
 // All is done until everything is at rest.
 ghost use Rattle.worker_model.specs.Plan.{plan_of};
-ghost use Rattle.std.specs.Prelude.{◌≡◌, ◌≤◌, ◌<◌, Some, None, OnOk, IfOk, length};
+ghost use Rattle.std.specs.Prelude.{◌≡◌, ◌≤◌, ◌<◌, Some, None, OnOk, IfOk, length, true};
 ghost use Rattle.course.specs.Course.{Ends};
 ghost use Rattle.worker_model.specs.Steps.{both, step, works, move_at, moved, callback_of, number_of, made_one, roots, streams, ticks, tells, starts, finishes, forgets, works_life, quietly, takes_notice, notices, tells_ready, vm_length, plugin_length};
+ghost use Rattle.worker_model.specs.Rooms.{next_of};
 ghost use Rattle.worker_model.specs.Settling.{settling, rests};
 
 use contexts::Contexts;
 use course::{Callback, Death, Host};
 use filter_chain::AskKind;
 use gate_base::{ContextId, LineNo, OutOfMemory, QueueId, VmNo};
-use std::alloc::Global;
+use std::alloc::{AllocError, Global};
 use store_model::{Call, Shared};
 use worker_model::{Asked, Change, ContextAt, Job, NewContext, Next, Own, Rules};
 use worker_room::{Room, call_back, call_live, may_stream};
@@ -501,7 +502,7 @@ fn is_rest(next: Next) -> bool
     }
 }
 
-/// At most so many steps, until everything is at rest.
+/// At most so many steps, until everything is at rest. Where more are left to do, memory counts as spent.
 pub fn settle<H: Host, S: Shared>(
     alloc: Global,
     host: &mut H,
@@ -515,6 +516,7 @@ pub fn settle<H: Host, S: Shared>(
     ensures needs { H.needs host.new ≡ H.needs host.old }
     ensures stores { S.stores shared.new ≡ S.stores shared.old }
     ensures run { Ends S.performs shared.old (settling H.calling (plan_of rules.now) most host.old room.old) (λ _. both host.new room.new) result shared.new }
+    ensures rest { IfOk result (λ _. rests (next_of room.new) ≡ true) }
 {
     let mut left = most;
     while left > 0 {
@@ -525,5 +527,5 @@ pub fn settle<H: Host, S: Shared>(
         }
         step(alloc, host, rules, room, next, shared)?;
     }
-    Ok(())
+    Err(AllocError)
 }

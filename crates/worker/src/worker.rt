@@ -1,13 +1,14 @@
 // A worker, and its turns.
 ghost use Rattle.worker_model.specs.Plan.{plan_of};
-ghost use Rattle.std.specs.Prelude.{◌≡◌, ◌≤◌, ◌++◌, IsTrue, length, [], IfOk, OnOk};
+ghost use Rattle.std.specs.Prelude.{◌≡◌, ◌≤◌, ◌++◌, IsTrue, length, [], IfOk, OnOk, true};
 ghost use Rattle.course.specs.Course.{Ends};
 ghost use Rattle.gate_io.specs.Told.{Rose};
 ghost use Rattle.outbox.specs.Delivery.{Offered};
 ghost use Rattle.outbox.specs.Joined.{joined};
 ghost use Rattle.worker.specs.Filled.{filled, event_of};
 ghost use Rattle.worker_model.specs.Making.{new_worker};
-ghost use Rattle.worker_model.specs.Settling.{settling};
+ghost use Rattle.worker_model.specs.Rooms.{next_of};
+ghost use Rattle.worker_model.specs.Settling.{settling, rests};
 ghost use Rattle.worker_model.specs.State.{rules_of};
 ghost use Rattle.worker_model.specs.Steps.{both};
 ghost use Rattle.worker_model.specs.Turn.{facing, most_steps};
@@ -171,6 +172,7 @@ fn react<H: Host, S: Shared>(
     ensures needs { H.needs host.new ≡ H.needs host.old }
     ensures stores { S.stores shared.new ≡ S.stores shared.old }
     ensures empty { IfOk result (λ sent. room.new.hub.sent ≡ []) }
+    ensures rest { IfOk result (λ sent. rests (next_of room.new) ≡ true) }
     ensures run { Ends S.performs shared.old (settling H.calling (plan_of rules.now) most_steps host.old (facing (plan_of rules.now) event room.old)) (λ sent. both host.new (filled sent.items room.new)) result shared.new }
 {
     face(alloc, rules, event.now, event.what, room)?;

@@ -1,3 +1,5 @@
 pub mod More
 pub mod Alone
 pub mod TurnLaws
+pub mod Events
+pub mod Examples

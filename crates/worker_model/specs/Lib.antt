@@ -12,3 +12,4 @@ pub mod Making
 pub mod Turned
 pub mod NoCalls
 pub mod Laws
+pub mod Examples

@@ -37,6 +37,8 @@ first_room config seed = record {
   waits = [];
   dead = [];
   is_begun = false;
+  calls = [];
+  tcp = [];
 }
 
 -- whether a plug-in is run by a VM

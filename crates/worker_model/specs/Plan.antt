@@ -6,7 +6,7 @@ use Rattle.worker_model.specs.declared.types.Bodies.{Bodies}
 use Rattle.worker_model.specs.declared.types.Rules.{Rules}
 
 -- the routes, the plug-ins, how many VMs there are, for how many milliseconds a response is waited for (0 is for ever), which bodies each
--- plug-in filters, and which VMs register queues
+-- plug-in filters, which VMs register queues, and the plug-ins of streams of bytes (none where the lines are HTTP)
 pub record Plan : Type 0 where
   pub routes : List RouteEntry
   pub plugins : List PluginEntry
@@ -14,6 +14,7 @@ pub record Plan : Type 0 where
   pub deadline : ℕ
   pub bodies : List Bodies
   pub registers : List Bool
+  pub tcp : List ℕ
 
 abbrev pub plan_of : Rules → Plan
 plan_of rules = record {
@@ -23,4 +24,5 @@ plan_of rules = record {
   deadline = rules.config.deadline_ms;
   bodies = rules.bodies;
   registers = rules.registers;
+  tcp = rules.config.tcp;
 }

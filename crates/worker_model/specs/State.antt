@@ -23,6 +23,7 @@ rules_of setting = record {
   deadline = setting.config.deadline_ms;
   bodies = setting.bodies;
   registers = setting.registers;
+  tcp = setting.config.tcp;
 }
 
 -- between two turns: what it was made with; its machines, its lines and its contexts; what waits until its world takes it; and whether it took

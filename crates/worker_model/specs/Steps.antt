@@ -741,6 +741,7 @@ quietly (jobs.Delete c) room = room
 quietly (jobs.Close number stays) room = line_ends (line_in number room.lines) number stays room
 quietly (jobs.Notice vm left) room = room
 quietly (jobs.Ready vm root queue) room = room
+quietly (jobs.Other step) room = room
 
 -- ---- what a reading does
 
@@ -855,6 +856,7 @@ module _ {H : Type 0} (calling : H → ℕ → Callback → ℕ → ℕ → ℕ 
   works_life (jobs.Close number stays) host room = ends (both host (quietly (jobs.Close number stays) room))
   works_life (jobs.Notice vm left) host room = ends (both host (quietly (jobs.Notice vm left) room))
   works_life (jobs.Ready vm root queue) host room = ends (both host (quietly (jobs.Ready vm root queue) room))
+  works_life (jobs.Other step) host room = ends (both host (quietly (jobs.Other step) room))
 
 abbrev pub takes_notice : {H : Type 0} → ℕ → ℕ → H → Room → Course (Both H)
 takes_notice vm left host room = asks vm calls.Notice (λ reply. ends (both host (noticed vm left reply room)))
@@ -872,6 +874,7 @@ module _ {H : Type 0} (calling : H → ℕ → Callback → ℕ → ℕ → ℕ 
   works (jobs.Tick vm root) host room = ticks calling vm root host room
   works (jobs.Notice vm left) host room = notices plan vm left host room
   works (jobs.Ready vm root queue) host room = tells_ready calling vm root queue host room
+  works (jobs.Other step) host room = works_life calling (jobs.Other step) host room
   works (jobs.Begin vm) host room = works_life calling (jobs.Begin vm) host room
   works (jobs.Start vm root) host room = works_life calling (jobs.Start vm root) host room
   works (jobs.Configure vm root plugin) host room = works_life calling (jobs.Configure vm root plugin) host room

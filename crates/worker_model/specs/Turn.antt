@@ -1,6 +1,9 @@
 -- A TURN: what a worker does at an event.
 use Rattle.std.specs.Prelude.{ℕ, zero, suc, ◌+◌, ◌==◌, Bool, true, false, List, [], ◌∷◌, ◌++◌, length, slice_get, nat_le, Option, None, Some, if◌then◌else◌}
 use Rattle.std.specs.List.{list_any}
+use Rattle.callouts.specs.Callouts.{line_in, is_of_call, callout_at}
+use Rattle.callouts.specs.declared.types.CallStep.TheVariants as steps
+use Rattle.callouts.specs.declared.types.Callout.{Callout}
 use Rattle.contexts.specs.declared.parts.Context.{Context}
 use Rattle.contexts.specs.declared.parts.Contexts.{Contexts}
 use Rattle.contexts.specs.declared.parts.Plugin.{Plugin}
@@ -18,6 +21,7 @@ use Rattle.store_model.specs.Program.{Program}
 use Rattle.worker_model.specs.Room.{Room}
 use Rattle.worker_model.specs.declared.types.Job.{Job}
 use Rattle.worker_model.specs.declared.types.Job.TheVariants as jobs
+use Rattle.worker_model.specs.declared.types.OtherStep.TheVariants as others
 use Rattle.worker_model.specs.Plan.{Plan}
 use Rattle.worker_model.specs.Settling.{settling}
 use Rattle.worker_model.specs.Steps.{Both, both, is_due_tick}
@@ -87,9 +91,17 @@ abbrev pub notices_of : Plan → ℕ → List Job
 notices_of plan zero = []
 notices_of plan (suc n) = notices_of plan n ++ notice_of plan n
 
+-- The event. On the line of a callout it is of the one that is under way there when the event comes, if any; on any other it is of the lines.
+abbrev pub comes_if : Option Callout → What → List Job
+comes_if None what = []
+comes_if (Some c) what = jobs.Other (others.Call (steps.Comes what)) ∷ []
+
+abbrev pub happening : What → Room → List Job
+happening what room = if is_of_call (line_in what) then comes_if (callout_at (line_in what) room.calls) what else jobs.Happen what ∷ []
+
 -- THE PARTS OF A TURN, in order: the start of the VMs, ticks, deadlines, the event, notices
 abbrev pub agenda_of : Plan → What → Room → List Job
-agenda_of plan what room = starts room ++ (ticks_due room ++ (deadlines plan ++ (jobs.Happen what ∷ notices_of plan (vms_in room))))
+agenda_of plan what room = starts room ++ (ticks_due room ++ (deadlines plan ++ (happening what room ++ notices_of plan (vms_in room))))
 
 abbrev pub at_moment : ℕ → Room → Room
 at_moment now room = record room { hub = record room.hub { moment = now } }

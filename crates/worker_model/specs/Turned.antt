@@ -17,6 +17,8 @@ use Rattle.outbox.specs.Delivery.{Delivered, NeverShort}
 use Rattle.outbox.specs.Turns.{OneTurn, HandsOver, to_go}
 use Rattle.store_model.specs.Made.{Made}
 use Rattle.store_model.specs.Program.{Program}
+use Rattle.worker_model.specs.Rooms.{next_of}
+use Rattle.worker_model.specs.Settling.{rests}
 use Rattle.worker_model.specs.State.{Standing, rules_of}
 use Rattle.worker_model.specs.Turn.{Outcome, outcome, turn}
 use Rattle.worker_model.specs.Wants.{wants_of}
@@ -51,7 +53,7 @@ pub record NoEvent {H S : Type 0} (s : S) (old : Option (List Passed)) (from : S
 
 module _ {H S : Type 0} (calling : H → ℕ → Callback → ℕ → ℕ → ℕ → ℕ → Contexts → Program (Called H)) (performs : S → List Made → S → Type 0) where
   -- A WHOLE TURN, from one standing to the next, and of the shared stores from s to t. The worker asked for what it wants, the world
-  -- gave an event, the event's course went to its end, and what it sends was handed over.
+  -- gave an event, the event's course went to its end, where nothing is left to be done, and what it sends was handed over.
   pub record Whole (stop : Bool) (s : S) (old : Option (List Passed)) (from to : Standing H) (t : S) (new : Option (List Passed)) : Type 0 where
     pub event : Event
     pub is_stop : is_stop event.what ≡ stop
@@ -62,6 +64,8 @@ module _ {H S : Type 0} (calling : H → ℕ → Callback → ℕ → ℕ → �
     pub asks : asked steps ≡ wanted from ∷ []
     pub hands_over : HandsOver from.waiting (one_turn event sent) steps to.waiting
     pub took : to.took ≡ true
+    -- (at Stop nothing is done)
+    pub rest : stop ≡ false → rests (next_of to.state.room) ≡ true
 
   -- An event other than Stop was given, and memory ran out before anything was handed over. What was called is a front of what the event's
   -- course calls.

@@ -1,6 +1,7 @@
 // What is said between the parts of a worker.
-use exchange::Exchange;
-use filter_chain::{Ask, Item};
+use callouts::CallStep;
+use exchange::{Exchange, Filter};
+use filter_chain::{Ask, Chain, Item};
 use gate_base::{ContextId, LineNo, Octets, QueueId, VmNo};
 use gate_config::Config;
 use gate_io::What;
@@ -64,6 +65,52 @@ pub struct Reads {
 pub struct ContextAt {
     pub vm: VmNo,
     pub context: ContextId,
+}
+
+/// An open line whose connections are streams of bytes.
+#[derive(Drop)]
+pub struct TcpLine {
+    pub number: LineNo,
+    /// In the order of the list.
+    pub filters: Queue<Filter>,
+    /// From the client to the server, and back.
+    pub down: Chain,
+    pub up: Chain,
+    /// Its stages were made.
+    pub is_entered: bool,
+    /// A connection was opened to the server, which is done when New leaves.
+    pub is_up: bool,
+    /// Which peers sent their last byte, or are gone or refused.
+    pub down_ended: bool,
+    pub up_ended: bool,
+    /// The client's connection is gone.
+    pub is_gone: bool,
+    /// The end of the connection has come.
+    pub has_ended: bool,
+}
+
+/// What is done on a line whose connections are streams of bytes.
+#[derive(Clone, Copy)]
+pub enum TcpStep {
+    /// The context of a filter is made.
+    Create { line: LineNo, at: usize },
+    /// The stages are made, and New comes.
+    Enter { line: LineNo },
+    /// A filter is told of the end of the connection to the server, and which side ended it.
+    UpClose { of: ContextAt, peer: u32 },
+    /// A filter is told of the end of the connection of the client.
+    DownClose { of: ContextAt, peer: u32 },
+    /// The connection of the client is closed.
+    Close { line: LineNo },
+}
+
+/// What is done for other connections than those of HTTP exchanges.
+#[derive(Drop)]
+pub enum OtherStep {
+    /// For a callout.
+    Call { step: CallStep },
+    /// On a line whose connections are streams of bytes.
+    Tcp { step: TcpStep },
 }
 
 /// One thing that is to be done once the chains are at rest.
@@ -146,6 +193,10 @@ pub enum Job {
         vm: VmNo,
         root: ContextId,
         queue: QueueId,
+    },
+    /// Something is done for other connections than those of HTTP exchanges.
+    Other {
+        step: OtherStep,
     },
 }
 

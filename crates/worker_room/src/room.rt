@@ -9,6 +9,7 @@ ghost use Rattle.worker_model.specs.Changes.{changed};
 ghost use Rattle.worker_model.specs.Rooms.{next_of, next_part, is_dead, is_released, on_number, on_context, with_contexts, sending, is_own, does, effects_of, without_effects, trap_word, death_word, death_text, died, behind, valued, answered_with};
 ghost use Rattle.worker_model.specs.Steps.{in_front, unless_zero, is_zero, action_of, has_vm, waits, last_jobs, done_with, deletes, acts_on, done_jobs, close_up, ends_exchange, ends_at, first_begun, frees, frees_at, nothing_more, behind_rest};
 
+use callouts::Callout;
 use contexts::{Contexts, Effect, What};
 use course::{CallEnd, Death};
 use exchange::{Exchange, Filter, Hub, drop_stages};
@@ -19,7 +20,7 @@ use queue::{Queue, queued};
 use std::alloc::Global;
 use std::marker::Model;
 use worker_lines::Lines;
-use worker_model::{Asked, Change, ContextAt, Job, Next, Own, Reads};
+use worker_model::{Asked, Change, ContextAt, Job, Next, Own, Reads, TcpLine};
 
 /// A worker within a turn: its lines, what they have in common, and what is still to be done. Clauses see it as the record `Room` of the
 /// definitions, with the list of the lines.
@@ -39,6 +40,10 @@ pub struct Room {
     pub dead: Queue<VmNo>,
     /// The VMs were started.
     pub is_begun: bool,
+    /// The callouts that are under way.
+    pub calls: Queue<Callout>,
+    /// The lines whose connections are streams of bytes.
+    pub tcp: Queue<TcpLine>,
 }
 
 impl Model for Room {
@@ -55,6 +60,8 @@ impl Model for Room {
       waits = r.waits;
       dead = r.dead;
       is_begun = r.is_begun;
+      calls = r.calls;
+      tcp = r.tcp;
     } };
 }
 

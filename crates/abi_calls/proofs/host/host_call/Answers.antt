@@ -177,6 +177,15 @@ returns-in-SendLocalResponse-clause-ends g c =
     as_called p c.args.shared.now c.args.shared.now c.args.now c.args.vm c.args.args.now at (seen h c.args.vm) h c.proxy_send_local_response.new.contexts c.proxy_send_local_response.result (g.G.Guest.at c.proxy_send_local_response.new.guest) c.args.logs.now c.args.logs.now c.args.call call.SendLocalResponse c.in-SendLocalResponse.is
     (local_hosted p nothing c.args.vm h (g.G.Guest.at c.proxy_send_local_response.new.guest) c.args.logs.now _ c.proxy_send_local_response.result c.proxy_send_local_response.new.contexts c.args.shared.now c.proxy_send_local_response.ensures.ends)
 
+pub returns-in-HttpCall-clause-ends : goal.returns-in-HttpCall-clause-ends
+returns-in-HttpCall-clause-ends g c =
+    let p = g.S.Shared.performs in
+    let nothing = g.met.S.Shared.nothing in
+    let h = c.args.contexts.now in
+    let at = g.G.Guest.at c.args.guest.now in
+    as_called p c.args.shared.now c.args.shared.now c.args.now c.args.vm c.args.args.now at (seen h c.args.vm) h c.proxy_http_call.new.contexts c.proxy_http_call.result (g.G.Guest.at c.proxy_http_call.new.guest) c.args.logs.now c.args.logs.now c.args.call call.HttpCall c.in-HttpCall.is
+    (local_hosted p nothing c.args.vm h (g.G.Guest.at c.proxy_http_call.new.guest) c.args.logs.now _ c.proxy_http_call.result c.proxy_http_call.new.contexts c.args.shared.now c.proxy_http_call.ensures.ends)
+
 pub returns-in-GetSharedData-clause-ends : goal.returns-in-GetSharedData-clause-ends
 returns-in-GetSharedData-clause-ends g c =
     let p = g.S.Shared.performs in

@@ -7,19 +7,19 @@ use Rattle.abi_maps.proofs.changing.replace_in.Goals as goal
 
 pub returns-in_default-take_map-clause-changes : goal.returns-in_default-take_map-clause-changes
 returns-in_default-take_map-clause-changes c =
-    no_map c.args.contexts.now c.args.vm c.args.number (replaced_in c.args.name.now c.args.value.now) c.requires.vm c.if-number-gt7.false c.in-Some.exchange.now (sym c.in-Some.ensures.value)
+    no_map c.args.contexts.now c.args.vm c.args.number (replaced_in c.args.name.now c.args.value.now) c.requires.vm c.if-number-gt5.false c.in-Some.exchange.now (sym c.in-Some.ensures.value)
     c.take_map.new.maps (sym c.in_default-take_map.ensures.list) c.in_default-take_map.ensures.maps
 
 pub returns-clause-changes : goal.returns-clause-changes
 returns-clause-changes c =
     let l = c.in-Some-take_map.list in
-    changes_are c.args.contexts.now c.args.vm c.args.number (replaced_in c.args.name.now c.args.value.now) c.requires.vm c.if-number-gt7.false c.in-Some.exchange.now (sym c.in-Some.ensures.value)
+    changes_are c.args.contexts.now c.args.vm c.args.number (replaced_in c.args.name.now c.args.value.now) c.requires.vm c.if-number-gt5.false c.in-Some.exchange.now (sym c.in-Some.ensures.value)
     l (replaced l c.args.name.now c.args.value.now) (replace_fault l c.args.name.now c.args.value.now) (sym c.in-Some-take_map.ensures.list) refl c.take_map.new.maps c.put_list.new.maps c.replace-end.new.self c.in-Some-take_map.ensures.maps c.put_list.ensures
     c.ended.result c.replace-end.result c.ended.ensures.told c.replace-end.ensures.cause c.replace-end.ensures.ok c.replace-end.ensures.err
 
 pub returns-clause-err : goal.returns-clause-err
 returns-clause-err c =
     let l = c.in-Some-take_map.list in
-    nothing_changed c.args.contexts.now c.args.vm c.args.number (replaced_in c.args.name.now c.args.value.now) c.requires.vm c.if-number-gt7.false c.in-Some.exchange.now (sym c.in-Some.ensures.value)
+    nothing_changed c.args.contexts.now c.args.vm c.args.number (replaced_in c.args.name.now c.args.value.now) c.requires.vm c.if-number-gt5.false c.in-Some.exchange.now (sym c.in-Some.ensures.value)
     l (replaced l c.args.name.now c.args.value.now) (replace_fault l c.args.name.now c.args.value.now) (sym c.in-Some-take_map.ensures.list) refl c.take_map.new.maps c.put_list.new.maps c.replace-end.new.self c.in-Some-take_map.ensures.maps c.put_list.ensures
     c.ended.result c.replace-end.result c.ended.ensures.err c.replace-end.ensures.err

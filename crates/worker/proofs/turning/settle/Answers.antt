@@ -1,7 +1,7 @@
 use Rattle.std.proofs.Common.{◌≡◌, ◌-◌, suc, ap, sym, ◌∙◌, ℕ, arith}
 use Rattle.course.specs.Runs.{cut_short, goes_as, goes_then, goes_part, then_part}
 use Rattle.worker_model.specs.Plan.{plan_of}
-use Rattle.worker_model.specs.Settling.{settling, settling_step, settling_rest, settling_none}
+use Rattle.worker_model.specs.Settling.{settling, settling_step, settling_rest, rests}
 use Rattle.worker.proofs.turning.settle.Goals as goal
 
 pub returns-then-is_rest-clause-run : goal.returns-then-is_rest-clause-run
@@ -35,8 +35,9 @@ returns-in_err-step-clause-run g c =
     ∙ settling_step g.H.Host.calling (plan_of c.args.rules.now) (c.loop-left.left - 1) c.next-next.result c.loop-left.host c.loop-left.room (sym c.next-next.ensures) (sym c.is_rest.ensures ∙ c.if-is_rest.false)))
     (goes_part (λ b. settling g.H.Host.calling (plan_of c.args.rules.now) (c.loop-left.left - 1) b.host b.room) c.in_err-step.ensures.run.1))
 
+pub returns-then-is_rest-clause-rest : goal.returns-then-is_rest-clause-rest
+returns-then-is_rest-clause-rest g c = ap rests (sym c.next-next.ensures) ∙ (sym c.is_rest.ensures ∙ c.if-is_rest.true)
+
+-- all steps are spent: it is cut short
 pub returns-clause-run : goal.returns-clause-run
-returns-clause-run g c =
-    let e : c.loop-left.left ≡ 0 = omega arith in
-    goes_as c.loop-left.invariant.run
-    (ap (λ (n : ℕ). settling g.H.Host.calling (plan_of c.args.rules.now) n c.loop-left.host c.loop-left.room) e ∙ settling_none g.H.Host.calling (plan_of c.args.rules.now) c.loop-left.host c.loop-left.room)
+returns-clause-run g c = (_, c.loop-left.invariant.run)

@@ -1,9 +1,10 @@
-use Rattle.std.proofs.Common.{◌≡◌, sym, ap}
+use Rattle.std.proofs.Common.{◌≡◌, ◌∙◌, sym, ap}
 use Rattle.course.specs.Course.{ends}
 use Rattle.course.specs.Runs.{cut_short, goes_still, goes_from, goes_as}
 use Rattle.worker_model.specs.Room.{Room}
 use Rattle.worker_model.specs.Plan.{plan_of}
-use Rattle.worker_model.specs.Settling.{settling}
+use Rattle.worker_model.specs.Rooms.{next_of}
+use Rattle.worker_model.specs.Settling.{settling, rests}
 use Rattle.worker_model.specs.Steps.{both}
 use Rattle.worker_model.specs.Turn.{facing, most_steps}
 use Rattle.worker.proofs.worker.react.Goals as goal
@@ -23,3 +24,6 @@ returns-clause-run g c =
     let face_is : c.face.new.room ≡ facing (plan_of c.args.rules.now) c.args.event c.args.room.now = c.in_ok-face.ensures in
     goes_as (goes_from (ap (λ (r : Room). settling g.H.Host.calling (plan_of c.args.rules.now) most_steps c.args.host.now r) (sym face_is)) c.in_ok-settle.ensures.run)
     (λ i. ends (both c.settle.new.host (sym c.take_sent.ensures.room i)))
+
+pub returns-clause-rest : goal.returns-clause-rest
+returns-clause-rest g c = ap (λ (r : Room). rests (next_of r)) c.take_sent.ensures.room ∙ c.in_ok-settle.ensures.rest

@@ -32,7 +32,7 @@ pub returns-clause-turned : goal.returns-clause-turned
 returns-clause-turned g c =
     turned_at g.H.Host.calling g.S.Shared.performs c.args.shared.now (g.W.World.trace c.args.world.now) _ _ Went _ c.react.new.shared (g.W.World.trace c.deliver.new.world) (in_room _ _ _ c.self.view_is c.ask.ensures.room)
     (went g.H.Host.calling g.S.Shared.performs _ _ _ _ _ _ _ _ _ c.in-Ok.event _ c.in-Ok-react.sent.items refl c.in_default.not-Stop refl
-    c.in-Ok-react.ensures.empty c.clear.ensures c.in-Ok-react.ensures.run c.in-Ok.ensures.trace c.in-Ok-deliver.ensures.offered)
+    c.in-Ok-react.ensures.empty c.in-Ok-react.ensures.rest c.clear.ensures c.in-Ok-react.ensures.run c.in-Ok.ensures.trace c.in-Ok-deliver.ensures.offered)
 
 pub returns-in-Err-clause-turned : goal.returns-in-Err-clause-turned
 returns-in-Err-clause-turned g c =
@@ -89,6 +89,6 @@ unfolding went
 returns-clause-heard g c =
     turned_from g.H.Host.calling g.S.Shared.performs (g.W.World.nature c.args.world.now).obeys (g.W.World.last c.args.world.now) (g.W.World.last c.deliver.new.world) c.args.shared.now (g.W.World.trace c.args.world.now) _ _ Went _ c.react.new.shared (g.W.World.trace c.deliver.new.world) (in_room _ _ _ c.self.view_is c.ask.ensures.room) (
       went g.H.Host.calling g.S.Shared.performs _ _ _ _ _ _ _ _ _ c.in-Ok.event _ c.in-Ok-react.sent.items refl c.in_default.not-Stop refl
-          c.in-Ok-react.ensures.empty c.clear.ensures c.in-Ok-react.ensures.run c.in-Ok.ensures.trace c.in-Ok-deliver.ensures.offered,
+          c.in-Ok-react.ensures.empty c.in-Ok-react.ensures.rest c.clear.ensures c.in-Ok-react.ensures.run c.in-Ok.ensures.trace c.in-Ok-deliver.ensures.offered,
       heard_so _ _ _ _ _ _ c.in-Ok.event refl c.in-Ok.ensures.event c.in-Ok.ensures.obeys c.in-Ok.ensures.last c.deliver.ensures.last,
     )

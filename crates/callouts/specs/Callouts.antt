@@ -1,0 +1,198 @@
+-- CALLOUTS UNDER WAY: how they begin, what comes of their lines, and when they end.
+use Rattle.std.specs.Prelude.{ℕ, ◌+◌, ◌-◌, ◌*◌, ◌==◌, Bool, true, false, not, ◌&&◌, ◌||◌, List, [], ◌∷◌, ◌++◌, length, map, filter, nat_lt, nat_le, Option, None, Some, codes, if◌then◌else◌}
+use Rattle.body_buffers.specs.Bodies.{body_limit}
+use Rattle.contexts.specs.Keyed.{found, changed, removed}
+use Rattle.contexts.specs.declared.parts.CallAnswer.{CallAnswer}
+use Rattle.contexts.specs.declared.parts.Request.{Request}
+use Rattle.gate_io.specs.declared.event.Side.{Side}
+use Rattle.gate_io.specs.declared.event.Side.TheVariants.{Down, Up}
+use Rattle.gate_io.specs.declared.event.What.{What}
+use Rattle.gate_io.specs.declared.event.What.TheVariants as whats
+use Rattle.header_maps.specs.Operations.{no_headers}
+use Rattle.header_maps.specs.declared.kind.ListKind.TheVariants.{Plain}
+use Rattle.http1_model.specs.Length.{BodyLength, nothing as nothing_follows, exactly, chunked, until_end}
+use Rattle.http1_model.specs.Messages.{Stop, rest, over, refusal}
+use Rattle.http1_model.specs.Unread.{Part, head_part, interim_part, piece, trailer_part, Reading, new_reading, fed, finished}
+use Rattle.http1_model.specs.Wire.{pseudo_of}
+use Rattle.callouts.specs.declared.types.Callout.{Callout}
+use Rattle.callouts.specs.declared.types.Fated.{Fated}
+use Rattle.callouts.specs.declared.types.Outcome.{Outcome}
+use Rattle.callouts.specs.declared.types.Outcome.TheVariants as outcome
+
+-- ---- lines: that of an id, and from which number on a line is one
+
+abbrev pub first_line : ℕ
+first_line = 2147483648
+
+abbrev pub line_of : ℕ → ℕ
+line_of id = first_line + id
+
+abbrev pub is_call_line : ℕ → Bool
+is_call_line line = nat_le first_line line
+
+-- ---- bounds
+
+abbrev pub most_under_way : ℕ
+most_under_way = 64
+
+abbrev pub last_id : ℕ
+last_id = 2147483647
+
+-- so many more find no room: so many are under way, and this id was drawn last
+abbrev pub is_full : (more under_way last : ℕ) → Bool
+is_full more under_way last = nat_le most_under_way (under_way + more) || nat_le last_id (last + more)
+
+-- ---- one begins
+
+-- the moment so many milliseconds later, at most 2^64 - 1
+abbrev pub due_of : (now timeout : ℕ) → ℕ
+due_of now timeout = if nat_le (now + timeout * 1000000) 18446744073709551615 then now + timeout * 1000000 else 18446744073709551615
+
+abbrev pub no_answer : CallAnswer
+no_answer = record { fields = no_headers; body = []; trailers = no_headers }
+
+abbrev pub begun : (id now : ℕ) → Request → Callout
+begun id now q = record {
+  id = id;
+  vm = q.vm;
+  context = q.context;
+  due = due_of now q.timeout_ms;
+  reader = new_reading (Some (pseudo_of q.fields (codes ":method")));
+  answer = no_answer;
+}
+
+-- ---- which one
+
+abbrev pub id_of : Callout → ℕ
+id_of c = c.id
+
+abbrev pub callout_in : ℕ → List Callout → Option Callout
+callout_in id calls = found id_of id calls
+
+abbrev pub on_callout : ℕ → (Callout → Callout) → List Callout → List Callout
+on_callout id f calls = changed id_of id f calls
+
+abbrev pub without : ℕ → List Callout → List Callout
+without id calls = removed id_of id calls
+
+-- ---- its end
+
+abbrev pub fated : Outcome → Callout → Fated
+fated o c = record { call = c.id; vm = c.vm; context = c.context; outcome = o }
+
+abbrev pub failed : Callout → Fated
+failed c = fated outcome.Failed c
+
+abbrev pub answered : Callout → Fated
+answered c = fated (outcome.Answered c.answer) c
+
+-- ---- deadlines
+
+abbrev pub is_due : ℕ → Callout → Bool
+is_due now c = nat_le c.due now
+
+-- the ids of those that are due, rising
+abbrev pub due_at : ℕ → List Callout → List ℕ
+due_at now calls = map id_of (filter (is_due now) calls)
+
+-- ---- what comes of a line
+
+-- It goes on to be read; it has failed; or nothing comes of that.
+pub data Coming : Type 0 where
+  reads : Reading → Coming
+  fails : Coming
+  nothing : Coming
+
+-- of a text that has ended nothing comes any more
+abbrev pub more : List ℕ → Reading → Coming
+more bytes r = if r.ended then nothing else reads (fed bytes r)
+
+abbrev pub no_more : Reading → Coming
+no_more r = if r.ended then nothing else reads (finished r)
+
+abbrev pub comes_of : What → Reading → Coming
+comes_of (whats.Opened line) r = nothing
+comes_of (whats.Bytes line Down bytes) r = nothing
+comes_of (whats.Bytes line Up bytes) r = more bytes r
+comes_of (whats.End line Down) r = nothing
+comes_of (whats.End line Up) r = no_more r
+comes_of (whats.Gone line Down) r = nothing
+comes_of (whats.Gone line Up) r = fails
+comes_of (whats.Joined line) r = nothing
+comes_of (whats.Refused line) r = fails
+comes_of (whats.Room line side) r = nothing
+comes_of whats.Clock r = nothing
+comes_of whats.Stop r = nothing
+
+-- the line of an event, if it is of one
+abbrev pub line_in : What → Option ℕ
+line_in (whats.Opened line) = Some line
+line_in (whats.Bytes line side bytes) = Some line
+line_in (whats.End line side) = Some line
+line_in (whats.Gone line side) = Some line
+line_in (whats.Joined line) = Some line
+line_in (whats.Refused line) = Some line
+line_in (whats.Room line side) = Some line
+line_in whats.Clock = None
+line_in whats.Stop = None
+
+abbrev pub is_of_call : Option ℕ → Bool
+is_of_call None = false
+is_of_call (Some line) = is_call_line line
+
+-- the callout whose line it is
+abbrev pub callout_at : Option ℕ → List Callout → Option Callout
+callout_at None calls = None
+callout_at (Some line) calls = callout_in (line - first_line) calls
+
+-- ---- reading
+
+-- After a part there is this of the answer; or its body is too long.
+pub data Taken : Type 0 where
+  has : CallAnswer → Taken
+  too_long : Taken
+
+abbrev pub longer : List ℕ → CallAnswer → Taken
+longer body a = if nat_lt body_limit (length body) then too_long else has (record a { body = body })
+
+abbrev pub takes : Part → CallAnswer → Taken
+takes (head_part h) a = has (record a { fields = h.fields })
+takes (interim_part h) a = has a
+takes (piece bytes last) a = longer (a.body ++ bytes) a
+takes (trailer_part fields) a = has (record a { trailers = record { kind = Plain; pairs = fields } })
+
+-- it goes on to be read; it waits for more; it was answered; or it has failed. (No part but the last one uses no bytes.)
+pub data AfterRead : Type 0 where
+  goes_on : Callout → AfterRead
+  waits : Callout → AfterRead
+  answers : Callout → AfterRead
+  breaks : AfterRead
+
+-- the response is whole with this part, so that none follows
+abbrev pub is_bare : BodyLength → Bool
+is_bare nothing_follows = true
+is_bare (exactly n) = false
+is_bare chunked = false
+is_bare until_end = false
+
+abbrev pub is_last : Part → Bool
+is_last (head_part h) = is_bare h.length
+is_last (interim_part h) = false
+is_last (piece bytes last) = last
+is_last (trailer_part fields) = true
+
+abbrev pub with_part : (is_whole : Bool) → Callout → AfterRead
+with_part true c = answers c
+with_part false c = goes_on c
+
+abbrev pub after_taken : (is_whole : Bool) → Reading → Callout → Taken → AfterRead
+after_taken is_whole r c (has a) = with_part is_whole (record c { reader = r; answer = a })
+after_taken is_whole r c too_long = breaks
+
+abbrev pub after_part : Part → Reading → Callout → AfterRead
+after_part p r c = after_taken (is_last p) r c (takes p c.answer)
+
+abbrev pub after_stop : Stop → Reading → Callout → AfterRead
+after_stop rest r c = waits (record c { reader = r })
+after_stop over r c = answers (record c { reader = r })
+after_stop (refusal number) r c = breaks
