@@ -1,5 +1,5 @@
 // The types of functions by index.
-ghost use Rattle.std.specs.Prelude.{◌≡◌, ◌++◌, [], IfOk, OnOk};
+ghost use Rattle.std.specs.Prelude.{◌≡◌, ◌++◌, [], IfOk, OnOk, slice_get};
 ghost use Rattle.std.specs.List.{cons_option};
 ghost use Rattle.std.specs.Option.{option_copied};
 ghost use Rattle.wasm_syntax.specs.Validity.{function_of, functions_of, imports_of};
@@ -47,8 +47,15 @@ pub(crate) fn type_of<'a>(m: &'a Module, functions: &[u32], x: u32) -> Option<&'
     requires { functions.now ≡ functions_of m.now }
     ensures { option_copied result ≡ type_in m.now x }
 {
-    match functions.get(x as usize) {
-        Some(k) => m.types.as_slice().get(*k as usize),
+    match number_at(functions, x as usize) {
+        Some(k) => m.types.as_slice().get(k as usize),
         None => None,
     }
+}
+
+/// The number at a place.
+fn number_at(numbers: &[u32], at: usize) -> Option<u32>
+    ensures { result ≡ slice_get numbers.now at }
+{
+    numbers.get(at).copied()
 }

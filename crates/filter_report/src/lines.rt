@@ -24,6 +24,18 @@ pub(crate) fn put_import(
     out.extend_from_slice(b"import ")?;
     put_hex(alloc, out, i.module.as_str().as_bytes())?;
     out.push(b' ')?;
+    put_import_name(alloc, out, m, i)
+}
+
+/// Puts the rest of that line at the end: the name, and what is imported.
+fn put_import_name(
+    alloc: Global,
+    out: &mut Octets,
+    m: &Module,
+    i: &Import,
+) -> Result<(), OutOfMemory>
+    ensures { OnOk result (out.new ≡ out.old ++ (hex_name i.now.name ++ (32 ∷ (import_kind m.now i.now.kind ++ 10 ∷ [])))) }
+{
     put_hex(alloc, out, i.name.as_str().as_bytes())?;
     out.push(b' ')?;
     put_import_kind(out, m, i.kind)?;
@@ -44,7 +56,20 @@ pub(crate) fn put_export(
     out.extend_from_slice(b"export ")?;
     put_hex(alloc, out, e.name.as_str().as_bytes())?;
     out.push(b' ')?;
-    put_export_kind(out, m, functions, e.kind)?;
+    put_export_end(out, m, functions, e.kind)
+}
+
+/// Puts the rest of that line at the end: what is exported.
+fn put_export_end(
+    out: &mut Octets,
+    m: &Module,
+    functions: &[u32],
+    kind: ExportKind,
+) -> Result<(), OutOfMemory>
+    requires { functions.now ≡ functions_of m.now }
+    ensures { OnOk result (out.new ≡ out.old ++ (export_kind m.now kind ++ 10 ∷ [])) }
+{
+    put_export_kind(out, m, functions, kind)?;
     out.push(b'\n')
 }
 

@@ -27,9 +27,8 @@ pub fn report(alloc: Global, out: &mut Octets, m: &ValidModule) -> Result<(), Ou
 fn put_report(alloc: Global, out: &mut Octets, m: &Module) -> Result<(), OutOfMemory>
     ensures { OnOk result (out.new ≡ out.old ++ report_of m.now) }
 {
-    let functions = function_types(alloc, m)?;
     put_imports(alloc, out, m)?;
-    put_exports(alloc, out, m, functions.as_slice())?;
+    put_exports(alloc, out, m)?;
     put_callbacks(out, m, &ROLES)?;
     out.extend_from_slice(abi_line(m))
 }
@@ -45,7 +44,15 @@ fn put_imports(alloc: Global, out: &mut Octets, m: &Module) -> Result<(), OutOfM
 }
 
 /// Puts the lines of the exports at the end.
-fn put_exports(
+fn put_exports(alloc: Global, out: &mut Octets, m: &Module) -> Result<(), OutOfMemory>
+    ensures { OnOk result (out.new ≡ out.old ++ flat_map (export_line m.now) m.now.exports) }
+{
+    let functions = function_types(alloc, m)?;
+    put_each_export(alloc, out, m, functions.as_slice())
+}
+
+/// The same, with the indices of the types of all functions.
+fn put_each_export(
     alloc: Global,
     out: &mut Octets,
     m: &Module,
