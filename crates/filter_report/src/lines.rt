@@ -1,9 +1,8 @@
 // The lines of a report.
-ghost use Rattle.std.specs.Prelude.{◌≡◌, ◌++◌, ◌∷◌, [], OnOk, map, slice_get};
+ghost use Rattle.std.specs.Prelude.{◌≡◌, ◌++◌, ◌∷◌, [], OnOk, map};
 ghost use Rattle.wasm_syntax.specs.Validity.{functions_of};
 ghost use Rattle.hex.specs.Hex.{encode_lower};
 ghost use Rattle.std.specs.Option.{option_copied};
-ghost use Rattle.vm_host.specs.Fits.{type_in};
 ghost use Rattle.filter_report.specs.Report.{hex_name, letter, letters, typed_func, func_kind, import_kind, export_kind, import_line, export_line, has_callback, callback_line};
 
 use crate::functions::type_of;

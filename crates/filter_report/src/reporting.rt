@@ -1,7 +1,6 @@
 // The report of a module.
-ghost use Rattle.std.specs.Prelude.{◌≡◌, ◌++◌, OnOk, OnErr, codes, is_some};
+ghost use Rattle.std.specs.Prelude.{◌≡◌, ◌++◌, OnOk, OnErr};
 ghost use Rattle.std.specs.List.{flat_map};
-ghost use Rattle.vm_host.specs.Fits.{exported as exported_in};
 ghost use Rattle.wasm_syntax.specs.Validity.{functions_of};
 ghost use Rattle.filter_report.specs.Report.{import_line, export_line, callback_line, has_marker, abi_line, report_of};
 
