@@ -1,11 +1,12 @@
 // The report of a module.
-ghost use Rattle.std.specs.Prelude.{◌≡◌, ◌≤◌, ◌∷◌, []};
-ghost use Rattle.gate_io.specs.Told.{GainsFront, Rose};
+ghost use Rattle.std.specs.Prelude.{◌≡◌, ◌≤◌, ◌∷◌, [], OnOk, OnErr};
+ghost use Rattle.gate_io.specs.Told.{Gains, GainsFront, Rose};
 ghost use Rattle.commands.specs.Reading.{ReadsOne};
 ghost use Rattle.commands.specs.Report.{IsReported, OfReport, Reports};
 
 use crate::call::MAX_MODULE;
 use filter_report::{ReportEnd, report_bytes};
+use gate_base::Octets;
 use gate_io::{Failed, FileEnd, Files, Sink, write_whole};
 use statuses::Status;
 use std::alloc::Global;
@@ -48,7 +49,7 @@ fn report_in<O: Sink>(alloc: Global, text: &[u8], out: &mut O) -> Status
     ensures of_report { OfReport result (O.taken out.old) (O.taken out.new) }
 {
     match report_bytes(alloc, text) {
-        Ok(lines) => match write_whole(out, lines.as_slice()) {
+        Ok(lines) => match print(&lines, out) {
             Ok(()) => Status::Done,
             Err(Failed) => Status::OutFault,
         },
@@ -60,4 +61,14 @@ fn report_in<O: Sink>(alloc: Global, text: &[u8], out: &mut O) -> Status
         },
         Err(ReportEnd::OutOfMemory) => Status::OutOfMemory,
     }
+}
+
+/// Prints lines.
+fn print<O: Sink>(lines: &Octets, out: &mut O) -> Result<(), Failed>
+    ensures ok { OnOk result (Gains (O.taken out.old) lines.now (O.taken out.new)) }
+    ensures err { OnErr result (GainsFront (O.taken out.old) lines.now (O.taken out.new)) }
+    ensures faults { O.faults out.old ≤ O.faults out.new }
+    ensures failed { OnErr result (Rose (O.faults out.old) (O.faults out.new)) }
+{
+    write_whole(out, lines.as_slice())
 }

@@ -34,6 +34,10 @@ named (name ∷ names) = export name (exported.Function 0) ∷ named names
 abbrev one_function : List (List ℕ) → Module
 one_function names = record empty_module { types = types; functions = 0 ∷ []; exports = named names }
 
+-- one that takes a number and gives one, under these names
+abbrev numbering : List (List ℕ) → Module
+numbering names = record (one_function names) { functions = 3 ∷ [] }
+
 -- one of each kind is imported and exported, the functions of its own come after the imported one, and the names of two callbacks are exported
 -- in another order than that of the table: one as a function of its type, and one as a function of another; one more callback is a memory
 abbrev all_kinds : Module
@@ -63,6 +67,9 @@ pub record ReportExamples : Type 0 where
   -- functions of the table that are no callbacks of an event are there too
   pub starts : report_of (one_function (codes "_start" ∷ codes "_initialize" ∷ []))
       ≡ codes "export 5f7374617274 func - -\nexport 5f696e697469616c697a65 func - -\ncallback _initialize\ncallback _start\nabi none\n"
+  -- the callbacks of connections come behind those of exchanges
+  pub connections : report_of (numbering (codes "proxy_on_new_connection" ∷ codes "proxy_on_done" ∷ []))
+      ≡ codes "export 70726f78795f6f6e5f6e65775f636f6e6e656374696f6e func i i\nexport 70726f78795f6f6e5f646f6e65 func i i\ncallback proxy_on_done\ncallback proxy_on_new_connection\nabi none\n"
   pub all : report_of all_kinds
       ≡ codes "import 65 - func iI I\nimport - 0a table\nimport 65 6d memory\nimport 65 67 global\n"
       ++ (codes "export 7a memory\nexport 70726f78795f6f6e5f646f6e65 func i i\n"

@@ -1,12 +1,12 @@
 // The report of the module that bytes are.
-ghost use Rattle.std.specs.Prelude.{◌≡◌, IfOk, IfErr};
+ghost use Rattle.std.specs.Prelude.{IfOk, IfErr};
 ghost use Rattle.wasm_syntax.specs.Grammar.{Spells};
-ghost use Rattle.filter_report.specs.Report.{report_of};
+ghost use Rattle.wasm_syntax.specs.Validity.{IsValid};
 ghost use Rattle.filter_report.specs.Reporting.{IsReport, IsNoReport};
 
 use crate::reporting::report;
 use gate_base::Octets;
-use std::alloc::{AllocError, Global};
+use std::alloc::Global;
 use wasm_reader::{ReadEnd, read_module};
 use wasm_syntax::{Module, ValidModule};
 use wasm_validator::{ValidEnd, validate};
@@ -22,7 +22,7 @@ pub enum ReportEnd {
     OutOfMemory,
 }
 
-/// The report of the valid module that bytes spell.
+/// The report of the valid module that bytes spell, or why there is none.
 pub fn report_bytes(alloc: Global, bytes: &[u8]) -> Result<Octets, ReportEnd>
     ensures ok { IfOk result (IsReport bytes.now) }
     ensures err { IfErr result (IsNoReport bytes.now) }
@@ -41,20 +41,22 @@ fn report_spelled(alloc: Global, bytes: &[u8], module: Module) -> Result<Octets,
     ensures err { IfErr result (IsNoReport bytes.now) }
 {
     match validate(alloc, module) {
-        Ok(valid) => match report_valid(alloc, &valid) {
-            Ok(text) => Ok(text),
-            Err(_) => Err(ReportEnd::OutOfMemory),
-        },
+        Ok(valid) => report_valid(alloc, bytes, &valid),
         Err(ValidEnd::Invalid { .. }) => Err(ReportEnd::Invalid),
         Err(ValidEnd::OutOfMemory) => Err(ReportEnd::OutOfMemory),
     }
 }
 
-/// The report of a valid module.
-fn report_valid(alloc: Global, m: &ValidModule) -> Result<Octets, AllocError>
-    ensures { IfOk result (λ text. text ≡ report_of m.now) }
+/// The report of the valid module that bytes spell.
+fn report_valid(alloc: Global, bytes: &[u8], m: &ValidModule) -> Result<Octets, ReportEnd>
+    requires spelled { Spells bytes.now m.now }
+    requires valid { IsValid m.now }
+    ensures ok { IfOk result (IsReport bytes.now) }
+    ensures err { IfErr result (IsNoReport bytes.now) }
 {
     let mut out = Octets::new(alloc);
-    report(alloc, &mut out, m)?;
-    Ok(out)
+    match report(alloc, &mut out, m) {
+        Ok(()) => Ok(out),
+        Err(_) => Err(ReportEnd::OutOfMemory),
+    }
 }

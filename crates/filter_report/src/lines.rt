@@ -1,8 +1,8 @@
 // The lines of a report.
-ghost use Rattle.std.specs.Prelude.{◌≡◌, ◌++◌, ◌∷◌, [], OnOk, map, slice_get};
+ghost use Rattle.std.specs.Prelude.{◌≡◌, ◌++◌, ◌∷◌, [], OnOk, map};
 ghost use Rattle.wasm_syntax.specs.Validity.{functions_of};
+ghost use Rattle.hex.specs.Hex.{encode_lower};
 ghost use Rattle.std.specs.Option.{option_copied};
-ghost use Rattle.vm_host.specs.Fits.{type_in};
 ghost use Rattle.filter_report.specs.Report.{hex_name, letter, letters, typed_func, func_kind, import_kind, export_kind, import_line, export_line, has_callback, callback_line};
 
 use crate::functions::type_of;
@@ -23,6 +23,18 @@ pub(crate) fn put_import(
     out.extend_from_slice(b"import ")?;
     put_hex(alloc, out, i.module.as_str().as_bytes())?;
     out.push(b' ')?;
+    put_import_name(alloc, out, m, i)
+}
+
+/// Puts the rest of that line at the end: the name, and what is imported.
+fn put_import_name(
+    alloc: Global,
+    out: &mut Octets,
+    m: &Module,
+    i: &Import,
+) -> Result<(), OutOfMemory>
+    ensures { OnOk result (out.new ≡ out.old ++ (hex_name i.now.name ++ (32 ∷ (import_kind m.now i.now.kind ++ 10 ∷ [])))) }
+{
     put_hex(alloc, out, i.name.as_str().as_bytes())?;
     out.push(b' ')?;
     put_import_kind(out, m, i.kind)?;
@@ -43,7 +55,20 @@ pub(crate) fn put_export(
     out.extend_from_slice(b"export ")?;
     put_hex(alloc, out, e.name.as_str().as_bytes())?;
     out.push(b' ')?;
-    put_export_kind(out, m, functions, e.kind)?;
+    put_export_end(out, m, functions, e.kind)
+}
+
+/// Puts the rest of that line at the end: what is exported.
+fn put_export_end(
+    out: &mut Octets,
+    m: &Module,
+    functions: &[u32],
+    kind: ExportKind,
+) -> Result<(), OutOfMemory>
+    requires { functions.now ≡ functions_of m.now }
+    ensures { OnOk result (out.new ≡ out.old ++ (export_kind m.now kind ++ 10 ∷ [])) }
+{
+    put_export_kind(out, m, functions, kind)?;
     out.push(b'\n')
 }
 
@@ -70,10 +95,17 @@ pub(crate) fn put_callback(out: &mut Octets, m: &Module, role: Role) -> Result<(
 fn put_hex(alloc: Global, out: &mut Octets, name: &[u8]) -> Result<(), OutOfMemory>
     ensures { OnOk result (out.new ≡ out.old ++ hex_name name.now) }
 {
-    if name.is_empty() {
-        return out.push(b'-');
+    match name {
+        [] => out.push(b'-'),
+        [_, ..] => put_digits(alloc, out, name),
     }
-    let digits = hex::encode(alloc, name)?;
+}
+
+/// Puts the digits of bytes at the end.
+fn put_digits(alloc: Global, out: &mut Octets, bytes: &[u8]) -> Result<(), OutOfMemory>
+    ensures { OnOk result (out.new ≡ out.old ++ encode_lower bytes.now) }
+{
+    let digits = hex::encode(alloc, bytes)?;
     out.extend_from_slice(digits.as_bytes())
 }
 
@@ -141,10 +173,10 @@ fn letter(t: ValueType) -> u8
 fn put_letters(out: &mut Octets, types: &[ValueType]) -> Result<(), OutOfMemory>
     ensures { OnOk result (out.new ≡ out.old ++ letters types.now) }
 {
-    if types.is_empty() {
-        return out.push(b'-');
+    match types {
+        [] => out.push(b'-'),
+        [_, ..] => put_each(out, types),
     }
-    put_each(out, types)
 }
 
 /// Puts the letter of each type at the end.

@@ -1,7 +1,6 @@
 // The report of a module.
-ghost use Rattle.std.specs.Prelude.{◌≡◌, ◌++◌, OnOk, OnErr, codes, is_some};
+ghost use Rattle.std.specs.Prelude.{◌≡◌, ◌++◌, OnOk, OnErr};
 ghost use Rattle.std.specs.List.{flat_map};
-ghost use Rattle.vm_host.specs.Fits.{exported as exported_in};
 ghost use Rattle.wasm_syntax.specs.Validity.{functions_of};
 ghost use Rattle.filter_report.specs.Report.{import_line, export_line, callback_line, has_marker, abi_line, report_of};
 
@@ -27,9 +26,8 @@ pub fn report(alloc: Global, out: &mut Octets, m: &ValidModule) -> Result<(), Ou
 fn put_report(alloc: Global, out: &mut Octets, m: &Module) -> Result<(), OutOfMemory>
     ensures { OnOk result (out.new ≡ out.old ++ report_of m.now) }
 {
-    let functions = function_types(alloc, m)?;
     put_imports(alloc, out, m)?;
-    put_exports(alloc, out, m, functions.as_slice())?;
+    put_exports(alloc, out, m)?;
     put_callbacks(out, m, &ROLES)?;
     out.extend_from_slice(abi_line(m))
 }
@@ -45,7 +43,15 @@ fn put_imports(alloc: Global, out: &mut Octets, m: &Module) -> Result<(), OutOfM
 }
 
 /// Puts the lines of the exports at the end.
-fn put_exports(
+fn put_exports(alloc: Global, out: &mut Octets, m: &Module) -> Result<(), OutOfMemory>
+    ensures { OnOk result (out.new ≡ out.old ++ flat_map (export_line m.now) m.now.exports) }
+{
+    let functions = function_types(alloc, m)?;
+    put_each_export(alloc, out, m, functions.as_slice())
+}
+
+/// The same, with the indices of the types of all functions.
+fn put_each_export(
     alloc: Global,
     out: &mut Octets,
     m: &Module,

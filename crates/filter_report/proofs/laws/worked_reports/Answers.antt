@@ -5,4 +5,4 @@ use Rattle.filter_report.proofs.laws.worked_reports.Goals as goal
 
 pub returns : goal.returns
 unfolding encode_with type_in
-returns c = record { nothing = refl; marked = refl; older = refl; both = refl; starts = refl; all = refl }
+returns c = record { nothing = refl; marked = refl; older = refl; both = refl; starts = refl; connections = refl; all = refl }
