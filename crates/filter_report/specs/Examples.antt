@@ -55,6 +55,7 @@ all_kinds = record empty_module {
       ∷ export (codes "i") (exported.Function 0) ∷ [];
 }
 
+-- what each of these modules is told as
 pub record ReportExamples : Type 0 where
   pub nothing : report_of empty_module ≡ codes "abi none\n"
   pub marked : report_of (one_function (codes "proxy_abi_version_0_2_1" ∷ []))

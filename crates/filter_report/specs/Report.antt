@@ -59,9 +59,11 @@ export_kind m (exports.Global x) = codes "global"
 
 -- ---- lines
 
+-- the line of an import: the name of its module, its own, and what it is
 abbrev pub import_line : Module → Import → List ℕ
 import_line m i = codes "import " ++ (hex_name i.«module» ++ (32 ∷ (hex_name i.name ++ (32 ∷ (import_kind m i.kind ++ 10 ∷ [])))))
 
+-- the line of an export: its name, and what it is
 abbrev pub export_line : Module → Export → List ℕ
 export_line m e = codes "export " ++ (hex_name e.name ++ (32 ∷ (export_kind m e.kind ++ 10 ∷ [])))
 
