@@ -44,9 +44,9 @@ abbrev all_kinds : Module
 all_kinds = record empty_module {
   types = types;
   imports =
-      import (codes "e") [] (imported.Function 1) ∷ import [] (codes "\n") (imported.Table record { minimum = 1; maximum = None })
-      ∷ import (codes "e") (codes "m") (imported.Memory record { minimum = 0; maximum = Some 1 })
-      ∷ import (codes "e") (codes "g") (imported.Global record { value = I32; is_mutable = true }) ∷ [];
+      import (codes "e") [] (imported.Function 1) ∷ import [] (codes "\n") (imported.Table (record { minimum = 1; maximum = None }))
+      ∷ import (codes "e") (codes "m") (imported.Memory (record { minimum = 0; maximum = Some 1 }))
+      ∷ import (codes "e") (codes "g") (imported.Global (record { value = I32; is_mutable = true })) ∷ [];
   functions = 2 ∷ 0 ∷ 3 ∷ [];
   exports =
       export (codes "z") (exported.Memory 0) ∷ export (codes "proxy_on_done") (exported.Function 3)
