@@ -1,5 +1,5 @@
 -- What the report of a module prints, and how it ends.
-use Rattle.std.specs.Prelude.{◌≡◌, ℕ, List, [], Option}
+use Rattle.std.specs.Prelude.{ℕ, List, [], Option}
 use Rattle.gate_io.specs.Told.{Gains, GainsFront}
 use Rattle.config_files.specs.Loading.{Told}
 use Rattle.filter_report.specs.Reporting.{IsReport, IsNoReport}

@@ -1,7 +1,8 @@
 -- The types of functions by index, with one import more.
 use Rattle.std.proofs.Common.{◌≡◌, ℕ, ◌+◌, ◌<◌, List, [], ◌∷◌, ◌++◌, length, take, get_or, ap, sym, ◌∙◌, arith}
 use Rattle.std.specs.List.{cons_option}
-use Rattle.std.proofs.lemmas.List.{take_more, filter_map-append}
+use Rattle.std.proofs.lemmas.List.{take_more}
+use Rattle.std.proofs.lemmas.List.Elements.{filter_map-append}
 use Rattle.wasm_syntax.specs.declared.module.Import.{Import}
 use Rattle.wasm_syntax.specs.Validity.{imports_of, function_of}
 

@@ -44,9 +44,9 @@ abbrev all_kinds : Module
 all_kinds = record empty_module {
   types = types;
   imports =
-      import (codes "e") [] (imported.Function 1) ∷ import [] (codes "\n") (imported.Table record { minimum = 1; maximum = None })
-      ∷ import (codes "e") (codes "m") (imported.Memory record { minimum = 0; maximum = Some 1 })
-      ∷ import (codes "e") (codes "g") (imported.Global record { value = I32; is_mutable = true }) ∷ [];
+      import (codes "e") [] (imported.Function 1) ∷ import [] (codes "\n") (imported.Table (record { minimum = 1; maximum = None }))
+      ∷ import (codes "e") (codes "m") (imported.Memory (record { minimum = 0; maximum = Some 1 }))
+      ∷ import (codes "e") (codes "g") (imported.Global (record { value = I32; is_mutable = true })) ∷ [];
   functions = 2 ∷ 0 ∷ 3 ∷ [];
   exports =
       export (codes "z") (exported.Memory 0) ∷ export (codes "proxy_on_done") (exported.Function 3)
@@ -55,6 +55,7 @@ all_kinds = record empty_module {
       ∷ export (codes "i") (exported.Function 0) ∷ [];
 }
 
+-- what each of these modules is told as
 pub record ReportExamples : Type 0 where
   pub nothing : report_of empty_module ≡ codes "abi none\n"
   pub marked : report_of (one_function (codes "proxy_abi_version_0_2_1" ∷ []))

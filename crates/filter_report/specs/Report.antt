@@ -1,6 +1,6 @@
 -- THE REPORT of a module: its imports and its exports in their order, the callbacks among these in the order of their table, and the interface for
 -- which it was made.
-use Rattle.std.specs.Prelude.{ℕ, Bool, true, false, List, [], ◌∷◌, ◌++◌, map, Option, None, Some, is_some, slice_get, codes, if◌then◌else◌}
+use Rattle.std.specs.Prelude.{ℕ, Bool, List, [], ◌∷◌, ◌++◌, map, Option, None, Some, is_some, slice_get, codes, if◌then◌else◌}
 use Rattle.std.specs.List.{flat_map}
 use Rattle.hex.specs.Hex.{encode_lower}
 use Rattle.wasm_syntax.specs.declared.types.ValueType.{ValueType}
@@ -11,7 +11,7 @@ use Rattle.wasm_syntax.specs.declared.module.ImportKind.{ImportKind}
 use Rattle.wasm_syntax.specs.declared.module.ImportKind.TheVariants as imported
 use Rattle.wasm_syntax.specs.declared.module.Export.{Export}
 use Rattle.wasm_syntax.specs.declared.module.ExportKind.{ExportKind}
-use Rattle.wasm_syntax.specs.declared.module.ExportKind.TheVariants as exports
+use Rattle.wasm_syntax.specs.declared.module.ExportKind.TheVariants as kinds
 use Rattle.wasm_syntax.specs.declared.module.Module.{Module}
 use Rattle.vm_host.specs.declared.roles.Role.{Role}
 use Rattle.vm_host.specs.Fits.{exported, type_in, fits_function}
@@ -52,16 +52,18 @@ import_kind m (imported.Global of) = codes "global"
 
 -- what is exported
 abbrev pub export_kind : Module → ExportKind → List ℕ
-export_kind m (exports.Function x) = func_kind (type_in m x)
-export_kind m (exports.Table x) = codes "table"
-export_kind m (exports.Memory x) = codes "memory"
-export_kind m (exports.Global x) = codes "global"
+export_kind m (kinds.Function x) = func_kind (type_in m x)
+export_kind m (kinds.Table x) = codes "table"
+export_kind m (kinds.Memory x) = codes "memory"
+export_kind m (kinds.Global x) = codes "global"
 
 -- ---- lines
 
+-- the line of an import: the name of its module, its own, and what it is
 abbrev pub import_line : Module → Import → List ℕ
 import_line m i = codes "import " ++ (hex_name i.«module» ++ (32 ∷ (hex_name i.name ++ (32 ∷ (import_kind m i.kind ++ 10 ∷ [])))))
 
+-- the line of an export: its name, and what it is
 abbrev pub export_line : Module → Export → List ℕ
 export_line m e = codes "export " ++ (hex_name e.name ++ (32 ∷ (export_kind m e.kind ++ 10 ∷ [])))
 

@@ -1,5 +1,5 @@
 -- The report of the module that bytes are, or why there is none.
-use Rattle.std.specs.Prelude.{◌≡◌, ℕ, List, Result, Ok, Err}
+use Rattle.std.specs.Prelude.{◌≡◌, ℕ, List}
 use Rattle.wasm_syntax.specs.declared.module.Module.{Module}
 use Rattle.wasm_syntax.specs.Grammar.{Spells, FirstFault}
 use Rattle.wasm_syntax.specs.Validity.{IsValid}

@@ -82,6 +82,7 @@ abbrev pub is_generate : List (List ℕ) → Bool
 is_generate (a ∷ (n ∷ [])) = bytes_eq a (codes "generate") && is_between 0 4294967295 n
 is_generate _ = false
 
+-- `report MODULE`
 abbrev pub is_report : List (List ℕ) → Bool
 is_report (a ∷ (m ∷ [])) = bytes_eq a (codes "report") && is_plain m
 is_report _ = false
