@@ -19,9 +19,13 @@ use Rattle.vm_host.specs.declared.roles.Role.TheVariants as role
 use Rattle.vm_host.specs.Roles.{role_name, role_row, place_of, all_roles}
 use Rattle.vm_host.specs.Fits.{exported, role_results}
 
+-- the function of each of these roles, in their order
+abbrev pub functions_by : List Role → List Export → List (Option ℕ)
+functions_by roles exports = map (λ r. exported (role_name r) exports) roles
+
 -- the function of each role, in the order of the roles
 abbrev pub functions_for : List Export → List (Option ℕ)
-functions_for exports = map (λ r. exported (role_name r) exports) all_roles
+functions_for exports = functions_by all_roles exports
 
 abbrev pub function_for : List (Option ℕ) → Role → Option ℕ
 function_for functions r = slice_index_or functions (place_of r) None

@@ -11,7 +11,7 @@ ghost use Rattle.store_model.specs.Program.{Ends};
 ghost use Rattle.vm_host.specs.Fits.{fit_fault};
 ghost use Rattle.vm_host.specs.HostStates.{host_state};
 ghost use Rattle.vm_host.specs.Roles.{role_row as row_of};
-ghost use Rattle.vm_host.specs.RoleTypes.{functions_for, function_for, allocator_in, beginner_in, counts_in as counts_in_of, counts_at as counts_at_of, third_for, numbers_for, HasRole, TakesNothing};
+ghost use Rattle.vm_host.specs.RoleTypes.{functions_by, functions_for, function_for, allocator_in, beginner_in, counts_in as counts_in_of, counts_at as counts_at_of, third_for, numbers_for, HasRole, TakesNothing};
 ghost use Rattle.vm_host.specs.Targets.{targets_of, closings_of, closing_of as closing_for, import_target as target_for};
 ghost use Rattle.vm_host.specs.Vms.{ran, number_of, first_vm, running, running_if, beginning, calling_role, made_effective, IsFirst, IsOutline, IsVm};
 ghost use Rattle.vm_host.specs.Seeing.{guest_at};
@@ -208,6 +208,21 @@ fn closings(alloc: Global, targets: &[Target]) -> Result<Members<Closing>, OutOf
     Ok(closed)
 }
 
+/// The functions that are exported, by these roles.
+fn functions_by(
+    alloc: Global,
+    roles: &[Role],
+    exports: &[Export],
+) -> Result<Members<Option<u32>>, OutOfMemory>
+    ensures { IfOk result (λ fs. fs ≡ functions_by roles.now exports.now) }
+{
+    let mut found = Members::new(alloc);
+    for r in roles {
+        found.push(exported(role_name(*r), exports))?;
+    }
+    Ok(found)
+}
+
 /// The functions that are exported, by their roles.
 pub(crate) fn functions(
     alloc: Global,
@@ -215,11 +230,7 @@ pub(crate) fn functions(
 ) -> Result<Members<Option<u32>>, OutOfMemory>
     ensures { IfOk result (λ fs. fs ≡ functions_for exports.now) }
 {
-    let mut found = Members::new(alloc);
-    for r in &ROLES {
-        found.push(exported(role_name(*r), exports))?;
-    }
-    Ok(found)
+    functions_by(alloc, &ROLES, exports)
 }
 
 /// A number that was returned.
