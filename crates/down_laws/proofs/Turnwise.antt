@@ -37,8 +37,9 @@ use Rattle.worker_model.specs.State.{Standing, rules_of}
 use Rattle.worker_model.specs.Steps.{Both, both}
 use Rattle.worker_model.specs.Turn.{Outcome, outcome, turn, turn_by, facing, happening, agenda_of, starts, starts_of, start_of, roots_from, vms_in, is_of, ticks_in, ticks_of, ticks_due, deadlines, notice_of, notices_of, is_due_now, registers_at, at_moment, most_steps, comes_to, emptied}
 use Rattle.worker_model.proofs.Events.{by_event}
+use Rattle.worker_model.proofs.Resting.{whole_rests}
 use Rattle.line_laws.specs.Logs.{WriteLogs}
-use Rattle.line_laws.specs.Turns.{Done, Turns, new_room, sent_in}
+use Rattle.line_laws.specs.Turns.{Done, Turns, Worked, no_turn, a_turn, new_room, sent_in}
 use Rattle.line_laws.proofs.Happening.{found_fails}
 use Rattle.line_laws.proofs.Kept.{by_bool}
 use Rattle.line_laws.proofs.Looks.{is_n, look, line_in_is, equal_by}
@@ -279,16 +280,24 @@ connections_go_in_order H calling plan contexts host ts state event met end n lo
 
 -- ---- of a worker, and of the product
 
+-- whole turns come to rest, one after the other
+worked_rests : {H S : Type 0} (calling : Calling H) (performs : S → List Made → S → Type 0) (from to : Standing H) (sent : List Sent) → Worked calling performs from sent to → IsAtRest from.state.room → IsAtRest to.state.room
+worked_rests calling performs from to sent (no_turn f) before = before
+worked_rests calling performs from to sent (a_turn stop s t old new f mid l more w same later) before =
+    worked_rests calling performs mid l more later (whole_rests calling performs stop s t old new from mid w before)
+
 pub workers_go_in_order : (H S : Type 0) (performs : S → List Made → S → Type 0) → WorkersGoInOrder H S performs
-workers_go_in_order H S performs calling exported registering config who seed host sent stop s t old new from after n low logs worked at_rest w rested_so =
+workers_go_in_order H S performs calling exported registering config who seed host sent stop s t old new from after n low logs worked w =
     let made : Standing H = new_worker exported registering config who seed host in
     let r : Run calling made sent from = worked_run calling performs made from sent worked in
+    let at_rest : IsAtRest from.state.room = worked_rests calling performs made from sent worked refl in
     connections_go_in_order H calling (rules_of from.setting) (contexts_of config seed) host r.turns from.state w.event w.goes.met (outcome after.state w.sent) n low logs
-    (subst (λ (plan : Plan). Turns calling plan (both host (new_room (contexts_of config seed))) r.turns from.state) (sym (ap rules_of r.setting)) r.run) at_rest w.goes.reaches rested_so
+    (subst (λ (plan : Plan). Turns calling plan (both host (new_room (contexts_of config seed))) r.turns from.state) (sym (ap rules_of r.setting)) r.run)
+    at_rest w.goes.reaches (whole_rests calling performs stop s t old new from after w at_rest)
 
 pub connections_of_the_product : (S : Type 0) (performs : S → List Made → S → Type 0) → ConnectionsOfTheProductGoInOrder S performs
-connections_of_the_product S performs config who seed host sent stop s t old new from after n low worked at_rest w rested_so =
-    workers_go_in_order Vms S performs slots.calling slots.exported_in slots.registering_in config who seed host sent stop s t old new from after n low machines_write_logs worked at_rest w rested_so
+connections_of_the_product S performs config who seed host sent stop s t old new from after n low worked w =
+    workers_go_in_order Vms S performs slots.calling slots.exported_in slots.registering_in config who seed host sent stop s t old new from after n low machines_write_logs worked w
 
 -- what is in order, and what is not
 pub order_examples : OrderExamples

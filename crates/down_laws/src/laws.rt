@@ -44,7 +44,8 @@ pub fn connections_go_in_order<H>()
     ensures { ConnectionsGoInOrder H }
 {}
 
-/// So it is of a worker that was made of a configuration, as `Worker::new` makes it, by the whole turns that its code takes, over shared stores.
+/// So it is of a worker that was made of a configuration, as `Worker::new` makes it, by the whole turns that its code takes, over shared stores: each of them
+/// begins and ends at rest.
 pub fn workers_go_in_order<H, S: Shared>()
     ensures { WorkersGoInOrder H S S.performs }
 {}

@@ -14,4 +14,3 @@ pub mod Once
 pub mod Worked
 pub mod Servers
 pub mod Wholly
-pub mod Small

@@ -7,4 +7,3 @@ pub mod Cuts
 pub mod Examples
 pub mod Servers
 pub mod Wholly
-pub mod Small

@@ -14,7 +14,7 @@ use Rattle.worker_model.specs.Turned.{wanted, Heard, Whole}
 use Rattle.worker_model.specs.declared.types.Line.{Line}
 use Rattle.reading_laws.specs.Laws.{HasRead}
 use Rattle.reading_laws.specs.Limits.{IsShort}
-use Rattle.reading_laws.specs.Turns.{OneTurn, AreWhole}
+use Rattle.reading_laws.specs.Turns.{OneTurn}
 
 module _ {H S : Type 0} (calling : Calling H) (performs : S → List Made → S → Type 0) where
   -- one of them, as a turn: its event, what its course met, and what it came to
@@ -32,7 +32,7 @@ abbrev pub WorkersReadWhatCame : (H S : Type 0) → (performs : S → List Made 
 WorkersReadWhatCame H S performs =
     (calling : Calling H) (exported : H → ℕ → Callback → Bool) (registering : H → ℕ → Bool) (config : Config) (who : ℕ) (seed : List ℕ) (host : H)
     (turns : List (OneTurn H)) (to : Standing H) (n : ℕ) (l : Line)
-    → Worked calling performs (new_worker exported registering config who seed host) turns to → AreWhole turns
+    → Worked calling performs (new_worker exported registering config who seed host) turns to
     → line_in n to.state.room.lines ≡ Some l → HasRead n turns l.requests
 
 module _ {H S : Type 0} (calling : Calling H) (performs : S → List Made → S → Type 0) where
@@ -48,5 +48,5 @@ abbrev pub WorkersLeaveLittleUnread : (H S : Type 0) → (performs : S → List 
 WorkersLeaveLittleUnread H S performs =
     (calling : Calling H) (exported : H → ℕ → Callback → Bool) (registering : H → ℕ → Bool) (config : Config) (who : ℕ) (seed : List ℕ) (host : H)
     (turns : List (OneTurn H)) (to : Standing H) (l : Line)
-    → Obeyed calling performs (new_worker exported registering config who seed host) turns to → AreWhole turns
+    → Obeyed calling performs (new_worker exported registering config who seed host) turns to
     → Contains to.state.room.lines l → IsShort (Some l.requests) × IsShort (exchange_reading l.exchange)

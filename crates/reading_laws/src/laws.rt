@@ -5,7 +5,6 @@ ghost use Rattle.reading_laws.specs.Examples.{ReadingExamples};
 ghost use Rattle.reading_laws.specs.Laws.{LinesReadWhatCame, NumbersReadOnce};
 ghost use Rattle.reading_laws.specs.Limits.{LinesKeepLimits, UnreadStaysShort};
 ghost use Rattle.reading_laws.specs.Servers.{ServersReadSince, ServersReadWhatCame};
-ghost use Rattle.reading_laws.specs.Small.{SmallTurnsAreWhole, SmallTurnsReadWhatCame, SmallTurnsLeaveLittleUnread};
 
 use store_model::Shared;
 
@@ -18,7 +17,8 @@ pub fn lines_read_what_came<H>()
     ensures { LinesReadWhatCame H }
 {}
 
-/// So it is of a worker that was made of a configuration, as `Worker::new` makes it, by the whole turns that its code takes, over shared stores.
+/// So it is of a worker that was made of a configuration, as `Worker::new` makes it, by the whole turns that its code takes, over shared stores: each of them
+/// comes to rest.
 pub fn workers_read_what_came<H, S: Shared>()
     ensures { WorkersReadWhatCame H S S.performs }
 {}
@@ -70,22 +70,6 @@ pub fn unread_stays_short<H>()
 /// world over sockets does: `Worker::turn` says of which event each turn was, and that it was heard so (`heard`).
 pub fn workers_leave_little_unread<H, S: Shared>()
     ensures { WorkersLeaveLittleUnread H S S.performs }
-{}
-
-/// Turns of a new worker that each begin with at most 2^56 things (bytes that are unread or come, exchanges, stages, items that wait, contexts, VMs and
-/// plug-ins) each come to rest, whatever its machines do.
-pub fn small_turns_are_whole<H>()
-    ensures { SmallTurnsAreWhole H }
-{}
-
-/// So by such turns that the code of a worker takes, each line's client is read exactly as its events spell, and that each came to rest is no premise.
-pub fn small_turns_read_what_came<H, S: Shared>()
-    ensures { SmallTurnsReadWhatCame H S S.performs }
-{}
-
-/// And where its world keeps to what it is asked for, no more than 81,919 bytes are unread of any side of any line behind each of them.
-pub fn small_turns_leave_little_unread<H, S: Shared>()
-    ensures { SmallTurnsLeaveLittleUnread H S S.performs }
 {}
 
 /// Two requests that come at once, or cut at any place of the second: their texts, joined, are read of the line, and two workers hand on the same, or a front

@@ -36,7 +36,8 @@ use Rattle.rest_laws.specs.Moves.{for_each, moves_of, spare, spare_of, chains_le
 use Rattle.rest_laws.specs.Sizes.{stages_size, reader_size, open_size, lines_size, vms_size, OneTurn, first_state, turn_start, start_size, IsReady, Follow, WorkersComeToRest, WholeTurnsComeToRest}
 use Rattle.rest_laws.proofs.Settling.{Settled, rest_is_rest}
 use Rattle.rest_laws.proofs.Tests.{of_if}
-use Rattle.rest_laws.proofs.Turns.{turn_rests, fewer_steps, setting_fits}
+use Rattle.rest_laws.proofs.Turns.{turn_rests, turns_come_to_rest, fewer_steps, setting_fits}
+use Rattle.worker_model.proofs.Resting.{whole_rests}
 
 -- ---- bytes, chains, exchanges and lines
 
@@ -271,6 +272,8 @@ workers_come_to_rest H = record {
 pub whole_turns_come_to_rest : {S : Type 0} (H : Type 0) (performs : S → List Made → S → Type 0) → WholeTurnsComeToRest H performs
 whole_turns_come_to_rest H performs = record {
   made = λ exported registering config who seed host. record { fits = tt; rested = refl };
-  whole = λ calling stop s t old new from to turn ready few.
-      turn_ready calling from.setting from.state turn.event turn.goes.met (outcome to.state turn.sent) ready few turn.goes.reaches;
+  whole = λ calling stop s t old new from to turn ready. record {
+    fits = (turns_come_to_rest H).fits calling (rules_of from.setting) 16 from.state turn.event turn.goes.met (outcome to.state turn.sent) (setting_fits from.setting) ready.fits turn.goes.reaches;
+    rested = whole_rests calling performs stop s t old new from to turn ready.rested;
+  };
 }

@@ -107,4 +107,4 @@ pub record WholeTurnsComeToRest {S : Type 0} (H : Type 0) (performs : S → List
   pub made : (exported : H → ℕ → Callback → Bool) (registering : H → ℕ → Bool) (config : Config) (who : ℕ) (seed : List ℕ) (host : H)
       → IsReady (new_worker exported registering config who seed host).state
   pub whole : (calling : Calling H) (stop : Bool) (s t : S) (old new : Option (List Passed)) (from to : Standing H)
-      → (turn : Whole calling performs stop s old from to t new) → IsReady from.state → start_size from.state turn.event ≤ 2 ^ 56 → IsReady to.state
+      → Whole calling performs stop s old from to t new → IsReady from.state → IsReady to.state

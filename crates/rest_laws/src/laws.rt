@@ -56,7 +56,7 @@ pub fn workers_come_to_rest<H>()
     ensures { WorkersComeToRest H }
 {}
 
-/// A worker that its code made is at rest, and so it is behind each whole turn of the code that begins with at most 2^56 things.
+/// A worker that its code made is at rest, and so it is after each whole turn of the code.
 pub fn whole_turns_come_to_rest<H, S: Shared>()
     ensures { WholeTurnsComeToRest H S.performs }
 {}

@@ -3,3 +3,4 @@ pub mod Alone
 pub mod TurnLaws
 pub mod Events
 pub mod Examples
+pub mod Resting
