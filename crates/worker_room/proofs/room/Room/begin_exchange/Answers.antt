@@ -9,7 +9,7 @@ use Rattle.worker_room.proofs.room.Room.begin_exchange.Goals as goal
 
 pub returns : goal.returns
 returns c =
-    let room : Room = record { lines = c.self.inside.lines; hub = c.self.inside.hub; reading = c.self.inside.reading; jobs = c.self.inside.jobs; agenda = c.self.inside.agenda; waits = c.self.inside.waits; dead = c.self.inside.dead; is_begun = c.self.inside.is_begun } in
+    let room : Room = record { lines = c.self.inside.lines; hub = c.self.inside.hub; reading = c.self.inside.reading; jobs = c.self.inside.jobs; agenda = c.self.inside.agenda; waits = c.self.inside.waits; dead = c.self.inside.dead; is_begun = c.self.inside.is_begun; calls = c.self.inside.calls; tcp = c.self.inside.tcp } in
     let x_is : c.in_ok-x.x ≡ exchange_for (plan_of c.args.rules.now) (free_place room.hub.contexts) room.hub.moment room.dead (seen_head c.args.head)
     (route_in (plan_of c.args.rules.now).routes (path_of (seen_head c.args.head).fields))
     = (rw c.as_slice.ensures at c.in_ok-x.ensures)
