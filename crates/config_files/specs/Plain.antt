@@ -33,6 +33,7 @@ plain_over paths = record {
   vms = vms_over 0 paths;
   plugins = first_n plain_plugin (length paths);
   routes = plain_routes (length paths);
+  tcp = [];
 }
 
 -- THE PLAIN CONFIGURATION over the modules of these paths, none of which is held yet

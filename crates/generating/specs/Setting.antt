@@ -23,6 +23,7 @@ generator_config = record {
   vms = filter_vm ∷ [];
   plugins = plain_plugin 0 ∷ [];
   routes = plain_routes 1;
+  tcp = [];
 }
 
 -- the world of a worker gives its events, takes each piece whole, and fails no call; its seed is of zeros
