@@ -1,6 +1,5 @@
 -- Which lines the other workers were offered.
-use Rattle.std.specs.Prelude.{◌≡◌, ◌⊎◌, ℕ, ◌+◌, ◌≤◌, List, [], ◌∷◌, ◌++◌, length}
-use Rattle.handoff.specs.Hands.{Rights}
+use Rattle.std.specs.Prelude.{◌≡◌, ℕ, ◌+◌, ◌≤◌, List, [], ◌∷◌, length}
 use Rattle.live_sockets.specs.Numbers.{home_of}
 use Rattle.live_sockets.specs.declared.origin.Neighbor.{Neighbor}
 
@@ -22,12 +21,3 @@ AreHome last others = AreHomeFrom last (length others) 1 others
 abbrev pub AreUnused : List Neighbor → Type 0
 AreUnused [] = Unit {0}
 AreUnused (n ∷ ns) = (n.giver.lines ≡ []) × AreUnused ns
-
--- a line was offered once: its queue took it, or it came back
-abbrev pub OffersOnce : Rights → ℕ → Rights → Type 0
-OffersOnce old number new = ((new.lines ≡ old.lines ++ number ∷ []) × (new.refusals ≡ old.refusals)) ⊎ ((new.lines ≡ old.lines) × (new.refusals ≡ old.refusals + 1))
-
--- how many lines were offered to the other workers, with those that came back
-abbrev pub offers : List Neighbor → ℕ
-offers [] = 0
-offers (n ∷ ns) = length n.giver.lines + n.giver.refusals + offers ns
