@@ -9,7 +9,7 @@ use Rattle.store_model.specs.Runs.{runs_none, runs_bind}
 use Rattle.abi_types.specs.GuestAt.{GuestAt}
 use Rattle.contexts.specs.declared.parts.Contexts.{Contexts}
 use Rattle.contexts.specs.declared.parts.Context.{Context}
-use Rattle.contexts.specs.declared.parts.Exchange.{Exchange}
+use Rattle.contexts.specs.declared.parts.ExchangeEntry.{ExchangeEntry}
 use Rattle.contexts.specs.Reached.{Seen, no_changes, put, vm_in, context_in, no_vm, exchanges_by, exchanges_after, contexts_after}
 use Rattle.abi_model.specs.Asking.{AskingEnds}
 use Rattle.abi_model.specs.Calls.{Called, called, called_trapped, called_spent, Does, CallEnds, Ends}
@@ -26,11 +26,11 @@ same_contexts : (e : ℕ) (o : Option Context) (cs : List Context) → contexts_
 same_contexts e None cs = refl
 same_contexts e (Some c) cs = refl
 
-same_exchange : (n : Option ℕ) (xs : List (Option Exchange)) → exchanges_by no_changes n xs ≡ xs
+same_exchange : (n : Option ℕ) (xs : List (Option ExchangeEntry)) → exchanges_by no_changes n xs ≡ xs
 same_exchange None xs = refl
 same_exchange (Some n) xs = refl
 
-same_exchanges : (o : Option Context) (xs : List (Option Exchange)) → exchanges_after no_changes o xs ≡ xs
+same_exchanges : (o : Option Context) (xs : List (Option ExchangeEntry)) → exchanges_after no_changes o xs ≡ xs
 same_exchanges None xs = refl
 same_exchanges (Some c) xs = same_exchange c.exchange xs
 

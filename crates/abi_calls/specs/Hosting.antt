@@ -31,7 +31,7 @@ use Rattle.abi_services.specs.Metrics.{own_define_metric, own_increment_metric, 
 use Rattle.abi_services.specs.Wasi.{own_clock_time_get, own_random_get, own_nothing, own_no_sizes}
 use Rattle.abi_services.specs.Files.{fd_writes}
 
--- how it ends for the guest, what it changes of the contexts, and the lines that it puts behind the log
+-- how it ends for the guest, what it changes of the contexts, and the lines that it puts after the log
 pub record Hosted : Type 0 where
   pub called : Called
   pub changes : Changes

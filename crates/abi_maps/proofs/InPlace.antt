@@ -9,7 +9,7 @@ use Rattle.header_maps.specs.Faults.{Fault, bad_name, bad_value, too_many, fault
 use Rattle.header_maps.specs.Headers.{Headers}
 use Rattle.contexts.specs.declared.parts.Maps.{Maps}
 use Rattle.contexts.specs.declared.parts.ExchangeView.{ExchangeView}
-use Rattle.contexts.specs.declared.parts.Exchange.{Exchange}
+use Rattle.contexts.specs.declared.parts.ExchangeEntry.{ExchangeEntry}
 use Rattle.contexts.specs.declared.parts.Context.{Context}
 use Rattle.contexts.specs.declared.parts.VmContexts.{VmContexts}
 use Rattle.contexts.specs.declared.parts.Contexts.{Contexts}
@@ -21,16 +21,16 @@ use Rattle.abi_maps.specs.Maps.{map_at, map_in, there, with_map, without_map, Is
 
 -- ---- an exchange whose view is put in as it was, and contexts of which nothing is changed
 
-view_back : (x : Option Exchange) (v : ExchangeView) → option_map (λ (y : Exchange). y.view) x ≡ Some v → option_map (with_view v) x ≡ x
+view_back : (x : Option ExchangeEntry) (v : ExchangeView) → option_map (λ (y : ExchangeEntry). y.view) x ≡ Some v → option_map (with_view v) x ≡ x
 view_back None v is = absurd (none_is is)
 view_back (Some e) v is = λ j. Some (record e { view = from_some (sym is) j })
 
-same_view : (n : ℕ) (v : ExchangeView) (xs : List (Option Exchange)) → view_at xs n ≡ Some v → slice_set xs n (option_map (with_view v) (exchange_at xs n)) ≡ xs
+same_view : (n : ℕ) (v : ExchangeView) (xs : List (Option ExchangeEntry)) → view_at xs n ≡ Some v → slice_set xs n (option_map (with_view v) (exchange_at xs n)) ≡ xs
 same_view n v [] is = absurd (none_is is)
 same_view zero v (x ∷ xs) is = ap (λ y. y ∷ xs) (view_back x v is)
 same_view (suc n) v (x ∷ xs) is = ap (λ ys. x ∷ ys) (same_view n v xs is)
 
-place_back : (m : Option ℕ) (xs : List (Option Exchange)) (v : ExchangeView) → view_in xs m ≡ Some v → exchanges_by (record no_changes { exchange = Some v }) m xs ≡ xs
+place_back : (m : Option ℕ) (xs : List (Option ExchangeEntry)) (v : ExchangeView) → view_in xs m ≡ Some v → exchanges_by (record no_changes { exchange = Some v }) m xs ≡ xs
 place_back None xs v is = refl
 place_back (Some n) xs v is = same_view n v xs is
 
@@ -56,11 +56,11 @@ none_after : (e : ℕ) (o : Option Context) (cs : List Context) → contexts_aft
 none_after e None cs = refl
 none_after e (Some c) cs = refl
 
-none_by : (m : Option ℕ) (xs : List (Option Exchange)) → exchanges_by no_changes m xs ≡ xs
+none_by : (m : Option ℕ) (xs : List (Option ExchangeEntry)) → exchanges_by no_changes m xs ≡ xs
 none_by None xs = refl
 none_by (Some n) xs = refl
 
-none_changed : (o : Option Context) (xs : List (Option Exchange)) → exchanges_after no_changes o xs ≡ xs
+none_changed : (o : Option Context) (xs : List (Option ExchangeEntry)) → exchanges_after no_changes o xs ≡ xs
 none_changed None xs = refl
 none_changed (Some c) xs = none_by c.exchange xs
 

@@ -5,7 +5,7 @@ use Rattle.body_buffers.specs.Bodies.{body_limit, spliced, part_of, IsOver}
 use Rattle.contexts.specs.declared.parts.Contexts.{Contexts}
 use Rattle.contexts.specs.declared.parts.Own.{Own as OwnParts}
 use Rattle.contexts.specs.declared.parts.CallAnswer.{CallAnswer}
-use Rattle.contexts.specs.declared.parts.Stage.{Stage}
+use Rattle.contexts.specs.declared.parts.StageBuffer.{StageBuffer}
 use Rattle.contexts.specs.declared.parts.Plugin.{Plugin}
 use Rattle.contexts.specs.Reached.{Seen, Reach, no_changes, put, seen}
 use Rattle.contexts.specs.Stages.{is_there}
@@ -15,7 +15,7 @@ use Rattle.abi_model.specs.declared.ends.Outcome.{Outcome}
 use Rattle.abi_model.specs.declared.ends.Gives.TheVariants.{Bytes, Numbers}
 
 -- a stage's buffer, there while its body callback runs or it holds bytes
-abbrev pub staged : Stage → Option (List ℕ)
+abbrev pub staged : StageBuffer → Option (List ℕ)
 staged t = if is_there t then Some t.held else None
 
 abbrev pub request_bytes : Option OwnParts → Option (List ℕ)
@@ -97,7 +97,7 @@ getting_status n s = if nat_lt 8 n then only 2 else status_in (has_end_at n s.re
 
 -- ---- writing
 
-abbrev pub with_held : List ℕ → Stage → Stage
+abbrev pub with_held : List ℕ → StageBuffer → StageBuffer
 with_held bytes t = record t { held = bytes }
 
 abbrev pub with_buffer : ℕ → List ℕ → OwnParts → OwnParts

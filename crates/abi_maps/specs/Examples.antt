@@ -4,8 +4,8 @@ use Rattle.header_maps.specs.Faults.{bad_name, bad_value, too_many}
 use Rattle.header_maps.specs.Headers.{Headers}
 use Rattle.header_maps.specs.declared.kind.ListKind.TheVariants.{Plain}
 use Rattle.contexts.specs.declared.parts.ExchangeView.{ExchangeView}
-use Rattle.contexts.specs.declared.parts.Stage.{Stage}
-use Rattle.contexts.specs.declared.parts.What.TheVariants as what
+use Rattle.contexts.specs.declared.parts.StageBuffer.{StageBuffer}
+use Rattle.contexts.specs.declared.parts.EffectKind.TheVariants as what
 use Rattle.contexts.specs.Reached.{Seen}
 use Rattle.abi_model.specs.Calls.{answers, only, given}
 use Rattle.abi_model.specs.declared.ends.Gives.TheVariants.{Bytes, Numbers}
@@ -13,7 +13,7 @@ use Rattle.abi_maps.specs.Buffers.{staged, part_read, getting_bytes, status_in, 
 use Rattle.abi_maps.specs.Maps.{map_at, map_for, value_as, unless, set_from}
 use Rattle.abi_maps.specs.Streams.{on_stream, continuing, closing, answering, answering_in, fields_from, fields_by, is_too_late}
 
-abbrev pub idle : Stage
+abbrev pub idle : StageBuffer
 idle = record { held = []; is_asked = false; has_end = false }
 
 pub record BufferExamples : Type 0 where

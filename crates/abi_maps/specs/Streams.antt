@@ -8,8 +8,8 @@ use Rattle.header_maps.specs.Pairs.{Pair}
 use Rattle.header_maps.specs.declared.kind.ListKind.TheVariants.{Plain}
 use Rattle.pair_codec.specs.Reading.{pairs_in}
 use Rattle.contexts.specs.declared.parts.ExchangeView.{ExchangeView}
-use Rattle.contexts.specs.declared.parts.What.{What}
-use Rattle.contexts.specs.declared.parts.What.TheVariants as what
+use Rattle.contexts.specs.declared.parts.EffectKind.{EffectKind}
+use Rattle.contexts.specs.declared.parts.EffectKind.TheVariants as what
 use Rattle.contexts.specs.declared.parts.Contexts.{Contexts}
 use Rattle.contexts.specs.Reached.{Seen, Changes, no_changes, seen, put}
 use Rattle.abi_model.specs.Calls.{Made, Own, answers, changing, reads, only}
@@ -18,10 +18,10 @@ use Rattle.abi_model.specs.declared.ends.Outcome.{Outcome}
 use Rattle.abi_maps.specs.Maps.{unless}
 
 -- one more effect of the effective context
-abbrev pub effect_of : What → Seen → Changes
+abbrev pub effect_of : EffectKind → Seen → Changes
 effect_of w s = record no_changes { effects = record { context = s.common.effective; what = w } ∷ [] }
 
-abbrev pub on_stream : ℕ → What → Seen → (is_stream : Bool) → Made
+abbrev pub on_stream : ℕ → EffectKind → Seen → (is_stream : Bool) → Made
 on_stream n w s false = answers 2
 on_stream n w s true = if nat_lt 1 n then answers 12 else changing (effect_of w s)
 

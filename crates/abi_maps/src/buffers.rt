@@ -16,7 +16,7 @@ use abi_model::{
 };
 use abi_types::Guest;
 use body_buffers::{Body, BodyEnd};
-use contexts::{Contexts, Stage};
+use contexts::{Contexts, StageBuffer};
 use gate_base::{Octets, OutOfMemory, VmNo};
 use std::alloc::{AllocError, Global};
 
@@ -24,7 +24,7 @@ use std::alloc::{AllocError, Global};
 const BODY_LIMIT: usize = 1_048_576;
 
 /// The bytes of a stage, where its buffer is there.
-fn staged(stage: &Stage) -> Option<&Body>
+fn staged(stage: &StageBuffer) -> Option<&Body>
     ensures { option_copied result ≡ staged_of stage.now }
 {
     if stage.is_there() {

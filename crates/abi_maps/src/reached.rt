@@ -1,6 +1,6 @@
 // What of the effective context the calls here read.
 ghost use Rattle.std.specs.Prelude.{◌≡◌, ◌≤◌, ◌<◌, ◌==◌, length, option_copied, slice_get};
-ghost use Rattle.contexts.specs.Keyed.{found};
+ghost use Rattle.contexts.specs.Keyed.{first_of_number};
 ghost use Rattle.contexts.specs.Reached.{seen, vm_in, context_no};
 
 use contexts::{Context, Contexts, Plugin};
@@ -17,7 +17,7 @@ pub(crate) fn vm_configuration(contexts: &Contexts, vm: VmNo) -> &[u8]
 
 /// The context of an id.
 fn context_at(contexts: &[Context], id: ContextId) -> Option<&Context>
-    ensures { option_copied result ≡ found context_no id contexts.now }
+    ensures { option_copied result ≡ first_of_number context_no id contexts.now }
 {
     contexts.iter().find(|c| c.id == id)
 }

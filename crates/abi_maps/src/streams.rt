@@ -13,7 +13,7 @@ use abi_model::{
     HostCall, HostEnd, Inputs, LocalCall, Outcome, Param, answer, call_row, local_call,
 };
 use abi_types::Guest;
-use contexts::{Contexts, ExchangeView, What};
+use contexts::{Contexts, EffectKind, ExchangeView};
 use gate_base::{Octets, OutOfMemory, VmNo};
 use header_maps::HeaderList;
 use std::alloc::Global;
@@ -69,7 +69,7 @@ fn continue_stream(contexts: &mut Contexts, vm: VmNo, stream: u64) -> Result<Out
     }
     contexts.push_effect(
         vm,
-        What::Continue {
+        EffectKind::Continue {
             is_response: stream == 1,
         },
     )?;
@@ -90,7 +90,7 @@ fn close_stream(contexts: &mut Contexts, vm: VmNo, stream: u64) -> Result<Outcom
     if stream > 1 {
         return Ok(answer(12));
     }
-    contexts.push_effect(vm, What::Close)?;
+    contexts.push_effect(vm, EffectKind::Close)?;
     Ok(answer(0))
 }
 
@@ -125,7 +125,7 @@ fn answer_with(
 {
     contexts.push_effect(
         vm,
-        What::Answer {
+        EffectKind::Answer {
             status,
             fields,
             body,

@@ -4,7 +4,7 @@ use Rattle.store_model.specs.Made.{Made}
 use Rattle.store_model.specs.Program.{Program, done, bind, Runs}
 use Rattle.abi_types.specs.GuestAt.{GuestAt}
 use Rattle.contexts.specs.Reached.{Seen}
-use Rattle.abi_model.specs.Rows.{all_inside, taken}
+use Rattle.abi_model.specs.Rows.{all_inside, input_bytes}
 use Rattle.abi_model.specs.Calls.{Called, called, called_trapped, called_spent, ending}
 use Rattle.abi_model.specs.declared.table.Param.{Param}
 use Rattle.abi_model.specs.declared.opening.Inputs.{Inputs}
@@ -20,7 +20,7 @@ Asking = ℕ → List ℕ → Inputs → Seen → Program Outcome
 abbrev pub asks : List Param → Asking → (vm : ℕ) → List ℕ → GuestAt → Seen → Program Called
 asks row own vm args g s =
     if all_inside g.config.store.memory row 0 args
-    then bind (own vm args (taken g.config.store.memory row args) s) (λ o. done (ending 6 row args g o))
+    then bind (own vm args (input_bytes g.config.store.memory row args) s) (λ o. done (ending 6 row args g o))
     else done (called 6 g)
 
 -- it made its calls and asks and ended, or it was cut short where memory ran out

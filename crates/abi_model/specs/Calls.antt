@@ -7,7 +7,7 @@ use Rattle.abi_memory.specs.Giving.{Gave, gave, refused, no_allocator, gave_trap
 use Rattle.abi_memory.specs.declared.give.Place.{Place}
 use Rattle.contexts.specs.declared.parts.Contexts.{Contexts}
 use Rattle.contexts.specs.Reached.{Seen, Changes, no_changes, put}
-use Rattle.abi_model.specs.Rows.{all_inside, taken, places_of}
+use Rattle.abi_model.specs.Rows.{all_inside, input_bytes, places_of}
 use Rattle.abi_model.specs.declared.table.Param.{Param}
 use Rattle.abi_model.specs.declared.opening.Inputs.{Inputs}
 use Rattle.abi_model.specs.declared.ends.Gives.{Gives}
@@ -129,7 +129,7 @@ does_made outside row args g m = record { called = ending outside row args g (to
 abbrev pub does : (outside : ℕ) → List Param → Own → List ℕ → GuestAt → Seen → Does
 does outside row own args g s =
     if all_inside g.config.store.memory row 0 args
-    then does_made outside row args g (own args (taken g.config.store.memory row args) s)
+    then does_made outside row args g (own args (input_bytes g.config.store.memory row args) s)
     else (record { called = called outside g; changes = no_changes })
 
 -- where memory ran out nothing was done to them

@@ -4,7 +4,7 @@ use Rattle.abi_memory.specs.Giving.{gave, refused, no_allocator}
 use Rattle.abi_types.specs.GuestAt.{GuestAt}
 use Rattle.contexts.specs.Reached.{Seen, no_changes}
 use Rattle.abi_model.specs.Calls.{Own, called, does, finishing}
-use Rattle.abi_model.specs.Rows.{all_inside, taken, places_of}
+use Rattle.abi_model.specs.Rows.{all_inside, input_bytes, places_of}
 use Rattle.abi_model.specs.Table.{row_of, call_named, wasi_call_named}
 use Rattle.abi_model.specs.declared.table.Param.{Param}
 use Rattle.abi_model.specs.declared.table.HostCall.TheVariants as call
@@ -18,7 +18,7 @@ RangesComeFirst = (outside : ℕ) (row : List Param) (own : Own) (args : List �
 -- what a call changes stands, however handing over ends
 abbrev pub EffectStands : Type 0
 EffectStands = (outside : ℕ) (row : List Param) (own : Own) (args : List ℕ) (g : GuestAt) (s : Seen) → all_inside g.config.store.memory row 0 args ≡ true
-    → (does outside row own args g s).changes ≡ (own args (taken g.config.store.memory row args) s).changes
+    → (does outside row own args g s).changes ≡ (own args (input_bytes g.config.store.memory row args) s).changes
 
 -- rows over memories that are written out
 pub record RowExamples : Type 0 where
@@ -29,9 +29,9 @@ pub record RowExamples : Type 0 where
   pub last_three_bytes : all_inside (replicate 8 0) (row_of call.GetLogLevel) 0 (5 ∷ []) ≡ false
   pub wide_place : all_inside (replicate 8 0) (row_of call.GetMetric) 0 (1 ∷ 0 ∷ []) ≡ true
   pub wide_place_past : all_inside (replicate 8 0) (row_of call.GetMetric) 0 (1 ∷ 1 ∷ []) ≡ false
-  pub key : (taken (codes "abcdef") (row_of call.SetSharedData) (1 ∷ 2 ∷ 3 ∷ 1 ∷ 7 ∷ [])).first ≡ codes "bc"
-  pub value : (taken (codes "abcdef") (row_of call.SetSharedData) (1 ∷ 2 ∷ 3 ∷ 1 ∷ 7 ∷ [])).second ≡ codes "d"
-  pub no_third : (taken (codes "abcdef") (row_of call.SetSharedData) (1 ∷ 2 ∷ 3 ∷ 1 ∷ 7 ∷ [])).third ≡ []
+  pub key : (input_bytes (codes "abcdef") (row_of call.SetSharedData) (1 ∷ 2 ∷ 3 ∷ 1 ∷ 7 ∷ [])).first ≡ codes "bc"
+  pub value : (input_bytes (codes "abcdef") (row_of call.SetSharedData) (1 ∷ 2 ∷ 3 ∷ 1 ∷ 7 ∷ [])).second ≡ codes "d"
+  pub no_third : (input_bytes (codes "abcdef") (row_of call.SetSharedData) (1 ∷ 2 ∷ 3 ∷ 1 ∷ 7 ∷ [])).third ≡ []
   pub places : places_of (row_of call.GetSharedData) (0 ∷ 1 ∷ 8 ∷ 12 ∷ 16 ∷ []) ≡ record { first = 8; second = 12; third = 16 }
   pub named : call_named (codes "proxy_log") ≡ Some call.Log
   pub named_last : call_named (codes "proxy_get_metric") ≡ Some call.GetMetric

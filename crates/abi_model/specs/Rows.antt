@@ -47,8 +47,8 @@ bytes_in m None = []
 bytes_in m (Some r) = bytes_at m r.0 r.1
 
 -- the bytes of the ranges
-abbrev pub taken : List ℕ → List Param → List ℕ → Inputs
-taken m row args = record {
+abbrev pub input_bytes : List ℕ → List Param → List ℕ → Inputs
+input_bytes m row args = record {
   first = bytes_in m (slice_get (ranges row 0 args) 0);
   second = bytes_in m (slice_get (ranges row 0 args) 1);
   third = bytes_in m (slice_get (ranges row 0 args) 2);

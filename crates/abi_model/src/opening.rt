@@ -1,6 +1,6 @@
 // What comes before a call: its ranges and result places, and the bytes that it takes.
 ghost use Rattle.std.specs.Prelude.{◌≡◌, ◌≤◌, ◌<◌, ◌^◌, ◌+◌, ◌*◌, true, length, IfOk, IfSome, slice_get, slice_index_or};
-ghost use Rattle.abi_model.specs.Rows.{all_inside, ranges, places, bytes_in, taken, places_of, AreInputs};
+ghost use Rattle.abi_model.specs.Rows.{all_inside, ranges, places, bytes_in, input_bytes, places_of, AreInputs};
 ghost use Rattle.abi_model.specs.Table.{arg, Are};
 
 use crate::ends::Places;
@@ -152,7 +152,7 @@ pub(crate) fn take_inputs<G: Guest>(
     requires few { length row.now ≤ 16 }
     requires args { Are row.now 0 args.now }
     requires inside { all_inside (G.at guest.now).config.store.memory row.now 0 args.now ≡ true }
-    ensures taken { IfOk result (λ i. i ≡ taken (G.at guest.now).config.store.memory row.now args.now) }
+    ensures taken { IfOk result (λ i. i ≡ input_bytes (G.at guest.now).config.store.memory row.now args.now) }
     ensures short { IfOk result AreInputs }
 {
     let first = take_range(alloc, guest, row, args, 0)?;

@@ -18,7 +18,7 @@ use gate_base::{OutOfMemory, VmNo};
 use gate_io::SentList;
 use std::alloc::Global;
 
-/// A host call that may put lines behind the log, and changes no contexts.
+/// A host call that may put lines after the log, and changes no contexts.
 pub trait WritingCall {
     /// What its parameters are for.
     ghost params: { Self → List Parameter };

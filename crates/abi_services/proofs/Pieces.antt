@@ -11,7 +11,7 @@ pub record AreJudged (m : List ℕ) (at count total k : ℕ) : Type 0 where
   pub size : length (pieces m at count) ≡ total + length (pieces m (at + 8 * k) (count - k))
   pub bound : total ≤ k * 16777216
 
--- k of the pieces were put behind a text
+-- k of the pieces were put after a text
 pub record AreJoined (m : List ℕ) (at count : ℕ) (first text : List ℕ) (k : ℕ) : Type 0 where
   pub joined : first ++ pieces m at count ≡ text ++ pieces m (at + 8 * k) (count - k)
 

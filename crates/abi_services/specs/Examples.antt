@@ -56,7 +56,7 @@ pub record StoreExamples : Type 0 where
   pub counter_falls : was_added total.BadKind ≡ only 2
   pub unknown : total_in total.Unknown ≡ only 1
 
--- one entry, and its piece behind it
+-- one entry, and its piece after it
 abbrev pub one_piece : (len : ℕ) → List ℕ
 one_piece len = 8 ∷ 0 ∷ 0 ∷ 0 ∷ len ∷ 0 ∷ 0 ∷ 0 ∷ codes "hi"
 

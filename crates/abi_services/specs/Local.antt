@@ -2,7 +2,7 @@
 use Rattle.std.specs.Prelude.{ℕ, suc, zero, ◌+◌, ◌-◌, ◌*◌, ◌^◌, ◌&&◌, min, Option, None, Some, if◌then◌else◌}
 use Rattle.contexts.specs.declared.parts.Tick.{Tick}
 use Rattle.contexts.specs.Creating.{itself}
-use Rattle.contexts.specs.Keyed.{removed}
+use Rattle.contexts.specs.Keyed.{without_first}
 use Rattle.contexts.specs.Reached.{Seen, no_changes, contains}
 use Rattle.abi_model.specs.Calls.{Made, Own, answers, changing, reads, given}
 use Rattle.abi_model.specs.Table.{arg}
@@ -46,7 +46,7 @@ own_set_effective_context args inputs s = setting_effective (arg args 0) s
 abbrev pub done_of : (e : ℕ) → Seen → Made
 done_of e s =
     if contains e s.common.ids && contains e s.common.waiting
-    then changing (record no_changes { waiting = Some (removed itself e s.common.waiting) }) else answers 1
+    then changing (record no_changes { waiting = Some (without_first itself e s.common.waiting) }) else answers 1
 
 abbrev pub own_done : Own
 own_done args inputs s = done_of s.common.effective s

@@ -36,7 +36,7 @@ pub(crate) fn level_at(number: u64) -> Level
     }
 }
 
-/// Puts a line behind the log, where it is not below the least level.
+/// Puts a line after the log, where it is not below the least level.
 fn log_line(
     contexts: &Contexts,
     vm: VmNo,

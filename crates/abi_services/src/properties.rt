@@ -6,7 +6,7 @@ ghost use Rattle.abi_model.specs.Calls.{does, told, Ends, RestsAfterCall, AreSho
 ghost use Rattle.abi_model.specs.Table.{Are, row_of};
 ghost use Rattle.abi_model.specs.declared.table.HostCall.TheVariants as call;
 ghost use Rattle.contexts.specs.declared.limits.PropertyEnd.TheVariants as property_end;
-ghost use Rattle.contexts.specs.Keyed.{found};
+ghost use Rattle.contexts.specs.Keyed.{first_of_number};
 ghost use Rattle.contexts.specs.Reached.{context_no};
 ghost use Rattle.abi_services.specs.Properties.{pseudo_of as pseudo_at, is_fixed as is_fixed_of, first_in as first_in_of, set_value as set_value_of, stream_value as stream_value_of, vm_name as vm_name_of, property_at, value_as, set_in, property_put, IsPastIn, own_get_property, own_set_property};
 
@@ -48,7 +48,7 @@ fn is_fixed(contexts: &Contexts, vm: VmNo, path: &[u8]) -> bool
 
 /// The context of an id.
 fn context_at(contexts: &[Context], id: ContextId) -> Option<&Context>
-    ensures { option_copied result ≡ found context_no id contexts.now }
+    ensures { option_copied result ≡ first_of_number context_no id contexts.now }
 {
     contexts.iter().find(|c| c.id == id)
 }

@@ -1,7 +1,7 @@
 -- CALLOUTS UNDER WAY: how they begin, what comes of their lines, and when they end.
 use Rattle.std.specs.Prelude.{ℕ, ◌+◌, ◌-◌, ◌*◌, ◌==◌, Bool, true, false, not, ◌&&◌, ◌||◌, List, [], ◌∷◌, ◌++◌, length, map, filter, nat_lt, nat_le, Option, None, Some, codes, if◌then◌else◌}
 use Rattle.body_buffers.specs.Bodies.{body_limit}
-use Rattle.contexts.specs.Keyed.{found, changed, removed}
+use Rattle.contexts.specs.Keyed.{first_of_number, with_first_changed, without_first}
 use Rattle.contexts.specs.declared.parts.CallAnswer.{CallAnswer}
 use Rattle.contexts.specs.declared.parts.Request.{Request}
 use Rattle.gate_io.specs.declared.event.Side.{Side}
@@ -10,10 +10,10 @@ use Rattle.gate_io.specs.declared.event.What.{What}
 use Rattle.gate_io.specs.declared.event.What.TheVariants as whats
 use Rattle.header_maps.specs.Operations.{no_headers}
 use Rattle.header_maps.specs.declared.kind.ListKind.TheVariants.{Plain}
-use Rattle.http1_model.specs.Length.{BodyLength, nothing as nothing_follows, exactly, chunked, until_end}
-use Rattle.http1_model.specs.Messages.{Stop, rest, over, refusal}
-use Rattle.http1_model.specs.Unread.{Part, head_part, interim_part, piece, trailer_part, Reading, new_reading, fed, finished}
-use Rattle.http1_model.specs.Wire.{pseudo_of}
+use Rattle.h1_model.specs.Length.{BodyLength, nothing as nothing_follows, exactly, chunked, until_end}
+use Rattle.h1_model.specs.Messages.{Stop, rest, over, refusal}
+use Rattle.h1_model.specs.Unread.{Part, head_part, interim_part, piece, trailer_part, Reading, new_reading, reading_with_bytes, reading_with_end}
+use Rattle.h1_model.specs.Wire.{pseudo_of}
 use Rattle.callouts.specs.declared.types.Callout.{Callout}
 use Rattle.callouts.specs.declared.types.Fated.{Fated}
 use Rattle.callouts.specs.declared.types.Outcome.{Outcome}
@@ -67,13 +67,13 @@ abbrev pub id_of : Callout → ℕ
 id_of c = c.id
 
 abbrev pub callout_in : ℕ → List Callout → Option Callout
-callout_in id calls = found id_of id calls
+callout_in id calls = first_of_number id_of id calls
 
 abbrev pub on_callout : ℕ → (Callout → Callout) → List Callout → List Callout
-on_callout id f calls = changed id_of id f calls
+on_callout id f calls = with_first_changed id_of id f calls
 
 abbrev pub without : ℕ → List Callout → List Callout
-without id calls = removed id_of id calls
+without id calls = without_first id_of id calls
 
 -- ---- its end
 
@@ -105,10 +105,10 @@ pub data Coming : Type 0 where
 
 -- of a text that has ended nothing comes any more
 abbrev pub more : List ℕ → Reading → Coming
-more bytes r = if r.ended then nothing else reads (fed bytes r)
+more bytes r = if r.ended then nothing else reads (reading_with_bytes bytes r)
 
 abbrev pub no_more : Reading → Coming
-no_more r = if r.ended then nothing else reads (finished r)
+no_more r = if r.ended then nothing else reads (reading_with_end r)
 
 abbrev pub comes_of : What → Reading → Coming
 comes_of (whats.Opened line) r = nothing

@@ -11,8 +11,8 @@ use Rattle.gate_io.specs.declared.event.What.TheVariants as whats
 use Rattle.header_maps.specs.Headers.{Headers}
 use Rattle.header_maps.specs.Operations.{no_headers}
 use Rattle.header_maps.specs.declared.kind.ListKind.TheVariants.{Plain}
-use Rattle.http1_model.specs.Messages.{Stop, rest, over, refusal, head}
-use Rattle.http1_model.specs.Unread.{Part, head_part, interim_part, piece, trailer_part, Unread}
+use Rattle.h1_model.specs.Messages.{Stop, rest, over, refusal, head}
+use Rattle.h1_model.specs.Unread.{Part, head_part, interim_part, piece, trailer_part, Unread}
 
 -- ---- what a text says of a response
 

@@ -3,18 +3,18 @@ use Rattle.std.proofs.Common.{◌≡◌, ℕ, ◌≤◌, Bool, true, false, nat_
 use Rattle.std.specs.Prelude.{◌&&◌, option_map, Ok, Err}
 use Rattle.std.proofs.lemmas.Bool.{and_parts}
 use Rattle.gate_io.specs.Told.{gains_nothing}
-use Rattle.statuses.specs.declared.status.Status.TheVariants.{Usage, OutOfMemory}
-use Rattle.words.specs.Forms.{Command, replay, replay_config, serve, check, invoke, generate, report, form_of, others_of, is_replay, is_replay_config, is_serve, is_serve_until, is_check, is_invoke, is_generate, is_report, names_script, are_plain, second, third, fourth, behind_two, behind_three, number_of}
+use Rattle.command_statuses.specs.declared.status.Status.TheVariants.{Usage, OutOfMemory}
+use Rattle.command_words.specs.Forms.{Command, replay, replay_config, serve, check, invoke, generate, report, form_of, others_of, is_replay, is_replay_config, is_serve, is_serve_until, is_check, is_invoke, is_generate, is_report, names_script, are_plain, second, third, fourth, behind_two, behind_three, number_of}
 use Rattle.commands.specs.Call.{Calls}
 use Rattle.commands.specs.Generated.{Generated}
-use Rattle.generating.specs.declared.running.GenerateEnd.TheVariants as generating
+use Rattle.command_generate.specs.declared.running.GenerateEnd.TheVariants as generating
 use Rattle.commands.specs.Doing.{IsForm, Checks, LoadsFile, LoadsPlain, ServesFile, Obeys}
 use Rattle.commands.specs.Report.{Reports}
 use Rattle.commands.specs.Scripts.{Replays}
 use Rattle.config_files.specs.Plain.{IsNoPlain}
-use Rattle.statuses.specs.declared.status.Status.{Status}
+use Rattle.command_statuses.specs.declared.status.Status.{Status}
 use Rattle.config_files.specs.Loading.{Told, IsNotLoaded}
-use Rattle.serving.specs.Serving.{Eyes, Seen}
+use Rattle.command_serve.specs.Serving.{Eyes, Seen}
 
 -- it names 16 modules at most, where it is a command
 abbrev pub AreFew : Option Command → Type 0

@@ -1,9 +1,9 @@
 -- Which files were read, and how far.
 use Rattle.std.proofs.Common.{◌≡◌, ℕ, List, [], ◌∷◌, ◌++◌, append_assoc, Result, Option, None, Some, Ok, Err, refl, ap, ◌∙◌, sym, subst}
 use Rattle.std.proofs.lemmas.List.{append-nil}
-use Rattle.check_config.specs.Check.{Reaches as CheckReaches}
-use Rattle.check_config.specs.declared.checking.CheckEnd.{CheckEnd}
-use Rattle.check_config.specs.declared.checking.CheckEnd.TheVariants as checks
+use Rattle.config_check.specs.Check.{Reaches as CheckReaches}
+use Rattle.config_check.specs.declared.checking.CheckEnd.{CheckEnd}
+use Rattle.config_check.specs.declared.checking.CheckEnd.TheVariants as checks
 use Rattle.config_files.proofs.Over.{modules_over}
 use Rattle.config_files.proofs.Steps.{judged_of, modules_held, some_judged}
 use Rattle.config_files.specs.Loading.{Told, AllHold, HasCode, IsJudged, IsLoaded, NoneBehind, ReadsInOrder, StopsAt, modules_of, paths_of as loading_paths}
@@ -13,15 +13,15 @@ use Rattle.config_files.specs.declared.reading.LoadEnd.TheVariants as ends
 use Rattle.gate_config.specs.Given.{Given}
 use Rattle.gate_config.specs.declared.entries.VmEntry.{VmEntry}
 use Rattle.gate_io.specs.Told.{Gains, GainsFront, gains_more, gains_nothing}
-use Rattle.generating.specs.declared.running.GenerateEnd.{GenerateEnd}
-use Rattle.generating.specs.declared.running.GenerateEnd.TheVariants as generating
-use Rattle.read_config.specs.Whole.{Judged}
-use Rattle.serving.specs.declared.running.ServeEnd.{ServeEnd}
-use Rattle.serving.specs.declared.running.ServeEnd.TheVariants as serving
-use Rattle.statuses.specs.Statuses.{of_load}
-use Rattle.statuses.specs.declared.status.Status.{Status}
-use Rattle.statuses.specs.declared.status.Status.TheVariants.{Done, Usage, Config, Module, Refused, FileFault, SiteFault, OutFault, OutOfMemory, Script, Invoke}
-use Rattle.words.specs.Forms.{Command, replay, replay_config, serve, check, invoke, generate, report}
+use Rattle.command_generate.specs.declared.running.GenerateEnd.{GenerateEnd}
+use Rattle.command_generate.specs.declared.running.GenerateEnd.TheVariants as generating
+use Rattle.config_reader.specs.Whole.{Judged}
+use Rattle.command_serve.specs.declared.running.ServeEnd.{ServeEnd}
+use Rattle.command_serve.specs.declared.running.ServeEnd.TheVariants as serving
+use Rattle.command_statuses.specs.Statuses.{of_load}
+use Rattle.command_statuses.specs.declared.status.Status.{Status}
+use Rattle.command_statuses.specs.declared.status.Status.TheVariants.{Done, Usage, Config, Module, Refused, FileFault, SiteFault, OutFault, OutOfMemory, Script, Invoke}
+use Rattle.command_words.specs.Forms.{Command, replay, replay_config, serve, check, invoke, generate, report}
 use Rattle.commands.specs.Doing.{serve_status}
 use Rattle.commands.specs.Generated.{generate_status}
 use Rattle.commands.specs.Reading.{IsJudgedFor, NoneRefused, Reaches, ReadsFor, ReadsOne, behind_config, config_path, paths_of}
@@ -118,7 +118,7 @@ reads_report files file status old new a one = record {
   reaches = report_reaches files file (Err (0, [])) status old new one;
 }
 
--- ---- modules, and what comes behind them
+-- ---- modules, and what comes after them
 
 nothing_behind : (files : Told) (reads : List (List ℕ)) → NoneBehind files [] reads
 nothing_behind files [] = tt
@@ -129,7 +129,7 @@ next_read : (files : Told) (vm : VmEntry) (vms : List VmEntry) (read : List ℕ)
 next_read files vm vms read [] c h = tt
 next_read files vm vms read (next ∷ reads) c h = (c, h)
 
--- where each VM holds its module, whatever comes behind them stands behind no refusal
+-- where each VM holds its module, whatever comes after them stands behind no refusal
 behind_all : (files : Told) (vms held : List VmEntry) (more : List (List ℕ)) → AllHold files vms held → NoneBehind files vms (modules_of held ++ more)
 behind_all files [] held more h = nothing_behind files (modules_of held ++ more)
 behind_all files (vm ∷ vms) [] more h = absurd h
@@ -190,7 +190,7 @@ reads_plain_stopped files script modules end old new r stops = record {
   reaches = plain_stops files script modules (Err (0, [])) end old new stops;
 }
 
--- ---- a configuration that is loaded, and what comes behind its modules
+-- ---- a configuration that is loaded, and what comes after its modules
 
 module _ (files : Told) (path : List ℕ) (g : Given) (loaded : IsLoaded files path g) where
   judged_here : IsJudged files path (Ok loaded.said)
@@ -276,7 +276,7 @@ module _ (files : Told) (path : List ℕ) (g : Given) (loaded : IsLoaded files p
 
 -- ---- a configuration, on every end
 
--- what is left of the paths, with more behind the modules
+-- what is left of the paths, with more after the modules
 abbrev left_of : Judged → (more rest : List (List ℕ)) → List (List ℕ)
 left_of (Ok said) more rest = rest ++ more
 left_of (Err refusal) more rest = rest

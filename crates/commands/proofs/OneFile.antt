@@ -6,8 +6,8 @@ use Rattle.gate_config.specs.declared.config.Config.{Config as Configured}
 use Rattle.gate_io.specs.Paths.{ReadsTold}
 use Rattle.gate_io.specs.Told.{Gains, gains_nothing}
 use Rattle.gate_io.specs.declared.ends.FileEnd.TheVariants as ends
-use Rattle.statuses.specs.declared.status.Status.{Status}
-use Rattle.statuses.specs.declared.status.Status.TheVariants.{Done, Usage, Config, Module, Refused, FileFault, SiteFault, OutFault, OutOfMemory, Script, Invoke}
+use Rattle.command_statuses.specs.declared.status.Status.{Status}
+use Rattle.command_statuses.specs.declared.status.Status.TheVariants.{Done, Usage, Config, Module, Refused, FileFault, SiteFault, OutFault, OutOfMemory, Script, Invoke}
 use Rattle.commands.specs.Call.{IsCalled, OfCall, WasRead}
 use Rattle.commands.specs.Files.{HasText, IsThere, OfText}
 use Rattle.commands.specs.Reading.{ReadsOne}

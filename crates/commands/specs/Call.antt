@@ -7,9 +7,9 @@ use Rattle.wasm_syntax.specs.declared.types.Value.TheVariants.{I32, I64}
 use Rattle.wasm_invoke.specs.declared.ends.Invoked.{Invoked}
 use Rattle.wasm_invoke.specs.declared.ends.End.TheVariants.{Refused as IsRefused, Trapped, FuelSpent as FuelWasSpent}
 use Rattle.wasm_invoke.specs.Invoking.{Invokes}
-use Rattle.statuses.specs.declared.status.CallEnd.TheVariants.{Trap, FuelSpent}
-use Rattle.statuses.specs.declared.status.Status.{Status}
-use Rattle.statuses.specs.declared.status.Status.TheVariants.{Done, Usage, Config, Module, Refused, FileFault, SiteFault, OutFault, OutOfMemory, Script, Invoke}
+use Rattle.command_statuses.specs.declared.status.InvokeEnd.TheVariants.{Trap, FuelSpent}
+use Rattle.command_statuses.specs.declared.status.Status.{Status}
+use Rattle.command_statuses.specs.declared.status.Status.TheVariants.{Done, Usage, Config, Module, Refused, FileFault, SiteFault, OutFault, OutOfMemory, Script, Invoke}
 use Rattle.commands.specs.Files.{IsThere, OfText}
 
 -- the line of the result, where there is one: its type, and its value as an unsigned number

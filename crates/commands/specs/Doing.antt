@@ -3,16 +3,16 @@ use Rattle.std.specs.Prelude.{◌≡◌, ◌⊎◌, ℕ, ◌≤◌, List, [], le
 use Rattle.gate_config.specs.declared.config.Config.{Config as Configured}
 use Rattle.gate_config.specs.Given.{Given, given}
 use Rattle.gate_io.specs.Told.{Gains, GainsFront, Rose}
-use Rattle.check_config.specs.Check.{counts_line}
+use Rattle.config_check.specs.Check.{counts_line}
 use Rattle.config_files.specs.Loading.{Told, IsLoaded, IsNotLoaded}
 use Rattle.config_files.specs.Plain.{IsPlainLoaded, IsNoPlain}
-use Rattle.serve_filters.specs.Filtered.{ServesFiltered}
-use Rattle.serving.specs.Serving.{Eyes, Seen}
-use Rattle.serving.specs.declared.running.ServeEnd.{ServeEnd}
-use Rattle.serving.specs.declared.running.ServeEnd.TheVariants as serving
-use Rattle.statuses.specs.declared.status.Status.{Status}
-use Rattle.statuses.specs.declared.status.Status.TheVariants.{Done, Usage, Config, Module, Refused, FileFault, SiteFault, OutFault, OutOfMemory, Script, Invoke}
-use Rattle.words.specs.Forms.{Command, replay, replay_config, serve, check, invoke, generate, report}
+use Rattle.command_serve_filters.specs.Filtered.{ServesFiltered}
+use Rattle.command_serve.specs.Serving.{Eyes, Seen}
+use Rattle.command_serve.specs.declared.running.ServeEnd.{ServeEnd}
+use Rattle.command_serve.specs.declared.running.ServeEnd.TheVariants as serving
+use Rattle.command_statuses.specs.declared.status.Status.{Status}
+use Rattle.command_statuses.specs.declared.status.Status.TheVariants.{Done, Usage, Config, Module, Refused, FileFault, SiteFault, OutFault, OutOfMemory, Script, Invoke}
+use Rattle.command_words.specs.Forms.{Command, replay, replay_config, serve, check, invoke, generate, report}
 use Rattle.commands.specs.Call.{Calls}
 use Rattle.commands.specs.Generated.{Generated}
 use Rattle.commands.specs.Report.{Reports}

@@ -5,11 +5,11 @@ use Rattle.config_files.specs.Plain.{IsNoPlain, plain_over}
 use Rattle.config_files.specs.declared.reading.LoadEnd.TheVariants as ends
 use Rattle.gate_config.specs.declared.config.Config.{Config as Configured}
 use Rattle.gate_io.specs.Told.{Gains}
-use Rattle.read_config.specs.Whole.{Judged}
-use Rattle.statuses.specs.declared.status.Status.{Status}
-use Rattle.statuses.specs.declared.status.Status.TheVariants.{Config, Done, OutFault, OutOfMemory}
+use Rattle.config_reader.specs.Whole.{Judged}
+use Rattle.command_statuses.specs.declared.status.Status.{Status}
+use Rattle.command_statuses.specs.declared.status.Status.TheVariants.{Config, Done, OutFault, OutOfMemory}
 use Rattle.wasm_syntax.specs.declared.module.Module.{Module}
-use Rattle.words.specs.Forms.{replay, replay_config, check, invoke, generate, report}
+use Rattle.command_words.specs.Forms.{replay, replay_config, check, invoke, generate, report}
 use Rattle.commands.specs.Call.{WasRead}
 use Rattle.commands.specs.Doing.{Checks, LoadsFile, LoadsPlain}
 use Rattle.commands.specs.Reading.{IsJudgedFor, NoneRefused, Reaches, paths_of}
@@ -42,7 +42,7 @@ abbrev pub no_module : Told
 no_module = Some ((a, []) ∷ (s, codes "stop\n") ∷ [])
 
 pub record RefusalExamples : Type 0 where
-  -- behind a file that is no module nothing is read, no other module and no script; it is itself
+  -- after a file that is no module nothing is read, no other module and no script; it is itself
   pub no_module_behind : (judged : Judged) → NoneRefused no_module (Some (replay s (a ∷ b ∷ []))) judged (a ∷ b ∷ []) → ⊥
   pub no_script_behind : (judged : Judged) → NoneRefused no_module (Some (replay s (a ∷ []))) judged (a ∷ s ∷ []) → ⊥
   pub itself : (judged : Judged) → NoneRefused no_module (Some (replay s (a ∷ b ∷ []))) judged (a ∷ [])
@@ -55,7 +55,7 @@ pub record RefusalExamples : Type 0 where
   pub nothing_printed : (config : Configured) (old new : Option (List ℕ)) → Plays no_module b config OutOfMemory old new → Gains old [] new
   pub not_called : WasRead no_module b Done → ⊥
   pub called : WasRead no_module a Done
-  -- a configuration that is not there is not loaded, is not refused as one that is there, and nothing is read behind it
+  -- a configuration that is not there is not loaded, is not refused as one that is there, and nothing is read after it
   pub not_loaded : (config : Configured) → LoadsFile no_module c config → ⊥
   pub not_refused : (number : ℕ) (key : List ℕ) → IsNotLoaded no_module c (ends.Config number key) → ⊥
   pub not_checked : (old new : Option (List ℕ)) → Checks no_module c Done old new → ⊥

@@ -1,11 +1,11 @@
 -- What the generator's load comes to, as a status.
 use Rattle.std.specs.Prelude.{◌≡◌, ℕ, List, Option}
-use Rattle.generating.specs.Generating.{Generates}
-use Rattle.generating.specs.declared.running.GenerateEnd.{GenerateEnd}
-use Rattle.generating.specs.declared.running.GenerateEnd.TheVariants as generating
-use Rattle.play_filters.specs.Filtered.{machines_of}
-use Rattle.statuses.specs.declared.status.Status.{Status}
-use Rattle.statuses.specs.declared.status.Status.TheVariants.{Done, OutFault, OutOfMemory}
+use Rattle.command_generate.specs.Generating.{Generates}
+use Rattle.command_generate.specs.declared.running.GenerateEnd.{GenerateEnd}
+use Rattle.command_generate.specs.declared.running.GenerateEnd.TheVariants as generating
+use Rattle.command_replay_filters.specs.Filtered.{machines_of}
+use Rattle.command_statuses.specs.declared.status.Status.{Status}
+use Rattle.command_statuses.specs.declared.status.Status.TheVariants.{Done, OutFault, OutOfMemory}
 use Rattle.vm_host.specs.Slots.{calling, exported_in, registering_in}
 
 -- how a run of it ended, by the status

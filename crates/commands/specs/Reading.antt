@@ -4,10 +4,10 @@ use Rattle.gate_io.specs.Told.{Gains, GainsFront}
 use Rattle.config_files.specs.Loading.{Told, IsJudged, NoneBehind, NoneBehindConfig, StopsAtBad, StopsAtModule, modules_of}
 use Rattle.config_files.specs.Plain.{vms_over}
 use Rattle.config_files.specs.declared.modules.ModuleFault.{ModuleFault}
-use Rattle.read_config.specs.Whole.{Judged}
-use Rattle.statuses.specs.declared.status.Status.{Status}
-use Rattle.statuses.specs.declared.status.Status.TheVariants.{Done, Usage, Config, Module, Refused, FileFault, SiteFault, OutFault, OutOfMemory, Script, Invoke}
-use Rattle.words.specs.Forms.{Command, replay, replay_config, serve, check, invoke, generate, report}
+use Rattle.config_reader.specs.Whole.{Judged}
+use Rattle.command_statuses.specs.declared.status.Status.{Status}
+use Rattle.command_statuses.specs.declared.status.Status.TheVariants.{Done, Usage, Config, Module, Refused, FileFault, SiteFault, OutFault, OutOfMemory, Script, Invoke}
+use Rattle.command_words.specs.Forms.{Command, replay, replay_config, serve, check, invoke, generate, report}
 
 -- the path of the configuration, where a command names one
 abbrev pub config_path : Option Command → Option (List ℕ)
@@ -20,7 +20,7 @@ config_path (Some (invoke file export arguments)) = None
 config_path (Some (generate n)) = None
 config_path (Some (report file)) = None
 
--- behind the path of a configuration: where it is one, those of its modules, and then these
+-- after the path of a configuration: where it is one, those of its modules, and then these
 abbrev pub behind_config : Judged → List (List ℕ) → List (List ℕ)
 behind_config (Ok said) more = modules_of said.vms ++ more
 behind_config (Err refusal) more = []
@@ -41,8 +41,8 @@ abbrev pub IsJudgedFor : Told → Option (List ℕ) → Judged → Type 0
 IsJudgedFor files None judged = Unit {0}
 IsJudgedFor files (Some path) judged = IsJudged files path judged
 
--- none of these reads stands behind a refusal: behind that of a module comes another only where its file is one that its VM can run, and
--- behind that of a configuration only where it is one
+-- none of these reads stands after a refusal: after that of a module comes another only where its file is one that its VM can run, and
+-- after that of a configuration only where it is one
 abbrev pub NoneRefused : Told → Option Command → Judged → List (List ℕ) → Type 0
 NoneRefused files None judged reads = Unit {0}
 NoneRefused files (Some (replay script modules)) judged reads = NoneBehind files (vms_over 0 modules) reads
@@ -84,7 +84,7 @@ Reaches files command judged (Script line) old new = Gains old (paths_of command
 Reaches files command judged (Refused refusal) old new = Gains old (paths_of command judged) new
 Reaches files command judged (Invoke end) old new = Gains old (paths_of command judged) new
 
--- THE FILES THAT A COMMAND READS, on every end: those of a front of its paths, each once and in their order, and none behind a refusal
+-- THE FILES THAT A COMMAND READS, on every end: those of a front of its paths, each once and in their order, and none after a refusal
 pub record ReadsFor (files : Told) (command : Option Command) (status : Status) (old new : Option (List (List ℕ))) : Type 0 where
   pub judged : Judged
   pub of_file : IsJudgedFor files (config_path command) judged

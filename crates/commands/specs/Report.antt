@@ -4,8 +4,8 @@ use Rattle.gate_io.specs.Told.{Gains, GainsFront}
 use Rattle.config_files.specs.Loading.{Told}
 use Rattle.filter_report.specs.Reporting.{IsReport, IsNoReport}
 use Rattle.filter_report.specs.declared.bytes.ReportEnd.TheVariants as reports
-use Rattle.statuses.specs.declared.status.Status.{Status}
-use Rattle.statuses.specs.declared.status.Status.TheVariants.{Done, Usage, Config, Module, Refused, FileFault, SiteFault, OutFault, OutOfMemory, Script, Invoke}
+use Rattle.command_statuses.specs.declared.status.Status.{Status}
+use Rattle.command_statuses.specs.declared.status.Status.TheVariants.{Done, Usage, Config, Module, Refused, FileFault, SiteFault, OutFault, OutOfMemory, Script, Invoke}
 use Rattle.wasm_invoke.specs.declared.ends.Refusal.{Refusal}
 use Rattle.wasm_invoke.specs.declared.ends.Refusal.TheVariants as refusals
 use Rattle.commands.specs.Call.{WasRead}

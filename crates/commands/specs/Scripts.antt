@@ -7,10 +7,10 @@ use Rattle.config_files.specs.declared.reading.LoadEnd.{LoadEnd}
 use Rattle.config_files.specs.declared.reading.LoadEnd.TheVariants as ends
 use Rattle.replay_script.specs.declared.command.Command.{Command}
 use Rattle.replay_script.specs.Scripts.{IsScript, FirstBad}
-use Rattle.play_filters.specs.Filtered.{filtered}
-use Rattle.script_play.specs.Delivered.{Prints, PrintsFront}
-use Rattle.statuses.specs.declared.status.Status.{Status}
-use Rattle.statuses.specs.declared.status.Status.TheVariants.{Done, Usage, Config, Module, Refused, FileFault, SiteFault, OutFault, OutOfMemory, Script, Invoke}
+use Rattle.command_replay_filters.specs.Filtered.{filtered}
+use Rattle.command_replay.specs.Delivered.{Prints, PrintsFront}
+use Rattle.command_statuses.specs.declared.status.Status.{Status}
+use Rattle.command_statuses.specs.declared.status.Status.TheVariants.{Done, Usage, Config, Module, Refused, FileFault, SiteFault, OutFault, OutOfMemory, Script, Invoke}
 use Rattle.commands.specs.Files.{HasText}
 
 -- how many bytes a script has at most: 64 MiB

@@ -4,8 +4,8 @@ ghost use Rattle.gate_io.specs.Told.{Gains, GainsFront, Rose};
 ghost use Rattle.commands.specs.Call.{printed, result_line, IsCalled, OfCall, Calls};
 ghost use Rattle.commands.specs.Reading.{ReadsOne};
 
+use command_statuses::{InvokeEnd, Status, write_numbered};
 use gate_io::{Failed, FileEnd, Files, Sink};
-use statuses::{CallEnd, Status, write_numbered};
 use std::alloc::Global;
 use wasm_invoke::{End, Invoked, Refusal, invoke};
 use wasm_syntax::Value;
@@ -64,10 +64,10 @@ fn call_in<O: Sink>(
         },
         Err(End::Refused(refusal)) => Status::Refused { refusal },
         Err(End::Trapped(cause)) => Status::Invoke {
-            end: CallEnd::Trap { cause },
+            end: InvokeEnd::Trap { cause },
         },
         Err(End::FuelSpent) => Status::Invoke {
-            end: CallEnd::FuelSpent,
+            end: InvokeEnd::FuelSpent,
         },
         Err(End::OutOfMemory) => Status::OutOfMemory,
     }

@@ -1,13 +1,13 @@
 // A configuration, checked.
 ghost use Rattle.std.specs.Prelude.{◌≡◌, ◌≤◌, Some};
 ghost use Rattle.gate_io.specs.Told.{Rose};
-ghost use Rattle.words.specs.Forms.{check as checking};
+ghost use Rattle.command_words.specs.Forms.{check as checking};
 ghost use Rattle.commands.specs.Doing.{Checks};
 ghost use Rattle.commands.specs.Reading.{ReadsFor};
 
-use check_config::{CheckEnd, check};
+use command_statuses::Status;
+use config_check::{CheckEnd, check};
 use gate_io::{Files, Sink};
-use statuses::Status;
 use std::alloc::Global;
 
 /// Reads the configuration of a file and the modules of its VMs, and prints how much of everything there is.

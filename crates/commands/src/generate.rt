@@ -3,13 +3,13 @@ ghost use Rattle.std.specs.Prelude.{◌≡◌, ◌≤◌};
 ghost use Rattle.gate_io.specs.Told.{Rose};
 ghost use Rattle.commands.specs.Generated.{Generated};
 
+use command_generate::{GenerateEnd, generate};
+use command_statuses::Status;
 use gate_io::{Gate, Sink};
-use generating::{GenerateEnd, generate};
-use machines::Machines;
-use statuses::Status;
 use std::alloc::Global;
 use std::sync::Wait;
 use std::thread::Threads;
+use vm_machines::Machines;
 
 /// Runs the generator's load of a number over the machines of its filter, and prints what it came to.
 pub fn generate_load<R: Threads + Wait + Sync, O: Sink, G: Gate + Sync>(

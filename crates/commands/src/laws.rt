@@ -7,7 +7,7 @@ pub fn worked_paths()
     ensures { PathExamples }
 {}
 
-/// What is not read behind a refusal, and that a file which is not there is neither played, nor called, nor loaded.
+/// What is not read after a refusal, and that a file which is not there is neither played, nor called, nor loaded.
 pub fn worked_refusals()
     ensures { RefusalExamples }
 {}

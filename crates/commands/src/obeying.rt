@@ -1,7 +1,7 @@
 // Each command with all that the top call promises of it.
 ghost use Rattle.std.specs.Prelude.{◌≡◌, ◌≤◌, Some, length, map, string_bytes};
 ghost use Rattle.gate_io.specs.Told.{Rose};
-ghost use Rattle.words.specs.Forms.{replay as plain_replay, replay_config as config_replay, serve as serving, check as checking, invoke as invoking, generate as generating, report as reporting};
+ghost use Rattle.command_words.specs.Forms.{replay as plain_replay, replay_config as config_replay, serve as serving, check as checking, invoke as invoking, generate as generating, report as reporting};
 ghost use Rattle.commands.specs.Doing.{Obeys};
 ghost use Rattle.commands.specs.Reading.{ReadsFor};
 
@@ -11,8 +11,8 @@ use crate::generate::generate_load;
 use crate::replay::{replay_config, replay_plain};
 use crate::report::report_file;
 use crate::serve::serve_file;
+use command_statuses::Status;
 use gate_io::{Files, Gate, Sink, Site};
-use statuses::Status;
 use std::alloc::Global;
 use std::sync::Wait;
 use std::thread::Threads;

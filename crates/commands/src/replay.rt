@@ -3,20 +3,20 @@ ghost use Rattle.std.specs.Prelude.{◌≡◌, ◌⊎◌, ◌≤◌, ◌∷◌, 
 ghost use Rattle.gate_io.specs.Told.{Gains, GainsFront, Rose};
 ghost use Rattle.config_files.specs.Loading.{IsNotLoaded};
 ghost use Rattle.config_files.specs.Plain.{IsNoPlain};
-ghost use Rattle.machines.specs.Making.{HasFilter};
-ghost use Rattle.words.specs.Forms.{replay as plain_replay, replay_config as config_replay};
+ghost use Rattle.vm_machines.specs.Making.{HasFilter};
+ghost use Rattle.command_words.specs.Forms.{replay as plain_replay, replay_config as config_replay};
 ghost use Rattle.replay_script.specs.Scripts.{AreLines, at_start};
 ghost use Rattle.commands.specs.Scripts.{Plays, PlaysText, PlaysLines, Replays};
 ghost use Rattle.commands.specs.Doing.{LoadsFile, LoadsPlain};
 ghost use Rattle.commands.specs.Reading.{ReadsFor, ReadsOne};
 
+use command_replay::PlayEnd;
+use command_replay_filters::play_filtered;
+use command_statuses::Status;
 use config_files::{load, load_plain};
 use gate_config::Config;
 use gate_io::{FileEnd, Files, Sink};
-use play_filters::play_filtered;
 use replay_script::{Command, ScriptEnd, read_script};
-use script_play::PlayEnd;
-use statuses::Status;
 use std::alloc::Global;
 
 /// How many bytes a script has at most: 64 MiB.

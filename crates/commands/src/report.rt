@@ -5,10 +5,10 @@ ghost use Rattle.commands.specs.Reading.{ReadsOne};
 ghost use Rattle.commands.specs.Report.{IsReported, OfReport, Reports};
 
 use crate::call::MAX_MODULE;
+use command_statuses::Status;
 use filter_report::{ReportEnd, report_bytes};
 use gate_base::Octets;
 use gate_io::{Failed, FileEnd, Files, Sink, write_whole};
-use statuses::Status;
 use std::alloc::Global;
 use wasm_invoke::Refusal;
 

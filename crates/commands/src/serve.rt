@@ -1,17 +1,17 @@
 // Serving by the configuration of a file.
 ghost use Rattle.std.specs.Prelude.{◌≡◌, ◌≤◌, Some, All};
 ghost use Rattle.gate_io.specs.Told.{Rose};
-ghost use Rattle.machines.specs.Making.{HasFilter};
-ghost use Rattle.words.specs.Forms.{serve as serving};
+ghost use Rattle.vm_machines.specs.Making.{HasFilter};
+ghost use Rattle.command_words.specs.Forms.{serve as serving};
 ghost use Rattle.commands.specs.Doing.{Served, ServesFile};
 ghost use Rattle.commands.specs.Reading.{ReadsFor};
 
+use command_serve::ServeEnd;
+use command_serve_filters::serve_filtered;
+use command_statuses::Status;
 use config_files::load;
 use gate_config::Config;
 use gate_io::{Files, Gate, Sink, Site};
-use serve_filters::serve_filtered;
-use serving::ServeEnd;
-use statuses::Status;
 use std::alloc::Global;
 use std::sync::Wait;
 use std::thread::Threads;

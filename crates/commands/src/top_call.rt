@@ -1,8 +1,8 @@
 // The top call.
 ghost use Rattle.std.specs.Prelude.{◌≡◌, ◌≤◌, Some, map, string_bytes};
 ghost use Rattle.gate_io.specs.Told.{Rose};
-ghost use Rattle.statuses.specs.Statuses.{status_line};
-ghost use Rattle.words.specs.Forms.{form_of, seen};
+ghost use Rattle.command_statuses.specs.Statuses.{status_line};
+ghost use Rattle.command_words.specs.Forms.{form_of, seen};
 ghost use Rattle.commands.specs.Doing.{IsForm, Obeys, TakesLine};
 ghost use Rattle.commands.specs.Reading.{ReadsFor};
 
@@ -10,12 +10,12 @@ use crate::obeying::{
     obey_check, obey_generate, obey_invoke, obey_replay, obey_replay_config, obey_report,
     obey_serve,
 };
+use command_statuses::Status;
+use command_words::{Form, read_words};
 use gate_io::{Files, Gate, Sink, Site};
-use statuses::Status;
 use std::alloc::Global;
 use std::sync::Wait;
 use std::thread::Threads;
-use words::{Form, read_words};
 
 /// Does what the words say: `serve` by the sockets of the site; `serve` and `generate` with a gate before each turn and inside each shared call. `out` takes the
 /// output, `err` the line of the status.

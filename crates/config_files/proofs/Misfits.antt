@@ -7,7 +7,7 @@ use Rattle.wasm_syntax.specs.Stores.{first_pages}
 use Rattle.wasm_store.specs.declared.instance.LinkEnd.{LinkEnd}
 use Rattle.wasm_store.specs.declared.instance.LinkEnd.TheVariants as linking
 use Rattle.wasm_store.specs.Linking.{link_fault, first_unknown, first_other_type, first_element_outside, first_segment_outside}
-use Rattle.proxy_links.specs.Judging.{judged_of}
+use Rattle.abi_links.specs.Judging.{judged_of}
 use Rattle.vm_host.specs.declared.fitting.FitEnd.TheVariants as fitting
 use Rattle.vm_host.specs.Fits.{fit_fault, unlinked, no_marker, a_misfit, is_marker, is_misfit}
 

@@ -9,7 +9,7 @@ use Rattle.gate_io.specs.declared.ends.FileEnd.TheVariants.{Failed, TooLong, Out
 use Rattle.wasm_syntax.specs.Grammar.{header, header_read, body_read, most_bytes, module_read, FirstFault}
 use Rattle.gate_config.specs.Given.{given}
 use Rattle.gate_config.specs.declared.config.Config.{Config}
-use Rattle.read_config.specs.Whole.{config_of}
+use Rattle.config_reader.specs.Whole.{config_of}
 use Rattle.wasm_syntax.specs.declared.module.Module.{Module}
 use Rattle.config_files.specs.Modules.{HasFault, IsFilter, IsModule}
 use Rattle.config_files.specs.Loading.{Told, HoldsOf, IsCode, IsConfigEnd, IsNoCode, IsNoCodeOf, IsNoConfig, IsNoConfigAt, IsRead, OfFile, ReadsNoCode, ReadsRefused}

@@ -7,9 +7,9 @@ use Rattle.wasm_syntax.specs.declared.module.Module.{Module}
 use Rattle.gate_config.specs.declared.entries.VmEntry.{VmEntry}
 use Rattle.gate_config.specs.Given.{Given, holding}
 use Rattle.gate_config.specs.Kept.{IsVm}
-use Rattle.machines.specs.Making.{FitsBy, HasFilter}
+use Rattle.vm_machines.specs.Making.{FitsBy, HasFilter}
 use Rattle.gate_io.specs.Paths.{file_at}
-use Rattle.read_config.specs.Whole.{Judged, config_of}
+use Rattle.config_reader.specs.Whole.{Judged, config_of}
 use Rattle.config_files.specs.declared.modules.ModuleFault.{ModuleFault}
 use Rattle.config_files.specs.declared.reading.LoadEnd.{LoadEnd}
 use Rattle.config_files.specs.declared.reading.LoadEnd.TheVariants.{Config as NoConfig, Module as NoModule, FileFault, OutOfMemory}
@@ -85,7 +85,7 @@ modules_cut (suc n) (v ∷ vs) = ap (λ (l : List (List ℕ)). v.«module» ∷ 
 pub read_more : (n : ℕ) (vms : List VmEntry) (a b c : Option (List (List ℕ))) → n < length vms → Gains a (modules_of (take n vms)) b → Gains b (module_at n vms ∷ []) c → Gains a (modules_of (take (suc n) vms)) c
 read_more n vms a b c low first next = rw (modules_more n vms low) (gains_more a (modules_of (take n vms)) b (module_at n vms ∷ []) c first next)
 
--- one more read behind a module
+-- one more read after a module
 next_read : (files : Told) (v : VmEntry) (vs : List VmEntry) (read : List ℕ) (reads : List (List ℕ)) → HasCode files v → NoneBehind files vs reads → NoneBehind files (v ∷ vs) (read ∷ reads)
 next_read files v vs read [] c h = tt
 next_read files v vs read (next ∷ reads) c h = (c, h)

@@ -6,9 +6,9 @@ use Rattle.wasm_syntax.specs.declared.module.Module.{Module}
 use Rattle.gate_config.specs.declared.entries.VmEntry.{VmEntry}
 use Rattle.gate_config.specs.Given.{Given, with_code}
 use Rattle.vm_host.specs.Fits.{fit_fault}
-use Rattle.read_config.specs.Whole.{Judged, config_of}
-use Rattle.read_config.specs.declared.read.ConfigEnd.{ConfigEnd}
-use Rattle.read_config.specs.declared.read.ConfigEnd.TheVariants.{Refused, OutOfMemory as NoMemory}
+use Rattle.config_reader.specs.Whole.{Judged, config_of}
+use Rattle.config_reader.specs.declared.read.ConfigEnd.{ConfigEnd}
+use Rattle.config_reader.specs.declared.read.ConfigEnd.TheVariants.{Refused, OutOfMemory as NoMemory}
 use Rattle.config_files.specs.Modules.{IsModule, HasFault}
 use Rattle.config_files.specs.declared.modules.ModuleFault.{ModuleFault}
 use Rattle.config_files.specs.declared.reading.CodeEnd.{CodeEnd}
@@ -183,7 +183,7 @@ paths_of path (Err refusal) = path ∷ []
 abbrev pub HasCode : Told → VmEntry → Type 0
 HasCode files vm = (m : Module) × IsCode files vm.«module» vm.pages m
 
--- these are reads for the first of these VMs, in their order, and none stands behind a refusal: behind the read for a VM comes another
+-- these are reads for the first of these VMs, in their order, and none stands after a refusal: after the read for a VM comes another
 -- only where its file is a module that it can run
 abbrev pub NoneBehind : Told → List VmEntry → (reads : List (List ℕ)) → Type 0
 NoneBehind files vms [] = Unit {0}
@@ -208,7 +208,7 @@ abbrev pub IsJudged : Told → List ℕ → Judged → Type 0
 IsJudged None path judged = Unit {0}
 IsJudged (Some files) path judged = IsOfText (file_at files path) judged
 
--- THE FILES THAT ARE READ, on every end: those of a front of these paths, each once and in their order, and none behind a refusal
+-- THE FILES THAT ARE READ, on every end: those of a front of these paths, each once and in their order, and none after a refusal
 pub record ReadsInOrder (files : Told) (path : List ℕ) (old new : Option (List (List ℕ))) : Type 0 where
   pub judged : Judged
   pub of_file : IsJudged files path judged
@@ -235,7 +235,7 @@ pub record StopsAtModule (files : Told) (path name : List ℕ) (fault : ModuleFa
   pub first : IsFirstBadAt files place said.vms name fault
   pub gained : Gains old (path ∷ modules_of (take (suc place) said.vms)) new
 
--- WHERE READING STOPS at a refusal: behind the refused file nothing was read. At other ends any read may be the last.
+-- WHERE READING STOPS at a refusal: after the refused file nothing was read. At other ends any read may be the last.
 abbrev pub StopsAt : Told → (path : List ℕ) → LoadEnd → (old new : Option (List (List ℕ))) → Type 0
 StopsAt files path (NoConfig number key) old new = Gains old (path ∷ []) new
 StopsAt files path (NoModule name fault) old new = StopsAtModule files path name fault old new
@@ -251,7 +251,7 @@ StopsIn files vms OutOfMemory old new = Unit {0}
 
 -- ---- the steps on the way to them
 
--- a front of the modules of these VMs was read, and none behind a refusal
+-- a front of the modules of these VMs was read, and none after a refusal
 pub record ReadsModules (files : Told) (vms : List VmEntry) (old new : Option (List (List ℕ))) : Type 0 where
   pub gained : GainsFront old (modules_of vms) new
   pub none_behind : NoneBehind files vms gained.front

@@ -48,12 +48,12 @@ IsPlainLoaded files paths config = HoldsAll files (plain_over paths) config
 abbrev pub IsNoPlain : Told → List (List ℕ) → LoadEnd → Type 0
 IsNoPlain files paths end = IsBadIn files (vms_over 0 paths) end
 
--- THE FILES THAT ARE READ, on every end: those of a front of these paths, each once and in their order, and none behind a refusal
+-- THE FILES THAT ARE READ, on every end: those of a front of these paths, each once and in their order, and none after a refusal
 pub record ReadsPlain (files : Told) (paths : List (List ℕ)) (old new : Option (List (List ℕ))) : Type 0 where
   pub gained : GainsFront old paths new
   pub none_behind : NoneBehind files (vms_over 0 paths) gained.front
 
--- where reading stops at a refusal: behind the refused file nothing was read
+-- where reading stops at a refusal: after the refused file nothing was read
 abbrev pub StopsPlain : Told → List (List ℕ) → LoadEnd → (old new : Option (List (List ℕ))) → Type 0
 StopsPlain files paths end old new = StopsIn files (vms_over 0 paths) end old new
 

@@ -2,7 +2,7 @@
 ghost use Rattle.std.specs.Prelude.{◌≡◌, ◌≤◌, ◌<◌, Err, All, IfOk, IfErr, OnOk, length, map, string_bytes};
 ghost use Rattle.gate_config.specs.Given.{given};
 ghost use Rattle.gate_io.specs.Told.{Gains, Rose};
-ghost use Rattle.machines.specs.Making.{HasFilter};
+ghost use Rattle.vm_machines.specs.Making.{HasFilter};
 ghost use Rattle.config_files.specs.Loading.{HasModule};
 ghost use Rattle.config_files.specs.Plain.{IsNoPlain, IsPlainLoaded, IsPlainOf, ReadsPlain, StopsPlain, with_module};
 
@@ -13,7 +13,7 @@ use gate_io::Files;
 use std::alloc::Global;
 
 /// The plain configuration with a VM for each of these paths, at most 16, which holds the module of its file, one of a filter: `m1`, `m2`
-/// and so on. The files are read one by one in the order of the paths, and none behind a refusal.
+/// and so on. The files are read one by one in the order of the paths, and none after a refusal.
 pub fn load_plain<F: Files>(
     alloc: Global,
     paths: &[String],

@@ -3,16 +3,16 @@ ghost use Rattle.std.specs.Prelude.{◌≡◌, ◌≢◌, ◌≤◌, ◌<◌, �
 ghost use Rattle.gate_config.specs.Given.{given};
 ghost use Rattle.gate_io.specs.Paths.{ReadsTold};
 ghost use Rattle.gate_io.specs.Told.{Gains, GainsFront, Rose};
-ghost use Rattle.read_config.specs.Whole.{config_of};
-ghost use Rattle.machines.specs.Making.{HasFilter};
+ghost use Rattle.config_reader.specs.Whole.{config_of};
+ghost use Rattle.vm_machines.specs.Making.{HasFilter};
 ghost use Rattle.config_files.specs.Modules.{IsFilter};
 ghost use Rattle.config_files.specs.Loading.{HasModule, HoldsAll, HoldsAt, IsBad, IsBadAt, IsBadIn, IsCode, IsConfigEnd, IsLoaded, IsModuleEnd, IsNoCode, IsNoCodeOf, IsNoConfig, IsNoConfigAt, IsNotLoaded, IsRead, ReadsInOrder, ReadsModules, ReadsNoCode, ReadsRefused, StopsAt, StopsIn, module_at, modules_of, refusal_of};
 
 use crate::modules::{ModuleEnd, ModuleFault, read_code};
+use config_reader::{ConfigEnd, read_config};
 use gate_base::{Octets, Text, VmNo};
 use gate_config::{Config, VmEntry};
 use gate_io::{FileEnd, Files};
-use read_config::{ConfigEnd, read_config};
 use std::alloc::Global;
 use wasm_syntax::ValidModule;
 
@@ -47,7 +47,7 @@ enum CodeEnd {
 }
 
 /// The configuration of the file of a path, each VM of which holds the module of its own file, which is one of a filter with the VM's
-/// pages. The files are read one by one, the configuration's first, then the modules' in the order of the VMs, and none behind a refusal.
+/// pages. The files are read one by one, the configuration's first, then the modules' in the order of the VMs, and none after a refusal.
 pub fn load<F: Files>(alloc: Global, path: &str, files: &mut F) -> Result<Config, LoadEnd>
     ensures loaded { IfOk result (λ c. IsLoaded (F.holds files.old) path.now (given c)) }
     ensures refused { IfErr result (IsNotLoaded (F.holds files.old) path.now) }

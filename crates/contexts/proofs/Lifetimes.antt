@@ -6,35 +6,35 @@ use Rattle.std.specs.List.{list_any}
 use Rattle.std.proofs.lemmas.Bool.{cases_eq}
 use Rattle.contexts.specs.declared.parts.Context.{Context}
 use Rattle.contexts.specs.declared.parts.ExchangeView.{ExchangeView}
-use Rattle.contexts.specs.declared.parts.Exchange.{Exchange}
+use Rattle.contexts.specs.declared.parts.ExchangeEntry.{ExchangeEntry}
 use Rattle.contexts.specs.declared.parts.VmContexts.{VmContexts}
 use Rattle.contexts.specs.declared.parts.Contexts.{Contexts}
-use Rattle.contexts.specs.Keyed.{found, removed}
+use Rattle.contexts.specs.Keyed.{first_of_number, without_first}
 use Rattle.contexts.specs.Reached.{no_vm, vm_in, context_in, context_no, exchange_at, view_at, view_in, exchange_of}
-use Rattle.contexts.specs.Creating.{next_id, root_context, stream_context, root_created, stream_created, plugin_at, open_place, with_context, without_id, without_context, refers_to, is_referred, has_ended, freed, freed_of, deleted, ended, ended_one}
+use Rattle.contexts.specs.Creating.{next_id, root_context, stream_context, root_created, stream_created, plugin_at, open_place, with_context, without_id, without_context, refers_to, is_referred, has_ended, freed, freed_of, delete_id, end_exchange, ended_one}
 use Rattle.contexts.specs.CreatingLaws.{AreDrawn, IdsAreDrawn, IsOtherContext, CreatesOne, DeletesOne, EndsOne, ended_view}
 use Rattle.contexts.proofs.Places.{none_is, from_some}
 
 -- ---- ids in a list
 
 -- an id past the last is none's
-fresh_at : (b : Bool) (c : Context) (cs : List Context) (k : ℕ) → (c.id == k) ≡ b → (c.id ≡ k → ⊥) → found context_no k cs ≡ None → cond b (Some c) (found context_no k cs) ≡ None
+fresh_at : (b : Bool) (c : Context) (cs : List Context) (k : ℕ) → (c.id == k) ≡ b → (c.id ≡ k → ⊥) → first_of_number context_no k cs ≡ None → cond b (Some c) (first_of_number context_no k cs) ≡ None
 fresh_at true c cs k is apart ih = absurd (apart (eqb-true c.id k is))
 fresh_at false c cs k is apart ih = ih
 
-fresh : (last : ℕ) (cs : List Context) (k : ℕ) → last < k → AreDrawn last cs → found context_no k cs ≡ None
+fresh : (last : ℕ) (cs : List Context) (k : ℕ) → last < k → AreDrawn last cs → first_of_number context_no k cs ≡ None
 fresh last [] k past drawn = refl
 fresh last (c ∷ cs) k past drawn = fresh_at (c.id == k) c cs k refl (λ same. absurd (omega (arith, past, drawn.0, same))) (fresh last cs k past drawn.2)
 
-found_last : (cs : List Context) (c : Context) (k : ℕ) → c.id ≡ k → found context_no k cs ≡ None → found context_no k (cs ++ c ∷ []) ≡ Some c
+found_last : (cs : List Context) (c : Context) (k : ℕ) → c.id ≡ k → first_of_number context_no k cs ≡ None → first_of_number context_no k (cs ++ c ∷ []) ≡ Some c
 found_last [] c k is none = ap (λ b. cond b (Some c) None) (ap (λ n. n == k) is ∙ eq-eqb k k refl)
 found_last (x ∷ cs) c k is none = by_id (found_last cs c k is) (x.id == k) none
   where
-    by_id : (found context_no k cs ≡ None → found context_no k (cs ++ c ∷ []) ≡ Some c) → (b : Bool) → cond b (Some x) (found context_no k cs) ≡ None → cond b (Some x) (found context_no k (cs ++ c ∷ [])) ≡ Some c
+    by_id : (first_of_number context_no k cs ≡ None → first_of_number context_no k (cs ++ c ∷ []) ≡ Some c) → (b : Bool) → cond b (Some x) (first_of_number context_no k cs) ≡ None → cond b (Some x) (first_of_number context_no k (cs ++ c ∷ [])) ≡ Some c
     by_id ih true gone = absurd (none_is (sym gone))
     by_id ih false gone = ih gone
 
-found_before : (cs : List Context) (c : Context) (k : ℕ) → (c.id ≡ k → ⊥) → found context_no k (cs ++ c ∷ []) ≡ found context_no k cs
+found_before : (cs : List Context) (c : Context) (k : ℕ) → (c.id ≡ k → ⊥) → first_of_number context_no k (cs ++ c ∷ []) ≡ first_of_number context_no k cs
 found_before [] c k apart = ap (λ b. cond b (Some c) None) (ne_eqb c.id k apart)
 found_before (x ∷ cs) c k apart = ap (λ o. cond (x.id == k) (Some x) o) (found_before cs c k apart)
 
@@ -43,39 +43,39 @@ drawn_more last [] c is drawn = (omega (arith, is), refl, tt)
 drawn_more last (x ∷ cs) c is drawn =
     (omega (arith, drawn.0), found_before cs c x.id (λ same. absurd (omega (arith, is, same, drawn.0))) ∙ drawn.1, drawn_more last cs c is drawn.2)
 
-removed_other : (cs : List Context) (id k : ℕ) → (k ≡ id → ⊥) → found context_no k (removed context_no id cs) ≡ found context_no k cs
+removed_other : (cs : List Context) (id k : ℕ) → (k ≡ id → ⊥) → first_of_number context_no k (without_first context_no id cs) ≡ first_of_number context_no k cs
 removed_other [] id k apart = refl
 removed_other (x ∷ cs) id k apart = by_id (removed_other cs id k apart) (x.id == id) refl
   where
-    by_id : found context_no k (removed context_no id cs) ≡ found context_no k cs → (b : Bool) → (x.id == id) ≡ b → found context_no k (cond b cs (x ∷ removed context_no id cs)) ≡ cond (x.id == k) (Some x) (found context_no k cs)
-    by_id ih true same = sym (ap (λ b. cond b (Some x) (found context_no k cs)) (ne_eqb x.id k (λ is. apart (sym is ∙ eqb-true x.id id same))))
+    by_id : first_of_number context_no k (without_first context_no id cs) ≡ first_of_number context_no k cs → (b : Bool) → (x.id == id) ≡ b → first_of_number context_no k (cond b cs (x ∷ without_first context_no id cs)) ≡ cond (x.id == k) (Some x) (first_of_number context_no k cs)
+    by_id ih true same = sym (ap (λ b. cond b (Some x) (first_of_number context_no k cs)) (ne_eqb x.id k (λ is. apart (sym is ∙ eqb-true x.id id same))))
     by_id ih false same = ap (λ o. cond (x.id == k) (Some x) o) ih
 
-removed_gone : (last : ℕ) (cs : List Context) (id : ℕ) → AreDrawn last cs → found context_no id (removed context_no id cs) ≡ None
+removed_gone : (last : ℕ) (cs : List Context) (id : ℕ) → AreDrawn last cs → first_of_number context_no id (without_first context_no id cs) ≡ None
 removed_gone last [] id drawn = refl
 removed_gone last (x ∷ cs) id drawn = by_id (removed_gone last cs id drawn.2) (x.id == id) refl
   where
-    by_id : found context_no id (removed context_no id cs) ≡ None → (b : Bool) → (x.id == id) ≡ b → found context_no id (cond b cs (x ∷ removed context_no id cs)) ≡ None
-    by_id ih true same = ap (λ k. found context_no k cs) (sym (eqb-true x.id id same)) ∙ drawn.1
-    by_id ih false same = ap (λ b. cond b (Some x) (found context_no id (removed context_no id cs))) same ∙ ih
+    by_id : first_of_number context_no id (without_first context_no id cs) ≡ None → (b : Bool) → (x.id == id) ≡ b → first_of_number context_no id (cond b cs (x ∷ without_first context_no id cs)) ≡ None
+    by_id ih true same = ap (λ k. first_of_number context_no k cs) (sym (eqb-true x.id id same)) ∙ drawn.1
+    by_id ih false same = ap (λ b. cond b (Some x) (first_of_number context_no id (without_first context_no id cs))) same ∙ ih
 
-none_removed : (cs : List Context) (id k : ℕ) → found context_no k cs ≡ None → found context_no k (removed context_no id cs) ≡ None
+none_removed : (cs : List Context) (id k : ℕ) → first_of_number context_no k cs ≡ None → first_of_number context_no k (without_first context_no id cs) ≡ None
 none_removed [] id k none = refl
 none_removed (x ∷ cs) id k none = by_k (none_removed cs id k) (x.id == k) refl none
   where
-    by_id : found context_no k cs ≡ None → found context_no k (removed context_no id cs) ≡ None → (x.id == k) ≡ false → (b : Bool) → found context_no k (cond b cs (x ∷ removed context_no id cs)) ≡ None
+    by_id : first_of_number context_no k cs ≡ None → first_of_number context_no k (without_first context_no id cs) ≡ None → (x.id == k) ≡ false → (b : Bool) → first_of_number context_no k (cond b cs (x ∷ without_first context_no id cs)) ≡ None
     by_id gone later same true = gone
-    by_id gone later same false = ap (λ b. cond b (Some x) (found context_no k (removed context_no id cs))) same ∙ later
+    by_id gone later same false = ap (λ b. cond b (Some x) (first_of_number context_no k (without_first context_no id cs))) same ∙ later
 
-    by_k : (found context_no k cs ≡ None → found context_no k (removed context_no id cs) ≡ None) → (b : Bool) → (x.id == k) ≡ b → cond b (Some x) (found context_no k cs) ≡ None → found context_no k (cond (x.id == id) cs (x ∷ removed context_no id cs)) ≡ None
+    by_k : (first_of_number context_no k cs ≡ None → first_of_number context_no k (without_first context_no id cs) ≡ None) → (b : Bool) → (x.id == k) ≡ b → cond b (Some x) (first_of_number context_no k cs) ≡ None → first_of_number context_no k (cond (x.id == id) cs (x ∷ without_first context_no id cs)) ≡ None
     by_k ih true same gone = absurd (none_is (sym gone))
     by_k ih false same gone = by_id gone (ih gone) same (x.id == id)
 
-drawn_less : (last : ℕ) (cs : List Context) (id : ℕ) → AreDrawn last cs → AreDrawn last (removed context_no id cs)
+drawn_less : (last : ℕ) (cs : List Context) (id : ℕ) → AreDrawn last cs → AreDrawn last (without_first context_no id cs)
 drawn_less last [] id drawn = tt
 drawn_less last (x ∷ cs) id drawn = by_id (drawn_less last cs id drawn.2) (x.id == id)
   where
-    by_id : AreDrawn last (removed context_no id cs) → (b : Bool) → AreDrawn last (cond b cs (x ∷ removed context_no id cs))
+    by_id : AreDrawn last (without_first context_no id cs) → (b : Bool) → AreDrawn last (cond b cs (x ∷ without_first context_no id cs))
     by_id ih true = drawn.2
     by_id ih false = (drawn.0, none_removed cs id x.id drawn.1, ih)
 
@@ -89,10 +89,10 @@ module _ (h k : Contexts) (vm : ℕ) (v : VmContexts) (within : vm < length h.vm
   vm_other wm apart = ap (λ (vs : List VmContexts). slice_index_or vs wm no_vm) is ∙ get_or-set_other h.vms vm wm v no_vm apart
 
   -- what holds of the VM's contexts, and of the others', holds of all
-  contexts_by : (wm d : ℕ) → (wm ≡ vm → found context_no d v.contexts ≡ context_in h vm d) → context_in k wm d ≡ context_in h wm d
+  contexts_by : (wm d : ℕ) → (wm ≡ vm → first_of_number context_no d v.contexts ≡ context_in h vm d) → context_in k wm d ≡ context_in h wm d
   contexts_by wm d here = ⊎_elim
-      (λ (same : wm ≡ vm). subst (λ m. context_in k m d ≡ context_in h m d) (sym same) (ap (λ (w : VmContexts). found context_no d w.contexts) vm_here ∙ here same))
-      (λ (other : wm ≡ vm → ⊥). ap (λ (w : VmContexts). found context_no d w.contexts) (vm_other wm other))
+      (λ (same : wm ≡ vm). subst (λ m. context_in k m d ≡ context_in h m d) (sym same) (ap (λ (w : VmContexts). first_of_number context_no d w.contexts) vm_here ∙ here same))
+      (λ (other : wm ≡ vm → ⊥). ap (λ (w : VmContexts). first_of_number context_no d w.contexts) (vm_other wm other))
       (cases_eq wm vm)
 
   ids_by : (wm : ℕ) → (IdsAreDrawn h vm → AreDrawn v.last v.contexts) → IdsAreDrawn h wm → IdsAreDrawn k wm
@@ -101,11 +101,11 @@ module _ (h k : Contexts) (vm : ℕ) (v : VmContexts) (within : vm < length h.vm
       (λ (other : wm ≡ vm → ⊥). subst (λ (w : VmContexts). AreDrawn w.last w.contexts) (sym (vm_other wm other)) drawn)
       (cases_eq wm vm)
 
--- a context put behind those of its VM, under the next id
+-- a context put after those of its VM, under the next id
 module _ (h k : Contexts) (vm : ℕ) (c : Context) (within : vm < length h.vms) (next : c.id ≡ next_id h vm) (is : k.vms ≡ slice_set h.vms vm (with_context c (vm_in h vm))) where
   new_there : IdsAreDrawn h vm → context_in k vm (next_id h vm) ≡ Some c
   new_there drawn =
-      ap (λ (w : VmContexts). found context_no (next_id h vm) w.contexts) (vm_here h k vm (with_context c (vm_in h vm)) within is)
+      ap (λ (w : VmContexts). first_of_number context_no (next_id h vm) w.contexts) (vm_here h k vm (with_context c (vm_in h vm)) within is)
       ∙ found_last (vm_in h vm).contexts c (next_id h vm) next (fresh (vm_in h vm).last (vm_in h vm).contexts (next_id h vm) (omega arith) drawn)
 
   new_others : (wm d : ℕ) → IsOtherContext vm (next_id h vm) wm d → context_in k wm d ≡ context_in h wm d
@@ -155,11 +155,11 @@ or_right : (a b : Bool) → b ≡ true → (a || b) ≡ true
 or_right true b is = refl
 or_right false b is = is
 
-any_found : (p : Context → Bool) (cs : List Context) (d : ℕ) (c : Context) → found context_no d cs ≡ Some c → p c ≡ true → list_any p cs ≡ true
+any_found : (p : Context → Bool) (cs : List Context) (d : ℕ) (c : Context) → first_of_number context_no d cs ≡ Some c → p c ≡ true → list_any p cs ≡ true
 any_found p [] d c is good = absurd (none_is is)
 any_found p (x ∷ cs) d c is good = by_id (λ same. any_found p cs d c same good) (x.id == d) is
   where
-    by_id : (found context_no d cs ≡ Some c → list_any p cs ≡ true) → (b : Bool) → cond b (Some x) (found context_no d cs) ≡ Some c → (p x || list_any p cs) ≡ true
+    by_id : (first_of_number context_no d cs ≡ Some c → list_any p cs ≡ true) → (b : Bool) → cond b (Some x) (first_of_number context_no d cs) ≡ Some c → (p x || list_any p cs) ≡ true
     by_id ih true same = ap (λ q. q || list_any p cs) (ap p (from_some same) ∙ good)
     by_id ih false same = or_right (p x) (list_any p cs) (ih same)
 
@@ -184,39 +184,39 @@ kept_view h None wm d c p within is at = refl
 kept_view h (Some n) wm d c None within is at = refl
 kept_view h (Some n) wm d c (Some m) within is at = ⊎_elim
     (λ (same : m ≡ n). ap (λ (g : Contexts). view_at g.exchanges m) (freed_not n h (referred n h wm d c within is (at ∙ ap Some same))))
-    (λ (other : m ≡ n → ⊥). ap (option_map (λ (x : Exchange). x.view)) (freed_other n h m other))
+    (λ (other : m ≡ n → ⊥). ap (option_map (λ (x : ExchangeEntry). x.view)) (freed_other n h m other))
     (cases_eq m n)
 
 module _ (vm id : ℕ) (h : Contexts) (within : vm < length h.vms) where
   abbrev mid : Contexts
   mid = without_context vm id h
 
-  deleted_vms : (deleted vm id h).vms ≡ slice_set h.vms vm (without_id id (vm_in h vm))
+  deleted_vms : (delete_id vm id h).vms ≡ slice_set h.vms vm (without_id id (vm_in h vm))
   deleted_vms = freed_of_vms (exchange_of (context_in h vm id)) mid
 
   others_in : (k : Contexts) → k.vms ≡ slice_set h.vms vm (without_id id (vm_in h vm)) → (wm d : ℕ) → IsOtherContext vm id wm d → context_in k wm d ≡ context_in h wm d
   others_in k is wm d apart = contexts_by h k vm (without_id id (vm_in h vm)) within is wm d (λ same. removed_other (vm_in h vm).contexts id d (apart same))
 
-  is_gone : IdsAreDrawn h vm → context_in (deleted vm id h) vm id ≡ None
+  is_gone : IdsAreDrawn h vm → context_in (delete_id vm id h) vm id ≡ None
   is_gone drawn =
-      ap (λ (w : VmContexts). found context_no id w.contexts) (vm_here h (deleted vm id h) vm (without_id id (vm_in h vm)) within deleted_vms)
+      ap (λ (w : VmContexts). first_of_number context_no id w.contexts) (vm_here h (delete_id vm id h) vm (without_id id (vm_in h vm)) within deleted_vms)
       ∙ removed_gone (vm_in h vm).last (vm_in h vm).contexts id drawn
 
-  views_stay : (wm d : ℕ) (c : Context) → IsOtherContext vm id wm d → wm < length h.vms → context_in h wm d ≡ Some c → view_in (deleted vm id h).exchanges c.exchange ≡ view_in h.exchanges c.exchange
+  views_stay : (wm d : ℕ) (c : Context) → IsOtherContext vm id wm d → wm < length h.vms → context_in h wm d ≡ Some c → view_in (delete_id vm id h).exchanges c.exchange ≡ view_in h.exchanges c.exchange
   views_stay wm d c apart inside is =
       kept_view mid (exchange_of (context_in h vm id)) wm d c c.exchange (omega (arith, inside, length-set h.vms vm (without_id id (vm_in h vm)))) (others_in mid refl wm d apart ∙ is) refl
 
 pub deletes_one : DeletesOne
 deletes_one = record {
   gone = λ vm id h within drawn. is_gone vm id h within drawn;
-  others = λ vm id h wm d within apart. others_in vm id h within (deleted vm id h) (deleted_vms vm id h within) wm d apart;
+  others = λ vm id h wm d within apart. others_in vm id h within (delete_id vm id h) (deleted_vms vm id h within) wm d apart;
   exchanges = λ vm id h wm d c within apart inside is. views_stay vm id h within wm d c apart inside is;
-  ids = λ vm id h wm within drawn. ids_by h (deleted vm id h) vm (without_id id (vm_in h vm)) within (deleted_vms vm id h within) wm (drawn_less (vm_in h vm).last (vm_in h vm).contexts id) drawn;
+  ids = λ vm id h wm within drawn. ids_by h (delete_id vm id h) vm (without_id id (vm_in h vm)) within (deleted_vms vm id h within) wm (drawn_less (vm_in h vm).last (vm_in h vm).contexts id) drawn;
 }
 
 -- ---- an exchange that ends
 
-ended_set : (xs : List (Option Exchange)) (n : ℕ) → view_at (slice_set xs n (option_map ended_one (exchange_at xs n))) n ≡ option_map ended_view (view_at xs n)
+ended_set : (xs : List (Option ExchangeEntry)) (n : ℕ) → view_at (slice_set xs n (option_map ended_one (exchange_at xs n))) n ≡ option_map ended_view (view_at xs n)
 ended_set [] n = refl
 ended_set (None ∷ xs) zero = refl
 ended_set (Some x ∷ xs) zero = refl

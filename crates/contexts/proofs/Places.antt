@@ -6,12 +6,12 @@ use Rattle.std.specs.Option.{option_map}
 use Rattle.std.proofs.lemmas.List.Folds.{find_at}
 use Rattle.std.proofs.lemmas.Bool.{ltb-false}
 use Rattle.std.proofs.lemmas.List.Quantifiers.{position-Some}
-use Rattle.contexts.specs.Keyed.{found, changed, removed}
+use Rattle.contexts.specs.Keyed.{first_of_number, with_first_changed, without_first}
 use Rattle.contexts.specs.declared.parts.Own.{Own}
 use Rattle.contexts.specs.declared.parts.ExchangeView.{ExchangeView}
 use Rattle.contexts.specs.declared.parts.Tick.{Tick}
 use Rattle.contexts.specs.declared.parts.Context.{Context}
-use Rattle.contexts.specs.declared.parts.Exchange.{Exchange}
+use Rattle.contexts.specs.declared.parts.ExchangeEntry.{ExchangeEntry}
 use Rattle.contexts.specs.declared.parts.VmContexts.{VmContexts}
 use Rattle.contexts.specs.declared.parts.Contexts.{Contexts}
 use Rattle.contexts.specs.Reached.{no_changes, vm_in, no_vm, context_no, context_in, exchange_of, effective_of, exchange_at, view_at, view_in, with_view, contexts_after, exchanges_by, exchanges_after, vm_after, put, with_own, with_tick, reach_by, seen_of, seen}
@@ -21,22 +21,22 @@ pub none_is : {A : Type 0} {a : A} → None ≡ Some a → ⊥
 none_is same = cc
 
 module _ {A : Type 0} (number : A → ℕ) (k : ℕ) (d : A) where
-  first_found : (i : ℕ) (xs : List A) → i < length xs → (number (slice_index_or xs i d) == k) ≡ true → ((j : ℕ) → j < i → (number (slice_index_or xs j d) == k) ≡ false) → found number k xs ≡ Some (slice_index_or xs i d)
+  first_found : (i : ℕ) (xs : List A) → i < length xs → (number (slice_index_or xs i d) == k) ≡ true → ((j : ℕ) → j < i → (number (slice_index_or xs j d) == k) ≡ false) → first_of_number number k xs ≡ Some (slice_index_or xs i d)
   first_found i [] within is before = absurd (omega (arith, within))
-  first_found zero (x ∷ xs) within is before = ap (λ b. cond b (Some x) (found number k xs)) is
+  first_found zero (x ∷ xs) within is before = ap (λ b. cond b (Some x) (first_of_number number k xs)) is
   first_found (suc i) (x ∷ xs) within is before =
-      ap (λ b. cond b (Some x) (found number k xs)) (before 0 (omega arith)) ∙ first_found i xs (omega (arith, within)) is (λ j less. before (suc j) (omega (arith, less)))
+      ap (λ b. cond b (Some x) (first_of_number number k xs)) (before 0 (omega arith)) ∙ first_found i xs (omega (arith, within)) is (λ j less. before (suc j) (omega (arith, less)))
 
-  first_changed : (f : A → A) (i : ℕ) (xs : List A) → i < length xs → (number (slice_index_or xs i d) == k) ≡ true → ((j : ℕ) → j < i → (number (slice_index_or xs j d) == k) ≡ false) → changed number k f xs ≡ slice_set xs i (f (slice_index_or xs i d))
+  first_changed : (f : A → A) (i : ℕ) (xs : List A) → i < length xs → (number (slice_index_or xs i d) == k) ≡ true → ((j : ℕ) → j < i → (number (slice_index_or xs j d) == k) ≡ false) → with_first_changed number k f xs ≡ slice_set xs i (f (slice_index_or xs i d))
   first_changed f i [] within is before = absurd (omega (arith, within))
-  first_changed f zero (x ∷ xs) within is before = ap (λ b. cond b (f x ∷ xs) (x ∷ changed number k f xs)) is
+  first_changed f zero (x ∷ xs) within is before = ap (λ b. cond b (f x ∷ xs) (x ∷ with_first_changed number k f xs)) is
   first_changed f (suc i) (x ∷ xs) within is before =
-      ap (λ b. cond b (f x ∷ xs) (x ∷ changed number k f xs)) (before 0 (omega arith)) ∙ ap (λ ys. x ∷ ys) (first_changed f i xs (omega (arith, within)) is (λ j less. before (suc j) (omega (arith, less))))
+      ap (λ b. cond b (f x ∷ xs) (x ∷ with_first_changed number k f xs)) (before 0 (omega arith)) ∙ ap (λ ys. x ∷ ys) (first_changed f i xs (omega (arith, within)) is (λ j less. before (suc j) (omega (arith, less))))
 
-  pub found_at : (i : ℕ) (xs : List A) → position (λ x. number x == k) xs ≡ Some i → found number k xs ≡ Some (slice_index_or xs i d)
+  pub found_at : (i : ℕ) (xs : List A) → position (λ x. number x == k) xs ≡ Some i → first_of_number number k xs ≡ Some (slice_index_or xs i d)
   found_at i xs is = let h = position-Some (λ x. number x == k) xs i d is in first_found i xs h.0 h.1 h.2
 
-  pub changed_at : (f : A → A) (i : ℕ) (xs : List A) → position (λ x. number x == k) xs ≡ Some i → changed number k f xs ≡ slice_set xs i (f (slice_index_or xs i d))
+  pub changed_at : (f : A → A) (i : ℕ) (xs : List A) → position (λ x. number x == k) xs ≡ Some i → with_first_changed number k f xs ≡ slice_set xs i (f (slice_index_or xs i d))
   changed_at f i xs is = let h = position-Some (λ x. number x == k) xs i d is in first_changed f i xs h.0 h.1 h.2
 
 lt_false : (b : Bool) (n : ℕ) → cond b (Some n) None ≡ None → b ≡ false
@@ -51,50 +51,50 @@ beyond (x ∷ xs) (suc i) h = beyond xs i (omega (arith, h))
 -- ---- members that are taken out, or are not there
 
 module _ {A : Type 0} (number : A → ℕ) (k : ℕ) where
-  first_removed : (d : A) (i : ℕ) (xs : List A) → i < length xs → (number (slice_index_or xs i d) == k) ≡ true → ((j : ℕ) → j < i → (number (slice_index_or xs j d) == k) ≡ false) → removed number k xs ≡ remove xs i
+  first_removed : (d : A) (i : ℕ) (xs : List A) → i < length xs → (number (slice_index_or xs i d) == k) ≡ true → ((j : ℕ) → j < i → (number (slice_index_or xs j d) == k) ≡ false) → without_first number k xs ≡ remove xs i
   first_removed d i [] within is before = absurd (omega (arith, within))
-  first_removed d zero (x ∷ xs) within is before = ap (λ b. cond b xs (x ∷ removed number k xs)) is
+  first_removed d zero (x ∷ xs) within is before = ap (λ b. cond b xs (x ∷ without_first number k xs)) is
   first_removed d (suc i) (x ∷ xs) within is before =
-      ap (λ b. cond b xs (x ∷ removed number k xs)) (before 0 (omega arith)) ∙ ap (λ ys. x ∷ ys) (first_removed d i xs (omega (arith, within)) is (λ j less. before (suc j) (omega (arith, less))))
+      ap (λ b. cond b xs (x ∷ without_first number k xs)) (before 0 (omega arith)) ∙ ap (λ ys. x ∷ ys) (first_removed d i xs (omega (arith, within)) is (λ j less. before (suc j) (omega (arith, less))))
 
-  removed_by : (i : ℕ) (xs : List A) → position (λ x. number x == k) xs ≡ Some i → removed number k xs ≡ remove xs i
+  removed_by : (i : ℕ) (xs : List A) → position (λ x. number x == k) xs ≡ Some i → without_first number k xs ≡ remove xs i
   removed_by i [] is = absurd (none_is is)
   removed_by i (x ∷ xs) is = let h = position-Some (λ y. number y == k) (x ∷ xs) i x is in first_removed x i (x ∷ xs) h.0 h.1 h.2
 
-  not_found : (xs : List A) → position (λ x. number x == k) xs ≡ None → found number k xs ≡ None
+  not_found : (xs : List A) → position (λ x. number x == k) xs ≡ None → first_of_number number k xs ≡ None
   not_found xs is = let p : A → Bool = λ x. number x == k in find_at p xs ∙ beyond xs (position_or_len p xs) (ltb-false _ _ (lt_false _ _ is))
 
-  same_at : (f : A → A) (b : Bool) (x : A) (xs : List A) → cond b (Some x) (found number k xs) ≡ None → (found number k xs ≡ None → changed number k f xs ≡ xs) → cond b (f x ∷ xs) (x ∷ changed number k f xs) ≡ x ∷ xs
+  same_at : (f : A → A) (b : Bool) (x : A) (xs : List A) → cond b (Some x) (first_of_number number k xs) ≡ None → (first_of_number number k xs ≡ None → with_first_changed number k f xs ≡ xs) → cond b (f x ∷ xs) (x ∷ with_first_changed number k f xs) ≡ x ∷ xs
   same_at f true x xs is ih = absurd (none_is (sym is))
   same_at f false x xs is ih = ap (λ ys. x ∷ ys) (ih is)
 
-  unchanged : (f : A → A) (xs : List A) → found number k xs ≡ None → changed number k f xs ≡ xs
+  unchanged : (f : A → A) (xs : List A) → first_of_number number k xs ≡ None → with_first_changed number k f xs ≡ xs
   unchanged f [] is = refl
   unchanged f (x ∷ xs) is = same_at f (number x == k) x xs is (unchanged f xs)
 
-  left_at : (b : Bool) (x : A) (xs : List A) → cond b (Some x) (found number k xs) ≡ None → (found number k xs ≡ None → removed number k xs ≡ xs) → cond b xs (x ∷ removed number k xs) ≡ x ∷ xs
+  left_at : (b : Bool) (x : A) (xs : List A) → cond b (Some x) (first_of_number number k xs) ≡ None → (first_of_number number k xs ≡ None → without_first number k xs ≡ xs) → cond b xs (x ∷ without_first number k xs) ≡ x ∷ xs
   left_at true x xs is ih = absurd (none_is (sym is))
   left_at false x xs is ih = ap (λ ys. x ∷ ys) (ih is)
 
-  unremoved : (xs : List A) → found number k xs ≡ None → removed number k xs ≡ xs
+  unremoved : (xs : List A) → first_of_number number k xs ≡ None → without_first number k xs ≡ xs
   unremoved [] is = refl
   unremoved (x ∷ xs) is = left_at (number x == k) x xs is (unremoved xs)
 
-  pub removed_at : (i : ℕ) (xs ys : List A) → position (λ x. number x == k) xs ≡ Some i → ys ≡ remove xs i → ys ≡ removed number k xs
+  pub removed_at : (i : ℕ) (xs ys : List A) → position (λ x. number x == k) xs ≡ Some i → ys ≡ remove xs i → ys ≡ without_first number k xs
   removed_at i xs ys is out = out ∙ sym (removed_by i xs is)
 
-  pub removed_none : (xs : List A) → position (λ x. number x == k) xs ≡ None → xs ≡ removed number k xs
+  pub removed_none : (xs : List A) → position (λ x. number x == k) xs ≡ None → xs ≡ without_first number k xs
   removed_none xs is = sym (unremoved xs (not_found xs is))
 
-  pub changed_none : (f : A → A) (xs : List A) → position (λ x. number x == k) xs ≡ None → changed number k f xs ≡ xs
+  pub changed_none : (f : A → A) (xs : List A) → position (λ x. number x == k) xs ≡ None → with_first_changed number k f xs ≡ xs
   changed_none f xs is = unchanged f xs (not_found xs is)
 
 -- where nothing of the exchange is changed, no exchange is
-no_exchange : (o : Option ℕ) (xs : List (Option Exchange)) (s : Own) → exchanges_by (record no_changes { own = Some s }) o xs ≡ xs
+no_exchange : (o : Option ℕ) (xs : List (Option ExchangeEntry)) (s : Own) → exchanges_by (record no_changes { own = Some s }) o xs ≡ xs
 no_exchange None xs s = refl
 no_exchange (Some n) xs s = refl
 
-pub none_of : (o : Option Context) (xs : List (Option Exchange)) (s : Own) → exchanges_after (record no_changes { own = Some s }) o xs ≡ xs
+pub none_of : (o : Option Context) (xs : List (Option ExchangeEntry)) (s : Own) → exchanges_after (record no_changes { own = Some s }) o xs ≡ xs
 none_of None xs s = refl
 none_of (Some c) xs s = no_exchange c.exchange xs s
 
@@ -125,25 +125,25 @@ module _ (h : Contexts) (vm e n i : ℕ) (same : n ≡ vm) (v1 : VmContexts) (wi
       ap (λ (w : VmContexts). record h { vms = slice_set h.vms n w }) v_is ∙ ap (λ (ws : List VmContexts). record h { vms = ws }) (set_same h.vms n v1 (omega (arith, within, same)))
 
   module _ (c1 : Context) (at : position (λ (c : Context). c.id == e) v1.contexts ≡ Some i) (c_is : c1 ≡ slice_index_or v1.contexts i c1) where
-    there : found context_no e v1.contexts ≡ Some c1
+    there : first_of_number context_no e v1.contexts ≡ Some c1
     there = found_at context_no e c1 i v1.contexts at ∙ ap Some (sym c_is)
 
     pub own_is : (z : Own) → record h { vms = slice_set h.vms n (record v1 { contexts = slice_set v1.contexts i (record c1 { own = z }) }) } ≡ own_put_of h vm e z
     own_is z =
         let s = record no_changes { own = Some z } in
-        let now : changed context_no e (with_own z) v1.contexts ≡ slice_set v1.contexts i (record c1 { own = z }) = changed_at context_no e c1 (with_own z) i v1.contexts at ∙ ap (λ (c : Context). slice_set v1.contexts i (record c { own = z })) (sym c_is) in
+        let now : with_first_changed context_no e (with_own z) v1.contexts ≡ slice_set v1.contexts i (record c1 { own = z }) = changed_at context_no e c1 (with_own z) i v1.contexts at ∙ ap (λ (c : Context). slice_set v1.contexts i (record c { own = z })) (sym c_is) in
         (λ j. record h { vms = slice_set h.vms (same j) (record v1 { contexts = sym now j }); effects = sym (nothing_behind h.effects) j })
-        ∙ (λ j. record h { vms = slice_set h.vms vm (vm_after s e (sym there j) v1); exchanges = sym (none_of (found context_no e v1.contexts) h.exchanges z) j; effects = h.effects ++ [] })
-        ∙ (λ j. record h { vms = slice_set h.vms vm (vm_after s e (found context_no e (vm_found j).contexts) (vm_found j)); exchanges = exchanges_after s (found context_no e (vm_found j).contexts) h.exchanges; effects = h.effects ++ [] })
+        ∙ (λ j. record h { vms = slice_set h.vms vm (vm_after s e (sym there j) v1); exchanges = sym (none_of (first_of_number context_no e v1.contexts) h.exchanges z) j; effects = h.effects ++ [] })
+        ∙ (λ j. record h { vms = slice_set h.vms vm (vm_after s e (first_of_number context_no e (vm_found j).contexts) (vm_found j)); exchanges = exchanges_after s (first_of_number context_no e (vm_found j).contexts) h.exchanges; effects = h.effects ++ [] })
 
     pub own_seen : Some c1.own ≡ (seen_of h vm e).reach.own
-    own_seen = sym (ap (λ (o : Option Context). (reach_by h (vm_in h vm) o).own) (sym (ap (λ (w : VmContexts). found context_no e w.contexts) vm_found) ∙ there))
+    own_seen = sym (ap (λ (o : Option Context). (reach_by h (vm_in h vm) o).own) (sym (ap (λ (w : VmContexts). first_of_number context_no e w.contexts) vm_found) ∙ there))
 
   pub none_seen : position (λ (c : Context). c.id == e) v1.contexts ≡ None → None ≡ (seen_of h vm e).reach.own
   none_seen at =
       let p = λ (c : Context). c.id == e in
-      let gone : found context_no e v1.contexts ≡ None = find_at p v1.contexts ∙ beyond v1.contexts (position_or_len p v1.contexts) (ltb-false _ _ (lt_false _ _ at)) in
-      sym (ap (λ (o : Option Context). (reach_by h (vm_in h vm) o).own) (sym (ap (λ (w : VmContexts). found context_no e w.contexts) vm_found) ∙ gone))
+      let gone : first_of_number context_no e v1.contexts ≡ None = find_at p v1.contexts ∙ beyond v1.contexts (position_or_len p v1.contexts) (ltb-false _ _ (lt_false _ _ at)) in
+      sym (ap (λ (o : Option Context). (reach_by h (vm_in h vm) o).own) (sym (ap (λ (w : VmContexts). first_of_number context_no e w.contexts) vm_found) ∙ gone))
 
 -- ---- what an exchange has
 
@@ -151,7 +151,7 @@ no_contexts : (e : ℕ) (o : Option Context) (cs : List Context) (z : ExchangeVi
 no_contexts e None cs z = refl
 no_contexts e (Some c) cs z = refl
 
-exchanges_are : (o : Option Context) (n : ℕ) (xs : List (Option Exchange)) (z : ExchangeView) → exchange_of o ≡ Some n →
+exchanges_are : (o : Option Context) (n : ℕ) (xs : List (Option ExchangeEntry)) (z : ExchangeView) → exchange_of o ≡ Some n →
     exchanges_after (record no_changes { exchange = Some z }) o xs ≡ slice_set xs n (option_map (with_view z) (exchange_at xs n))
 exchanges_are None n xs z is = absurd (none_is is)
 exchanges_are (Some c) n xs z is = ap (λ m. exchanges_by (record no_changes { exchange = Some z }) m xs) is
@@ -182,11 +182,11 @@ module _ (h : Contexts) (vm n : ℕ) (within : vm < length h.vms) (is : exchange
 
 -- ---- the tick of a root
 
-quiet_exchange : (o : Option ℕ) (xs : List (Option Exchange)) (t : Option Tick) → exchanges_by (record no_changes { tick = Some t }) o xs ≡ xs
+quiet_exchange : (o : Option ℕ) (xs : List (Option ExchangeEntry)) (t : Option Tick) → exchanges_by (record no_changes { tick = Some t }) o xs ≡ xs
 quiet_exchange None xs t = refl
 quiet_exchange (Some n) xs t = refl
 
-quiet_exchanges : (o : Option Context) (xs : List (Option Exchange)) (t : Option Tick) → exchanges_after (record no_changes { tick = Some t }) o xs ≡ xs
+quiet_exchanges : (o : Option Context) (xs : List (Option ExchangeEntry)) (t : Option Tick) → exchanges_after (record no_changes { tick = Some t }) o xs ≡ xs
 quiet_exchanges None xs t = refl
 quiet_exchanges (Some c) xs t = quiet_exchange c.exchange xs t
 
@@ -194,11 +194,11 @@ pub from_some : {A : Type 0} {a b : A} → Some a ≡ Some b → a ≡ b
 from_some same = cc
 
 module _ (h : Contexts) (vm n r : ℕ) (same : n ≡ vm) (v1 : VmContexts) (within : vm < length h.vms) (v_is : v1 ≡ slice_index_or h.vms n v1) (rooted : (seen h vm).reach.root ≡ Some r) (t : Option Tick) where
-  contexts_by_root : (o : Option Context) (v : VmContexts) (cs : List Context) → (reach_by h v o).root ≡ Some r → contexts_after (record no_changes { tick = Some t }) v.effective o cs ≡ changed context_no r (with_tick t) cs
+  contexts_by_root : (o : Option Context) (v : VmContexts) (cs : List Context) → (reach_by h v o).root ≡ Some r → contexts_after (record no_changes { tick = Some t }) v.effective o cs ≡ with_first_changed context_no r (with_tick t) cs
   contexts_by_root None v cs is = absurd (none_is is)
-  contexts_by_root (Some c) v cs is = ap (λ k. changed context_no k (with_tick t) cs) (from_some is)
+  contexts_by_root (Some c) v cs is = ap (λ k. with_first_changed context_no k (with_tick t) cs) (from_some is)
 
-  put_tick : put (record no_changes { tick = Some t }) vm h ≡ record h { vms = slice_set h.vms vm (record (vm_in h vm) { contexts = changed context_no r (with_tick t) (vm_in h vm).contexts }) }
+  put_tick : put (record no_changes { tick = Some t }) vm h ≡ record h { vms = slice_set h.vms vm (record (vm_in h vm) { contexts = with_first_changed context_no r (with_tick t) (vm_in h vm).contexts }) }
   put_tick =
       let v = vm_in h vm in
       let o = context_in h vm v.effective in
@@ -207,15 +207,15 @@ module _ (h : Contexts) (vm n r : ℕ) (same : n ≡ vm) (v1 : VmContexts) (with
   v_found : v1 ≡ vm_in h vm
   v_found = vm_found h vm 0 n 0 same v1 within v_is
 
-  put_there : record h { vms = slice_set h.vms n (record v1 { contexts = changed context_no r (with_tick t) v1.contexts }) } ≡ put (record no_changes { tick = Some t }) vm h
+  put_there : record h { vms = slice_set h.vms n (record v1 { contexts = with_first_changed context_no r (with_tick t) v1.contexts }) } ≡ put (record no_changes { tick = Some t }) vm h
   put_there =
-      (λ j. record h { vms = slice_set h.vms (same j) (record (v_found j) { contexts = changed context_no r (with_tick t) (v_found j).contexts }) })
+      (λ j. record h { vms = slice_set h.vms (same j) (record (v_found j) { contexts = with_first_changed context_no r (with_tick t) (v_found j).contexts }) })
       ∙ sym put_tick
 
   pub tick_is : (i : ℕ) (c1 : Context) → position (λ (c : Context). c.id == r) v1.contexts ≡ Some i → c1 ≡ slice_index_or v1.contexts i c1 →
       record h { vms = slice_set h.vms n (record v1 { contexts = slice_set v1.contexts i (record c1 { tick = t }) }) } ≡ put (record no_changes { tick = Some t }) vm h
   tick_is i c1 at c_is =
-      let now : changed context_no r (with_tick t) v1.contexts ≡ slice_set v1.contexts i (record c1 { tick = t }) = changed_at context_no r c1 (with_tick t) i v1.contexts at ∙ ap (λ (c : Context). slice_set v1.contexts i (record c { tick = t })) (sym c_is) in
+      let now : with_first_changed context_no r (with_tick t) v1.contexts ≡ slice_set v1.contexts i (record c1 { tick = t }) = changed_at context_no r c1 (with_tick t) i v1.contexts at ∙ ap (λ (c : Context). slice_set v1.contexts i (record c { tick = t })) (sym c_is) in
       (λ j. record h { vms = slice_set h.vms n (record v1 { contexts = sym now j }) }) ∙ put_there
 
   pub tick_gone : position (λ (c : Context). c.id == r) v1.contexts ≡ None → record h { vms = slice_set h.vms n v1 } ≡ put (record no_changes { tick = Some t }) vm h

@@ -3,13 +3,13 @@ use Rattle.std.specs.Prelude.{◌≡◌, ℕ, ◌+◌, ◌==◌, ◌&&◌, Bool,
 use Rattle.std.specs.List.{list_any, position}
 use Rattle.std.specs.Option.{option_map}
 use Rattle.header_maps.specs.Headers.{Headers}
-use Rattle.contexts.specs.Keyed.{removed}
-use Rattle.contexts.specs.declared.parts.Stage.{Stage}
+use Rattle.contexts.specs.Keyed.{without_first}
+use Rattle.contexts.specs.declared.parts.StageBuffer.{StageBuffer}
 use Rattle.contexts.specs.declared.parts.Own.{Own}
 use Rattle.contexts.specs.declared.parts.Context.{Context}
 use Rattle.contexts.specs.declared.parts.Maps.{Maps}
 use Rattle.contexts.specs.declared.parts.ExchangeView.{ExchangeView}
-use Rattle.contexts.specs.declared.parts.Exchange.{Exchange}
+use Rattle.contexts.specs.declared.parts.ExchangeEntry.{ExchangeEntry}
 use Rattle.contexts.specs.declared.parts.Plugin.{Plugin}
 use Rattle.contexts.specs.declared.parts.VmContexts.{VmContexts}
 use Rattle.contexts.specs.declared.parts.Contexts.{Contexts}
@@ -26,7 +26,7 @@ next_id h vm = (vm_in h vm).last + 1
 
 -- ---- what is new
 
-abbrev pub no_stage : Stage
+abbrev pub no_stage : StageBuffer
 no_stage = record { held = []; is_asked = false; has_end = false }
 
 abbrev pub no_own : Own
@@ -73,12 +73,12 @@ abbrev pub plugin_at : Option Context → ℕ
 plugin_at None = 0
 plugin_at (Some c) = c.plugin
 
-abbrev pub is_open_on : ℕ → Option Exchange → Bool
+abbrev pub is_open_on : ℕ → Option ExchangeEntry → Bool
 is_open_on line None = false
 is_open_on line (Some x) = (x.line == line) && not x.view.has_ended
 
 -- where the exchange stands that is open on a line
-abbrev pub open_place : ℕ → List (Option Exchange) → Option ℕ
+abbrev pub open_place : ℕ → List (Option ExchangeEntry) → Option ℕ
 open_place line xs = position (is_open_on line) xs
 
 -- CREATE A STREAM of a root, in the exchange that is open on the line
@@ -95,10 +95,10 @@ no_maps request = record { request = Some request; request_trailers = None; resp
 abbrev pub new_view : Headers → ExchangeView
 new_view request = record { maps = no_maps request; is_answering = false; is_answered = false; has_ended = false; is_head_out = false }
 
-abbrev pub new_exchange : ℕ → Headers → Exchange
+abbrev pub new_exchange : ℕ → Headers → ExchangeEntry
 new_exchange line request = record { line = line; view = new_view request }
 
-abbrev pub placed_at : Exchange → Option ℕ → List (Option Exchange) → List (Option Exchange)
+abbrev pub placed_at : ExchangeEntry → Option ℕ → List (Option ExchangeEntry) → List (Option ExchangeEntry)
 placed_at x (Some n) xs = slice_set xs n (Some x)
 placed_at x None xs = xs ++ Some x ∷ []
 
@@ -107,8 +107,8 @@ place_or n None = n
 place_or n (Some m) = m
 
 -- OPEN an exchange on a line, at the first free place
-abbrev pub opened : ℕ → Headers → Contexts → Contexts
-opened line request h = record h { exchanges = placed_at (new_exchange line request) (position is_none h.exchanges) h.exchanges }
+abbrev pub open_exchange : ℕ → Headers → Contexts → Contexts
+open_exchange line request h = record h { exchanges = placed_at (new_exchange line request) (position is_none h.exchanges) h.exchanges }
 
 abbrev pub refers_to : ℕ → Option ℕ → Bool
 refers_to n None = false
@@ -118,7 +118,7 @@ refers_to n (Some m) = m == n
 abbrev pub is_referred : ℕ → List VmContexts → Bool
 is_referred n vms = list_any (λ (v : VmContexts). list_any (λ (c : Context). refers_to n c.exchange) v.contexts) vms
 
-abbrev pub has_ended : Option Exchange → Bool
+abbrev pub has_ended : Option ExchangeEntry → Bool
 has_ended None = false
 has_ended (Some x) = x.view.has_ended
 
@@ -130,12 +130,12 @@ abbrev pub freed_of : Option ℕ → Contexts → Contexts
 freed_of None h = h
 freed_of (Some n) h = freed n h
 
-abbrev pub ended_one : Exchange → Exchange
+abbrev pub ended_one : ExchangeEntry → ExchangeEntry
 ended_one x = record x { view = record x.view { has_ended = true } }
 
 -- END the exchange at a place
-abbrev pub ended : ℕ → Contexts → Contexts
-ended n h = freed n (record h { exchanges = slice_set h.exchanges n (option_map ended_one (exchange_at h.exchanges n)) })
+abbrev pub end_exchange : ℕ → Contexts → Contexts
+end_exchange n h = freed n (record h { exchanges = slice_set h.exchanges n (option_map ended_one (exchange_at h.exchanges n)) })
 
 -- ---- the end of contexts
 
@@ -143,23 +143,23 @@ abbrev pub itself : ℕ → ℕ
 itself n = n
 
 -- WAIT for proxy_done
-abbrev pub awaited : (vm id : ℕ) → Contexts → Contexts
-awaited vm id h = record h { vms = slice_set h.vms vm (record (vm_in h vm) { waiting = (vm_in h vm).waiting ++ id ∷ [] }) }
+abbrev pub await_done_of : (vm id : ℕ) → Contexts → Contexts
+await_done_of vm id h = record h { vms = slice_set h.vms vm (record (vm_in h vm) { waiting = (vm_in h vm).waiting ++ id ∷ [] }) }
 
 -- DONE: the context waits no longer
 abbrev pub done_with : (vm id : ℕ) → Contexts → Contexts
-done_with vm id h = put_of (record no_changes { waiting = Some (removed itself id (vm_in h vm).waiting) }) vm id h
+done_with vm id h = put_of (record no_changes { waiting = Some (without_first itself id (vm_in h vm).waiting) }) vm id h
 
 abbrev pub without_id : ℕ → VmContexts → VmContexts
-without_id id v = record v { waiting = removed itself id v.waiting; contexts = removed context_no id v.contexts }
+without_id id v = record v { waiting = without_first itself id v.waiting; contexts = without_first context_no id v.contexts }
 
 abbrev pub without_context : (vm id : ℕ) → Contexts → Contexts
 without_context vm id h = record h { vms = slice_set h.vms vm (without_id id (vm_in h vm)) }
 
 -- DELETE a context
-abbrev pub deleted : (vm id : ℕ) → Contexts → Contexts
-deleted vm id h = freed_of (exchange_of (context_in h vm id)) (without_context vm id h)
+abbrev pub delete_id : (vm id : ℕ) → Contexts → Contexts
+delete_id vm id h = freed_of (exchange_of (context_in h vm id)) (without_context vm id h)
 
--- a context put behind those of a VM, under the id that was drawn for it
+-- a context put after those of a VM, under the id that was drawn for it
 abbrev pub with_new : ℕ → Context → Contexts → Contexts
 with_new vm c h = record h { vms = slice_set h.vms vm (with_context c (vm_in h vm)) }

@@ -1,12 +1,12 @@
--- What a callback asked for is taken out behind it.
+-- What a callback asked for is taken out after it.
 use Rattle.std.specs.Prelude.{false, [], map, Option, None, Some}
-use Rattle.contexts.specs.declared.parts.Exchange.{Exchange}
+use Rattle.contexts.specs.declared.parts.ExchangeEntry.{ExchangeEntry}
 use Rattle.contexts.specs.declared.parts.Contexts.{Contexts}
 
-abbrev pub unmarked : Exchange → Exchange
+abbrev pub unmarked : ExchangeEntry → ExchangeEntry
 unmarked x = record x { view = record x.view { is_answering = false } }
 
-abbrev pub unmarked_at : Option Exchange → Option Exchange
+abbrev pub unmarked_at : Option ExchangeEntry → Option ExchangeEntry
 unmarked_at None = None
 unmarked_at (Some x) = Some (unmarked x)
 

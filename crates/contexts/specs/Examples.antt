@@ -8,9 +8,9 @@ use Rattle.contexts.specs.declared.parts.Own.{Own}
 use Rattle.contexts.specs.declared.parts.ExchangeView.{ExchangeView}
 use Rattle.contexts.specs.declared.parts.Contexts.{Contexts}
 use Rattle.contexts.specs.Reached.{Changes, Seen, no_changes, seen, seen_of, put, put_of, contains, exchange_at}
-use Rattle.contexts.specs.Creating.{no_own, root_created, stream_created, opened, ended, deleted, awaited, done_with, open_place}
+use Rattle.contexts.specs.Creating.{no_own, root_created, stream_created, open_exchange, end_exchange, delete_id, await_done_of, done_with, open_place}
 use Rattle.contexts.specs.Making.{no_contexts, with_vm, with_plugin}
-use Rattle.contexts.specs.Stages.{held_at, filled, emptied, answered, is_there}
+use Rattle.contexts.specs.Stages.{held_at, with_buffered, without_buffer, with_callback_answered, is_there}
 use Rattle.contexts.specs.Properties.{property_of, property_set}
 
 abbrev pub request : List ℕ → Headers
@@ -24,7 +24,7 @@ roots =
 
 -- line 7 with a stream of each, and line 8 with one of the first
 abbrev pub host : Contexts
-host = stream_created 0 1 8 (opened 8 (request (codes "/b")) (stream_created 1 1 7 (stream_created 0 1 7 (opened 7 (request (codes "/a")) roots))))
+host = stream_created 0 1 8 (open_exchange 8 (request (codes "/b")) (stream_created 1 1 7 (stream_created 0 1 7 (open_exchange 7 (request (codes "/a")) roots))))
 
 abbrev pub path_in : Option Headers → Option (List ℕ)
 path_in None = None
@@ -70,24 +70,24 @@ pub record ContextExamples : Type 0 where
   pub not_at_other : property_seen set 0 3 ≡ Some None
   pub not_elsewhere : property_seen set 1 2 ≡ Some None
   -- the maps of an exchange that has ended live until its last context is deleted; then its place is free
-  pub ended_path : path_seen (ended 0 host) 0 2 ≡ Some (codes "/a")
-  pub last_path : path_seen (deleted 0 2 (ended 0 host)) 1 2 ≡ Some (codes "/a")
-  pub freed : exchange_at (deleted 1 2 (deleted 0 2 (ended 0 host))).exchanges 0 ≡ None
-  pub kept_open : open_place 8 (deleted 1 2 (deleted 0 2 (ended 0 host))).exchanges ≡ Some 1
-  pub used_again : open_place 9 (opened 9 (request (codes "/c")) (deleted 1 2 (deleted 0 2 (ended 0 host)))).exchanges ≡ Some 0
-  pub gone_ids : (seen_of (deleted 0 2 host) 0 0).common.ids ≡ 1 ∷ 3 ∷ []
+  pub ended_path : path_seen (end_exchange 0 host) 0 2 ≡ Some (codes "/a")
+  pub last_path : path_seen (delete_id 0 2 (end_exchange 0 host)) 1 2 ≡ Some (codes "/a")
+  pub freed : exchange_at (delete_id 1 2 (delete_id 0 2 (end_exchange 0 host))).exchanges 0 ≡ None
+  pub kept_open : open_place 8 (delete_id 1 2 (delete_id 0 2 (end_exchange 0 host))).exchanges ≡ Some 1
+  pub used_again : open_place 9 (open_exchange 9 (request (codes "/c")) (delete_id 1 2 (delete_id 0 2 (end_exchange 0 host)))).exchanges ≡ Some 0
+  pub gone_ids : (seen_of (delete_id 0 2 host) 0 0).common.ids ≡ 1 ∷ 3 ∷ []
   -- ids are not drawn again
-  pub next_ids : (seen_of (stream_created 0 1 8 (deleted 0 3 host)) 0 0).common.ids ≡ 1 ∷ 2 ∷ 4 ∷ []
+  pub next_ids : (seen_of (stream_created 0 1 8 (delete_id 0 3 host)) 0 0).common.ids ≡ 1 ∷ 2 ∷ 4 ∷ []
   -- a context waits until it is done with, and not once it is deleted
-  pub waits : (seen_of (awaited 0 2 host) 0 0).common.waiting ≡ 2 ∷ []
-  pub waits_no_more : (seen_of (done_with 0 2 (awaited 0 2 host)) 0 0).common.waiting ≡ []
-  pub deleted_waits : (seen_of (deleted 0 2 (awaited 0 2 host)) 0 0).common.waiting ≡ []
+  pub waits : (seen_of (await_done_of 0 2 host) 0 0).common.waiting ≡ 2 ∷ []
+  pub waits_no_more : (seen_of (done_with 0 2 (await_done_of 0 2 host)) 0 0).common.waiting ≡ []
+  pub deleted_waits : (seen_of (delete_id 0 2 (await_done_of 0 2 host)) 0 0).common.waiting ≡ []
   -- bytes are held by one context in one direction
-  pub held : held_at (filled host 0 2 false (codes "ab") true) 0 2 false ≡ codes "ab"
-  pub held_more : held_at (filled (filled host 0 2 false (codes "ab") false) 0 2 false (codes "c") true) 0 2 false ≡ codes "abc"
-  pub not_held : held_at (filled host 0 2 false (codes "ab") true) 0 2 true ≡ []
-  pub held_gone : held_at (emptied (filled host 0 2 false (codes "ab") true) 0 2 false) 0 2 false ≡ []
-  -- the buffer is there in the callback of an empty piece, and with bytes behind it
+  pub held : held_at (with_buffered host 0 2 false (codes "ab") true) 0 2 false ≡ codes "ab"
+  pub held_more : held_at (with_buffered (with_buffered host 0 2 false (codes "ab") false) 0 2 false (codes "c") true) 0 2 false ≡ codes "abc"
+  pub not_held : held_at (with_buffered host 0 2 false (codes "ab") true) 0 2 true ≡ []
+  pub held_gone : held_at (without_buffer (with_buffered host 0 2 false (codes "ab") true) 0 2 false) 0 2 false ≡ []
+  -- the buffer is there in the callback of an empty piece, and with bytes after it
   pub asked_there : is_there (record { held = []; is_asked = true; has_end = true }) ≡ true
   pub bytes_there : is_there (record { held = codes "a"; is_asked = false; has_end = false }) ≡ true
   pub not_there : is_there (record { held = []; is_asked = false; has_end = false }) ≡ false

@@ -2,7 +2,7 @@
 use Rattle.std.specs.Prelude.{◌≡◌, ◌<◌, ℕ, Some, length}
 use Rattle.std.specs.Option.{option_map}
 use Rattle.contexts.specs.declared.parts.Context.{Context}
-use Rattle.contexts.specs.declared.parts.Exchange.{Exchange}
+use Rattle.contexts.specs.declared.parts.ExchangeEntry.{ExchangeEntry}
 use Rattle.contexts.specs.declared.parts.Contexts.{Contexts}
 use Rattle.contexts.specs.Reached.{Seen, Changes, seen_of, vm_in, context_in, exchange_at, put_of, seen_after}
 
@@ -26,7 +26,7 @@ pub record Stays (s : Changes) (vm e : ℕ) (h : Contexts) : Type 0 where
   pub contexts : (d : ℕ) → (d ≡ e → ⊥) → ((c : Context) → context_in h vm e ≡ Some c → d ≡ c.root → ⊥) → context_in (put_of s vm e h) vm d ≡ context_in h vm d
   pub owns : (d : ℕ) → (d ≡ e → ⊥) → option_map (λ (c : Context). c.own) (context_in (put_of s vm e h) vm d) ≡ option_map (λ (c : Context). c.own) (context_in h vm d)
   pub exchanges : (n : ℕ) → ((c : Context) → context_in h vm e ≡ Some c → c.exchange ≡ Some n → ⊥) → exchange_at (put_of s vm e h).exchanges n ≡ exchange_at h.exchanges n
-  pub lines : (n : ℕ) → option_map (λ (x : Exchange). x.line) (exchange_at (put_of s vm e h).exchanges n) ≡ option_map (λ (x : Exchange). x.line) (exchange_at h.exchanges n)
+  pub lines : (n : ℕ) → option_map (λ (x : ExchangeEntry). x.line) (exchange_at (put_of s vm e h).exchanges n) ≡ option_map (λ (x : ExchangeEntry). x.line) (exchange_at h.exchanges n)
   pub plugins : (put_of s vm e h).plugins ≡ h.plugins
   pub level : (put_of s vm e h).level ≡ h.level
   pub random_key : (put_of s vm e h).random_key ≡ h.random_key

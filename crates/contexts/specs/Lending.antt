@@ -2,13 +2,13 @@
 use Rattle.std.specs.Prelude.{ℕ, Bool, true, false, Option, Some, slice_set}
 use Rattle.std.specs.Option.{option_map}
 use Rattle.std.specs.Borrow.{Lends, LendsIf, MutBor, Fml}
-use Rattle.contexts.specs.declared.parts.Stage.{Stage}
+use Rattle.contexts.specs.declared.parts.StageBuffer.{StageBuffer}
 use Rattle.contexts.specs.declared.parts.Own.{Own}
 use Rattle.contexts.specs.declared.parts.ExchangeView.{ExchangeView}
 use Rattle.contexts.specs.declared.parts.Contexts.{Contexts}
 use Rattle.contexts.specs.contracts.parts.Contexts as contexts
 use Rattle.contexts.specs.contracts.parts.Own as own
-use Rattle.contexts.specs.contracts.parts.Stage as stage
+use Rattle.contexts.specs.contracts.parts.StageBuffer as stage
 use Rattle.contexts.specs.contracts.parts.ExchangeView as view
 use Rattle.contexts.specs.Reached.{no_changes, put, put_of, exchange_at, with_view}
 
@@ -41,14 +41,14 @@ abbrev pub LendsExchangeAt : MutBor Contexts → (place : ℕ) → Option (MutBo
 LendsExchangeAt h place r = LendsIf contexts.the_row view.the_row h r (exchange_put_at h.now place) h.now
 
 -- the stage of a direction
-abbrev pub stage_in : Bool → Own → Stage
+abbrev pub stage_in : Bool → Own → StageBuffer
 stage_in false o = o.request
 stage_in true o = o.response
 
-abbrev pub with_stage : Bool → Stage → Own → Own
+abbrev pub with_stage : Bool → StageBuffer → Own → Own
 with_stage false t o = record o { request = t }
 with_stage true t o = record o { response = t }
 
 -- what a context has for itself ends with what is written to the stage
-abbrev pub LendsStage : MutBor Own → Bool → MutBor Stage → Fml
+abbrev pub LendsStage : MutBor Own → Bool → MutBor StageBuffer → Fml
 LendsStage o r t = Lends own.the_row stage.the_row o t (λ w. with_stage r w o.now)

@@ -32,7 +32,7 @@ abbrev pub set_at : List ℕ → List ℕ → Option ℕ → List Property → L
 set_at path value (Some i) ps = slice_set ps i (path, value)
 set_at path value None ps = ps ++ (path, value) ∷ []
 
--- the value put at its path: in place of the one that is there, else behind the others
+-- the value put at its path: in place of the one that is there, else after the others
 abbrev pub property_set : List ℕ → List ℕ → List Property → List Property
 property_set path value ps = set_at path value (position (is_at path) ps) ps
 

@@ -2,7 +2,7 @@
 use Rattle.std.specs.Prelude.{ℕ, ◌==◌, Bool, List, [], ◌++◌, map, Option, None, Some, slice_get, slice_set, slice_index_or}
 use Rattle.std.specs.Option.{option_map}
 use Rattle.std.specs.List.{list_any}
-use Rattle.contexts.specs.Keyed.{found, changed}
+use Rattle.contexts.specs.Keyed.{first_of_number, with_first_changed}
 use Rattle.gate_base.specs.declared.level.Level.{Level}
 use Rattle.gate_base.specs.declared.level.Level.TheVariants as levels
 use Rattle.contexts.specs.declared.parts.Calls.{Calls}
@@ -10,14 +10,14 @@ use Rattle.contexts.specs.declared.parts.Own.{Own}
 use Rattle.contexts.specs.declared.parts.Tick.{Tick}
 use Rattle.contexts.specs.declared.parts.Context.{Context}
 use Rattle.contexts.specs.declared.parts.ExchangeView.{ExchangeView}
-use Rattle.contexts.specs.declared.parts.Exchange.{Exchange}
+use Rattle.contexts.specs.declared.parts.ExchangeEntry.{ExchangeEntry}
 use Rattle.contexts.specs.declared.parts.Plugin.{Plugin}
 use Rattle.contexts.specs.declared.parts.Effect.{Effect}
 use Rattle.contexts.specs.declared.parts.VmContexts.{VmContexts}
 use Rattle.contexts.specs.declared.parts.Contexts.{Contexts}
 
 -- ---- COMMON: what each call of a VM sees, whatever its effective context is. (The event's moment and the log so far are
--- no part of the contexts: a call is given the one, and says what it puts behind the other.)
+-- no part of the contexts: a call is given the one, and says what it puts after the other.)
 pub record Common : Type 0 where
   -- the number of the least level that is logged; the names of all VMs
   pub level : ℕ
@@ -75,21 +75,21 @@ abbrev pub vm_in : Contexts → ℕ → VmContexts
 vm_in h vm = slice_index_or h.vms vm no_vm
 
 abbrev pub context_in : Contexts → (vm e : ℕ) → Option Context
-context_in h vm e = found context_no e (vm_in h vm).contexts
+context_in h vm e = first_of_number context_no e (vm_in h vm).contexts
 
 -- the exchange at a place; none where the place is free
-abbrev pub exchange_at : List (Option Exchange) → ℕ → Option Exchange
+abbrev pub exchange_at : List (Option ExchangeEntry) → ℕ → Option ExchangeEntry
 exchange_at xs n = slice_index_or xs n None
 
-abbrev pub view_at : List (Option Exchange) → ℕ → Option ExchangeView
-view_at xs n = option_map (λ (x : Exchange). x.view) (exchange_at xs n)
+abbrev pub view_at : List (Option ExchangeEntry) → ℕ → Option ExchangeView
+view_at xs n = option_map (λ (x : ExchangeEntry). x.view) (exchange_at xs n)
 
-abbrev pub view_in : List (Option Exchange) → Option ℕ → Option ExchangeView
+abbrev pub view_in : List (Option ExchangeEntry) → Option ℕ → Option ExchangeView
 view_in xs None = None
 view_in xs (Some n) = view_at xs n
 
 abbrev pub tick_in : List Context → ℕ → Option (Option Tick)
-tick_in cs root = option_map (λ (c : Context). c.tick) (found context_no root cs)
+tick_in cs root = option_map (λ (c : Context). c.tick) (first_of_number context_no root cs)
 
 abbrev pub exchange_of : Option Context → Option ℕ
 exchange_of None = None
@@ -136,7 +136,7 @@ seen h vm = seen_of h vm (effective_of h vm)
 pub record Changes : Type 0 where
   pub waiting : Option (List ℕ)
   pub effective : Option ℕ
-  -- behind the others
+  -- after the others
   pub effects : List Effect
   pub random_place : Option ℕ
   pub own : Option Own
@@ -153,7 +153,7 @@ or_old a (Some b) = b
 -- the member of a number changed, where there is a change
 abbrev pub changed_by : {A B : Type 0} → (A → ℕ) → ℕ → (B → A → A) → Option B → List A → List A
 changed_by number k f None xs = xs
-changed_by number k f (Some b) xs = changed number k (f b) xs
+changed_by number k f (Some b) xs = with_first_changed number k (f b) xs
 
 abbrev pub with_own : Own → Context → Context
 with_own o c = record c { own = o }
@@ -161,7 +161,7 @@ with_own o c = record c { own = o }
 abbrev pub with_tick : Option Tick → Context → Context
 with_tick t c = record c { tick = t }
 
-abbrev pub with_view : ExchangeView → Exchange → Exchange
+abbrev pub with_view : ExchangeView → ExchangeEntry → ExchangeEntry
 with_view s x = record x { view = s }
 
 abbrev pub contexts_after : Changes → ℕ → Option Context → List Context → List Context
@@ -169,15 +169,15 @@ contexts_after r e None cs = cs
 contexts_after r e (Some c) cs = changed_by context_no c.root with_tick r.tick (changed_by context_no e with_own r.own cs)
 
 -- the exchange at a place changed, where there is a change
-abbrev pub viewed_by : ℕ → Option ExchangeView → List (Option Exchange) → List (Option Exchange)
+abbrev pub viewed_by : ℕ → Option ExchangeView → List (Option ExchangeEntry) → List (Option ExchangeEntry)
 viewed_by n None xs = xs
 viewed_by n (Some s) xs = slice_set xs n (option_map (with_view s) (exchange_at xs n))
 
-abbrev pub exchanges_by : Changes → Option ℕ → List (Option Exchange) → List (Option Exchange)
+abbrev pub exchanges_by : Changes → Option ℕ → List (Option ExchangeEntry) → List (Option ExchangeEntry)
 exchanges_by r None xs = xs
 exchanges_by r (Some n) xs = viewed_by n r.exchange xs
 
-abbrev pub exchanges_after : Changes → Option Context → List (Option Exchange) → List (Option Exchange)
+abbrev pub exchanges_after : Changes → Option Context → List (Option ExchangeEntry) → List (Option ExchangeEntry)
 exchanges_after r None xs = xs
 exchanges_after r (Some c) xs = exchanges_by r c.exchange xs
 

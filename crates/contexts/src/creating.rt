@@ -1,13 +1,13 @@
 // Contexts are made, wait, and are taken away.
 ghost use Rattle.std.specs.Prelude.{◌≡◌, ◌<◌, ◌↔◌, ◌&&◌, [], length, is_ok, is_none, Err, IfOk, OnOk, OnErr, IsTrue, ◌==◌};
 ghost use Rattle.std.specs.List.{list_any, position};
-ghost use Rattle.contexts.specs.Keyed.{removed};
+ghost use Rattle.contexts.specs.Keyed.{without_first};
 ghost use Rattle.contexts.specs.Reached.{vm_in, context_in, context_no, exchange_of, seen, contains, put, no_changes};
-ghost use Rattle.contexts.specs.Creating.{IsDrawnOut, next_id, no_stage, no_own, plugin_in, root_created, is_root, is_root_at, plugin_at, open_place, is_open_on, stream_created, awaited, done_with, deleted, refers_to, is_referred, itself, with_new, without_context, root_context, stream_context};
+ghost use Rattle.contexts.specs.Creating.{IsDrawnOut, next_id, no_stage, no_own, plugin_in, root_created, is_root, is_root_at, plugin_at, open_place, is_open_on, stream_created, await_done_of, done_with, delete_id, refers_to, is_referred, itself, with_new, without_context, root_context, stream_context};
 ghost use Rattle.contexts.specs.declared.creating.ContextEnd.TheVariants as end;
 
 use crate::reached::place_of;
-use crate::{Context, Contexts, Exchange, Own, Properties, Roster, Stage};
+use crate::{Context, Contexts, ExchangeEntry, Own, Properties, Roster, StageBuffer};
 use body_buffers::Body;
 use gate_base::{ContextId, LineNo, OutOfMemory, VmNo};
 use std::alloc::{AllocError, Global};
@@ -35,12 +35,12 @@ impl From<AllocError> for ContextEnd {
 #[derive(Clone, Copy, PartialEq, Eq)]
 pub struct UnknownContext;
 
-impl Stage {
+impl StageBuffer {
     /// Nothing is held.
     pub fn new(alloc: Global) -> Self
         ensures { result ≡ no_stage }
     {
-        Stage {
+        StageBuffer {
             held: Body::new(alloc),
             is_asked: false,
             has_end: false,
@@ -54,8 +54,8 @@ impl Own {
         ensures { result ≡ no_own }
     {
         Own {
-            request: Stage::new(alloc),
-            response: Stage::new(alloc),
+            request: StageBuffer::new(alloc),
+            response: StageBuffer::new(alloc),
             properties: Properties::new(alloc),
             answer: None,
         }
@@ -97,7 +97,7 @@ fn stream_context(
 }
 
 /// Whether an exchange is open on a line.
-fn is_open_on(line: LineNo, exchange: &Option<Exchange>) -> bool
+fn is_open_on(line: LineNo, exchange: &Option<ExchangeEntry>) -> bool
     ensures { result ≡ is_open_on line exchange.now }
 {
     match exchange {
@@ -115,7 +115,7 @@ fn id_place(ids: &[ContextId], id: ContextId) -> Option<usize>
 
 /// Takes the first of these ids out.
 fn remove_id(ids: &mut Roster<ContextId>, id: ContextId)
-    ensures { ids.new ≡ removed itself id ids.old }
+    ensures { ids.new ≡ without_first itself id ids.old }
 {
     if let Some(at) = id_place(ids.as_slice(), id) {
         ids.remove(at);
@@ -124,7 +124,7 @@ fn remove_id(ids: &mut Roster<ContextId>, id: ContextId)
 
 /// Takes the first context of an id out.
 fn remove_context(contexts: &mut Roster<Context>, id: ContextId)
-    ensures { contexts.new ≡ removed context_no id contexts.old }
+    ensures { contexts.new ≡ without_first context_no id contexts.old }
 {
     if let Some(at) = place_of(contexts.as_slice(), id) {
         contexts.remove(at);
@@ -250,7 +250,7 @@ impl Contexts {
     /// A context waits for `proxy_done` from here on.
     pub fn wait_for_done(&mut self, vm: VmNo, id: ContextId) -> Result<(), OutOfMemory>
         requires { vm < length self.old.vms }
-        ensures ok { OnOk result (self.new ≡ awaited vm id self.old) }
+        ensures ok { OnOk result (self.new ≡ await_done_of vm id self.old) }
         ensures err { OnErr result (self.new ≡ self.old) }
     {
         self.vms.get_mut(vm.get() as usize).waiting.push(id)
@@ -303,7 +303,7 @@ impl Contexts {
     /// Deletes a context. What an exchange that has ended holds goes with the last of its contexts.
     pub fn delete(&mut self, vm: VmNo, id: ContextId) -> Result<(), UnknownContext>
         requires { vm < length self.old.vms }
-        ensures ok { OnOk result (self.new ≡ deleted vm id self.old) }
+        ensures ok { OnOk result (self.new ≡ delete_id vm id self.old) }
         ensures known { is_ok result ≡ contains id (seen self.old vm).common.ids }
         ensures err { OnErr result (self.new ≡ self.old) }
     {

@@ -4,15 +4,15 @@ ghost use Rattle.std.specs.List.{list_any, position};
 ghost use Rattle.header_maps.specs.Headers.{Headers};
 ghost use Rattle.contexts.specs.Reached.{exchange_at};
 ghost use Rattle.contexts.specs.Effects.{unmarked_at, without_effects};
-ghost use Rattle.contexts.specs.Creating.{new_exchange, placed_at, place_or, opened, refers_to, is_referred, has_ended, freed, freed_of, ended};
+ghost use Rattle.contexts.specs.Creating.{new_exchange, placed_at, place_or, open_exchange, refers_to, is_referred, has_ended, freed, freed_of, end_exchange};
 
-use crate::{Context, Contexts, Effect, Exchange, ExchangeView, Maps, VmContexts};
+use crate::{Context, Contexts, Effect, ExchangeEntry, ExchangeView, Maps, VmContexts};
 use gate_base::{LineNo, Members, OutOfMemory};
 use header_maps::HeaderList;
 use std::alloc::Global;
 
 /// An exchange that is new, with the fields of its request.
-fn new_exchange(line: LineNo, request: HeaderList) -> Exchange
+fn new_exchange(line: LineNo, request: HeaderList) -> ExchangeEntry
     ensures { result ≡ new_exchange line request }
 {
     let maps = Maps {
@@ -28,11 +28,11 @@ fn new_exchange(line: LineNo, request: HeaderList) -> Exchange
         has_ended: false,
         is_head_out: false,
     };
-    Exchange { line, view }
+    ExchangeEntry { line, view }
 }
 
 /// The first free place.
-fn free_place(exchanges: &[Option<Exchange>]) -> Option<usize>
+fn free_place(exchanges: &[Option<ExchangeEntry>]) -> Option<usize>
     ensures { result ≡ position is_none exchanges.now }
 {
     exchanges.iter().position(|x| x.is_none())
@@ -63,7 +63,7 @@ fn is_referred(place: usize, vms: &[VmContexts]) -> bool
 }
 
 /// Drops the mark of a local response that was asked for.
-fn unmark_at(exchange: &mut Option<Exchange>)
+fn unmark_at(exchange: &mut Option<ExchangeEntry>)
     ensures { exchange.new ≡ unmarked_at exchange.old }
 {
     if let Some(x) = exchange {
@@ -72,7 +72,7 @@ fn unmark_at(exchange: &mut Option<Exchange>)
 }
 
 /// Drops the marks of all local responses that were asked for.
-fn unmark(exchanges: &mut Members<Option<Exchange>>)
+fn unmark(exchanges: &mut Members<Option<ExchangeEntry>>)
     ensures { exchanges.new ≡ map unmarked_at exchanges.old }
 {
     for place in 0..exchanges.len() {
@@ -84,7 +84,7 @@ impl Contexts {
     /// Opens an exchange on a line, and gives its place.
     pub fn open_exchange(&mut self, line: LineNo, request: HeaderList) -> Result<usize, OutOfMemory>
         ensures place { IfOk result (λ n. n ≡ place_or (length self.old.exchanges) (position is_none self.old.exchanges)) }
-        ensures ok { OnOk result (self.new ≡ opened line request self.old) }
+        ensures ok { OnOk result (self.new ≡ open_exchange line request self.old) }
         ensures err { OnErr result (self.new ≡ self.old) }
     {
         let exchange = Some(new_exchange(line, request));
@@ -116,7 +116,7 @@ impl Contexts {
 
     /// Ends the exchange at a place. What its contexts see of it stands until the last of them is deleted.
     pub fn end_exchange(&mut self, place: usize)
-        ensures { self.new ≡ ended place self.old }
+        ensures { self.new ≡ end_exchange place self.old }
     {
         if let Some(x) = self.exchange_at_mut(place) {
             x.has_ended = true;

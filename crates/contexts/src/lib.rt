@@ -18,7 +18,7 @@ pub use laws::{
 };
 pub use limits::{Configuration, Properties, PropertyEnd, ShortName};
 pub use parts::{
-    CallAnswer, Calls, Context, Contexts, Effect, Exchange, ExchangeView, Maps, Own, Plugin,
-    Request, Stage, Tick, VmContexts, What,
+    CallAnswer, Calls, Context, Contexts, Effect, EffectKind, ExchangeEntry, ExchangeView, Maps,
+    Own, Plugin, Request, StageBuffer, Tick, VmContexts,
 };
 pub use roster::Roster;

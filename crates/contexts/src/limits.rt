@@ -162,7 +162,7 @@ impl Properties {
         }
     }
 
-    /// Puts a value at a path, in place of the one that is there or behind the others.
+    /// Puts a value at a path, in place of the one that is there or after the others.
     pub fn set(&mut self, alloc: Global, path: &[u8], value: &[u8]) -> Result<(), PropertyEnd>
         ensures ok { OnOk result (self.new ≡ property_set path.now value.now self.old) }
         ensures past_limit { (result ≡ Err end.PastLimit) ↔ IsPastLimit path.now value.now self.old }

@@ -27,7 +27,7 @@ impl Contexts {
         }
     }
 
-    /// Adds a VM behind the others.
+    /// Adds a VM after the others.
     pub fn add_vm(
         &mut self,
         alloc: Global,
@@ -47,7 +47,7 @@ impl Contexts {
         })
     }
 
-    /// Adds a plug-in of a VM behind the others.
+    /// Adds a plug-in of a VM after the others.
     pub fn add_plugin(
         &mut self,
         vm: VmNo,

@@ -7,7 +7,7 @@ use header_maps::HeaderList;
 
 /// What a stage of a filter holds: the buffer of its direction.
 #[derive(Drop)]
-pub struct Stage {
+pub struct StageBuffer {
     /// The bytes held.
     pub held: Body,
     /// Its body callback runs.
@@ -28,9 +28,9 @@ pub struct CallAnswer {
 #[derive(Drop)]
 pub struct Own {
     /// Of the direction from the client.
-    pub request: Stage,
+    pub request: StageBuffer,
     /// Of the direction from the upstream.
-    pub response: Stage,
+    pub response: StageBuffer,
     pub properties: Properties,
     /// What came back for the callout of which it is told, while that callback runs.
     pub answer: Option<CallAnswer>,
@@ -83,7 +83,7 @@ pub struct ExchangeView {
 
 /// An exchange, on its line.
 #[derive(Drop)]
-pub struct Exchange {
+pub struct ExchangeEntry {
     pub line: LineNo,
     pub view: ExchangeView,
 }
@@ -117,7 +117,7 @@ pub struct Calls {
 
 /// What a callback asks for, which comes when it has returned.
 #[derive(Drop)]
-pub enum What {
+pub enum EffectKind {
     /// The stage of this direction passes on what it holds.
     Continue {
         is_response: bool,
@@ -140,7 +140,7 @@ pub enum What {
 #[derive(Drop)]
 pub struct Effect {
     pub context: ContextId,
-    pub what: What,
+    pub what: EffectKind,
 }
 
 /// The contexts of one VM.
@@ -165,7 +165,7 @@ pub struct Contexts {
     pub plugins: Members<Plugin>,
     pub vms: Members<VmContexts>,
     /// By their places; none where a place is free.
-    pub exchanges: Members<Option<Exchange>>,
+    pub exchanges: Members<Option<ExchangeEntry>>,
     /// Of the callback that runs, in the order of the calls.
     pub effects: Members<Effect>,
     /// The key of the random stream, and the number of the next word in it.

@@ -3,11 +3,12 @@ ghost use Rattle.std.specs.Prelude.{◌≡◌, ◌<◌, ◌==◌, length, option
 ghost use Rattle.std.specs.List.{position, list_any};
 ghost use Rattle.std.specs.Option.{option_copied_mut};
 ghost use Rattle.std.specs.Borrow.{sem};
-ghost use Rattle.contexts.specs.Keyed.{found};
+ghost use Rattle.contexts.specs.Keyed.{first_of_number};
 ghost use Rattle.contexts.specs.Reached.{vm_in, exchange_of, seen, effective_of, context_in, context_no, view_at, seen_of, put, no_changes, contains, level_no};
 
 use crate::{
-    Context, Contexts, Effect, Exchange, ExchangeView, Own, Plugin, Tick, VmContexts, What,
+    Context, Contexts, Effect, EffectKind, ExchangeEntry, ExchangeView, Own, Plugin, Tick,
+    VmContexts,
 };
 use gate_base::{ContextId, Level, Members, OutOfMemory, VmNo};
 
@@ -20,7 +21,7 @@ pub(crate) fn place_of(contexts: &[Context], id: ContextId) -> Option<usize>
 
 /// The context of an id.
 fn context_at(contexts: &[Context], id: ContextId) -> Option<&Context>
-    ensures { option_copied result ≡ found context_no id contexts.now }
+    ensures { option_copied result ≡ first_of_number context_no id contexts.now }
 {
     contexts.iter().find(|c| c.id == id)
 }
@@ -33,7 +34,7 @@ fn has_id(contexts: &[Context], id: ContextId) -> bool
 }
 
 /// What the contexts of the exchange at a place have in common.
-fn view_at(exchanges: &[Option<Exchange>], place: usize) -> Option<&ExchangeView>
+fn view_at(exchanges: &[Option<ExchangeEntry>], place: usize) -> Option<&ExchangeView>
     ensures { option_copied result ≡ view_at exchanges.now place }
 {
     if place >= exchanges.len() {
@@ -111,8 +112,8 @@ impl Contexts {
         }
     }
 
-    /// Puts an effect of the effective context behind the others.
-    pub fn push_effect(&mut self, vm: VmNo, what: What) -> Result<(), OutOfMemory>
+    /// Puts an effect of the effective context after the others.
+    pub fn push_effect(&mut self, vm: VmNo, what: EffectKind) -> Result<(), OutOfMemory>
         requires { vm < length self.old.vms }
         ensures ok { OnOk result (self.new ≡ record self.old { effects = self.old.effects ++ (record { context = effective_of self.old vm; what = what }) ∷ [] }) }
         ensures err { OnErr result (self.new ≡ self.old) }

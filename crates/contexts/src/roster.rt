@@ -44,7 +44,7 @@ impl<M> Roster<M> {
         Ok(())
     }
 
-    /// Takes the member at a place out, from 0; those behind it move down. It takes no memory.
+    /// Takes the member at a place out, from 0; those after it move down. It takes no memory.
     pub fn remove(&mut self, at: usize) -> M
         requires { at < length self.old }
         ensures member { result ≡ slice_index_or self.old at result }

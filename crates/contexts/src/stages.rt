@@ -3,14 +3,14 @@ ghost use Rattle.std.specs.Prelude.{◌≡◌, ◌≤◌, ◌<◌, ◌+◌, ◌+
 ghost use Rattle.std.specs.Borrow.{sem};
 ghost use Rattle.contexts.specs.Creating.{no_stage};
 ghost use Rattle.contexts.specs.Lending.{stage_in};
-ghost use Rattle.contexts.specs.Stages.{own_at, held_at, is_there, with_bytes, let_go, returned, filled, emptied, answered};
+ghost use Rattle.contexts.specs.Stages.{own_at, held_at, is_there, with_bytes, let_go, returned, with_buffered, without_buffer, with_callback_answered};
 
-use crate::{Contexts, Own, Stage};
+use crate::{Contexts, Own, StageBuffer};
 use body_buffers::Body;
 use gate_base::{ContextId, Octets, OutOfMemory, VmNo};
 use std::alloc::{AllocError, Global};
 
-impl Stage {
+impl StageBuffer {
     /// Whether its buffer is there for host calls: while its body callback runs, or where bytes are held.
     pub fn is_there(&self) -> bool
         ensures { result ≡ is_there self.now }
@@ -18,7 +18,7 @@ impl Stage {
         self.is_asked || !self.held.is_empty()
     }
 
-    /// Holds bytes behind the others; the body callback is asked about all.
+    /// Holds bytes after the others; the body callback is asked about all.
     fn hold(&mut self, bytes: &[u8], end: bool) -> Result<(), OutOfMemory>
         requires { length self.old.held + length bytes.now ≤ 1048576 }
         ensures ok { OnOk result (self.new ≡ with_bytes bytes.now end self.old) }
@@ -53,7 +53,7 @@ impl Own {
     ghost use Rattle.contexts.specs.Lending.{LendsStage};
 
     /// The stage of a direction.
-    pub fn stage(&self, response: bool) -> &Stage
+    pub fn stage(&self, response: bool) -> &StageBuffer
         ensures { result.now ≡ stage_in response self.now }
     {
         if response {
@@ -64,7 +64,7 @@ impl Own {
     }
 
     /// The stage of a direction, to be written.
-    pub fn stage_mut(&mut self, response: bool) -> &mut Stage
+    pub fn stage_mut(&mut self, response: bool) -> &mut StageBuffer
         ensures* lends { sem 𝓛 (LendsStage self.entry response result) }
         ensures value { result.now ≡ stage_in response self.old }
     {
@@ -116,7 +116,7 @@ impl Contexts {
         }
     }
 
-    /// Bytes are held at a stage behind the others; its body callback is asked about all.
+    /// Bytes are held at a stage after the others; its body callback is asked about all.
     pub fn hold(
         &mut self,
         vm: VmNo,
@@ -126,7 +126,7 @@ impl Contexts {
         end: bool,
     ) -> Result<(), OutOfMemory>
         requires { length (held_at self.old vm id response) + length bytes.now ≤ 1048576 }
-        ensures ok { OnOk result (self.new ≡ filled self.old vm id response bytes.now end) }
+        ensures ok { OnOk result (self.new ≡ with_buffered self.old vm id response bytes.now end) }
         ensures err { OnErr result (self.new ≡ self.old) }
     {
         if !self.has_vm(vm) {
@@ -140,7 +140,7 @@ impl Contexts {
 
     /// Nothing is held at a stage from here on.
     pub fn let_go(&mut self, alloc: Global, vm: VmNo, id: ContextId, response: bool)
-        ensures { self.new ≡ emptied self.old vm id response }
+        ensures { self.new ≡ without_buffer self.old vm id response }
     {
         if !self.has_vm(vm) {
             return;
@@ -152,7 +152,7 @@ impl Contexts {
 
     /// A stage's body callback has returned.
     pub fn end_asking(&mut self, vm: VmNo, id: ContextId, response: bool)
-        ensures { self.new ≡ answered self.old vm id response }
+        ensures { self.new ≡ with_callback_answered self.old vm id response }
     {
         if !self.has_vm(vm) {
             return;

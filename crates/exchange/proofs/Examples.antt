@@ -4,25 +4,25 @@ use Rattle.std.specs.Fmt.{digits}
 use Rattle.std.specs.Prelude.{◌==◌, nat_le, slice_set, if◌then◌else◌}
 use Rattle.filter_chain.specs.declared.stage.Stage.{Stage}
 use Rattle.filter_chain.specs.declared.item.Held.TheVariants as held
-use Rattle.filter_chain.specs.declared.item.Item.TheVariants.{Piece, Trailers}
-use Rattle.filter_chain.specs.declared.item.Passed.TheVariants as passed
+use Rattle.filter_chain.specs.declared.item.ChainItem.TheVariants.{Piece, Trailers}
+use Rattle.filter_chain.specs.declared.item.PassOutcome.TheVariants as passed
 use Rattle.filter_chain.specs.Chains.{fits, with_more}
 use Rattle.filter_chain.specs.Items.{size}
-use Rattle.http1_model.specs.Moment.{year_from, month_from}
+use Rattle.h1_model.specs.Moment.{year_from, month_from}
 use Rattle.httparse.proofs.OnLiterals.{httparse_on_literals}
 use Rattle.httpdate.proofs.OnLiterals.{httpdate_on_literals}
 use Rattle.exchange.specs.declared.types.Exchange.{Exchange}
 use Rattle.exchange.specs.declared.types.Hub.{Hub}
 use Rattle.exchange.specs.Examples.{TooMuchExamples, NoStageExamples, NoBodyExamples, TrailerExamples, at_body, at_head, batch, held_of, host, let_down, stage}
-use Rattle.exchange.specs.Passing.{put_went, puts_all}
+use Rattle.exchange.specs.Passing.{take_put, put_all_to_chain}
 
 -- ---- too much
 
 -- what becomes of the batch where this says whether the piece fits
 abbrev with_room : List ℕ → Stage → Exchange × Hub → Bool → Exchange × Hub
 with_room bytes s (x, hub) b =
-    puts_all false 1 (Trailers ∷ [])
-    (put_went false 1 x hub (if b then (passed.Left [], slice_set x.request 0 (with_more (Piece bytes false ∷ []) s)) else (passed.Over, x.request)))
+    put_all_to_chain false 1 (Trailers ∷ [])
+    (take_put false 1 x hub (if b then (passed.Left [], slice_set x.request 0 (with_more (Piece bytes false ∷ []) s)) else (passed.Over, x.request)))
 
 is_any : (n : ℕ) → 0 < n → (n == 0) ≡ false
 is_any n some = grind (arith, some)

@@ -1,8 +1,8 @@
--- The lengths of bodies, of the model and of the code; and lines of fields, one list behind another.
+-- The lengths of bodies, of the model and of the code; and lines of fields, one list after another.
 use Rattle.std.specs.Prelude.{◌≡◌, ◌++◌, List, refl}
 use Rattle.std.proofs.lemmas.Grind.{flat_map-append}
-use Rattle.http1_model.specs.Fields.{Pair}
-use Rattle.http1_model.specs.Wire.{field_line, field_lines}
+use Rattle.h1_model.specs.Fields.{Pair}
+use Rattle.h1_model.specs.Wire.{field_line, field_lines}
 use Rattle.h1_head.specs.Measures.{seen_length}
 use Rattle.h1_head.specs.declared.head.Length.{Length}
 use Rattle.h1_head.specs.declared.head.Length.TheVariants as lengths

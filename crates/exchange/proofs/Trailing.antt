@@ -10,15 +10,15 @@ use Rattle.gate_io.specs.declared.event.Side.TheVariants.{Down, Up}
 use Rattle.header_maps.proofs.Shapes.{bytes_are}
 use Rattle.header_maps.specs.Pairs.{is_pseudo}
 use Rattle.http_header.specs.Token.{lowercase}
-use Rattle.http1_model.specs.ChunkWire.{body_end}
-use Rattle.http1_model.specs.Fields.{Pair, is_named, values_of, lists, is_listed, is_hop_name}
-use Rattle.http1_model.specs.Framing.{Framing, by_chunks, trailer_wire}
-use Rattle.http1_model.specs.Wire.{is_left_out, sent_fields}
+use Rattle.h1_model.specs.ChunkWire.{body_end}
+use Rattle.h1_model.specs.Fields.{Pair, is_named, values_of, lists, is_listed, is_hop_name}
+use Rattle.h1_model.specs.Framing.{Framing, by_chunks, trailer_wire}
+use Rattle.h1_model.specs.Wire.{is_left_out, sent_fields}
 use Rattle.std.specs.Prelude.{bytes_eq}
 use Rattle.exchange.specs.declared.types.Hub.{Hub}
 use Rattle.exchange.specs.Heads.{with_connection}
 use Rattle.exchange.specs.Laws.{IsUnlisted, NoListedTrailerGoesOut}
-use Rattle.exchange.specs.Leaving.{sending, sends, goes_up, written_framing}
+use Rattle.exchange.specs.Leaving.{bytes_sent_to, hub_with_sent, request_framing, written_framing}
 use Rattle.exchange.specs.Maps.{request_map, response_map, request_trailers, response_trailers}
 
 -- ---- lists
@@ -120,14 +120,14 @@ no_listed_trailer = record {
       let trailers : List Pair = (request_trailers later.place after.contexts).pairs in (
         lines_of head trailers,
         unlisted_lines head trailers,
-        ap (λ (bytes : List ℕ). sends (sending n Up bytes) after) (wire_is (goes_up later) later.connection_up head trailers framed kept),
+        ap (λ (bytes : List ℕ). hub_with_sent (bytes_sent_to n Up bytes) after) (wire_is (request_framing later) later.connection_up head trailers framed kept),
       );
   down_lines = λ n end x later hub after kept framed.
       let head : List Pair = (response_map x.place hub.contexts).pairs in
       let trailers : List Pair = (response_trailers later.place after.contexts).pairs in (
         lines_of head trailers,
         unlisted_lines head trailers,
-        ap (λ (bytes : List ℕ). sends (sending n Down bytes) after) (wire_is (written_framing later) later.connection_down head trailers framed kept),
+        ap (λ (bytes : List ℕ). hub_with_sent (bytes_sent_to n Down bytes) after) (wire_is (written_framing later) later.connection_down head trailers framed kept),
       );
   up_keeps = λ n bytes end x hub. refl;
   down_keeps = λ n bytes end x hub. refl;

@@ -2,14 +2,14 @@
 -- head's Connection lists.
 use Rattle.std.specs.Prelude.{◌≡◌, ◌<◌, ℕ, Bool, true, false, List, [], ◌∷◌, ◌++◌, length, None, Some, codes}
 use Rattle.contexts.specs.declared.parts.Contexts.{Contexts}
-use Rattle.contexts.specs.Creating.{opened, root_created, stream_created}
+use Rattle.contexts.specs.Creating.{open_exchange, root_created, stream_created}
 use Rattle.contexts.specs.Making.{no_contexts, with_vm, with_plugin}
-use Rattle.contexts.specs.Stages.{held_at, filled, answered}
+use Rattle.contexts.specs.Stages.{held_at, with_buffered, with_callback_answered}
 use Rattle.filter_chain.specs.declared.stage.Stage.{Stage}
 use Rattle.filter_chain.specs.declared.item.Asking.{Asking}
 use Rattle.filter_chain.specs.declared.item.Held.{Held}
 use Rattle.filter_chain.specs.declared.item.Held.TheVariants as held
-use Rattle.filter_chain.specs.declared.item.Item.TheVariants.{Head, Piece, Trailers}
+use Rattle.filter_chain.specs.declared.item.ChainItem.TheVariants.{Head, Piece, Trailers}
 use Rattle.filter_chain.specs.Chains.{asked}
 use Rattle.gate_base.specs.declared.level.Level.TheVariants as levels
 use Rattle.gate_io.specs.declared.event.Sent.TheVariants.{Bytes, Connect}
@@ -22,9 +22,9 @@ use Rattle.exchange.specs.declared.types.Exchange.{Exchange}
 use Rattle.exchange.specs.declared.types.Hub.{Hub}
 use Rattle.exchange.specs.declared.types.Request.{Request}
 use Rattle.exchange.specs.declared.types.Response.{Response}
-use Rattle.exchange.specs.Answering.{directly, with_held}
+use Rattle.exchange.specs.Answering.{answer_directly, with_held}
 use Rattle.exchange.specs.Maps.{put_request, put_response, put_request_trailers, put_response_trailers}
-use Rattle.exchange.specs.Passing.{put_in, acts, closed}
+use Rattle.exchange.specs.Passing.{put_read_items, apply_action, close_exchange}
 
 abbrev line : List ℕ → List ℕ
 line text = text ++ crlf_bytes
@@ -36,7 +36,7 @@ first_date = line (codes "date: Thu, 01 Jan 1970 00:00:00 GMT")
 -- line 1 with an exchange, and one filter of it: its context is 2, of VM 0
 abbrev pub host : Contexts
 host =
-    stream_created 0 1 1 (opened 1 (request_headers (codes "POST") (codes "http") (codes "h") (codes "/"))
+    stream_created 0 1 1 (open_exchange 1 (request_headers (codes "POST") (codes "http") (codes "h") (codes "/"))
     (root_created 0 0 (with_plugin 0 (codes "p") [] (with_vm (codes "m") [] (no_contexts levels.Info [])))))
 
 abbrev pub hub_of : Contexts → Hub
@@ -89,15 +89,15 @@ at_head = (uploading (held.Head false), hub_of host)
 
 -- its body callback has returned Pause
 abbrev pub at_body : Exchange × Hub
-at_body = (uploading (held.Body false), hub_of (answered (filled host 0 2 false (codes "ab") false) 0 2 false))
+at_body = (uploading (held.Body false), hub_of (with_callback_answered (with_buffered host 0 2 false (codes "ab") false) 0 2 false))
 
 -- one batch comes: a piece, and then trailers
 abbrev pub batch : List ℕ → Exchange × Hub → Exchange × Hub
-batch bytes (x, hub) = put_in false (Piece bytes false ∷ Trailers ∷ []) 1 x hub
+batch bytes (x, hub) = put_read_items false (Piece bytes false ∷ Trailers ∷ []) 1 x hub
 
 -- the filter is asked about the answer's head, and answers Continue
 abbrev pub continues : Exchange → Hub → Asking × List Stage × Contexts → Exchange × Hub
-continues x hub (asking, stages, contexts) = acts true 0 0 1 (record x { response = stages }) (with_held contexts hub)
+continues x hub (asking, stages, contexts) = apply_action true 0 0 1 (record x { response = stages }) (with_held contexts hub)
 
 abbrev pub let_down : Exchange × Hub → Exchange × Hub
 let_down (x, hub) = continues x hub (asked hub.contexts x.response)
@@ -110,7 +110,7 @@ abbrev pub held_of : Exchange × Hub → List ℕ
 held_of (x, hub) = held_at hub.contexts 0 2 false
 
 pub record TooMuchExamples : Type 0 where
-  -- Too much comes while the filter holds bytes of the body. Nothing goes up, neither the piece nor the trailers behind it.
+  -- Too much comes while the filter holds bytes of the body. Nothing goes up, neither the piece nor the trailers after it.
   pub nothing_up : (bytes : List ℕ) → 1048574 < length bytes → (batch bytes at_body).1.sent ≡ []
   pub no_stage : (bytes : List ℕ) → 1048574 < length bytes → (batch bytes at_body).0.request ≡ []
   pub nothing_held : (bytes : List ℕ) → 1048574 < length bytes → held_of (batch bytes at_body) ≡ []
@@ -123,10 +123,10 @@ pub record TooMuchExamples : Type 0 where
 -- ---- an answer past the filter, and a close, while it holds bytes
 
 abbrev pub answered_past : Exchange × Hub → Exchange × Hub
-answered_past (x, hub) = directly 1 503 [] [] x hub
+answered_past (x, hub) = answer_directly 1 503 [] [] x hub
 
 abbrev pub shut_down : Exchange × Hub → Exchange × Hub
-shut_down (x, hub) = closed 1 x hub
+shut_down (x, hub) = close_exchange 1 x hub
 
 pub record NoStageExamples : Type 0 where
   pub held_before : held_of at_body ≡ codes "ab"
@@ -148,7 +148,7 @@ three_bytes = record { to_head = false; status = Some 200; length = lengths.Exac
 -- a client that sent HEAD, or another, is sent the response of status 200, to which filters gave that status
 abbrev pub responded : (is_head : Bool) → (status : ℕ) → Exchange × Hub
 responded is_head status =
-    put_in true (Head false ∷ Piece (codes "abc") true ∷ []) 1 (exchange (wanted is_head) three_bytes [] []) (hub_of (put_response (response_headers status) 0 host))
+    put_read_items true (Head false ∷ Piece (codes "abc") true ∷ []) 1 (exchange (wanted is_head) three_bytes [] []) (hub_of (put_response (response_headers status) 0 host))
 
 abbrev sized_head : List ℕ → List ℕ
 sized_head start = line start ++ line (codes "content-length: 3") ++ first_date ++ line []
@@ -183,7 +183,7 @@ abbrev with_heads : (request response : Headers) → Contexts → Contexts
 with_heads request response contexts =
     put_response_trailers two_trailers 0 (put_request_trailers two_trailers 0 (put_response response 0 (put_request request 0 contexts)))
 
--- a filter changes the heads behind that
+-- a filter changes the heads after that
 abbrev pub plain_again : Exchange × Hub → Exchange × Hub
 plain_again (x, hub) = (x, record hub { contexts = with_heads posted (response_headers 200) hub.contexts })
 
@@ -195,10 +195,10 @@ chunked_response = record { to_head = false; status = Some 200; length = lengths
 
 -- the head of a request in chunks leaves, and that of a response in chunks
 abbrev pub head_leaves : (response : Bool) → Exchange × Hub → Exchange × Hub
-head_leaves response (x, hub) = put_in response (Head false ∷ []) 1 x hub
+head_leaves response (x, hub) = put_read_items response (Head false ∷ []) 1 x hub
 
 abbrev pub trailers_leave : (response : Bool) → Exchange × Hub → Exchange × Hub
-trailers_leave response (x, hub) = put_in response (Trailers ∷ []) 1 x hub
+trailers_leave response (x, hub) = put_read_items response (Trailers ∷ []) 1 x hub
 
 abbrev pub uploads : Exchange × Hub
 uploads = (exchange upload no_response [] [], hub_of host)
@@ -224,9 +224,9 @@ pub record TrailerExamples : Type 0 where
   -- the one that is listed goes neither up nor down
   pub up : (trailers_leave false (head_leaves false (listing_again uploads))).1.sent ≡ Connect 1 ∷ Bytes 1 Up chunked_up ∷ Bytes 1 Up kept_alone ∷ []
   pub down : (trailers_leave true (head_leaves true (listing_again responds))).1.sent ≡ Bytes 1 Down chunked_down ∷ Bytes 1 Down kept_alone ∷ []
-  -- so where the field is taken out of the map behind the head
+  -- so where the field is taken out of the map after the head
   pub up_then : (trailers_leave false (plain_again (head_leaves false (listing_again uploads)))).1.sent ≡ Connect 1 ∷ Bytes 1 Up chunked_up ∷ Bytes 1 Up kept_alone ∷ []
   pub down_then : (trailers_leave true (plain_again (head_leaves true (listing_again responds)))).1.sent ≡ Bytes 1 Down chunked_down ∷ Bytes 1 Down kept_alone ∷ []
-  -- where it is put there behind the head, both go
+  -- where it is put there after the head, both go
   pub up_late : (trailers_leave false (listing_again (head_leaves false (plain_again uploads)))).1.sent ≡ Connect 1 ∷ Bytes 1 Up chunked_up ∷ Bytes 1 Up both_kept ∷ []
   pub down_late : (trailers_leave true (listing_again (head_leaves true (plain_again responds)))).1.sent ≡ Bytes 1 Down chunked_down ∷ Bytes 1 Down both_kept ∷ []

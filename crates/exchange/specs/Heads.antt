@@ -6,13 +6,13 @@ use Rattle.gate_config.specs.Routes.{route_of}
 use Rattle.header_maps.specs.declared.kind.ListKind.TheVariants.{Plain}
 use Rattle.header_maps.specs.Headers.{Headers}
 use Rattle.header_maps.specs.Judged.{status_of}
-use Rattle.http1_model.specs.Fields.{Pair, is_named}
-use Rattle.http1_model.specs.Framing.{Framing, no_body, by_length, by_chunks, by_close, told_framing, framing_of}
-use Rattle.http1_model.specs.Head.{Head}
-use Rattle.http1_model.specs.Length as model
-use Rattle.http1_model.specs.LocalReply.{has_date}
-use Rattle.http1_model.specs.Moment.{moment_text}
-use Rattle.http1_model.specs.Wire.{sent_fields, pseudo_of, via_of, close_field}
+use Rattle.h1_model.specs.Fields.{Pair, is_named}
+use Rattle.h1_model.specs.Framing.{Framing, no_body, by_length, by_chunks, by_close, told_framing, framing_of}
+use Rattle.h1_model.specs.Head.{Head}
+use Rattle.h1_model.specs.Length as model
+use Rattle.h1_model.specs.LocalReply.{has_date}
+use Rattle.h1_model.specs.Moment.{moment_text}
+use Rattle.h1_model.specs.Wire.{sent_fields, pseudo_of, via_of, close_field}
 use Rattle.h1_head.specs.declared.head.Length.{Length}
 use Rattle.h1_head.specs.declared.head.Length.TheVariants as lengths
 use Rattle.exchange.specs.declared.types.Request.{Request}
@@ -77,7 +77,7 @@ route_in routes path = if list_all (λ b. nat_lt b 128) path then route_of route
 abbrev pub tail_of : List Pair → Headers
 tail_of fields = record { kind = Plain; pairs = fields }
 
--- a head as it goes out, with these fields behind the one that frames it; nothing else of it is written
+-- a head as it goes out, with these fields after the one that frames it; nothing else of it is written
 abbrev pub sent_head : Headers → List Pair → Head
 sent_head fields tail = record {
   fields = fields;
@@ -111,7 +111,7 @@ down_tail stays now fields = date_fields (sent_fields fields.pairs) now ++ close
 abbrev pub connection_fields : Headers → List Pair
 connection_fields head = filter (is_named (codes "connection")) head.pairs
 
--- The fields of trailers with those of the head behind them, so that what these list is left out as what the trailers' own list is. The
+-- The fields of trailers with those of the head after them, so that what these list is left out as what the trailers' own list is. The
 -- Connection fields themselves never go out.
 abbrev pub with_connection : List Pair → List Pair → List Pair
 with_connection connection trailers = trailers ++ connection
@@ -159,7 +159,7 @@ is_by_close (by_length n) = false
 is_by_close by_chunks = false
 is_by_close by_close = true
 
--- the line may stay open behind a request of HTTP/1.1 without `close` whose end has been read
+-- the line may stay open after a request of HTTP/1.1 without `close` whose end has been read
 abbrev pub may_stay : Request → Bool
 may_stay q = (not q.old_client && not q.close) && q.whole
 
@@ -169,9 +169,9 @@ may_stay q = (not q.old_client && not q.close) && q.whole
 abbrev pub is_final : ℕ → Bool
 is_final status = nat_le 200 status && nat_le status 599
 
--- the refusals behind which the line is closed, whatever the rule of persistence says: 400, 413, 431, 501
-abbrev pub shuts : ℕ → Bool
-shuts status = (status == 400 || status == 413) || (status == 431 || status == 501)
+-- the refusals after which the line is closed, whatever the rule of persistence says: 400, 413, 431, 501
+abbrev pub closes_line : ℕ → Bool
+closes_line status = (status == 400 || status == 413) || (status == 431 || status == 501)
 
 -- the fixed answers that pass the response stages of the filters that were reached: 413, 502, 504
 abbrev pub passes_filters : ℕ → Bool

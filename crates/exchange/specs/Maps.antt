@@ -8,7 +8,7 @@ use Rattle.header_maps.specs.Faults.{add_fault}
 use Rattle.header_maps.specs.Headers.{Headers}
 use Rattle.header_maps.specs.Kept.{byte_limit}
 use Rattle.header_maps.specs.Operations.{no_headers, response_headers, added}
-use Rattle.http1_model.specs.Fields.{Pair}
+use Rattle.h1_model.specs.Fields.{Pair}
 
 -- ---- what they are; where there is none, it has no fields
 

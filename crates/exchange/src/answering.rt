@@ -2,19 +2,19 @@
 ghost use Rattle.std.specs.Prelude.{◌≡◌, ◌≤◌, true, false, not, [], ◌∷◌, ◌++◌, ◌-◌, length, drop, OnOk, IfOk, ℕ};
 ghost use Rattle.gate_io.specs.declared.event.Side.TheVariants.{Down};
 ghost use Rattle.header_maps.specs.Operations.{no_headers};
-ghost use Rattle.http1_model.specs.LocalReply.{local_reply_of};
-ghost use Rattle.filter_chain.specs.Chains.{put, reached, cleared};
+ghost use Rattle.h1_model.specs.LocalReply.{local_reply_of};
+ghost use Rattle.filter_chain.specs.Chains.{put, reach_count, without_buffers};
 ghost use Rattle.exchange.specs.Heads.{answer_of};
 ghost use Rattle.exchange.specs.Maps.{put_response, answer_map};
-ghost use Rattle.exchange.specs.Leaving.{sending, sends, left};
-ghost use Rattle.exchange.specs.Answering.{none_held, cut_off, stays_open, directly, passed_down, put_went_down, puts_down, reached_of, answered_by, with_answer, puts_answer, through, shutting, is_direct, answers_open, answer};
+ghost use Rattle.exchange.specs.Leaving.{bytes_sent_to, hub_with_sent, send_items};
+ghost use Rattle.exchange.specs.Answering.{none_held, cut_off, stays_open, answer_directly, finish_response_put, take_response_put, put_response_item, reached_of, exchange_with_answer, with_answer, put_answer, answer_through_stages, with_closes, is_direct, answer_open, answer};
 
 use crate::heads::{answer_of, is_bare, is_final, may_stay};
 use crate::leaving::{leave_all, send};
 use crate::maps::{answer_map, put_response};
 use crate::types::{Exchange, Hub};
 use contexts::Contexts;
-use filter_chain::{Item, Passed};
+use filter_chain::{ChainItem, PassOutcome};
 use gate_base::{LineNo, Octets, OutOfMemory};
 use gate_io::Side;
 use header_maps::HeaderList;
@@ -39,7 +39,7 @@ pub(crate) fn cut_off(alloc: Global, x: &mut Exchange, hub: &mut Hub)
     x.stays = false;
 }
 
-/// Whether the line stays open behind an answer.
+/// Whether the line stays open after an answer.
 fn stays_open(x: &Exchange) -> bool
     ensures { result ≡ stays_open x.now }
 {
@@ -59,7 +59,7 @@ fn send_answer(
     requires least { 200 ≤ status }
     requires most { status ≤ 599 }
     ensures exchange { OnOk result (x.new ≡ record x.old { request = []; response = []; is_head_out = true; has_ended = true; stays = stays_open x.old }) }
-    ensures hub { OnOk result (hub.new ≡ sends (sending n Down (local_reply_of status fields.now.pairs body.now x.old.asked.is_head (not (stays_open x.old)) hub.old.moment)) (none_held x.old hub.old)) }
+    ensures hub { OnOk result (hub.new ≡ hub_with_sent (bytes_sent_to n Down (local_reply_of status fields.now.pairs body.now x.old.asked.is_head (not (stays_open x.old)) hub.old.moment)) (none_held x.old hub.old)) }
 {
     let stays = stays_open(x);
     let bytes = local(
@@ -89,7 +89,7 @@ pub(crate) fn answer_directly(
     x: &mut Exchange,
     hub: &mut Hub,
 ) -> Result<(), OutOfMemory>
-    ensures { OnOk result (directly n status fields.now.pairs body.now x.old hub.old ≡ (x.new, hub.new)) }
+    ensures { OnOk result (answer_directly n status fields.now.pairs body.now x.old hub.old ≡ (x.new, hub.new)) }
 {
     if x.is_head_out || !is_final(status) {
         cut_off(alloc, x, hub);
@@ -106,7 +106,7 @@ pub(crate) fn answer_fixed(
     x: &mut Exchange,
     hub: &mut Hub,
 ) -> Result<(), OutOfMemory>
-    ensures { OnOk result (directly n status [] [] x.old hub.old ≡ (x.new, hub.new)) }
+    ensures { OnOk result (answer_directly n status [] [] x.old hub.old ≡ (x.new, hub.new)) }
 {
     let fields = HeaderList::new(alloc);
     answer_directly(alloc, n, status, &fields, &[], x, hub)
@@ -116,15 +116,15 @@ pub(crate) fn answer_fixed(
 pub(crate) fn go_down(
     alloc: Global,
     n: LineNo,
-    passed: Passed,
+    passed: PassOutcome,
     x: &mut Exchange,
     hub: &mut Hub,
 ) -> Result<(), OutOfMemory>
-    ensures { OnOk result (passed_down n passed x.old hub.old ≡ (x.new, hub.new)) }
+    ensures { OnOk result (finish_response_put n passed x.old hub.old ≡ (x.new, hub.new)) }
 {
     match passed {
-        Passed::Over => answer_fixed(alloc, n, 500, x, hub),
-        Passed::Left { items } => leave_all(alloc, true, n, items, x, hub),
+        PassOutcome::Over => answer_fixed(alloc, n, 500, x, hub),
+        PassOutcome::Left { items } => leave_all(alloc, true, n, items, x, hub),
     }
 }
 
@@ -132,11 +132,11 @@ pub(crate) fn go_down(
 fn put_down(
     alloc: Global,
     n: LineNo,
-    item: Item,
+    item: ChainItem,
     x: &mut Exchange,
     hub: &mut Hub,
 ) -> Result<(), OutOfMemory>
-    ensures { OnOk result (puts_down n item (x.old, hub.old) ≡ (x.new, hub.new)) }
+    ensures { OnOk result (put_response_item n item (x.old, hub.old) ≡ (x.new, hub.new)) }
 {
     if x.has_ended {
         return Ok(());
@@ -148,7 +148,7 @@ fn put_down(
 /// Only the response stages of the filters stay that were reached.
 fn keep_reached(alloc: Global, x: &mut Exchange, contexts: &mut Contexts)
     ensures exchange { x.new ≡ record x.old { request = []; response = reached_of x.old } }
-    ensures contexts { contexts.new ≡ cleared contexts.old x.old.request }
+    ensures contexts { contexts.new ≡ without_buffers contexts.old x.old.request }
 {
     let n = if x.is_entered { x.request.reached() } else { 0 };
     x.request.clear(alloc, contexts);
@@ -166,7 +166,7 @@ fn begin_answer(
 ) -> Result<(), OutOfMemory>
     requires least { 200 ≤ status }
     requires most { status ≤ 599 }
-    ensures exchange { OnOk result (x.new ≡ answered_by status body.now x.old) }
+    ensures exchange { OnOk result (x.new ≡ exchange_with_answer status body.now x.old) }
     ensures hub { OnOk result (hub.new ≡ with_answer status fields.now.pairs x.old hub.old) }
 {
     let map = answer_map(alloc, status, fields)?;
@@ -185,13 +185,13 @@ fn put_answer(
     x: &mut Exchange,
     hub: &mut Hub,
 ) -> Result<(), OutOfMemory>
-    ensures { OnOk result (puts_answer n body (x.old, hub.old) ≡ (x.new, hub.new)) }
+    ensures { OnOk result (put_answer n body (x.old, hub.old) ≡ (x.new, hub.new)) }
 {
     if is_bare(x.told.length) {
-        return put_down(alloc, n, Item::Head { end: true }, x, hub);
+        return put_down(alloc, n, ChainItem::Head { end: true }, x, hub);
     }
-    put_down(alloc, n, Item::Head { end: false }, x, hub)?;
-    let item = Item::Piece {
+    put_down(alloc, n, ChainItem::Head { end: false }, x, hub)?;
+    let item = ChainItem::Piece {
         bytes: body,
         end: true,
     };
@@ -210,15 +210,15 @@ fn answer_through(
 ) -> Result<(), OutOfMemory>
     requires least { 200 ≤ status }
     requires most { status ≤ 599 }
-    ensures { OnOk result (through n status fields.now.pairs body x.old hub.old ≡ (x.new, hub.new)) }
+    ensures { OnOk result (answer_through_stages n status fields.now.pairs body x.old hub.old ≡ (x.new, hub.new)) }
 {
     begin_answer(alloc, status, fields, body.as_slice(), x, hub)?;
     put_answer(alloc, n, body, x, hub)
 }
 
-/// The line is closed behind the answer, whatever the rule of persistence says.
+/// The line is closed after the answer, whatever the rule of persistence says.
 pub(crate) fn shut(closes: bool, x: &mut Exchange)
-    ensures { x.new ≡ shutting closes x.old }
+    ensures { x.new ≡ with_closes closes x.old }
 {
     x.closes = x.closes || closes;
 }
@@ -240,7 +240,7 @@ fn answer_open(
     x: &mut Exchange,
     hub: &mut Hub,
 ) -> Result<(), OutOfMemory>
-    ensures { OnOk result (answers_open n status fields.now.pairs body x.old hub.old ≡ (x.new, hub.new)) }
+    ensures { OnOk result (answer_open n status fields.now.pairs body x.old hub.old ≡ (x.new, hub.new)) }
 {
     if is_direct(x, status) {
         return answer_directly(alloc, n, status, fields, body.as_slice(), x, hub);

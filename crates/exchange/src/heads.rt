@@ -2,13 +2,13 @@
 ghost use Rattle.std.specs.List.{list_all, position_or_len};
 ghost use Rattle.std.specs.Prelude.{◌≡◌, ◌==◌, nat_lt, Some, None, codes};
 ghost use Rattle.header_maps.specs.Judged.{status_of};
-ghost use Rattle.http1_model.specs.Framing.{told_framing};
-ghost use Rattle.http1_model.specs.Length.{is_without_body};
+ghost use Rattle.h1_model.specs.Framing.{told_framing};
+ghost use Rattle.h1_model.specs.Length.{is_without_body};
 ghost use Rattle.h1_head.specs.Measures.{seen_length};
 ghost use Rattle.h1_head.specs.Seen.{seen_head};
 ghost use Rattle.h1_stream.specs.Seen.{asked_of};
 ghost use Rattle.h1_write.specs.Seen.{seen_framing};
-ghost use Rattle.exchange.specs.Heads.{length_of, is_bare, is_head, request_of, path_of, route_in, status_in, response_of, up_framing, asked_by, lacks_body, is_204, down_framing, body_framing, is_by_close, may_stay, is_final, shuts, passes_filters, answer_of, sent_length};
+ghost use Rattle.exchange.specs.Heads.{length_of, is_bare, is_head, request_of, path_of, route_in, status_in, response_of, up_framing, asked_by, lacks_body, is_204, down_framing, body_framing, is_by_close, may_stay, is_final, closes_line, passes_filters, answer_of, sent_length};
 ghost use Rattle.exchange.specs.Leaving.{out_framing, written_framing, stays_behind, is_due};
 
 use crate::types::{Exchange, Request, Response};
@@ -210,7 +210,7 @@ fn is_by_close(framing: Framing) -> bool
     }
 }
 
-/// Whether the line may stay open behind a request (RFC 9112 section 9.3).
+/// Whether the line may stay open after a request (RFC 9112 section 9.3).
 pub(crate) fn may_stay(q: Request) -> bool
     ensures { result ≡ may_stay q }
 {
@@ -231,7 +231,7 @@ pub(crate) fn written_framing(x: &Exchange) -> Framing
     body_framing(x.asked, x.out, out_framing(x))
 }
 
-/// Whether the line stays open behind a response that is framed so.
+/// Whether the line stays open after a response that is framed so.
 pub(crate) fn stays_behind(x: &Exchange, framing: Framing) -> bool
     ensures { result ≡ stays_behind x.now (seen_framing framing) }
 {
@@ -245,9 +245,9 @@ pub fn is_final(status: u16) -> bool
     200 <= status && status <= 599
 }
 
-/// Whether the line is closed behind a refusal of this status.
+/// Whether the line is closed after a refusal of this status.
 pub(crate) fn shuts(status: u16) -> bool
-    ensures { result ≡ shuts status }
+    ensures { result ≡ closes_line status }
 {
     (status == 400 || status == 413) || (status == 431 || status == 501)
 }

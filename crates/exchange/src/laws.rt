@@ -7,7 +7,7 @@ pub fn nothing_follows_an_answer()
     ensures { NothingFollowsAnAnswer }
 {}
 
-/// No bytes of a body go to a client that sent HEAD, or behind a status that allows none, whatever the head tells.
+/// No bytes of a body go to a client that sent HEAD, or after a status that allows none, whatever the head tells.
 pub fn no_body_goes_down()
     ensures { NoBodyGoesDown }
 {}

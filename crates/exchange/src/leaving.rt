@@ -2,12 +2,12 @@
 ghost use Rattle.std.specs.Prelude.{◌≡◌, ◌∷◌, [], ◌++◌, OnOk, IfOk, Some};
 ghost use Rattle.gate_io.specs.declared.event.Sent.TheVariants.{Connect};
 ghost use Rattle.gate_io.specs.declared.event.Side.TheVariants.{Down, Up};
-ghost use Rattle.http1_model.specs.Framing.{head_wire, piece_wire, trailer_wire};
-ghost use Rattle.http1_model.specs.Unread.{new_reading};
+ghost use Rattle.h1_model.specs.Framing.{head_wire, piece_wire, trailer_wire};
+ghost use Rattle.h1_model.specs.Unread.{new_reading};
 ghost use Rattle.h1_write.specs.Seen.{seen_framing};
 ghost use Rattle.exchange.specs.Heads.{asked_by, is_head, status_in, sent_head, up_tail, down_tail, connection_fields, with_connection};
 ghost use Rattle.exchange.specs.Maps.{request_map, response_map, request_trailers, response_trailers};
-ghost use Rattle.exchange.specs.Leaving.{sending, sends, goes_up, up, out_framing, written_framing, stays_behind, head_down, down, leaves, left};
+ghost use Rattle.exchange.specs.Leaving.{bytes_sent_to, hub_with_sent, request_framing, send_request_item, out_framing, written_framing, stays_behind, send_response_head, send_response_item, send_item, send_items};
 
 use crate::heads::{
     is_head, out_framing, response_kind, status_in, stays_behind, up_framing, written_framing,
@@ -15,19 +15,19 @@ use crate::heads::{
 use crate::maps::{request_map, request_trailers, response_map, response_trailers};
 use crate::types::{Exchange, Hub};
 use crate::writing::{connection_fields, request_bytes, response_bytes, trailer_bytes};
-use filter_chain::Item;
+use filter_chain::ChainItem;
 use gate_base::{LineNo, Octets, OutOfMemory};
 use gate_io::{Sent, Side};
+use gate_queue::Queue;
 use h1_head::Item as Part;
 use h1_stream::MessageReader;
 use h1_write::{Framing, write_item};
 use header_maps::{HeaderList, Texts};
-use queue::Queue;
 use std::alloc::Global;
 
 /// Sends bytes to a side, if there are any.
 pub fn send(hub: &mut Hub, n: LineNo, side: Side, bytes: Octets) -> Result<(), OutOfMemory>
-    ensures { OnOk result (hub.new ≡ sends (sending n side bytes) hub.old) }
+    ensures { OnOk result (hub.new ≡ hub_with_sent (bytes_sent_to n side bytes) hub.old) }
 {
     if bytes.is_empty() {
         return Ok(());
@@ -41,7 +41,7 @@ pub fn send(hub: &mut Hub, n: LineNo, side: Side, bytes: Octets) -> Result<(), O
 
 /// The framing of a request on its way up.
 fn goes_up(x: &Exchange) -> Framing
-    ensures { seen_framing result ≡ goes_up x.now }
+    ensures { seen_framing result ≡ request_framing x.now }
 {
     up_framing(x.filters_requests, x.asked)
 }
@@ -69,7 +69,7 @@ fn request_up(
     x: &Exchange,
     hub: &Hub,
 ) -> Result<(Octets, MessageReader, bool), OutOfMemory>
-    ensures bytes { IfOk result (λ r. r.0 ≡ head_wire (goes_up x.now) (sent_head (request_map x.now.place hub.now.contexts) (up_tail x.now.asked.minor))) }
+    ensures bytes { IfOk result (λ r. r.0 ≡ head_wire (request_framing x.now) (sent_head (request_map x.now.place hub.now.contexts) (up_tail x.now.asked.minor))) }
     ensures reader { IfOk result (λ r. r.1 ≡ new_reading (Some (asked_by (request_map x.now.place hub.now.contexts)))) }
     ensures is_head { IfOk result (λ r. r.2 ≡ is_head (request_map x.now.place hub.now.contexts)) }
 {
@@ -96,7 +96,7 @@ fn head_up(
     x: &mut Exchange,
     hub: &mut Hub,
 ) -> Result<(), OutOfMemory>
-    ensures { OnOk result (up n (Item.Head end) x.old hub.old ≡ (x.new, hub.new)) }
+    ensures { OnOk result (send_request_item n (ChainItem.Head end) x.old hub.old ≡ (x.new, hub.new)) }
 {
     x.connection_up = connection_up(alloc, x, hub)?;
     let (bytes, reader, is_head) = request_up(alloc, x, hub)?;
@@ -109,7 +109,7 @@ fn head_up(
 
 /// The bytes of the request's trailers.
 fn trailers_up(alloc: Global, x: &Exchange, hub: &Hub) -> Result<Octets, OutOfMemory>
-    ensures { IfOk result (λ bytes. bytes ≡ trailer_wire (goes_up x.now) (with_connection x.now.connection_up (request_trailers x.now.place hub.now.contexts).pairs)) }
+    ensures { IfOk result (λ bytes. bytes ≡ trailer_wire (request_framing x.now) (with_connection x.now.connection_up (request_trailers x.now.place hub.now.contexts).pairs)) }
 {
     let none = HeaderList::new(alloc);
     let map = request_trailers(&hub.contexts, x.place, &none);
@@ -120,19 +120,19 @@ fn trailers_up(alloc: Global, x: &Exchange, hub: &Hub) -> Result<Octets, OutOfMe
 fn leave_up(
     alloc: Global,
     n: LineNo,
-    item: Item,
+    item: ChainItem,
     x: &mut Exchange,
     hub: &mut Hub,
 ) -> Result<(), OutOfMemory>
-    ensures { OnOk result (up n item x.old hub.old ≡ (x.new, hub.new)) }
+    ensures { OnOk result (send_request_item n item x.old hub.old ≡ (x.new, hub.new)) }
 {
     match item {
-        Item::Head { end } => head_up(alloc, n, end, x, hub),
-        Item::Piece { bytes, end } => {
+        ChainItem::Head { end } => head_up(alloc, n, end, x, hub),
+        ChainItem::Piece { bytes, end } => {
             let bytes = piece_bytes(alloc, bytes, end, goes_up(x))?;
             send(hub, n, Side::Up, bytes)
         }
-        Item::Trailers => {
+        ChainItem::Trailers => {
             let bytes = trailers_up(alloc, x, hub)?;
             send(hub, n, Side::Up, bytes)
         }
@@ -173,7 +173,7 @@ fn head_down(
     x: &mut Exchange,
     hub: &mut Hub,
 ) -> Result<(), OutOfMemory>
-    ensures { OnOk result (head_down n end x.old hub.old ≡ (x.new, hub.new)) }
+    ensures { OnOk result (send_response_head n end x.old hub.old ≡ (x.new, hub.new)) }
 {
     x.connection_down = connection_down(alloc, x, hub)?;
     let stays = stays_behind(x, out_framing(x));
@@ -198,24 +198,24 @@ fn trailers_down(alloc: Global, x: &Exchange, hub: &Hub) -> Result<Octets, OutOf
 fn leave_down(
     alloc: Global,
     n: LineNo,
-    item: Item,
+    item: ChainItem,
     x: &mut Exchange,
     hub: &mut Hub,
 ) -> Result<(), OutOfMemory>
-    ensures { OnOk result (down n item x.old hub.old ≡ (x.new, hub.new)) }
+    ensures { OnOk result (send_response_item n item x.old hub.old ≡ (x.new, hub.new)) }
 {
     match item {
-        Item::Head { end } => {
+        ChainItem::Head { end } => {
             x.out = status_down(alloc, x, hub);
             head_down(alloc, n, end, x, hub)
         }
-        Item::Piece { bytes, end } => {
+        ChainItem::Piece { bytes, end } => {
             let bytes = piece_bytes(alloc, bytes, end, written_framing(x))?;
             send(hub, n, Side::Down, bytes)?;
             x.has_ended = end;
             Ok(())
         }
-        Item::Trailers => {
+        ChainItem::Trailers => {
             let bytes = trailers_down(alloc, x, hub)?;
             send(hub, n, Side::Down, bytes)?;
             x.has_ended = true;
@@ -229,11 +229,11 @@ fn leave(
     alloc: Global,
     response: bool,
     n: LineNo,
-    item: Item,
+    item: ChainItem,
     x: &mut Exchange,
     hub: &mut Hub,
 ) -> Result<(), OutOfMemory>
-    ensures { OnOk result (leaves response n item (x.old, hub.old) ≡ (x.new, hub.new)) }
+    ensures { OnOk result (send_item response n item (x.old, hub.old) ≡ (x.new, hub.new)) }
 {
     if x.has_ended {
         return Ok(());
@@ -250,11 +250,11 @@ pub(crate) fn leave_all(
     alloc: Global,
     response: bool,
     n: LineNo,
-    items: Queue<Item>,
+    items: Queue<ChainItem>,
     x: &mut Exchange,
     hub: &mut Hub,
 ) -> Result<(), OutOfMemory>
-    ensures { OnOk result (left response n items (x.old, hub.old) ≡ (x.new, hub.new)) }
+    ensures { OnOk result (send_items response n items (x.old, hub.old) ≡ (x.new, hub.new)) }
 {
     let mut rest = items.drain();
     while let Some(item) = rest.pop_first() {

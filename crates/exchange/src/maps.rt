@@ -127,7 +127,7 @@ pub fn mark(h: &mut Contexts, place: usize, is_answered: bool, has_ended: bool, 
     }
 }
 
-/// Puts a field behind the others, where the list takes it.
+/// Puts a field after the others, where the list takes it.
 fn put_field(
     alloc: Global,
     map: &mut HeaderList,
@@ -146,7 +146,7 @@ fn put_field(
     }
 }
 
-/// Puts fields behind the others.
+/// Puts fields after the others.
 fn put_fields(alloc: Global, map: &mut HeaderList, fields: &HeaderList) -> Result<(), OutOfMemory>
     ensures { OnOk result (map.new ≡ with_fields map.old fields.now.pairs) }
 {

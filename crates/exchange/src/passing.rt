@@ -3,15 +3,15 @@ ghost use Rattle.std.specs.Prelude.{◌≡◌, true, false, not, [], ◌∷◌, 
 ghost use Rattle.std.specs.List.{list_any};
 ghost use Rattle.filter_chain.specs.Chains.{put, continued, let_through};
 ghost use Rattle.exchange.specs.Answering.{with_held};
-ghost use Rattle.exchange.specs.Passing.{chain_of, with_chain, passed_on, went, put_went, takes_nothing, puts, puts_all, goes_on, gives_way, put_in, stage_of, resumes, resumes_at, closed, pauses, acts, has_stage_of, is_there, fails_closed, opens_at, opens, opens_response, opens_all, dies, refused, expires};
+ghost use Rattle.exchange.specs.Passing.{chain_of, with_chain, finish_put, take_move, take_put, takes_nothing, put_to_chain, put_all_to_chain, resume_held, bypass, put_read_items, stage_of, resume_context, resume_place, close_exchange, pause_held, apply_action, has_stage_of, is_there, fails_closed, bypass_vm_at, bypass_vm_stages, bypass_vm_response, bypass_vm, lose_vm, refuse_exchange, expire_exchange};
 
 use crate::answering::{answer_fixed, answer_plainly, cut_off, go_down, shut};
 use crate::heads::{is_due, passes_filters, shuts};
 use crate::leaving::leave_all;
 use crate::types::{Exchange, Filter, Hub};
-use filter_chain::{Chain, Item, Passed, Stage};
+use filter_chain::{Chain, ChainItem, PassOutcome, Stage};
 use gate_base::{ContextId, LineNo, OutOfMemory, VmNo};
-use queue::Queue;
+use gate_queue::Queue;
 use std::alloc::Global;
 
 /// The chain of a direction.
@@ -26,18 +26,18 @@ pub fn pass_on(
     alloc: Global,
     response: bool,
     n: LineNo,
-    passed: Passed,
+    passed: PassOutcome,
     x: &mut Exchange,
     hub: &mut Hub,
 ) -> Result<(), OutOfMemory>
-    ensures { OnOk result (passed_on response n passed x.old hub.old ≡ (x.new, hub.new)) }
+    ensures { OnOk result (finish_put response n passed x.old hub.old ≡ (x.new, hub.new)) }
 {
     if response {
         return go_down(alloc, n, passed, x, hub);
     }
     match passed {
-        Passed::Over => answer_plainly(alloc, n, true, 413, x, hub),
-        Passed::Left { items } => leave_all(alloc, false, n, items, x, hub),
+        PassOutcome::Over => answer_plainly(alloc, n, true, 413, x, hub),
+        PassOutcome::Left { items } => leave_all(alloc, false, n, items, x, hub),
     }
 }
 
@@ -53,11 +53,11 @@ fn put_one(
     alloc: Global,
     response: bool,
     n: LineNo,
-    item: Item,
+    item: ChainItem,
     x: &mut Exchange,
     hub: &mut Hub,
 ) -> Result<(), OutOfMemory>
-    ensures { OnOk result (puts response n item (x.old, hub.old) ≡ (x.new, hub.new)) }
+    ensures { OnOk result (put_to_chain response n item (x.old, hub.old) ≡ (x.new, hub.new)) }
 {
     if takes_nothing(response, x) {
         return Ok(());
@@ -75,11 +75,11 @@ fn put_all(
     alloc: Global,
     response: bool,
     n: LineNo,
-    items: Queue<Item>,
+    items: Queue<ChainItem>,
     x: &mut Exchange,
     hub: &mut Hub,
 ) -> Result<(), OutOfMemory>
-    ensures { OnOk result (puts_all response n items (x.old, hub.old) ≡ (x.new, hub.new)) }
+    ensures { OnOk result (put_all_to_chain response n items (x.old, hub.old) ≡ (x.new, hub.new)) }
 {
     let mut rest = items.drain();
     while let Some(item) = rest.pop_first() {
@@ -92,12 +92,12 @@ fn put_all(
 pub fn put_in(
     alloc: Global,
     response: bool,
-    items: Queue<Item>,
+    items: Queue<ChainItem>,
     n: LineNo,
     x: &mut Exchange,
     hub: &mut Hub,
 ) -> Result<(), OutOfMemory>
-    ensures { OnOk result (put_in response items n x.old hub.old ≡ (x.new, hub.new)) }
+    ensures { OnOk result (put_read_items response items n x.old hub.old ≡ (x.new, hub.new)) }
 {
     if x.is_answered {
         return Ok(());
@@ -113,7 +113,7 @@ fn go_on_request(
     x: &mut Exchange,
     hub: &mut Hub,
 ) -> Result<(), OutOfMemory>
-    ensures { OnOk result (goes_on false n k x.old hub.old ≡ (x.new, hub.new)) }
+    ensures { OnOk result (resume_held false n k x.old hub.old ≡ (x.new, hub.new)) }
 {
     if x.has_ended || k >= x.request.len() {
         return Ok(());
@@ -130,7 +130,7 @@ fn go_on_response(
     x: &mut Exchange,
     hub: &mut Hub,
 ) -> Result<(), OutOfMemory>
-    ensures { OnOk result (goes_on true n k x.old hub.old ≡ (x.new, hub.new)) }
+    ensures { OnOk result (resume_held true n k x.old hub.old ≡ (x.new, hub.new)) }
 {
     if x.has_ended || k >= x.response.len() {
         return Ok(());
@@ -148,7 +148,7 @@ fn go_on(
     x: &mut Exchange,
     hub: &mut Hub,
 ) -> Result<(), OutOfMemory>
-    ensures { OnOk result (goes_on response n k x.old hub.old ≡ (x.new, hub.new)) }
+    ensures { OnOk result (resume_held response n k x.old hub.old ≡ (x.new, hub.new)) }
 {
     if response {
         go_on_response(alloc, n, k, x, hub)
@@ -165,7 +165,7 @@ fn give_way_request(
     x: &mut Exchange,
     hub: &mut Hub,
 ) -> Result<(), OutOfMemory>
-    ensures { OnOk result (gives_way false n k x.old hub.old ≡ (x.new, hub.new)) }
+    ensures { OnOk result (bypass false n k x.old hub.old ≡ (x.new, hub.new)) }
 {
     if x.has_ended || k >= x.request.len() {
         return Ok(());
@@ -182,7 +182,7 @@ fn give_way_response(
     x: &mut Exchange,
     hub: &mut Hub,
 ) -> Result<(), OutOfMemory>
-    ensures { OnOk result (gives_way true n k x.old hub.old ≡ (x.new, hub.new)) }
+    ensures { OnOk result (bypass true n k x.old hub.old ≡ (x.new, hub.new)) }
 {
     if x.has_ended || k >= x.response.len() {
         return Ok(());
@@ -200,7 +200,7 @@ fn give_way(
     x: &mut Exchange,
     hub: &mut Hub,
 ) -> Result<(), OutOfMemory>
-    ensures { OnOk result (gives_way response n k x.old hub.old ≡ (x.new, hub.new)) }
+    ensures { OnOk result (bypass response n k x.old hub.old ≡ (x.new, hub.new)) }
 {
     if response {
         give_way_response(alloc, n, k, x, hub)
@@ -228,7 +228,7 @@ pub fn resume(
     x: &mut Exchange,
     hub: &mut Hub,
 ) -> Result<(), OutOfMemory>
-    ensures { OnOk result (resumes vm context response n x.old hub.old ≡ (x.new, hub.new)) }
+    ensures { OnOk result (resume_context vm context response n x.old hub.old ≡ (x.new, hub.new)) }
 {
     match place_of(chain(response, x).as_slice(), vm, context) {
         None => Ok(()),
@@ -238,7 +238,7 @@ pub fn resume(
 
 /// Both connections are closed.
 pub fn close(alloc: Global, x: &mut Exchange, hub: &mut Hub)
-    ensures { (n : ℕ) → closed n x.old hub.old ≡ (x.new, hub.new) }
+    ensures { (n : ℕ) → close_exchange n x.old hub.old ≡ (x.new, hub.new) }
 {
     if !x.has_ended {
         cut_off(alloc, x, hub);
@@ -247,7 +247,7 @@ pub fn close(alloc: Global, x: &mut Exchange, hub: &mut Hub)
 
 /// The body callback of a stage has returned.
 fn pause(response: bool, k: usize, x: &Exchange, hub: &mut Hub)
-    ensures { hub.new ≡ pauses response k x.now hub.old }
+    ensures { hub.new ≡ pause_held response k x.now hub.old }
 {
     let stages = chain(response, x);
     if k < stages.len() {
@@ -265,7 +265,7 @@ pub fn act(
     x: &mut Exchange,
     hub: &mut Hub,
 ) -> Result<(), OutOfMemory>
-    ensures { OnOk result (acts response k value n x.old hub.old ≡ (x.new, hub.new)) }
+    ensures { OnOk result (apply_action response k value n x.old hub.old ≡ (x.new, hub.new)) }
 {
     pause(response, k, x, hub);
     if value == 0 {
@@ -310,7 +310,7 @@ fn open_at(
     x: &mut Exchange,
     hub: &mut Hub,
 ) -> Result<(), OutOfMemory>
-    ensures { OnOk result (opens_at response vm n k (slice_get (chain_of response x.old) k) x.old hub.old ≡ (x.new, hub.new)) }
+    ensures { OnOk result (bypass_vm_at response vm n k (slice_get (chain_of response x.old) k) x.old hub.old ≡ (x.new, hub.new)) }
 {
     match chain(response, x).stage_at(k) {
         Some((machine, _)) => {
@@ -333,7 +333,7 @@ fn open_some(
     x: &mut Exchange,
     hub: &mut Hub,
 ) -> Result<(), OutOfMemory>
-    ensures { OnOk result (opens response vm n count (x.old, hub.old) ≡ (x.new, hub.new)) }
+    ensures { OnOk result (bypass_vm_stages response vm n count (x.old, hub.old) ≡ (x.new, hub.new)) }
 {
     let mut k = count;
     while k > 0 {
@@ -351,7 +351,7 @@ fn open_all(
     x: &mut Exchange,
     hub: &mut Hub,
 ) -> Result<(), OutOfMemory>
-    ensures { OnOk result (opens_all vm n x.old hub.old ≡ (x.new, hub.new)) }
+    ensures { OnOk result (bypass_vm vm n x.old hub.old ≡ (x.new, hub.new)) }
 {
     let requests = x.request.len();
     open_some(alloc, false, vm, n, requests, x, hub)?;
@@ -367,7 +367,7 @@ pub fn die(
     x: &mut Exchange,
     hub: &mut Hub,
 ) -> Result<(), OutOfMemory>
-    ensures { OnOk result (dies vm n x.old hub.old ≡ (x.new, hub.new)) }
+    ensures { OnOk result (lose_vm vm n x.old hub.old ≡ (x.new, hub.new)) }
 {
     if x.has_ended {
         return Ok(());
@@ -386,7 +386,7 @@ pub fn refuse(
     x: &mut Exchange,
     hub: &mut Hub,
 ) -> Result<(), OutOfMemory>
-    ensures { OnOk result (refused status n x.old hub.old ≡ (x.new, hub.new)) }
+    ensures { OnOk result (refuse_exchange status n x.old hub.old ≡ (x.new, hub.new)) }
 {
     if x.has_ended || x.is_answered {
         return Ok(());
@@ -400,7 +400,7 @@ pub fn refuse(
 
 /// The head of the response may be due.
 pub fn expire(alloc: Global, n: LineNo, x: &mut Exchange, hub: &mut Hub) -> Result<(), OutOfMemory>
-    ensures { OnOk result (expires n x.old hub.old ≡ (x.new, hub.new)) }
+    ensures { OnOk result (expire_exchange n x.old hub.old ≡ (x.new, hub.new)) }
 {
     if is_due(hub.moment, x) {
         return answer_plainly(alloc, n, false, 504, x, hub);

@@ -4,10 +4,10 @@ use contexts::Contexts;
 use filter_chain::Chain;
 use gate_base::{ContextId, VmNo};
 use gate_io::Sent;
+use gate_queue::Queue;
 use h1_head::Length;
 use h1_stream::MessageReader;
 use header_maps::Texts;
-use queue::Queue;
 
 /// What all lines of a worker have in common: the moment of the event, in nanoseconds since 1970; the contexts of all VMs, with the maps of
 /// the exchanges and the bytes that their stages hold; and what is sent.
@@ -104,7 +104,7 @@ pub struct Exchange {
     pub is_head_out: bool,
     /// Its end is due.
     pub has_ended: bool,
-    /// The line stays open behind it.
+    /// The line stays open after it.
     pub stays: bool,
     /// Its answer closes the line, whatever the rule of persistence says.
     pub closes: bool,

@@ -1,9 +1,9 @@
 // Heads and trailers on their way out, written from the maps.
 ghost use Rattle.std.specs.Prelude.{◌≡◌, ◌++◌, ◌∷◌, [], codes, bytes_eq, IfOk, OnOk};
 ghost use Rattle.http_header.specs.Token.{lowercase};
-ghost use Rattle.http1_model.specs.Framing.{no_body, head_wire, trailer_wire};
-ghost use Rattle.http1_model.specs.LocalReply.{date_line, close_line};
-ghost use Rattle.http1_model.specs.Wire.{version_text, field_lines, sent_fields};
+ghost use Rattle.h1_model.specs.Framing.{no_body, head_wire, trailer_wire};
+ghost use Rattle.h1_model.specs.LocalReply.{date_line, close_line};
+ghost use Rattle.h1_model.specs.Wire.{version_text, field_lines, sent_fields};
 ghost use Rattle.h1_write.specs.Seen.{seen_framing};
 ghost use Rattle.exchange.specs.Heads.{sent_head, up_tail, down_tail, date_fields, close_fields, connection_fields, with_connection};
 
@@ -120,7 +120,7 @@ pub(crate) fn connection_fields(alloc: Global, head: &HeaderList) -> Result<Text
     Ok(texts)
 }
 
-/// The fields of trailers, and behind them the Connection fields of their head.
+/// The fields of trailers, and after them the Connection fields of their head.
 fn with_connection(
     alloc: Global,
     connection: &Texts,
@@ -136,7 +136,7 @@ fn with_connection(
     Ok(texts)
 }
 
-/// The bytes of trailers of a message that is framed so, behind a head with these Connection fields.
+/// The bytes of trailers of a message that is framed so, after a head with these Connection fields.
 pub(crate) fn trailer_bytes(
     alloc: Global,
     connection: &Texts,

@@ -5,7 +5,7 @@ use Rattle.std.specs.List.{suffix_len}
 use Rattle.std.proofs.lemmas.List.{take_all}
 use Rattle.std.proofs.lemmas.Option.{get_or_from_slice_get}
 use Rattle.filter_chain.specs.declared.stage.Stage.{Stage}
-use Rattle.filter_chain.specs.declared.item.Item.{Item}
+use Rattle.filter_chain.specs.declared.item.ChainItem.{ChainItem}
 use Rattle.filter_chain.specs.declared.item.Asking.{Asking}
 use Rattle.filter_chain.specs.declared.item.Asking.TheVariants.{Nothing, Over, Asks}
 use Rattle.filter_chain.specs.Items.{is_free}

@@ -4,18 +4,18 @@ use Rattle.std.specs.Prelude.{not, suc, remove}
 use Rattle.std.specs.List.{position_or_len, suffix_len}
 use Rattle.std.proofs.lemmas.List.Sums.{suffix_len-take_yes, suffix_len-take_no}
 use Rattle.std.proofs.lemmas.List.{drop_more, drop_all}
-use Rattle.filter_chain.specs.declared.item.Item.{Item}
+use Rattle.filter_chain.specs.declared.item.ChainItem.{ChainItem}
 use Rattle.filter_chain.specs.declared.stage.Stage.{Stage}
 use Rattle.filter_chain.specs.Items.{size, bytes_in}
 use Rattle.filter_chain.specs.Chains.{target, may_be_picked}
 
-pub size_more : (items : List Item) (i : ℕ) (d : Item) → i < length items → size (drop i items) ≡ length (bytes_in (get_or items i d)) + size (drop (i + 1) items)
+pub size_more : (items : List ChainItem) (i : ℕ) (d : ChainItem) → i < length items → size (drop i items) ≡ length (bytes_in (get_or items i d)) + size (drop (i + 1) items)
 size_more items i d inside = ap size (drop_more items i d inside)
 
-pub size_all : (items : List Item) (i : ℕ) → length items ≤ i → size (drop i items) ≡ 0
+pub size_all : (items : List ChainItem) (i : ℕ) → length items ≤ i → size (drop i items) ≡ 0
 size_all items i past = ap size (drop_all i items past)
 
-pub size_append : (xs ys : List Item) → size (xs ++ ys) ≡ size xs + size ys
+pub size_append : (xs ys : List ChainItem) → size (xs ++ ys) ≡ size xs + size ys
 size_append [] ys = omega arith
 size_append (x ∷ xs) ys = omega (arith, size_append xs ys)
 

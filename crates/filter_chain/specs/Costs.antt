@@ -3,7 +3,7 @@
 use Rattle.std.specs.Prelude.{◌≡◌, ◌<◌, ◌≤◌, ℕ, ◌+◌, true, false, List, [], ◌∷◌, length, drop}
 use Rattle.contexts.specs.declared.parts.Contexts.{Contexts}
 use Rattle.filter_chain.specs.declared.stage.Stage.{Stage}
-use Rattle.filter_chain.specs.declared.item.Item.{Item}
+use Rattle.filter_chain.specs.declared.item.ChainItem.{ChainItem}
 use Rattle.filter_chain.specs.declared.item.Held.{Held}
 use Rattle.filter_chain.specs.declared.item.Held.TheVariants as held
 use Rattle.filter_chain.specs.declared.item.Asking.{Asking}
@@ -11,11 +11,11 @@ use Rattle.filter_chain.specs.declared.item.Asking.TheVariants.{Nothing, Over, A
 use Rattle.filter_chain.specs.Chains.{put, continued, let_through, asked}
 
 -- each of these items costs so much
-abbrev pub costs : ℕ → List Item → ℕ
-costs c [] = 0
-costs c (i ∷ items) = c + costs c items
+abbrev pub cost_of_items : ℕ → List ChainItem → ℕ
+cost_of_items c [] = 0
+cost_of_items c (i ∷ items) = c + cost_of_items c items
 
--- what is held by a stage with so many behind it
+-- what is held by a stage with so many after it
 abbrev pub held_cost : ℕ → Held → ℕ
 held_cost r held.Nothing = 0
 held_cost r (held.Head end) = 1 + (r + r)
@@ -24,7 +24,7 @@ held_cost r (held.Trailers false) = 1 + (r + r)
 held_cost r (held.Trailers true) = 2 + (r + r) + (r + r)
 
 abbrev pub stage_cost : ℕ → Stage → ℕ
-stage_cost r s = costs (2 + (r + r)) s.waiting + held_cost r s.held
+stage_cost r s = cost_of_items (2 + (r + r)) s.waiting + held_cost r s.held
 
 abbrev pub chain_cost : List Stage → ℕ
 chain_cost [] = 0
@@ -44,11 +44,11 @@ AskingFalls = (h : Contexts) (stages : List Stage) → Falls stages (asked h sta
 pub record GoingOnAddsNothing : Type 0 where
   pub continued_cost : (h : Contexts) (k : ℕ) (stages : List Stage) → chain_cost (continued h k stages).1 ≤ chain_cost stages
   pub let_through_cost : (h : Contexts) (k : ℕ) (stages : List Stage) → chain_cost (let_through h k stages).1 ≤ chain_cost stages
-  pub put_cost : (h : Contexts) (item : Item) (stages : List Stage) → chain_cost (put h item stages).1 ≤ chain_cost stages + (length stages + length stages)
+  pub put_cost : (h : Contexts) (item : ChainItem) (stages : List Stage) → chain_cost (put h item stages).1 ≤ chain_cost stages + (length stages + length stages)
   pub drop_cost : (n : ℕ) (stages : List Stage) → chain_cost (drop n stages) ≤ chain_cost stages
 
 -- no call makes a chain longer or shorter
 pub record StagesStay : Type 0 where
   pub continued_length : (h : Contexts) (k : ℕ) (stages : List Stage) → length (continued h k stages).1 ≡ length stages
   pub let_through_length : (h : Contexts) (k : ℕ) (stages : List Stage) → length (let_through h k stages).1 ≡ length stages
-  pub put_length : (h : Contexts) (item : Item) (stages : List Stage) → length (put h item stages).1 ≡ length stages
+  pub put_length : (h : Contexts) (item : ChainItem) (stages : List Stage) → length (put h item stages).1 ≡ length stages

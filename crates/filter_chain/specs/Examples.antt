@@ -6,17 +6,17 @@ use Rattle.contexts.specs.Creating.{root_created, stream_created}
 use Rattle.contexts.specs.Making.{no_contexts, with_vm, with_plugin}
 use Rattle.contexts.specs.Stages.{held_at}
 use Rattle.filter_chain.specs.declared.stage.Stage.{Stage}
-use Rattle.filter_chain.specs.declared.item.Item.{Item}
-use Rattle.filter_chain.specs.declared.item.Item.TheVariants.{Head, Piece, Trailers}
+use Rattle.filter_chain.specs.declared.item.ChainItem.{ChainItem}
+use Rattle.filter_chain.specs.declared.item.ChainItem.TheVariants.{Head, Piece, Trailers}
 use Rattle.filter_chain.specs.declared.item.Held.TheVariants as held
 use Rattle.filter_chain.specs.declared.item.Ask.{Ask}
 use Rattle.filter_chain.specs.declared.item.AskKind.{AskKind}
 use Rattle.filter_chain.specs.declared.item.AskKind.TheVariants as kinds
 use Rattle.filter_chain.specs.declared.item.Asking.{Asking}
 use Rattle.filter_chain.specs.declared.item.Asking.TheVariants.{Nothing, Over, Asks}
-use Rattle.filter_chain.specs.declared.item.Passed.{Passed}
-use Rattle.filter_chain.specs.declared.item.Passed.TheVariants as passed
-use Rattle.filter_chain.specs.Chains.{put, asked, continued, paused, let_through, reached, fits}
+use Rattle.filter_chain.specs.declared.item.PassOutcome.{PassOutcome}
+use Rattle.filter_chain.specs.declared.item.PassOutcome.TheVariants as passed
+use Rattle.filter_chain.specs.Chains.{put, asked, continued, paused, let_through, reach_count, fits}
 use Rattle.filter_chain.specs.Flow.{left_in}
 
 -- one VM with a root, 1, and two streams of it, 2 and 3
@@ -32,7 +32,7 @@ two = idle 2 ∷ idle 3 ∷ []
 -- ---- what is done to a chain: an item comes; the next callback is asked, and answers whether it continues; the stage at a
 -- place is continued, or let through
 pub data Step : Type 0 where
-  comes : Item → Step
+  comes : ChainItem → Step
   answers : Bool → Step
   goes_on : ℕ → Step
   opens : ℕ → Step
@@ -40,14 +40,14 @@ pub data Step : Type 0 where
 -- what was asked, what left, and how it stands then
 pub record Walk : Type 0 where
   pub asks : List Ask
-  pub out : List Item
+  pub out : List ChainItem
   pub stages : List Stage
   pub contexts : Contexts
 
-abbrev pub left : Walk → Passed × List Stage × Contexts → Walk
+abbrev pub left : Walk → PassOutcome × List Stage × Contexts → Walk
 left w (p, stages, h) = record w { out = w.out ++ left_in p; stages = stages; contexts = h }
 
-abbrev pub left_here : Walk → Passed × List Stage → Walk
+abbrev pub left_here : Walk → PassOutcome × List Stage → Walk
 left_here w (p, stages) = record w { out = w.out ++ left_in p; stages = stages }
 
 abbrev pub answered_by : Bool → Ask → Walk → Walk
@@ -85,7 +85,7 @@ gathered =
     comes (Head false) ∷ answers true ∷ answers true ∷ comes (Piece (codes "ab") false) ∷ answers false ∷ comes (Piece (codes "c") false) ∷ answers false
     ∷ comes (Piece [] true) ∷ answers true ∷ answers true ∷ []
 
--- the first filter holds the head, and what comes behind it waits; then it is continued
+-- the first filter holds the head, and what comes after it waits; then it is continued
 abbrev pub head_held : List Step
 head_held = comes (Head false) ∷ answers false ∷ comes (Piece (codes "ab") true) ∷ answers true ∷ []
 
@@ -109,12 +109,12 @@ pub record ChainExamples : Type 0 where
   pub gathered_asks : (walked gathered).asks
       ≡ ask 0 kinds.Head 0 false ∷ ask 1 kinds.Head 0 false ∷ ask 0 kinds.Piece 2 false ∷ ask 0 kinds.Piece 3 false ∷ ask 0 kinds.Piece 3 true ∷ ask 1 kinds.Piece 3 true ∷ []
   pub gathered_out : (walked gathered).out ≡ Head false ∷ Piece (codes "abc") true ∷ []
-  -- behind a head that is held nothing is asked; a continue passes it on and asks no more about it
+  -- after a head that is held nothing is asked; a continue passes it on and asks no more about it
   pub head_held_asks : (walked head_held).asks ≡ ask 0 kinds.Head 0 false ∷ []
   pub head_held_out : (walked head_held).out ≡ []
   pub head_goes_on_asks : (walked head_goes_on).asks ≡ ask 0 kinds.Head 0 false ∷ ask 1 kinds.Head 0 false ∷ ask 0 kinds.Piece 2 true ∷ ask 1 kinds.Piece 2 true ∷ []
   pub head_goes_on_out : (walked head_goes_on).out ≡ Head false ∷ Piece (codes "ab") true ∷ []
-  -- trailers that are held go on behind the bytes that are held
+  -- trailers that are held go on after the bytes that are held
   pub trailers_held : held_at (walked with_trailers).contexts 0 2 false ≡ codes "ab"
   pub trailers_out : (walked (with_trailers ++ goes_on 0 ∷ answers true ∷ answers true ∷ [])).out ≡ Head false ∷ Piece (codes "ab") false ∷ Trailers ∷ []
   pub trailers_left : held_at (walked (with_trailers ++ goes_on 0 ∷ [])).contexts 0 2 false ≡ []
@@ -128,10 +128,10 @@ pub record ChainExamples : Type 0 where
   -- where nothing is held, a continue passes nothing on
   pub nothing_held : continued host 0 two ≡ (passed.Left [], two, host)
   -- how far the head has come
-  pub reached_none : reached (walked (comes (Head false) ∷ [])).stages ≡ 0
-  pub reached_held : reached (walked head_held).stages ≡ 1
-  pub reached_one : reached (walked (comes (Head false) ∷ answers true ∷ [])).stages ≡ 1
-  pub reached_all : reached (walked simple).stages ≡ 2
+  pub reached_none : reach_count (walked (comes (Head false) ∷ [])).stages ≡ 0
+  pub reached_held : reach_count (walked head_held).stages ≡ 1
+  pub reached_one : reach_count (walked (comes (Head false) ∷ answers true ∷ [])).stages ≡ 1
+  pub reached_all : reach_count (walked simple).stages ≡ 2
   -- 1,048,576 bytes and no more
   pub room : fits host 1048576 (idle 2) ≡ true
   pub no_room : fits host 1048577 (idle 2) ≡ false

@@ -3,13 +3,13 @@ ghost use Rattle.std.specs.List.{list_any};
 ghost use Rattle.std.specs.Prelude.{option_map, position, ◌==◌, nat_lt, ◌≡◌, [], ◌∷◌, ◌++◌, ◌<◌, ◌≤◌, ◌+◌, ◌-◌, drop, ℕ, Some, slice_get, length, slice_set, slice_index_or, IfOk, IfSome, OnOk, OnErr, IsTrue, MatchOption, if◌then◌else◌};
 ghost use Rattle.filter_chain.specs.declared.stage.Stage.{Stage};
 ghost use Rattle.filter_chain.specs.Items.{size, bytes_in, held_items, holds_bytes, is_free, piece_of, first_of};
-ghost use Rattle.filter_chain.specs.Chains.{reached, has_head, is_head, onto, accepts, asking, ask_stage, ask_item, target, fits, with_more, handed, given, put, continued, paused, let_through, may_be_picked, ready, asked, asked_at, bytes_at, bytes_held, without_held, unless_over, let_go, opened, waiting_of, without_waiting, cleared, is_of, with_first};
+ghost use Rattle.filter_chain.specs.Chains.{reach_count, has_head, is_head, append_to, accepts, ask_of, ask_stage, ask_item, target, fits, with_more, hand_over_to, hand_over, put, continued, paused, let_through, may_be_picked, ready, asked, asked_at, bytes_at, bytes_held, without_held, unless_over, without_hold, bypassed_stage, waiting_of, without_waiting, without_buffers, is_of, with_first};
 
 use crate::waiting::bytes_len;
-use crate::{Ask, AskKind, Asking, Held, Item, Passed, Stage, Waiting};
+use crate::{Ask, AskKind, Asking, ChainItem, Held, PassOutcome, Stage, Waiting};
 use contexts::Contexts;
 use gate_base::{ContextId, Octets, OutOfMemory, VmNo};
-use queue::Queue;
+use gate_queue::Queue;
 use std::alloc::Global;
 use std::marker::Model;
 
@@ -44,18 +44,18 @@ fn holds(held: Held) -> bool
 }
 
 /// Bytes as one piece; none where there is nothing to pass on.
-fn piece(alloc: Global, bytes: Octets, end: bool) -> Result<Queue<Item>, OutOfMemory>
+fn piece(alloc: Global, bytes: Octets, end: bool) -> Result<Queue<ChainItem>, OutOfMemory>
     ensures { IfOk result (λ items. items ≡ piece_of bytes end) }
 {
     let mut items = Queue::new(alloc);
     if bytes.len() > 0 || end {
-        items.push(Item::Piece { bytes, end })?;
+        items.push(ChainItem::Piece { bytes, end })?;
     }
     Ok(items)
 }
 
 /// One item.
-fn one(alloc: Global, item: Item) -> Result<Queue<Item>, OutOfMemory>
+fn one(alloc: Global, item: ChainItem) -> Result<Queue<ChainItem>, OutOfMemory>
     ensures { IfOk result (λ items. items ≡ item ∷ []) }
 {
     let mut items = Queue::new(alloc);
@@ -64,19 +64,19 @@ fn one(alloc: Global, item: Item) -> Result<Queue<Item>, OutOfMemory>
 }
 
 /// What is held, as items.
-fn items_held(alloc: Global, held: Held, bytes: Octets) -> Result<Queue<Item>, OutOfMemory>
+fn items_held(alloc: Global, held: Held, bytes: Octets) -> Result<Queue<ChainItem>, OutOfMemory>
     ensures { IfOk result (λ items. items ≡ held_items held bytes) }
 {
     match held {
         Held::Nothing => Ok(Queue::new(alloc)),
-        Held::Head { end } => one(alloc, Item::Head { end }),
+        Held::Head { end } => one(alloc, ChainItem::Head { end }),
         Held::Body { end } => piece(alloc, bytes, end),
         Held::Trailers { body } => {
             if !body {
-                return one(alloc, Item::Trailers);
+                return one(alloc, ChainItem::Trailers);
             }
             let mut items = piece(alloc, bytes, false)?;
-            items.push(Item::Trailers)?;
+            items.push(ChainItem::Trailers)?;
             Ok(items)
         }
     }
@@ -127,7 +127,11 @@ fn held_copy(alloc: Global, stage: &Stage, contexts: &Contexts) -> Result<Octets
 }
 
 /// What a stage holds, as items, copied.
-fn copied(alloc: Global, stage: &Stage, contexts: &Contexts) -> Result<Queue<Item>, OutOfMemory>
+fn copied(
+    alloc: Global,
+    stage: &Stage,
+    contexts: &Contexts,
+) -> Result<Queue<ChainItem>, OutOfMemory>
     ensures { IfOk result (λ items. items ≡ held_items stage.now.held (bytes_held contexts.now stage.now)) }
 {
     let bytes = held_copy(alloc, stage, contexts)?;
@@ -136,7 +140,7 @@ fn copied(alloc: Global, stage: &Stage, contexts: &Contexts) -> Result<Queue<Ite
 
 /// A stage holds nothing from here on.
 fn let_go_of(alloc: Global, stage: &mut Stage, contexts: &mut Contexts)
-    ensures stage { stage.new ≡ let_go stage.old }
+    ensures stage { stage.new ≡ without_hold stage.old }
     ensures contexts { contexts.new ≡ without_held contexts.old stage.old }
 {
     if holds(stage.held) {
@@ -147,7 +151,7 @@ fn let_go_of(alloc: Global, stage: &mut Stage, contexts: &mut Contexts)
 
 /// A stage passes everything from here on.
 fn open_up(alloc: Global, stage: &mut Stage, contexts: &mut Contexts)
-    ensures stage { stage.old.waiting ≡ [] → stage.new ≡ opened stage.old }
+    ensures stage { stage.old.waiting ≡ [] → stage.new ≡ bypassed_stage stage.old }
     ensures contexts { contexts.new ≡ without_held contexts.old stage.old }
 {
     let_go_of(alloc, stage, contexts);
@@ -159,7 +163,7 @@ fn first_bytes(items: &Waiting) -> Option<usize>
     ensures { result ≡ first_of items.now }
 {
     match items.first() {
-        Some(Item::Piece { bytes, .. }) => Some(bytes.len()),
+        Some(ChainItem::Piece { bytes, .. }) => Some(bytes.len()),
         _ => None,
     }
 }
@@ -169,14 +173,14 @@ fn starts_with_head(stage: &Stage) -> bool
     ensures { result ≡ has_head stage.now.waiting }
 {
     match stage.waiting.first() {
-        Some(Item::Head { .. }) => true,
+        Some(ChainItem::Head { .. }) => true,
         _ => false,
     }
 }
 
 /// A callback that is to come.
 fn asks(stage: usize, kind: AskKind, count: u32, end: bool) -> Asking
-    ensures { result ≡ asking stage kind count end }
+    ensures { result ≡ ask_of stage kind count end }
 {
     Asking::Asks {
         ask: Ask {
@@ -195,7 +199,7 @@ fn hold_first(stage: &Stage, contexts: &mut Contexts) -> Result<(), OutOfMemory>
     ensures err { OnErr result (contexts.new ≡ contexts.old) }
 {
     match stage.waiting.first() {
-        Some(Item::Piece { bytes, end }) => {
+        Some(ChainItem::Piece { bytes, end }) => {
             contexts.hold(
                 stage.vm,
                 stage.context,
@@ -223,15 +227,15 @@ fn ask_one(stage: &mut Stage, contexts: &mut Contexts, at: usize) -> Result<Aski
     hold_first(stage, contexts)?;
     match stage.waiting.pop_first() {
         None => Ok(Asking::Nothing),
-        Some(Item::Head { end }) => {
+        Some(ChainItem::Head { end }) => {
             stage.held = Held::Head { end };
             Ok(asks(at, AskKind::Head, 0, end))
         }
-        Some(Item::Piece { bytes, end }) => {
+        Some(ChainItem::Piece { bytes, end }) => {
             stage.held = Held::Body { end };
             Ok(asks(at, AskKind::Piece, (held + bytes.len()) as u32, end))
         }
-        Some(Item::Trailers) => {
+        Some(ChainItem::Trailers) => {
             let body = holds(stage.held);
             stage.held = Held::Trailers { body };
             Ok(asks(at, AskKind::Trailers, 0, false))
@@ -302,7 +306,7 @@ impl Chain {
 
     /// How many stages were asked the head, or passed it.
     pub fn reached(&self) -> usize
-        ensures reached { result ≡ reached self.now }
+        ensures reached { result ≡ reach_count self.now }
         ensures within { result ≤ length self.now }
     {
         let mut n = 0;
@@ -378,7 +382,7 @@ impl Chain {
     /// No stages stay, and none of them holds anything.
     pub fn clear(&mut self, alloc: Global, contexts: &mut Contexts)
         ensures stages { self.new ≡ [] }
-        ensures contexts { contexts.new ≡ cleared contexts.old self.old }
+        ensures contexts { contexts.new ≡ without_buffers contexts.old self.old }
     {
         for stage in self.stages.iter() {
             contexts.let_go(alloc, stage.vm, stage.context, stage.response);
@@ -391,29 +395,34 @@ impl Chain {
         &mut self,
         alloc: Global,
         contexts: &Contexts,
-        item: Item,
-    ) -> Result<Passed, OutOfMemory>
+        item: ChainItem,
+    ) -> Result<PassOutcome, OutOfMemory>
         ensures ok { IfOk result (λ p. put contexts.now item self.old ≡ (p, self.new)) }
         ensures err { OnErr result (self.new ≡ self.old) }
     {
         let to = self.target(0);
         if !self.accepts(contexts, to, bytes_len(&item), 0) {
-            return Ok(Passed::Over);
+            return Ok(PassOutcome::Over);
         }
         let items = one(alloc, item)?;
         self.hand(alloc, to, items)
     }
 
     /// Items go to the stage at a place, or leave.
-    fn hand(&mut self, alloc: Global, to: usize, items: Queue<Item>) -> Result<Passed, OutOfMemory>
-        ensures ok { IfOk result (λ p. onto to items self.old (slice_get self.old to) ≡ (p, self.new)) }
+    fn hand(
+        &mut self,
+        alloc: Global,
+        to: usize,
+        items: Queue<ChainItem>,
+    ) -> Result<PassOutcome, OutOfMemory>
+        ensures ok { IfOk result (λ p. append_to to items self.old (slice_get self.old to) ≡ (p, self.new)) }
         ensures err { OnErr result (self.new ≡ self.old) }
     {
         if to >= self.stages.len() {
-            return Ok(Passed::Left { items });
+            return Ok(PassOutcome::Left { items });
         }
         self.stages[to].waiting.append(items)?;
-        Ok(Passed::Left {
+        Ok(PassOutcome::Left {
             items: Queue::new(alloc),
         })
     }
@@ -424,7 +433,7 @@ impl Chain {
         alloc: Global,
         contexts: &mut Contexts,
         at: usize,
-    ) -> Result<Passed, OutOfMemory>
+    ) -> Result<PassOutcome, OutOfMemory>
         requires { at < length self.old }
         ensures ok { IfOk result (λ p. continued contexts.old at self.old ≡ (p, self.new, contexts.new)) }
         ensures stages { OnErr result (self.new ≡ self.old) }
@@ -433,7 +442,7 @@ impl Chain {
         let first = held_len(&self.stages[at], contexts);
         let to = self.target(at + 1);
         if !self.accepts(contexts, to, first, 0) {
-            return Ok(Passed::Over);
+            return Ok(PassOutcome::Over);
         }
         let items = copied(alloc, &self.stages[at], contexts)?;
         let passed = self.hand(alloc, to, items)?;
@@ -447,7 +456,7 @@ impl Chain {
         alloc: Global,
         contexts: &mut Contexts,
         at: usize,
-    ) -> Result<Passed, OutOfMemory>
+    ) -> Result<PassOutcome, OutOfMemory>
         requires { at < length self.old }
         ensures ok { IfOk result (λ p. let_through contexts.old at self.old ≡ (p, self.new, contexts.new)) }
         ensures stages { OnErr result (self.new ≡ self.old) }
@@ -456,7 +465,7 @@ impl Chain {
         let first = held_len(&self.stages[at], contexts);
         let to = self.target(at + 1);
         if !self.accepts(contexts, to, first, self.stages[at].waiting.bytes()) {
-            return Ok(Passed::Over);
+            return Ok(PassOutcome::Over);
         }
         let items = copied(alloc, &self.stages[at], contexts)?;
         let passed = self.hand_all(alloc, at, to, items)?;
@@ -464,17 +473,17 @@ impl Chain {
         Ok(passed)
     }
 
-    /// Items, and behind them those that wait at a stage, go to a stage behind it, or leave.
+    /// Items, and after them those that wait at a stage, go to a stage after it, or leave.
     fn hand_all(
         &mut self,
         alloc: Global,
         at: usize,
         to: usize,
-        items: Queue<Item>,
-    ) -> Result<Passed, OutOfMemory>
+        items: Queue<ChainItem>,
+    ) -> Result<PassOutcome, OutOfMemory>
         requires at { at < length self.old }
         requires apart { at < to }
-        ensures ok { IfOk result (λ p. let rest = without_waiting at self.old (slice_get self.old at) in onto to (items ++ waiting_of (slice_get self.old at)) rest (slice_get rest to) ≡ (p, self.new)) }
+        ensures ok { IfOk result (λ p. let rest = without_waiting at self.old (slice_get self.old at) in append_to to (items ++ waiting_of (slice_get self.old at)) rest (slice_get rest to) ≡ (p, self.new)) }
         ensures err { OnErr result (self.new ≡ self.old) }
     {
         let mut waiting = std::mem::replace(&mut self.stages[at].waiting, Waiting::new(alloc));
@@ -487,15 +496,15 @@ impl Chain {
         }
     }
 
-    /// Items, and behind them those of a list, go to the stage at a place, or leave.
+    /// Items, and after them those of a list, go to the stage at a place, or leave.
     fn hand_both(
         &mut self,
         alloc: Global,
         to: usize,
-        items: Queue<Item>,
+        items: Queue<ChainItem>,
         waiting: &mut Waiting,
-    ) -> Result<Passed, OutOfMemory>
-        ensures ok { IfOk result (λ p. onto to (items ++ waiting.old) self.old (slice_get self.old to) ≡ (p, self.new)) }
+    ) -> Result<PassOutcome, OutOfMemory>
+        ensures ok { IfOk result (λ p. append_to to (items ++ waiting.old) self.old (slice_get self.old to) ≡ (p, self.new)) }
         ensures stages { OnErr result (self.new ≡ self.old) }
         ensures waiting { OnErr result (waiting.new ≡ waiting.old) }
     {
@@ -505,7 +514,7 @@ impl Chain {
         } else {
             self.stages[to].waiting.append_both(items, waiting)?;
         }
-        Ok(Passed::Left {
+        Ok(PassOutcome::Left {
             items: left.into_queue(),
         })
     }

@@ -1,10 +1,10 @@
 // What passes a chain, and what comes of it. The fields of heads and trailers are in the contexts.
 use gate_base::Octets;
-use queue::Queue;
+use gate_queue::Queue;
 
 /// A part of a message.
 #[derive(Drop)]
-pub enum Item {
+pub enum ChainItem {
     /// The head; `end` where no body follows.
     Head { end: bool },
     /// Bytes of the body; `end` where the body ends with them.
@@ -53,9 +53,9 @@ pub enum Asking {
 
 /// What comes of passing items on.
 #[derive(Drop)]
-pub enum Passed {
+pub enum PassOutcome {
     /// They are too many for the stage to which they go; the chain is as before.
     Over,
     /// These left the chain, in order.
-    Left { items: Queue<Item> },
+    Left { items: Queue<ChainItem> },
 }

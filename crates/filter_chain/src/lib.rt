@@ -8,7 +8,7 @@ mod stage;
 mod waiting;
 
 pub use chain::Chain;
-pub use item::{Ask, AskKind, Asking, Held, Item, Passed};
+pub use item::{Ask, AskKind, Asking, ChainItem, Held, PassOutcome};
 pub use laws::{asking_comes_to_an_end, what_passes_is_what_came, worked_chains};
 pub use stage::Stage;
 pub use waiting::Waiting;

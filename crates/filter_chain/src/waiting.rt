@@ -2,9 +2,9 @@
 ghost use Rattle.std.specs.Prelude.{◌≡◌, ◌≤◌, ◌+◌, ◌^◌, [], ◌∷◌, ◌++◌, length, option_copied, slice_get, OnOk, OnErr, MatchOption};
 ghost use Rattle.filter_chain.specs.Items.{bytes_in, size};
 
-use crate::Item;
+use crate::ChainItem;
 use gate_base::OutOfMemory;
-use queue::Queue;
+use gate_queue::Queue;
 use std::alloc::{AllocError, Global};
 use std::collections::VecDeque;
 use std::marker::Model;
@@ -13,17 +13,17 @@ use std::marker::Model;
 /// Clauses see their list.
 #[derive(Drop)]
 pub struct Waiting {
-    items: VecDeque<Item>,
+    items: VecDeque<ChainItem>,
     /// How many bytes they have.
     bytes: usize,
 }
 
 impl Model for Waiting {
     ghost use Rattle.std.specs.Prelude.{List, ◌≡◌};
-    ghost use Rattle.filter_chain.specs.declared.item.Item.{Item};
+    ghost use Rattle.filter_chain.specs.declared.item.ChainItem.{ChainItem};
     ghost use Rattle.filter_chain.specs.Items.{size as size_of};
 
-    ghost Value = { List Item };
+    ghost Value = { List ChainItem };
 
     ghost view = { λ w. w.items.items };
 
@@ -31,19 +31,19 @@ impl Model for Waiting {
 }
 
 /// How many bytes an item has.
-pub(crate) fn bytes_len(item: &Item) -> usize
+pub(crate) fn bytes_len(item: &ChainItem) -> usize
     ensures { result ≡ length (bytes_in item.now) }
 {
     match item {
-        Item::Head { .. } => 0,
-        Item::Piece { bytes, .. } => bytes.len(),
-        Item::Trailers => 0,
+        ChainItem::Head { .. } => 0,
+        ChainItem::Piece { bytes, .. } => bytes.len(),
+        ChainItem::Trailers => 0,
     }
 }
 
 /// So many bytes and those of these items; none where that is too large a number.
 #[tactic(auto, using(crate::proofs::Sizes::size_more, crate::proofs::Sizes::size_all))]
-fn with_bytes(some: usize, items: &[Item]) -> Option<usize>
+fn with_bytes(some: usize, items: &[ChainItem]) -> Option<usize>
     ensures { MatchOption result (2 ^ 64 ≤ some + size items.now) (λ sum. sum ≡ some + size items.now) }
 {
     let mut sum = some;
@@ -58,9 +58,9 @@ fn with_bytes(some: usize, items: &[Item]) -> Option<usize>
 
 /// The items of two lists come behind, all of them or none. Where there is no room, the second keeps its own.
 fn append_all(
-    items: &mut VecDeque<Item>,
-    first: Queue<Item>,
-    second: &mut VecDeque<Item>,
+    items: &mut VecDeque<ChainItem>,
+    first: Queue<ChainItem>,
+    second: &mut VecDeque<ChainItem>,
 ) -> Result<(), OutOfMemory>
     ensures ok { OnOk result (items.new.items ≡ items.old.items ++ (first ++ second.old.items)) }
     ensures moved { OnOk result (second.new.items ≡ []) }
@@ -95,7 +95,7 @@ impl Waiting {
     }
 
     /// The first item, if there is one.
-    pub(crate) fn first(&self) -> Option<&Item>
+    pub(crate) fn first(&self) -> Option<&ChainItem>
         ensures { option_copied result ≡ slice_get self.now 0 }
     {
         self.items.front()
@@ -103,7 +103,7 @@ impl Waiting {
 
     /// The items of a queue come behind. They are dropped where there is no room.
     #[tactic(auto, using(crate::proofs::Sizes::size_append))]
-    pub(crate) fn append(&mut self, items: Queue<Item>) -> Result<(), OutOfMemory>
+    pub(crate) fn append(&mut self, items: Queue<ChainItem>) -> Result<(), OutOfMemory>
         ensures ok { OnOk result (self.new ≡ self.old ++ items) }
         ensures err { OnErr result (self.new ≡ self.old) }
     {
@@ -120,7 +120,7 @@ impl Waiting {
     #[tactic(auto, using(crate::proofs::Sizes::size_append))]
     pub(crate) fn append_both(
         &mut self,
-        first: Queue<Item>,
+        first: Queue<ChainItem>,
         second: &mut Waiting,
     ) -> Result<(), OutOfMemory>
         ensures ok { OnOk result (self.new ≡ self.old ++ (first ++ second.old)) }
@@ -141,7 +141,7 @@ impl Waiting {
     }
 
     /// Takes the first item. There is none exactly where nothing waits.
-    pub(crate) fn pop_first(&mut self) -> Option<Item>
+    pub(crate) fn pop_first(&mut self) -> Option<ChainItem>
         ensures { MatchOption result ((self.old ≡ []) × (self.new ≡ [])) (λ item. self.old ≡ item ∷ self.new) }
     {
         match self.items.pop_front() {
@@ -154,7 +154,7 @@ impl Waiting {
     }
 
     /// The items, as a queue.
-    pub(crate) fn into_queue(self) -> Queue<Item>
+    pub(crate) fn into_queue(self) -> Queue<ChainItem>
         ensures { result ≡ self }
     {
         Queue::from_vec(self.items.into_vec())

@@ -68,7 +68,7 @@ pub record ReportExamples : Type 0 where
   -- functions of the table that are no callbacks of an event are there too
   pub starts : report_of (one_function (codes "_start" ∷ codes "_initialize" ∷ []))
       ≡ codes "export 5f7374617274 func - -\nexport 5f696e697469616c697a65 func - -\ncallback _initialize\ncallback _start\nabi none\n"
-  -- the callbacks of connections come behind those of exchanges
+  -- the callbacks of connections come after those of exchanges
   pub connections : report_of (numbering (codes "proxy_on_new_connection" ∷ codes "proxy_on_done" ∷ []))
       ≡ codes "export 70726f78795f6f6e5f6e65775f636f6e6e656374696f6e func i i\nexport 70726f78795f6f6e5f646f6e65 func i i\ncallback proxy_on_done\ncallback proxy_on_new_connection\nabi none\n"
   pub all : report_of all_kinds

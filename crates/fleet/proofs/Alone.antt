@@ -1,16 +1,16 @@
 -- Calls that are alone are those of one thread.
 use Rattle.std.proofs.Common.{◌≡◌, ◌==◌, ◌∙◌, ℕ, zero, suc, ◌-◌, ◌<◌, ◌≤◌, Bool, true, false, cond, if◌then◌else◌, List, [], ◌∷◌, ◌++◌, length, map, reverse, get_or, All, Option, refl, ap, sym, subst, arith, ⊎_elim, eq-eqb, ne_eqb, length-set, length-append, get_or-set_same, get_or-set_other}
-use Rattle.course.specs.Called.{Calling}
+use Rattle.filter_host.specs.Called.{Calling}
 use Rattle.std.specs.List.{filter}
 use Rattle.std.proofs.lemmas.Bool.{cases_eq}
 use Rattle.std.proofs.lemmas.List.{get_or_append_left, get_or-append_right}
 use mathlib.Core.Option.{some, some-injective, some-ne-none}
 use lib.ListN.{get_elem?, length-map}
-use Rattle.course.specs.Course.{calls_in}
+use Rattle.filter_host.specs.Course.{calls_in}
 use Rattle.gate_io.specs.Nature.{Nature}
 use Rattle.gate_io.specs.declared.event.Event.{Event}
 use Rattle.gate_io.specs.declared.passed.Passed.{Passed}
-use Rattle.outbox.specs.Turns.{OneTurn, events_of}
+use Rattle.send_queue.specs.Turns.{OneTurn, events_of}
 use Rattle.shared_seats.specs.Moving.{SeatsGoOn, seats_joined, seats_nothing}
 use Rattle.shared_seats.specs.Seats.{SeatsOf, TablesOf}
 use Rattle.shared_seats.specs.Workers.{HasOneHistory, new_seats}
@@ -77,7 +77,7 @@ entries_if who v m ms b is =
     split true = refl
     split false = refl
 
--- a legal history of one entry and others: its reply is the store's, and the others are legal behind it
+-- a legal history of one entry and others: its reply is the store's, and the others are legal after it
 legal_parts : (s : Store) (e : Entry) (h : List Entry) → IsLegalFrom store_acts s (e ∷ h) → (e.reply ≡ (applied s e.who e.call).reply) × IsLegalFrom store_acts (applied s e.who e.call).store h
 legal_parts s e h legal = parts e.reply (applied s e.who e.call).reply (map reply_in h) (replies_from store_acts (applied s e.who e.call).store h) legal
 
@@ -89,7 +89,7 @@ legal_here : (s : Stores) (m : MadeCall) (ms : List Made) (v : ℕ) → m.vm ≡
 legal_here s m ms v same legal =
     legal_parts (store_at s v) (entry s.who m.call m.reply) (entries_on s.who v ms) (subst (IsLegalFrom store_acts (store_at s v)) (entries_if s.who v m ms true (eq-eqb m.vm v same)) legal)
 
--- behind a call the other calls on each store are legal from what it left
+-- after a call the other calls on each store are legal from what it left
 legal_behind : (s : Stores) (m : MadeCall) (ms : List Made) → m.vm < length s.stores → AllLegal s (called m ∷ ms) → AllLegal (stores_after s m.vm m.call) ms
 legal_behind s m ms within legal v low =
     let next = stores_after s m.vm m.call in

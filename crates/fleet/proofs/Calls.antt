@@ -1,6 +1,6 @@
 -- The calls of lives.
 use Rattle.std.proofs.Common.{◌≡◌, ℕ, Bool, zero, suc, List, [], ◌++◌, Option, sym, subst, inl, inr, ◌⊎◌}
-use Rattle.course.specs.Called.{Calling}
+use Rattle.filter_host.specs.Called.{Calling}
 use Rattle.fleet.specs.Lives.{Turns, Life, OneLife, Cut, Early, Last, Lives}
 use Rattle.fleet.specs.Made.{made_in_turn, made_in_turns, made_in_life, made_in_one, made_in_early, made_in_last, made_in}
 use Rattle.gate_io.specs.declared.passed.Passed.{Passed}

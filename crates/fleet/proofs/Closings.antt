@@ -5,10 +5,10 @@ use Rattle.gate_io.specs.declared.event.Side.{Side}
 use Rattle.gate_io.specs.declared.event.Side.TheVariants.{Down, Up}
 use Rattle.gate_io.specs.declared.passed.Passed.{Passed}
 use Rattle.gate_io.specs.Told.{Gains}
-use Rattle.fleet.specs.Closing.{Closes, ClosesAll, ClosingExamples, AllClosed, SomeClosed, AreCloses, AreRising, closed, connection, is_side, one_if}
+use Rattle.fleet.specs.Closing.{Closes, ClosesAll, ClosingExamples, AllClosed, SomeClosed, AreCloses, AreRising, close_result, connection, is_side, one_if}
 use Rattle.fleet.specs.declared.watched.Connection.{Connection}
 
--- the steps behind a trace that is told are those that it gained
+-- the steps after a trace that is told are those that it gained
 steps_are : (trace steps more : List Passed) → Gains (Some trace) steps (Some (trace ++ more)) → steps ≡ more
 steps_are trace steps more h = append_cancel_left trace steps more (same (trace ++ steps) (trace ++ more) (sym h))
   where
@@ -54,7 +54,7 @@ close_if it t s now = not (it && is_side s t) && now
 pub examples : ClosingExamples
 examples = record {
   each_once = record {
-    steps = closed 3 Up ∷ closed 3 Down ∷ closed 4 Up ∷ [];
+    steps = close_result 3 Up ∷ close_result 3 Down ∷ close_result 4 Up ∷ [];
     closes = (tt, (tt, (tt, tt)));
     all = by_line (λ p q s. one_if (p && is_side s Up) + (one_if (p && is_side s Down) + (one_if (q && is_side s Up) + 0)) ≡ one_if (stood p q s)) refl refl refl refl refl refl;
     rising = (omega arith, (omega arith, (omega arith, tt)));
@@ -68,7 +68,7 @@ examples = record {
   not_client_first_cut = λ h. absurd (let low = (rising_cut _ _ h).1.0 in omega (arith, low));
   not_fewer = λ h. absurd (let e = all_of _ _ h (connection 4 Up) in omega (arith, e));
   fewer_cut = record {
-    steps = closed 3 Up ∷ closed 3 Down ∷ [];
+    steps = close_result 3 Up ∷ close_result 3 Down ∷ [];
     closes = (tt, (tt, tt));
     some = by_line (λ p q s. (one_if (p && is_side s Up) + (one_if (p && is_side s Down) + 0)) + one_if (close_if p Down s (close_if p Up s (stood p q s))) ≡ one_if (stood p q s)) refl refl refl refl refl refl;
     rising = (omega arith, (omega arith, tt));

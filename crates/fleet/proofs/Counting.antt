@@ -1,6 +1,6 @@
 -- What each VM of the configuration came to.
 use Rattle.std.proofs.Common.{◌≡◌, ◌<◌, ◌∙◌, ℕ, List, [], ◌∷◌, length, map, reverse, Option, ap, arith}
-use Rattle.course.specs.Called.{Calling}
+use Rattle.filter_host.specs.Called.{Calling}
 use Rattle.fleet.specs.Laws.{HasOne}
 use Rattle.fleet.specs.Moves.{seats_in}
 use Rattle.fleet.specs.Run.{Ended}

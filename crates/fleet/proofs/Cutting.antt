@@ -1,8 +1,8 @@
 -- The events of a worker are those of its lives, and its calls those that the meanings of these call first.
 use Rattle.std.proofs.Common.{◌≡◌, ◌∙◌, ℕ, zero, suc, Bool, List, [], ◌∷◌, ◌++◌, append_assoc, length, Option, ap, arith, inl, inr, ◌⊎◌, length-append, refl, sym, subst}
 use Rattle.std.proofs.lemmas.List.{append-nil}
-use Rattle.course.specs.Called.{Calling}
-use Rattle.course.specs.Course.{Course, Goes, calls_in}
+use Rattle.filter_host.specs.Called.{Calling}
+use Rattle.filter_host.specs.Course.{Course, Goes, calls_in}
 use Rattle.fleet.specs.Closing.{AreCloses}
 use Rattle.fleet.specs.Laws.{AllLivesAreMeant, CallsOfLives, events_of_lives}
 use Rattle.fleet.specs.Lives.{Cut, Early, Last, Life, OneLife}
@@ -13,7 +13,7 @@ use Rattle.gate_io.specs.Told.{Gains, gains_more, gains_nothing}
 use Rattle.gate_io.specs.declared.event.Event.{Event}
 use Rattle.gate_io.specs.declared.passed.Passed.{Passed}
 use Rattle.gate_io.specs.declared.passed.Passed.TheVariants.{Asked, Gave, Took, Short}
-use Rattle.meaning.specs.Meaning.{Run, meaning}
+use Rattle.worker_meaning.specs.Meaning.{Run, meaning}
 use Rattle.shared_seats.specs.Moving.{SeatsGoOn, seats_nothing}
 use Rattle.shared_seats.specs.Seats.{SeatsOf}
 use Rattle.store_model.specs.Made.{Made}
@@ -34,7 +34,7 @@ events_push [] events = append-nil events
 events_push (x ∷ lives) events = ap (λ (es : List Event). x ++ es) (events_push lives events) ∙ sym (append_assoc x (events_of_lives lives) events)
 
 module _ {H : Type 0} (calling : Calling H) (first : Standing H) where
-  -- a life behind others
+  -- a life after others
   calls_push : (lives : List (List Event)) (s t u : SeatsOf) (calls : List Made) (events : List Event) (left : Course (Run H)) → CallsOfLives calling first lives s calls t
       → (goes : Goes SeatsGoOn t (meaning calling first events) left u) → CallsOfLives calling first (lives ++ events ∷ []) s (calls ++ calls_in goes.met) u
   calls_push [] s t u calls events left h goes =

@@ -1,6 +1,6 @@
 -- How lives end.
 use Rattle.std.proofs.Common.{◌≡◌, ◌≤◌, ◌∙◌, ◌&&◌, ℕ, Bool, true, false, suc, List, Option, refl, sym, subst, inl, inr, true≢false}
-use Rattle.course.specs.Called.{Calling}
+use Rattle.filter_host.specs.Called.{Calling}
 use Rattle.fleet.specs.Closing.{Closes, ClosesAll}
 use Rattle.fleet.specs.Lives.{Early, Lived, Lives, OneLife, is_memory}
 use Rattle.gate_io.specs.declared.passed.Passed.{Passed}

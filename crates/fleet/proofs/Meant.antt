@@ -1,9 +1,9 @@
 -- The turns of a life are those that its events mean, and its calls those of that meaning.
 use Rattle.std.proofs.Common.{◌≡◌, ◌≢◌, ◌∙◌, ℕ, zero, suc, List, [], ◌∷◌, ◌++◌, Option, ap, inl, inr, refl, sym, subst}
 use Rattle.std.proofs.lemmas.List.{append-nil}
-use Rattle.course.specs.Called.{Calling}
-use Rattle.course.specs.Course.{Course, Goes, Met, Reaches, called, calls_in, ends, heard, measured, then_do}
-use Rattle.course.specs.Runs.{reaches_join, reaches_part}
+use Rattle.filter_host.specs.Called.{Calling}
+use Rattle.filter_host.specs.Course.{Course, Goes, Met, Reaches, called, calls_in, ends, heard, measured, then_do}
+use Rattle.filter_host.specs.Runs.{reaches_join, reaches_part}
 use Rattle.fleet.specs.Laws.{LivesAreMeant}
 use Rattle.fleet.specs.Lives.{Turns}
 use Rattle.fleet.specs.Made.{event_in_turn, events_in_turns, made_in_turn, made_in_turns}
@@ -13,16 +13,16 @@ use Rattle.gate_io.specs.Told.{Gains, gains_more, gains_nothing}
 use Rattle.gate_io.specs.declared.event.Event.{Event}
 use Rattle.gate_io.specs.declared.passed.Passed.{Passed}
 use Rattle.gate_io.specs.declared.passed.Passed.TheVariants.{Asked, Gave}
-use Rattle.meaning.proofs.Folding.{goes_on}
-use Rattle.meaning.specs.Meaning.{Means, Run, last_turn, meaning, means, run}
-use Rattle.outbox.proofs.Deliveries.{delivers_none, delivers-push}
-use Rattle.outbox.specs.Turns.{OneTurn, events_of}
+use Rattle.worker_meaning.proofs.Folding.{goes_on}
+use Rattle.worker_meaning.specs.Meaning.{Means, Run, last_turn, meaning, means, run}
+use Rattle.send_queue.proofs.Deliveries.{delivers_none, delivers-push}
+use Rattle.send_queue.specs.Turns.{OneTurn, events_of}
 use Rattle.shared_seats.specs.Moving.{SeatsGoOn, seats_nothing, seats_joined}
 use Rattle.store_model.specs.Made as store
 use Rattle.store_model.specs.Made.{Made}
 use Rattle.worker_model.specs.State.{Setting, Standing, rules_of}
 use Rattle.worker_model.specs.Turn.{Outcome, outcome, turn}
-use Rattle.worker_model.specs.Turned.{NoEvent, Turned, Whole, one_turn, wanted}
+use Rattle.worker_model.specs.Turned.{NoEvent, Turned, Whole, one_turn, worker_wants}
 use Rattle.worker_model.specs.declared.types.Turn.{Turn}
 use Rattle.worker_model.specs.declared.types.Turn.TheVariants.{Went, Stopped, WorldFault, OutOfMemory}
 
@@ -44,7 +44,7 @@ module _ {H S : Type 0} (calling : Calling H) (performs : S → List Made → S 
   abbrev last_behind : Event → Run H → Outcome H → Course (Run H)
   last_behind event before end = ends (last_turn before event end)
 
-  -- behind the meaning of events, a turn at one more, as far as it came
+  -- after the meaning of events, a turn at one more, as far as it came
   goes_more : (from at : Standing H) (events : List Event) (turns : List OneTurn) (event : Event) (left : Course (Outcome H)) (s t u : S) (calls : List Made) → at.setting ≡ from.setting
       → GoesBy s (meaning calling from events) (ends (run at.state turns)) t calls → (w : Goes performs t (turn calling (rules_of at.setting) at.state event) left u)
       → GoesBy s (meaning calling from (events ++ event ∷ [])) (then_do left (last_behind event (run at.state turns))) u (calls ++ calls_in w.met)
@@ -117,7 +117,7 @@ module _ {H S : Type 0} (calling : Calling H) (performs : S → List Made → S 
       subst (λ (x : Standing H × S × Option (List Passed)). MeantBy s old from x.0 x.1 x.2 [] []) (λ i. (sym h.0 i, sym h.1 i, sym h.2 i)) (meant_nothing s old from)
   turns_meant (suc n) s old from to t new h = meant_more _ s h.1 t old h.2 new from h.0 to _ _ (turns_meant n s old from h.0 h.1 h.2 h.3) h.4 h.5
 
-  -- and the turn of Stop behind them
+  -- and the turn of Stop after them
   stop_meant : (end : Turn) → end ≡ Stopped → (s t u : S) (old mid new : Option (List Passed)) (from at to : Standing H) (events : List Event) (calls : List Made) → MeantBy s old from at t mid events calls
       → (h : Turned calling performs t mid at end to u new) → to.setting ≡ at.setting
       → MeantBy s old from to u new (events ++ event_in_turn calling performs end t mid at to u new h) (calls ++ made_in_turn calling performs end t mid at to u new h)
@@ -169,12 +169,12 @@ module _ {H S : Type 0} (calling : Calling H) (performs : S → List Made → S 
 
   -- an event more, in whose turn memory ran out
   far_cut : (s t u : S) (old mid new : Option (List Passed)) (from at to : Standing H) (events : List Event) (calls : List Made) (event : Event) (left : Course (Outcome H)) (taken : List Passed)
-      → MeantBy s old from at t mid events calls → (w : Goes performs t (turn calling (rules_of at.setting) at.state event) left u) → Gains mid (Asked (wanted at) ∷ Gave event ∷ taken) new → happened taken ≡ []
+      → MeantBy s old from at t mid events calls → (w : Goes performs t (turn calling (rules_of at.setting) at.state event) left u) → Gains mid (Asked (worker_wants at) ∷ Gave event ∷ taken) new → happened taken ≡ []
       → FarBy s old from OutOfMemory to u new (events ++ event ∷ []) (calls ++ calls_in w.met)
   far_cut s t u old mid new from at to events calls event left taken m w told none = record {
-    steps = m.all.steps ++ Asked (wanted at) ∷ Gave event ∷ taken;
-    told = gains_more old m.all.steps mid (Asked (wanted at) ∷ Gave event ∷ taken) new m.all.told told;
-    given = happened-append m.all.steps (Asked (wanted at) ∷ Gave event ∷ taken) ∙ (λ i. m.given i ++ event ∷ none i);
+    steps = m.all.steps ++ Asked (worker_wants at) ∷ Gave event ∷ taken;
+    told = gains_more old m.all.steps mid (Asked (worker_wants at) ∷ Gave event ∷ taken) new m.all.told told;
+    given = happened-append m.all.steps (Asked (worker_wants at) ∷ Gave event ∷ taken) ∙ (λ i. m.given i ++ event ∷ none i);
     left = then_do left (last_behind event (run at.state m.all.turns));
     goes_by = goes_more from at events m.all.turns event left s t u calls m.all.setting_is (by_events s old from at t mid events calls m) w;
     whole = λ ran. absurd (ran refl);

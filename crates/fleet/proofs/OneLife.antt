@@ -1,6 +1,6 @@
 -- Where a worker ended with Stop and none of its lives ended for want of memory, it had one.
 use Rattle.std.proofs.Common.{◌≡◌, ◌∙◌, ℕ, zero, suc, Bool, false, List, [], ◌∷◌, ◌++◌, Option, arith, inl, inr, ◌⊎◌, refl, sym, subst}
-use Rattle.course.specs.Called.{Calling}
+use Rattle.filter_host.specs.Called.{Calling}
 use Rattle.fleet.specs.Lives.{Cut, Early, Last, Life, Lives, OneLife}
 use Rattle.fleet.specs.Made.{events_in_last, events_in_life, events_in_one, events_of_each, events_of_early, made_in, made_in_early, made_in_last, made_in_life, made_in_one, standing_at_end, standing_of_last, standing_of_one}
 use Rattle.gate_io.specs.declared.event.Event.{Event}

@@ -1,6 +1,6 @@
 -- The seats of all posts go on.
 use Rattle.std.proofs.Common.{◌≡◌, ◌≤◌, ◌∙◌, ℕ, List, All, Result, Ok, Err, IfOk, IfErr, Some, None, inl, map, reverse, Option, length, ap, sym, subst}
-use Rattle.course.specs.Called.{Calling}
+use Rattle.filter_host.specs.Called.{Calling}
 use lib.ListN.{length-map}
 use Rattle.gate_config.specs.declared.config.Config.{Config}
 use Rattle.gate_io.specs.Nature.{Nature}

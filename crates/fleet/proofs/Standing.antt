@@ -144,7 +144,7 @@ above c d low apart =
     (λ (n : rank c ≡ rank d → ⊥). omega (arith, low, n))
     (cases_eq (rank c) (rank d))
 
--- behind a close, one of a connection above it
+-- after a close, one of a connection above it
 rising_more : (low : ℕ) (steps : List Passed) (c d : Connection) → AreRising low (steps ++ closing c ∷ []) → rank c < rank d → AreRising low ((steps ++ closing c ∷ []) ++ closing d ∷ [])
 rising_more low [] c d h less = (h.0, (less, tt))
 rising_more low (Asked wants ∷ steps) c d h less = rising_more low steps c d h less

@@ -1,13 +1,13 @@
 -- Runs over seats that no other worker's calls come between: those of one thread's stores.
 use Rattle.std.specs.Prelude.{◌≡◌, ℕ, ◌<◌, false, List, [], ◌∷◌, length, Option}
-use Rattle.course.specs.Called.{Calling}
-use Rattle.course.specs.Course.{calls_in}
+use Rattle.filter_host.specs.Called.{Calling}
+use Rattle.filter_host.specs.Course.{calls_in}
 use Rattle.gate_config.specs.declared.config.Config.{Config}
 use Rattle.gate_io.specs.Nature.{Nature}
 use Rattle.gate_io.specs.declared.event.Event.{Event}
 use Rattle.gate_io.specs.declared.passed.Passed.{Passed}
-use Rattle.meaning.specs.Meaning.{Means}
-use Rattle.outbox.specs.Turns.{events_of}
+use Rattle.worker_meaning.specs.Meaning.{Means}
+use Rattle.send_queue.specs.Turns.{events_of}
 use Rattle.shared_seats.specs.Closed.{ClosedOf}
 use Rattle.shared_seats.specs.Moving.{SeatsGoOn}
 use Rattle.shared_seats.specs.Seats.{SeatsOf}

@@ -121,7 +121,7 @@ IsFrom low (sents.Bytes line side bytes) = Unit {0}
 IsFrom low (sents.Close line side) = low ≤ rank (connection line side)
 IsFrom low (sents.Log level text) = Unit {0}
 
--- the first place behind it
+-- the first place after it
 abbrev pub low_behind : ℕ → Sent → ℕ
 low_behind low (sents.Connect line) = low
 low_behind low (sents.Bytes line side bytes) = low
@@ -144,7 +144,7 @@ SomeClosed trace steps = (c : Connection) → closes_of c steps + one_if (stands
 abbrev pub AllClosed : (trace steps : List Passed) → Type 0
 AllClosed trace steps = (c : Connection) → closes_of c steps ≡ one_if (stands c trace)
 
--- the same of what passed behind a trace, where that is told
+-- the same of what passed after a trace, where that is told
 abbrev pub Behind : (List Passed → List Passed → Type 0) → Option (List Passed) → List Passed → Type 0
 Behind P None steps = Unit {0}
 Behind P (Some trace) steps = P trace steps
@@ -159,7 +159,7 @@ pub record Closes (old new : Option (List Passed)) : Type 0 where
   pub told : Gains old steps new
 
 -- ALL CONNECTIONS ARE CLOSED. What passed meanwhile, where that is told: closes alone, one of each connection that stood and none of any other; lines
--- rise, and the server of each comes before its client. So none stands behind them.
+-- rise, and the server of each comes before its client. So none stands after them.
 pub record ClosesAll (old new : Option (List Passed)) : Type 0 where
   pub steps : List Passed
   pub closes : AreCloses steps
@@ -179,8 +179,8 @@ gone line side = Gave (record { now = 0; what = whats.Gone line side })
 abbrev pub connected : ℕ → Passed
 connected line = Took (sents.Connect line)
 
-abbrev pub closed : ℕ → Side → Passed
-closed line side = Took (sents.Close line side)
+abbrev pub close_result : ℕ → Side → Passed
+close_result line side = Took (sents.Close line side)
 
 -- a client's line 3 was opened and its server connected, and of line 4 the client is gone and the server too
 abbrev pub three_stand : List Passed
@@ -188,18 +188,18 @@ three_stand = opened 3 ∷ connected 3 ∷ opened 4 ∷ connected 4 ∷ gone 4 D
 
 pub record ClosingExamples : Type 0 where
   -- both sides of line 3 are closed, the server's first, and then the server's side of line 4
-  pub each_once : ClosesAll (Some three_stand) (Some (three_stand ++ closed 3 Up ∷ closed 3 Down ∷ closed 4 Up ∷ []))
+  pub each_once : ClosesAll (Some three_stand) (Some (three_stand ++ close_result 3 Up ∷ close_result 3 Down ∷ close_result 4 Up ∷ []))
   -- lines do not fall, and no client is closed before its server, where memory ran out either
-  pub not_falling : ClosesAll (Some three_stand) (Some (three_stand ++ closed 4 Up ∷ closed 3 Up ∷ closed 3 Down ∷ [])) → ⊥
-  pub not_client_first : ClosesAll (Some three_stand) (Some (three_stand ++ closed 3 Down ∷ closed 3 Up ∷ closed 4 Up ∷ [])) → ⊥
-  pub other_order : ClosesAll (Some three_stand) (Some (three_stand ++ closed 4 Up ∷ closed 3 Down ∷ closed 3 Up ∷ [])) → ⊥
-  pub not_falling_cut : Closes (Some three_stand) (Some (three_stand ++ closed 4 Up ∷ closed 3 Up ∷ [])) → ⊥
-  pub not_client_first_cut : Closes (Some three_stand) (Some (three_stand ++ closed 3 Down ∷ closed 3 Up ∷ [])) → ⊥
+  pub not_falling : ClosesAll (Some three_stand) (Some (three_stand ++ close_result 4 Up ∷ close_result 3 Up ∷ close_result 3 Down ∷ [])) → ⊥
+  pub not_client_first : ClosesAll (Some three_stand) (Some (three_stand ++ close_result 3 Down ∷ close_result 3 Up ∷ close_result 4 Up ∷ [])) → ⊥
+  pub other_order : ClosesAll (Some three_stand) (Some (three_stand ++ close_result 4 Up ∷ close_result 3 Down ∷ close_result 3 Up ∷ [])) → ⊥
+  pub not_falling_cut : Closes (Some three_stand) (Some (three_stand ++ close_result 4 Up ∷ close_result 3 Up ∷ [])) → ⊥
+  pub not_client_first_cut : Closes (Some three_stand) (Some (three_stand ++ close_result 3 Down ∷ close_result 3 Up ∷ [])) → ⊥
   -- none is left out where all are closed; some may be where memory ran out
-  pub not_fewer : ClosesAll (Some three_stand) (Some (three_stand ++ closed 3 Up ∷ closed 3 Down ∷ [])) → ⊥
-  pub fewer_cut : Closes (Some three_stand) (Some (three_stand ++ closed 3 Up ∷ closed 3 Down ∷ []))
+  pub not_fewer : ClosesAll (Some three_stand) (Some (three_stand ++ close_result 3 Up ∷ close_result 3 Down ∷ [])) → ⊥
+  pub fewer_cut : Closes (Some three_stand) (Some (three_stand ++ close_result 3 Up ∷ close_result 3 Down ∷ []))
   -- none is closed twice, none that does not stand, and nothing else passes
-  pub not_twice : Closes (Some three_stand) (Some (three_stand ++ closed 3 Up ∷ closed 3 Up ∷ [])) → ⊥
-  pub not_gone : Closes (Some three_stand) (Some (three_stand ++ closed 4 Down ∷ [])) → ⊥
-  pub not_never : Closes (Some three_stand) (Some (three_stand ++ closed 5 Up ∷ [])) → ⊥
+  pub not_twice : Closes (Some three_stand) (Some (three_stand ++ close_result 3 Up ∷ close_result 3 Up ∷ [])) → ⊥
+  pub not_gone : Closes (Some three_stand) (Some (three_stand ++ close_result 4 Down ∷ [])) → ⊥
+  pub not_never : Closes (Some three_stand) (Some (three_stand ++ close_result 5 Up ∷ [])) → ⊥
   pub not_connected : Closes (Some three_stand) (Some (three_stand ++ connected 5 ∷ [])) → ⊥

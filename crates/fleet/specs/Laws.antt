@@ -1,7 +1,7 @@
 -- What holds of all lives, and of what all fleets come to.
 use Rattle.std.specs.Prelude.{◌≡◌, ◌≢◌, ℕ, ◌<◌, Bool, false, List, [], ◌∷◌, ◌++◌, Option, length, map, reverse}
-use Rattle.course.specs.Called.{Calling}
-use Rattle.course.specs.Course.{Course, Goes, calls_in, ends}
+use Rattle.filter_host.specs.Called.{Calling}
+use Rattle.filter_host.specs.Course.{Course, Goes, calls_in, ends}
 use mathlib.Core.Option.{some}
 use lib.ListN.{get_elem?}
 use Rattle.fleet.specs.Lives.{Life, Lives}
@@ -15,8 +15,8 @@ use Rattle.gate_io.specs.Passing.{happened}
 use Rattle.gate_io.specs.Told.{Gains}
 use Rattle.gate_io.specs.declared.event.Event.{Event}
 use Rattle.gate_io.specs.declared.passed.Passed.{Passed}
-use Rattle.meaning.specs.Meaning.{Means, Run, meaning, run}
-use Rattle.outbox.specs.Turns.{OneTurn, events_of}
+use Rattle.worker_meaning.specs.Meaning.{Means, Run, meaning, run}
+use Rattle.send_queue.specs.Turns.{OneTurn, events_of}
 use Rattle.metric_seats.specs.declared.table.MetricsClosed.{MetricsClosed}
 use Rattle.shared_seats.specs.Closed.{ClosedOf}
 use Rattle.shared_seats.specs.Moving.{SeatsGoOn}
@@ -64,20 +64,20 @@ LivesAreMeant {H} calling =
     (s : SeatsOf) (old : Option (List Passed)) (from : Standing H) (end : Turn) (to : Standing H) (t : SeatsOf) (new : Option (List Passed))
     → (life : Life calling SeatsGoOn s old from end to t new) → IsMeant calling s old from end to t new life
 
--- the events of lives, one behind the other
+-- the events of lives, one after the other
 abbrev pub events_of_lives : List (List Event) → List Event
 events_of_lives [] = []
 events_of_lives (events ∷ lives) = events ++ events_of_lives lives
 
--- The calls of lives, one behind the other: each life begins at the first standing, and the meaning of its events calls first what it called, with the
+-- The calls of lives, one after the other: each life begins at the first standing, and the meaning of its events calls first what it called, with the
 -- replies of the worker's seats.
 abbrev pub CallsOfLives : {H : Type 0} → Calling H → Standing H → List (List Event) → SeatsOf → List Made → SeatsOf → Type 0
 CallsOfLives calling first [] s calls t = (calls ≡ []) × (t ≡ s)
 CallsOfLives {H} calling first (events ∷ lives) s calls t =
     (u : SeatsOf) × (left : Course (Run H)) × (goes : Goes SeatsGoOn s (meaning calling first events) left u) × (later : List Made) × (calls ≡ calls_in goes.met ++ later) × CallsOfLives calling first lives u later t
 
--- ALL LIVES OF A WORKER ARE MEANT: given the events of each of its lives, its calls are, one life behind the other, what the meanings of these events call
--- first. In a world that tells what passed, the events that it told of giving are those of the lives, one behind the other. Where none ended for want of
+-- ALL LIVES OF A WORKER ARE MEANT: given the events of each of its lives, its calls are, one life after the other, what the meanings of these events call
+-- first. In a world that tells what passed, the events that it told of giving are those of the lives, one after the other. Where none ended for want of
 -- memory before the last, there is one life.
 pub record AreMeant {H : Type 0} (calling : Calling H) (first : Standing H) (s : SeatsOf) (old : Option (List Passed)) (again : Bool) (t : SeatsOf) (new : Option (List Passed)) (lives : List (List Event)) (calls : List Made) : Type 0 where
   pub steps : List Passed

@@ -1,7 +1,7 @@
 -- The lives of a worker, one after another.
 use Rattle.std.specs.Prelude.{◌≡◌, ◌≢◌, ◌≤◌, ℕ, Bool, true, false, zero, suc, ◌⊎◌, ◌&&◌, List, Option}
-use Rattle.course.specs.Called.{Calling}
-use Rattle.course.specs.declared.host.Callback.{Callback}
+use Rattle.filter_host.specs.Called.{Calling}
+use Rattle.filter_host.specs.declared.host.Callback.{Callback}
 use Rattle.fleet.specs.Closing.{Closes, ClosesAll}
 use Rattle.gate_config.specs.declared.config.Config.{Config}
 use Rattle.gate_io.specs.declared.passed.Passed.{Passed}

@@ -1,8 +1,8 @@
 -- The calls and asks that lives make, and the events that they are given, in order.
 use Rattle.std.proofs.Common.{⊎_elim}
-use Rattle.course.specs.Called.{Calling}
+use Rattle.filter_host.specs.Called.{Calling}
 use Rattle.std.specs.Prelude.{ℕ, Bool, zero, suc, ◌⊎◌, List, [], ◌∷◌, ◌++◌, Option}
-use Rattle.course.specs.Course.{Course, Goes, calls_in}
+use Rattle.filter_host.specs.Course.{Course, Goes, calls_in}
 use Rattle.fleet.specs.Lives.{Turns, Life, OneLife, Cut, Early, Last, Lives}
 use Rattle.gate_io.specs.declared.event.Event.{Event}
 use Rattle.gate_io.specs.declared.passed.Passed.{Passed}
@@ -56,7 +56,7 @@ module _ {H S : Type 0} (calling : Calling H) (performs : S → List Made → S 
   events_in_turns zero s old from to t new h = []
   events_in_turns (suc n) s old from to t new h = events_in_turns n s old from h.0 h.1 h.2 h.3 ++ event_in_turn Went h.1 h.2 h.0 to t new h.4
 
-  -- THE EVENTS OF A LIFE, that of its last turn behind the others
+  -- THE EVENTS OF A LIFE, that of its last turn after the others
   abbrev pub events_in_life : (s : S) (old : Option (List Passed)) (from : Standing H) (end : Turn) (to : Standing H) (t : S) (new : Option (List Passed)) → Life calling performs s old from end to t new → List Event
   events_in_life s old from end to t new h = events_in_turns h.count s old from h.before h.at h.mid h.went ++ event_in_turn end h.at h.mid h.before to t new h.last
 

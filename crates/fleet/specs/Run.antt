@@ -1,6 +1,6 @@
 -- What a fleet comes to.
 use Rattle.std.specs.Prelude.{◌≡◌, ◌⊎◌, ◌&&◌, ◌||◌, not, ℕ, Bool, true, false, if◌then◌else◌, All, List, [], ◌∷◌, length, map, reverse, Option, None, Some, Result, Ok, Err}
-use Rattle.course.specs.Called.{Calling}
+use Rattle.filter_host.specs.Called.{Calling}
 use Rattle.std.specs.List.{list_any}
 use Rattle.gate_config.specs.declared.config.Config.{Config}
 use Rattle.gate_io.specs.Nature.{Nature}

@@ -4,7 +4,7 @@ ghost use Rattle.fleet.specs.Closing.{ClosingExamples};
 ghost use Rattle.fleet.specs.Laws.{AllLivesAreMeant, EachVmHasOne, LivesAreMeant, SeatsGoOnByLives, two_vms_leave_two};
 ghost use Rattle.fleet.specs.Run.{EndExamples};
 
-use course::Host;
+use filter_host::Host;
 use gate_io::World;
 
 /// A worker's seats go on by the calls and asks that the turns of its lives made, one after the other.
@@ -18,8 +18,8 @@ pub fn lives_are_meant<H: Host>()
     ensures { LivesAreMeant H.calling }
 {}
 
-/// A worker's calls are, one life behind the other, what the meanings of the events of each of its lives call first. In a world that tells what passed, the
-/// events that it told of giving are those of the lives, one behind the other.
+/// A worker's calls are, one life after the other, what the meanings of the events of each of its lives call first. In a world that tells what passed, the
+/// events that it told of giving are those of the lives, one after the other.
 pub fn all_lives_are_meant<H: Host>()
     ensures { AllLivesAreMeant H.calling }
 {}

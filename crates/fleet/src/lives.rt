@@ -5,14 +5,14 @@ ghost use Rattle.gate_io.specs.Told.{Rose};
 ghost use Rattle.worker_model.specs.Making.{new_worker};
 
 use crate::watched::Watched;
-use course::Host;
+use filter_host::Host;
 use gate_base::{OutOfMemory, WorkerNo};
 use gate_config::Config;
 use gate_io::{Gate, Point, World};
-use makes_host::MakesHost;
 use std::alloc::Global;
 use std::sync::Wait;
 use store_model::Shared;
+use vm_factory::MakesHost;
 use worker::{Turn, Worker};
 
 /// A worker that has done nothing, over a copy of the configuration and new machines.
@@ -120,7 +120,7 @@ pub fn live<R: Wait, H: Host + Drop, M: MakesHost<H>, W: World, S: Shared, G: Ga
     unreachable!()
 }
 
-/// Whether another life begins behind one that ended so: it took an event, and memory ran out.
+/// Whether another life begins after one that ended so: it took an event, and memory ran out.
 fn begins_again(end: Turn, took: bool) -> bool
     ensures { result ≡ (is_memory end && took) }
 {

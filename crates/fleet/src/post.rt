@@ -5,16 +5,16 @@ ghost use Rattle.fleet.specs.Lives.{first_of};
 
 use crate::lives::live;
 use crate::watched::Watched;
-use course::Host;
+use filter_host::Host;
 use gate_base::WorkerNo;
 use gate_config::Config;
 use gate_io::{Gate, World};
-use makes_host::MakesHost;
 use shared_seats::{SeatList, StoreSeat, Tables};
 use std::alloc::Global;
 use std::sync::Wait;
 use std::thread::Threads;
 use std::{mem, thread};
+use vm_factory::MakesHost;
 use worker::Turn;
 
 /// A worker's world and its seats, and how its last life ended.

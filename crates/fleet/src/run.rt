@@ -8,14 +8,14 @@ ghost use Rattle.shared_seats.specs.Workers.{AreAll, AreShut};
 
 use crate::moves::{hand_back, post_all};
 use crate::post::{Post, work_posts};
-use course::Host;
+use filter_host::Host;
 use gate_config::Config;
 use gate_io::{Gate, World};
-use makes_host::MakesHost;
 use shared_seats::{ClosedTables, SeatList, Tables, no_seat_gets_lost};
 use std::alloc::Global;
 use std::sync::Wait;
 use std::thread::Threads;
+use vm_factory::MakesHost;
 use worker::Turn;
 
 /// Why a fleet did not run to its end.

@@ -39,7 +39,7 @@ seek_none zero (b ∷ path) =
 by_param : (path : List ℕ) (n : ℕ) (rest : List ℕ) → seek n (param_step {K = Row} [] path).1 rest ≡ None
 by_param path n rest = ap (λ (rows : RowsOf Row). seek n rows rest) (param_none path) ∙ seek_none n rest
 
--- behind the slash: a catch-all, and the end
+-- after the slash: a catch-all, and the end
 abbrev behind : Row → Row → RowsOf Row
 behind rest root = (257 ∷ [], rest) ∷ ([], root) ∷ []
 

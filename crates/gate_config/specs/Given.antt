@@ -25,7 +25,7 @@ given c = record { workers = c.workers; listen = c.listen; upstream = c.upstream
 abbrev pub bare : ℕ → List ℕ → List ℕ → ℕ → Level → Given
 bare workers listen upstream deadline_ms log_level = record { workers = workers; listen = listen; upstream = upstream; deadline_ms = deadline_ms; log_level = log_level; vms = []; plugins = []; routes = []; tcp = [] }
 
--- with one more entry behind the others
+-- with one more entry after the others
 abbrev pub with_vm : VmEntry → Given → Given
 with_vm vm g = record g { vms = g.vms ++ vm ∷ [] }
 

@@ -18,7 +18,7 @@ pub struct Config {
     pub listen: Text,
     /// The address of the upstream server.
     pub upstream: Text,
-    /// How long a response head may take behind the request's, in milliseconds; 0 is for ever.
+    /// How long a response head may take after the request's, in milliseconds; 0 is for ever.
     pub deadline_ms: u32,
     /// The least level of log lines that are written.
     pub log_level: Level,

@@ -1,7 +1,7 @@
 -- Worlds of a site, and their lines.
 use Rattle.std.proofs.Common.{ℕ, suc, zero, ◌<◌, List, ◌∷◌, length, Option, arith}
 use Rattle.std.specs.List.{All}
-use Rattle.live_lines.specs.declared.line.Line.{Line}
+use Rattle.live_lines.specs.declared.line.SocketPair.{SocketPair}
 use Rattle.live_sockets.specs.declared.origin.Neighbor.{Neighbor}
 use Rattle.live_sockets.specs.Homes.{AreHome, AreUnused}
 use Rattle.live_sockets.specs.Keeping.{AreKept}
@@ -9,7 +9,7 @@ use Rattle.live_sockets.proofs.Homes.{unused_home}
 use Rattle.live_sockets.proofs.Kept.{kept_same}
 
 -- nothing was heard of lines that are as before
-pub kept_lines : {P : Type 0} (gave took : P → Option (List ℕ)) (lines : List (Line P)) → AreKept gave took lines lines
+pub kept_lines : {P : Type 0} (gave took : P → Option (List ℕ)) (lines : List (SocketPair P)) → AreKept gave took lines lines
 kept_lines gave took lines = kept_same gave took lines
 
 -- where none was offered a line, none was offered another's

@@ -3,7 +3,7 @@ use Rattle.std.specs.Prelude.{ℕ, ◌+◌, ◌/◌, ◌%◌, nat_le, nat_lt, �
 use Rattle.gate_base.specs.declared.level.Level.{Level}
 use Rattle.gate_base.specs.declared.level.Level.TheVariants.{Trace, Debug, Info, Warn, Error, Critical}
 
--- a level, with the space behind it
+-- a level, with the space after it
 abbrev pub level_word : Level → List ℕ
 level_word Trace = codes "trace "
 level_word Debug = codes "debug "

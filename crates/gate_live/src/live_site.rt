@@ -9,7 +9,7 @@ use crate::LiveWorld;
 use gate_io::{Settings, Site, SiteEnd};
 use live_lines::{Peer, probe};
 use live_sockets::{
-    Acceptor, Buffers, Mailbox, Neighbor, ORIGIN, Origin, Sockets, Stage, join_queue,
+    AcceptState, Acceptor, Buffers, Mailbox, Neighbor, ORIGIN, Origin, Sockets, join_queue,
 };
 use mio::net::TcpListener;
 use mio::{Interest, Poll, Waker};
@@ -139,7 +139,7 @@ fn listening_poll<R: Net>(rt: &R, listen: SocketAddr) -> Result<(Poll, TcpListen
 fn waking_poll<R: Net>(
     alloc: Global,
     rt: &R,
-    stage: &Arc<Stage>,
+    stage: &Arc<AcceptState>,
 ) -> Result<(Poll, Neighbor, Mailbox), SiteEnd>
     ensures offered { IfOk result (λ ends. ends.1.giver.lines ≡ []) }
 {
@@ -155,7 +155,7 @@ fn other_world<R: Net + RandomSource + Clone + Drop>(
     alloc: Global,
     rt: &R,
     upstream: SocketAddr,
-    stage: &Arc<Stage>,
+    stage: &Arc<AcceptState>,
 ) -> Result<(Neighbor, LiveWorld<R, Peer>), SiteEnd>
     ensures untouched { IfOk result (λ w. IsUntouched upstream w.1) }
     ensures offered { IfOk result (λ w. w.0.giver.lines ≡ []) }
@@ -166,12 +166,12 @@ fn other_world<R: Net + RandomSource + Clone + Drop>(
     Ok((neighbor, world))
 }
 
-/// Puts a world to which lines are handed over behind others, and the queue to it behind theirs.
+/// Puts a world to which lines are handed over after others, and the queue to it behind theirs.
 fn add_world<R: Net + RandomSource + Clone + Drop>(
     alloc: Global,
     rt: &R,
     upstream: SocketAddr,
-    stage: &Arc<Stage>,
+    stage: &Arc<AcceptState>,
     others: &mut Vec<Neighbor>,
     worlds: &mut Vec<LiveWorld<R, Peer>>,
 ) -> Result<(), SiteEnd>
@@ -185,13 +185,13 @@ fn add_world<R: Net + RandomSource + Clone + Drop>(
     Ok(())
 }
 
-/// Puts the worlds of workers 2 and up, to which lines are handed over, behind others, and the queues to them behind theirs.
+/// Puts the worlds of workers 2 and up, to which lines are handed over, after others, and the queues to them behind theirs.
 fn other_worlds<R: Net + RandomSource + Clone + Drop>(
     alloc: Global,
     rt: &R,
     count: u8,
     upstream: SocketAddr,
-    stage: &Arc<Stage>,
+    stage: &Arc<AcceptState>,
     others: &mut Vec<Neighbor>,
     worlds: &mut Vec<LiveWorld<R, Peer>>,
 ) -> Result<(), SiteEnd>
@@ -224,7 +224,7 @@ fn first_world<R: Net + RandomSource + Clone + Drop>(
     settings: &Settings,
     upstream: SocketAddr,
     others: Vec<Neighbor>,
-    stage: Arc<Stage>,
+    stage: Arc<AcceptState>,
 ) -> Result<LiveWorld<R, Peer>, SiteEnd>
     requires { AreHome 0 others.items }
     ensures untouched { IfOk result (λ w. IsUntouched upstream w) }
@@ -250,7 +250,7 @@ fn fill<R: Net + RandomSource + Clone + Drop>(
     ensures count { IfOk result (λ _. length worlds.new.items ≡ length worlds.old.items + settings.now.workers) }
     ensures accepts { IfOk result (λ _. FirstAccepts (unwrap_or settings.now.stop_after 4294967295) worlds.new.items) }
 {
-    let stage = Arc::new(alloc, Stage::new())?;
+    let stage = Arc::new(alloc, AcceptState::new())?;
     let mut others = Vec::new(alloc);
     let count = settings.workers - 1;
     other_worlds(alloc, rt, count, upstream, &stage, &mut others, worlds)?;

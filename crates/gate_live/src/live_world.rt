@@ -230,7 +230,7 @@ impl<R: Net + Clock + Wait, P: Duplex> LiveWorld<R, P> {
     ghost use Rattle.gate_live.specs.Worlds.{Asks, Gives};
 
     /// The next event, at the clock's moment, or that of the last one where the clock went back. What has fallen due comes by a Clock of its own, in
-    /// front of what happens to lines or behind one event more: that event has a moment before it, whatever the clock says. A turn does what is due in
+    /// front of what happens to lines or after one event more: that event has a moment before it, whatever the clock says. A turn does what is due in
     /// front of its event, and may open another connection for the event's line then; so it would take what the former server said for the new one's.
     #[tactic(auto, using(crate::proofs::Worlds::kept_lines))]
     fn following(&mut self, alloc: Global, wants: &Wants) -> Result<Event, WorldEnd>
@@ -315,7 +315,7 @@ fn fallen_due<R: Clock>(
     if due <= now { Ok(Some(now)) } else { Ok(None) }
 }
 
-/// The moment of an event behind the last one: that of the clock, or one before anything is due where it is of a line.
+/// The moment of an event after the last one: that of the clock, or one before anything is due where it is of a line.
 fn moment_of(what: &What, due: Option<u64>, last: u64, now: u64) -> u64
     requires rises { last ≤ now }
     requires before { IsBefore due last }

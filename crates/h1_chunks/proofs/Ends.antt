@@ -1,10 +1,10 @@
 -- Lemmas on what a text spells, by what is sought in it.
 use Rattle.std.proofs.Common.{◌≡◌, ℕ, ◌+◌, ◌≤◌, List, length, take, drop, Option, sym, ap, subst}
 use Rattle.std.proofs.lemmas.List.{length-take-le}
-use Rattle.http1_model.specs.Chunks.{Place, Sought, section_at, sought}
-use Rattle.http1_model.specs.Fields.{Pair}
-use Rattle.http1_model.specs.Lines.{Cut, whole}
-use Rattle.http1_model.specs.Trailers.{ChunkStep, IsSection, end_of, IsEnd, section_cut, IsBehind, SpellsChunks}
+use Rattle.h1_model.specs.Chunks.{Place, Sought, section_at, sought}
+use Rattle.h1_model.specs.Fields.{Pair}
+use Rattle.h1_model.specs.Lines.{Cut, whole}
+use Rattle.h1_model.specs.Trailers.{ChunkStep, IsSection, end_of, IsEnd, section_cut, IsBehind, SpellsChunks}
 
 pub spells_along : (p : Place) (text : List ℕ) (s : Sought) (step : ChunkStep) → sought p text ≡ s → IsBehind p text s step
     → SpellsChunks p text step

@@ -8,7 +8,7 @@ use Rattle.std.specs.List.{list_all, prefix_len, take_while}
 use Rattle.std.specs.Prelude.{◌==◌, if◌then◌else◌}
 use Rattle.std.specs.Char.{is_ascii_hexdigit}
 use Rattle.httparse.specs.Grammar.{is_ows, skip_ows}
-use Rattle.http1_model.specs.Chunks.{is_before_end, is_no_line_end, are_extensions, number_of_digits, size_told, told_step, front_step, front_of, size_step, size_open, no_size, size_line_limit, size_line, inside, behind_size, moved}
+use Rattle.h1_model.specs.Chunks.{is_before_end, is_no_line_end, are_extensions, number_of_digits, size_told, told_step, front_step, front_of, size_step, size_open, no_size, size_line_limit, size_line, inside, behind_size, sought_after}
 use Rattle.h1_chunks.specs.Waits.{extends, IsExtending, IsWithinSize}
 
 -- both tests pass on each
@@ -86,7 +86,7 @@ told_more line more e x n rest told more_all =
     by_len zero (b ∷ line) h = omega arith
     by_len (suc k) (b ∷ line) h = omega (arith, by_len k line h)
 
--- a line that tells its size, with a byte behind its blanks and without CR
+-- a line that tells its size, with a byte after its blanks and without CR
 pub extending : (line rest : List ℕ) {n : ℕ} → rest ≡ skip_ows (drop (prefix_len is_ascii_hexdigit line) line) → 0 < length rest
     → size_told line ≡ Some n → list_all is_before_end line ≡ true → IsExtending line
 extending line [] is some told before more more_all room = absurd (omega (arith, some))
@@ -120,4 +120,4 @@ pub within_line : (text : List ℕ) → IsExtending text → IsWithinSize size_l
 within_line text h more all room = ap (behind_size (text ++ more)) (h more all room)
 
 pub within_inside : (text : List ℕ) → IsExtending text → IsWithinSize (inside 0) (13 ∷ 10 ∷ text)
-within_inside text h more all room = ap (λ s. moved 2 (behind_size (text ++ more) s)) (h more all (omega (arith, room)))
+within_inside text h more all room = ap (λ s. sought_after 2 (behind_size (text ++ more) s)) (h more all (omega (arith, room)))

@@ -6,13 +6,13 @@ use Rattle.std.specs.Prelude.{nat_lt}
 use Rattle.h1_chunks.specs.declared.place.Sought as code
 use Rattle.h1_chunks.specs.declared.place.Sought.TheVariants as soughts
 use Rattle.h1_chunks.specs.Seen.{seen_sought}
-use Rattle.http1_model.specs.Chunks.{Place, inside, Sought, data_at, section_at, waiting, malformed, sought, behind_data, Run, no_run, with_byte, if_data, run_of}
+use Rattle.h1_model.specs.Chunks.{Place, inside, Sought, data_at, section_at, waiting, malformed, sought, behind_data, Run, no_run, with_byte, if_data, run_of}
 
 -- a run with bytes in front of it, which take so many
 abbrev pub prefixed : List ℕ → ℕ → Run → Run
 prefixed bytes used run = record { bytes = bytes ++ run.bytes; used = used + run.used; place = run.place }
 
--- the run behind the next byte of data, or none
+-- the run after the next byte of data, or none
 abbrev run_behind : ℕ → Place → List ℕ → Sought → Run
 run_behind room place text s =
     if_data s (no_run place) (λ at left. with_byte (get_or text at 0) (at + 1) (run_of room (inside (left - 1)) (drop (at + 1) text)))

@@ -19,10 +19,10 @@ use Rattle.header_maps.specs.Headers.{Headers}
 use Rattle.header_maps.specs.Judged.{is_field_name, is_field_value}
 use Rattle.header_maps.specs.Operations.{added}
 use Rattle.header_maps.specs.Pairs.{is_plain, plain_count}
-use Rattle.http1_model.specs.Fields.{Pair}
-use Rattle.http1_model.specs.Lines.{whole_lines, section_of, cut_lines, whole}
-use Rattle.http1_model.specs.Trailers.{window_section, section_cut}
-use Rattle.http1_model.proofs.GrammarLines.{whole_lines-section, section_of-section, cut_at-whole}
+use Rattle.h1_model.specs.Fields.{Pair}
+use Rattle.h1_model.specs.Lines.{whole_lines, section_of, cut_lines, whole}
+use Rattle.h1_model.specs.Trailers.{window_section, section_cut}
+use Rattle.h1_model.proofs.GrammarLines.{whole_lines-section, section_of-section, cut_at-whole}
 use Rattle.h1_text.specs.Spans.{fields_at}
 use Rattle.h1_chunks.specs.Spans.{IsTaken, AreTaken}
 

@@ -6,8 +6,8 @@ use Rattle.std.proofs.lemmas.List.Folds.{prefix_len-append, length-prefix_len}
 use Rattle.std.specs.List.{list_all, prefix_len}
 use Rattle.std.specs.Char.{digit_value}
 use Rattle.std.specs.Str.Parse.{digits_value_after, digits_value}
-use Rattle.http1_model.specs.Length.{length_limit}
-use Rattle.http1_model.specs.Chunks.{number_of_digits, is_before_end, front_of}
+use Rattle.h1_model.specs.Length.{length_limit}
+use Rattle.h1_model.specs.Chunks.{number_of_digits, is_before_end, front_of}
 
 -- more digits write no smaller number
 pub digits_value_after-grows : (n : ℕ) (ds : List ℕ) → n ≤ digits_value_after 16 n ds

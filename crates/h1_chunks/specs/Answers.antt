@@ -1,8 +1,8 @@
 -- What an answer of the reader says.
 use Rattle.std.specs.Prelude.{◌≡◌, ◌≤◌, ⊤, ℕ, Bool, true, false, List}
-use Rattle.http1_model.specs.Chunks.{Place, section, Sought, data_at, section_at, waiting, malformed, Run}
-use Rattle.http1_model.specs.Lines.{unfinished}
-use Rattle.http1_model.specs.Trailers as model
+use Rattle.h1_model.specs.Chunks.{Place, section, Sought, data_at, section_at, waiting, malformed, Run}
+use Rattle.h1_model.specs.Lines.{unfinished}
+use Rattle.h1_model.specs.Trailers as model
 use Rattle.h1_chunks.specs.declared.reader.ChunkStep as step
 use Rattle.h1_chunks.specs.declared.reader.ChunkStep.TheVariants as steps
 use Rattle.h1_chunks.specs.declared.reader.Run as run
@@ -23,14 +23,14 @@ IsWithinSection place text = (place ≡ section) × (model.section_cut text ≡ 
 abbrev pub seen_run : run.Run → Run
 seen_run r = record { bytes = r.bytes; used = r.used; place = seen_place r.place }
 
--- the step that a value says, where this is the place behind it
+-- the step that a value says, where this is the place after it
 abbrev pub seen_step : Place → step.ChunkStep → model.ChunkStep
 seen_step behind (steps.Data bytes used) = model.carried (record { bytes = bytes; used = used; place = behind })
 seen_step behind (steps.End trailers used) = model.ended trailers.pairs used
 seen_step behind steps.NotYet = model.not_yet
 seen_step behind (steps.Refused number) = model.refused number
 
--- from the place on, the text spells the step, and this is the place behind it
+-- from the place on, the text spells the step, and this is the place after it
 pub record Answers (place : Place) (text : List ℕ) (step : step.ChunkStep) (behind : Place) : Type 0 where
   pub spelled : model.SpellsChunks place text (seen_step behind step)
   pub leaves : behind ≡ model.place_after place (seen_step behind step)

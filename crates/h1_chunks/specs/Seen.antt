@@ -1,10 +1,10 @@
 -- The places and steps of the model that the code's values say.
 use Rattle.std.specs.Prelude.{◌≤◌, ◌<◌, ⊤, ℕ}
-use Rattle.http1_model.specs.Chunks as model
+use Rattle.h1_model.specs.Chunks as model
 use Rattle.h1_chunks.specs.declared.size.SizeStep as size
 use Rattle.h1_chunks.specs.declared.size.SizeStep.TheVariants as sizes
-use Rattle.h1_chunks.specs.declared.place.Place as place
-use Rattle.h1_chunks.specs.declared.place.Place.TheVariants as places
+use Rattle.h1_chunks.specs.declared.place.ChunkState as place
+use Rattle.h1_chunks.specs.declared.place.ChunkState.TheVariants as places
 use Rattle.h1_chunks.specs.declared.place.Sought as sought
 use Rattle.h1_chunks.specs.declared.place.Sought.TheVariants as soughts
 
@@ -20,7 +20,7 @@ SizeWithin n (sizes.Size size used) = used ≤ n
 SizeWithin n sizes.Open = ⊤
 SizeWithin n sizes.Malformed = ⊤
 
-abbrev pub seen_place : place.Place → model.Place
+abbrev pub seen_place : place.ChunkState → model.Place
 seen_place places.SizeLine = model.size_line
 seen_place (places.Inside left) = model.inside left
 seen_place places.Section = model.section

@@ -3,7 +3,7 @@ use Rattle.std.specs.Prelude.{◌≡◌, ◌≤◌, List, length, All, Option, t
 use Rattle.std.specs.Option.{option_map}
 use Rattle.header_maps.specs.Headers.{Headers}
 use Rattle.header_maps.specs.Judged.{is_field_name, is_field_value}
-use Rattle.http1_model.specs.Fields.{Pair}
+use Rattle.h1_model.specs.Fields.{Pair}
 
 -- a header list takes the name and the value
 pub record IsTaken (field : Pair) : Type 0 where

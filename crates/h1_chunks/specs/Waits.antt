@@ -1,7 +1,7 @@
 -- Where more of a size line changes nothing.
 use Rattle.std.specs.Prelude.{◌≡◌, ◌≤◌, ◌+◌, ℕ, Bool, ◌&&◌, true, List, ◌++◌, length}
 use Rattle.std.specs.List.{list_all}
-use Rattle.http1_model.specs.Chunks.{is_before_end, is_no_line_end, size_open, size_step, size_line_limit, Place, sought, waiting}
+use Rattle.h1_model.specs.Chunks.{is_before_end, is_no_line_end, size_open, size_step, size_line_limit, Place, sought, waiting}
 
 -- a byte at which no size line ends, and for which none is refused within its extensions: any but CR and LF
 abbrev pub extends : ℕ → Bool

@@ -1,7 +1,7 @@
 // Where a trailer section ends.
 ghost use Rattle.std.specs.Prelude.{◌≡◌, length};
-ghost use Rattle.http1_model.specs.Lines.{head_limit};
-ghost use Rattle.http1_model.specs.Trailers.{section_cut, window_section};
+ghost use Rattle.h1_model.specs.Lines.{head_limit};
+ghost use Rattle.h1_model.specs.Trailers.{section_cut, window_section};
 ghost use Rattle.h1_text.specs.Cuts.{seen_cut, IsCutWithin};
 
 use h1_text::{BYTE_LIMIT, Cut, closed_cut, is_empty_line, line_len_at, open_cut};

@@ -1,29 +1,29 @@
 // Places in the chunked coding, and the next byte of data.
 ghost use Rattle.std.specs.Prelude.{◌≡◌, ◌≤◌, ◌+◌, ◌<◌, ◌^◌, length};
-ghost use Rattle.http1_model.specs.Chunks.{behind_size, behind_data, moved, sought};
+ghost use Rattle.h1_model.specs.Chunks.{behind_size, behind_data, sought_after, sought};
 ghost use Rattle.h1_chunks.specs.Seen.{seen_size, SizeWithin, seen_place, seen_sought, SoughtWithin};
 
 use crate::size::{SizeStep, size_step};
 
 /// What is due in a chunked body.
 #[derive(Clone, Copy, PartialEq, Eq)]
-pub enum Place {
+pub enum ChunkState {
     /// A size line.
     SizeLine,
     /// So many bytes of a chunk's data, and then CR LF.
     Inside(u64),
-    /// The trailer section, behind the last chunk's line.
+    /// The trailer section, after the last chunk's line.
     Section,
-    /// Nothing, behind the body's end.
+    /// Nothing, after the body's end.
     Over,
 }
 
 /// What a text has next, from a place on.
 #[derive(Clone, Copy)]
 pub enum Sought {
-    /// Behind `at` bytes of the coding a byte of data, of a chunk of which `left` bytes are left.
+    /// After `at` bytes of the coding a byte of data, of a chunk of which `left` bytes are left.
     Data { at: usize, left: u64 },
-    /// Behind `at` bytes, the last chunk's line with them, a trailer section.
+    /// After `at` bytes, the last chunk's line with them, a trailer section.
     Section { at: usize },
     /// Its front, and no more.
     Waiting,
@@ -31,7 +31,7 @@ pub enum Sought {
     Malformed,
 }
 
-/// What stands behind a size line.
+/// What stands after a size line.
 fn behind_size(text: &[u8], step: SizeStep) -> Sought
     requires { SizeWithin (length text.now) step }
     ensures sought { seen_sought result ≡ behind_size text.now (seen_size step) }
@@ -52,7 +52,7 @@ fn behind_size(text: &[u8], step: SizeStep) -> Sought
 fn behind_two(sought: Sought, len: usize) -> Sought
     requires within { SoughtWithin len sought }
     requires room { 2 + len < 2 ^ 64 }
-    ensures sought { seen_sought result ≡ moved 2 (seen_sought sought) }
+    ensures sought { seen_sought result ≡ sought_after 2 (seen_sought sought) }
     ensures within { SoughtWithin (2 + len) result }
 {
     match sought {
@@ -63,7 +63,7 @@ fn behind_two(sought: Sought, len: usize) -> Sought
     }
 }
 
-/// What stands behind the last byte of a chunk's data: CR LF, and then a size line.
+/// What stands after the last byte of a chunk's data: CR LF, and then a size line.
 fn behind_data(text: &[u8]) -> Sought
     ensures sought { seen_sought result ≡ behind_data text.now }
     ensures within { SoughtWithin (length text.now) result }
@@ -75,18 +75,18 @@ fn behind_data(text: &[u8]) -> Sought
     }
 }
 
-impl Place {
+impl ChunkState {
     /// What a text has next, from the place on.
     pub fn sought(self, text: &[u8]) -> Sought
         ensures sought { seen_sought result ≡ sought (seen_place self) text.now }
         ensures within { SoughtWithin (length text.now) result }
     {
         match self {
-            Place::SizeLine => behind_size(text, size_step(text)),
-            Place::Inside(0) => behind_data(text),
-            Place::Inside(left) if !text.is_empty() => Sought::Data { at: 0, left },
-            Place::Section => Sought::Section { at: 0 },
-            Place::Inside(_) | Place::Over => Sought::Waiting,
+            ChunkState::SizeLine => behind_size(text, size_step(text)),
+            ChunkState::Inside(0) => behind_data(text),
+            ChunkState::Inside(left) if !text.is_empty() => Sought::Data { at: 0, left },
+            ChunkState::Section => Sought::Section { at: 0 },
+            ChunkState::Inside(_) | ChunkState::Over => Sought::Waiting,
         }
     }
 }

@@ -1,13 +1,13 @@
 // The reader of a chunked body.
 ghost use Rattle.std.specs.Prelude.{◌≡◌, true, ◌≤◌, ◌<◌, ◌↔◌, length, IfOk, OnErr, IsTrue};
-ghost use Rattle.http1_model.specs.Chunks.{start, sought, section_at, section_taken, place_taken, run_of};
-ghost use Rattle.http1_model.specs.Trailers.{piece_limit};
+ghost use Rattle.h1_model.specs.Chunks.{start, sought, section_at, section_taken, place_taken, run_of};
+ghost use Rattle.h1_model.specs.Trailers.{piece_limit};
 ghost use Rattle.h1_chunks.specs.Answers.{is_data, seen_run, Answers, IsWithinSection, UsesWithin};
 ghost use Rattle.h1_chunks.specs.Seen.{seen_place};
 ghost use Rattle.h1_chunks.specs.Waits.{IsWithinSize};
 
 use crate::lines::section_cut;
-use crate::place::{Place, Sought};
+use crate::place::{ChunkState, Sought};
 use crate::section::trailers;
 use crate::size::is_extending;
 use gate_base::{Octets, OutOfMemory};
@@ -32,22 +32,22 @@ pub enum ChunkStep {
     Refused { number: u16 },
 }
 
-/// Bytes of data, how many bytes of the text they take, and the place behind them.
+/// Bytes of data, how many bytes of the text they take, and the place after them.
 #[derive(Drop)]
 pub struct Run {
     pub bytes: Octets,
     pub used: usize,
-    pub place: Place,
+    pub place: ChunkState,
 }
 
 /// Reads a chunked body (RFC 9112 section 7.1). It keeps its place in the coding and no bytes; clauses see the place.
 #[derive(Drop)]
 pub struct ChunkReader {
-    place: Place,
+    place: ChunkState,
 }
 
 impl Model for ChunkReader {
-    ghost use Rattle.http1_model.specs.Chunks.{Place};
+    ghost use Rattle.h1_model.specs.Chunks.{Place};
     ghost use Rattle.h1_chunks.specs.Seen.{seen_place};
 
     ghost Value = { Place };
@@ -71,7 +71,7 @@ fn next_len(there: usize, left: u64, room: usize) -> usize
 }
 
 /// The first 16,384 bytes of data that a text carries from a place on, or as many as there are.
-fn run_from(alloc: Global, place: Place, text: &[u8]) -> Result<Run, OutOfMemory>
+fn run_from(alloc: Global, place: ChunkState, text: &[u8]) -> Result<Run, OutOfMemory>
     ensures run { IfOk result (λ run. seen_run run ≡ run_of piece_limit (seen_place place) text.now) }
     ensures within { IfOk result (λ run. run.used ≤ length text.now) }
 {
@@ -88,7 +88,7 @@ fn run_from(alloc: Global, place: Place, text: &[u8]) -> Result<Run, OutOfMemory
         let len = next_len(rest.len() - at, left, PIECE_LIMIT - run.bytes.len());
         run.bytes.extend_from_slice(&rest[at..at + len])?;
         run.used += at + len;
-        run.place = Place::Inside(left - len as u64);
+        run.place = ChunkState::Inside(left - len as u64);
     }
     Ok(run)
 }
@@ -99,7 +99,7 @@ impl ChunkReader {
         ensures { result ≡ start }
     {
         ChunkReader {
-            place: Place::SizeLine,
+            place: ChunkState::SizeLine,
         }
     }
 
@@ -123,8 +123,8 @@ impl ChunkReader {
         ensures { IsTrue result ↔ IsWithinSection self.now text.now }
     {
         match self.place {
-            Place::Section => matches!(section_cut(text), Cut::Unfinished),
-            Place::SizeLine | Place::Inside(_) | Place::Over => false,
+            ChunkState::Section => matches!(section_cut(text), Cut::Unfinished),
+            ChunkState::SizeLine | ChunkState::Inside(_) | ChunkState::Over => false,
         }
     }
 
@@ -135,12 +135,12 @@ impl ChunkReader {
         ensures { result ≡ true → IsWithinSize self.now text.now }
     {
         match self.place {
-            Place::SizeLine => is_extending(text),
-            Place::Inside(0) => match text {
+            ChunkState::SizeLine => is_extending(text),
+            ChunkState::Inside(0) => match text {
                 [b'\r', b'\n', line @ ..] => is_extending(line),
                 _ => false,
             },
-            Place::Inside(_) | Place::Section | Place::Over => false,
+            ChunkState::Inside(_) | ChunkState::Section | ChunkState::Over => false,
         }
     }
 
@@ -153,7 +153,7 @@ impl ChunkReader {
     {
         match self.place.sought(text) {
             Sought::Section { at } => {
-                self.place = Place::Section;
+                self.place = ChunkState::Section;
                 at
             }
             Sought::Data { .. } | Sought::Waiting | Sought::Malformed => 0,
@@ -182,7 +182,7 @@ impl ChunkReader {
         }
     }
 
-    /// What the text spells behind the last chunk's line, which ends at a place.
+    /// What the text spells after the last chunk's line, which ends at a place.
     fn end(&mut self, alloc: Global, text: &[u8], at: usize) -> Result<ChunkStep, OutOfMemory>
         requires sought { sought self.old text.now ≡ section_at at }
         requires within { at ≤ length text.now }
@@ -194,7 +194,7 @@ impl ChunkReader {
         match section_cut(rest) {
             Cut::Whole { len, .. } => match trailers(alloc, rest, len)? {
                 Some(trailers) => {
-                    self.place = Place::Over;
+                    self.place = ChunkState::Over;
                     Ok(ChunkStep::End {
                         trailers,
                         used: at + len,

@@ -2,9 +2,9 @@
 ghost use Rattle.std.specs.List.{list_any};
 ghost use Rattle.std.specs.Prelude.{◌≡◌, ◌≤◌, List, [], None, codes, length, take, drop, bytes_eq, map, All, IfOk, IfSome, IfNone, OnOk, OnErr};
 ghost use Rattle.http_header.specs.Token.{lowercase};
-ghost use Rattle.http1_model.specs.Fields.{is_listed, is_named, values_of};
-ghost use Rattle.http1_model.specs.Lines.{head_limit, whole};
-ghost use Rattle.http1_model.specs.Trailers.{trailer_names, kept_trailers, section_cut, IsSection};
+ghost use Rattle.h1_model.specs.Fields.{is_listed, is_named, values_of};
+ghost use Rattle.h1_model.specs.Lines.{head_limit, whole};
+ghost use Rattle.h1_model.specs.Trailers.{trailer_names, kept_trailers, section_cut, IsSection};
 ghost use Rattle.httparse.specs.Grammar.{LineEnd, Field, ReadsSection};
 ghost use Rattle.httparse.specs.Spans.{IsHeaderWithin, IsSectionAt, header_bytes};
 ghost use Rattle.header_maps.specs.Faults.{add_fault};
@@ -25,7 +25,7 @@ const FIELD_LIMIT: usize = 100;
 
 /// The fields of a section: its text, and the spans of their names and values.
 #[derive(Clone, Copy)]
-pub struct Fields<'t> {
+pub struct SectionFields<'t> {
     pub text: &'t [u8],
     pub spans: &'t [HeaderSpan],
     pub ghost within: { All (IsHeaderWithin (length text.now)) spans.now },
@@ -57,7 +57,7 @@ fn put(list: &mut HeaderList, alloc: Global, name: &[u8], value: &[u8]) -> Resul
     }
 }
 
-impl<'t> Fields<'t> {
+impl<'t> SectionFields<'t> {
     ghost use Rattle.h1_chunks.specs.Held.{fields_of};
 
     /// The name and the value that a field's spans cover.
@@ -177,7 +177,7 @@ pub fn trailers(alloc: Global, text: &[u8], len: usize) -> Result<Option<HeaderL
     let mut headers = [EMPTY_HEADER_SPAN; FIELD_LIMIT];
     match field_count(front, &mut headers) {
         Some(count) => {
-            let fields = Fields {
+            let fields = SectionFields {
                 text: front,
                 spans: &headers[..count],
             };

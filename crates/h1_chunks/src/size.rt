@@ -3,7 +3,7 @@ ghost use Rattle.std.specs.Prelude.{◌≡◌, ◌≤◌, ◌<◌, ◌+◌, true
 ghost use Rattle.std.specs.List.{list_all, prefix_len};
 ghost use Rattle.std.specs.Char.{is_ascii_hexdigit};
 ghost use Rattle.httparse.specs.Grammar.{is_ows, skip_ows};
-ghost use Rattle.http1_model.specs.Chunks.{front_of, size_line_limit, number_of_digits, is_before_end, is_no_line_end, are_extensions, size_told, line_ended, size_step};
+ghost use Rattle.h1_model.specs.Chunks.{front_of, size_line_limit, number_of_digits, is_before_end, is_no_line_end, are_extensions, size_told, line_ended, size_step};
 ghost use Rattle.h1_chunks.specs.Seen.{seen_size, SizeWithin};
 ghost use Rattle.h1_chunks.specs.Waits.{IsExtending};
 
@@ -86,7 +86,7 @@ fn has_no_line_end(bytes: &[u8]) -> bool
     bytes.iter().all(|b| *b != b'\n')
 }
 
-/// Whether bytes are none, or a `;` and no LF behind it.
+/// Whether bytes are none, or a `;` and no LF after it.
 fn are_extensions(bytes: &[u8]) -> bool
     ensures { result ≡ are_extensions bytes.now }
 {
@@ -140,7 +140,7 @@ fn front_len(text: &[u8]) -> Option<usize>
     }
 }
 
-/// What stands behind `len` bytes that tell a size.
+/// What stands after `len` bytes that tell a size.
 fn line_ended(size: u64, len: usize, behind: &[u8]) -> SizeStep
     requires { len ≤ size_line_limit }
     ensures step { seen_size result ≡ line_ended size len behind.now }

@@ -6,8 +6,8 @@ use Rattle.std.specs.Char.{to_ascii_lowercase}
 use Rattle.std.specs.List.{list_any}
 use Rattle.http_header.specs.Token.{lowercase}
 use Rattle.http_uri.proofs.SchemeLemmas.{length_of_folded}
-use Rattle.http1_model.specs.Fields.{Pair, lists, is_named, is_listed}
-use Rattle.http1_model.proofs.FieldLemmas.{values_of-named, is_listed-other}
+use Rattle.h1_model.specs.Fields.{Pair, lists, is_named, is_listed}
+use Rattle.h1_model.proofs.FieldLemmas.{values_of-named, is_listed-other}
 use Rattle.h1_head.specs.declared.lengths.Lengths.{Lengths}
 use Rattle.h1_head.specs.Lengths.{IsBetween}
 

@@ -6,7 +6,7 @@ use Rattle.httparse.specs.declared.spans.HeaderSpan.{HeaderSpan}
 use Rattle.httparse.specs.Spans.{header_bytes}
 use Rattle.h1_text.specs.Spans.{fields_at}
 
--- the field at a place, and those behind it
+-- the field at a place, and those after it
 pub fields_at-more : (text : List ℕ) (spans : List HeaderSpan) (i : ℕ) (d : HeaderSpan) → i < length spans
     → fields_at text (drop i spans) ≡ header_bytes text (get_or spans i d) ∷ fields_at text (drop (i + 1) spans)
 fields_at-more text spans i d lt = ap (fields_at text) (drop_more spans i d lt)

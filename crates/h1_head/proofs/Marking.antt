@@ -2,8 +2,8 @@
 use Rattle.std.proofs.Common.{◌≡◌, ℕ, Bool, true, false, ◌||◌, List, [], ◌∷◌, refl, ap, ◌∙◌}
 use Rattle.std.proofs.lemmas.Bool.{false≢true}
 use Rattle.std.specs.List.{list_any}
-use Rattle.http1_model.specs.Fields.{Pair, is_named, values_of}
-use Rattle.http1_model.proofs.FieldLemmas.{values_of-other}
+use Rattle.h1_model.specs.Fields.{Pair, is_named, values_of}
+use Rattle.h1_model.proofs.FieldLemmas.{values_of-other}
 
 -- no field has a name where none is found
 pub none_named : (name : List ℕ) (fields : List Pair) → false ≡ list_any (is_named name) fields → values_of name fields ≡ []

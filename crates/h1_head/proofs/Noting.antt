@@ -7,15 +7,15 @@ use Rattle.http_header.specs.Token.{lowercase}
 use Rattle.std.specs.List.{list_any}
 use Rattle.httparse.specs.declared.spans.HeaderSpan.{HeaderSpan}
 use Rattle.httparse.specs.Spans.{header_bytes}
-use Rattle.http1_model.specs.Fields.{Pair, is_named, values_of, lists, is_listed}
+use Rattle.h1_model.specs.Fields.{Pair, is_named, values_of, lists, is_listed}
 use Rattle.h1_text.proofs.Values.{values_named, values_other, fields_at-next}
-use Rattle.h1_head.specs.declared.fields.Lines.{Lines}
+use Rattle.h1_head.specs.declared.fields.FieldLines.{FieldLines}
 use Rattle.h1_head.specs.declared.fields.Noted.{Noted}
 use Rattle.h1_head.specs.Noted.{AreNoted}
 use Rattle.h1_text.specs.Spans.{fields_at}
 use Rattle.h1_head.specs.Spans.{AreLines, AreMany}
 
--- a line behind one, and behind more
+-- a line after one, and behind more
 pub one_more : (values : List (List ℕ)) (first second : List ℕ) → values ≡ first ∷ [] → AreMany (values ++ second ∷ [])
 one_more values first second is = record { first = first; second = second; others = []; are = ap (λ (vs : List (List ℕ)). vs ++ second ∷ []) is }
 
@@ -27,14 +27,14 @@ many_more values last many = record {
   are = ap (λ (vs : List (List ℕ)). vs ++ last ∷ []) many.are;
 }
 
--- the lines of a name, behind one field more of that name, and behind one of another
-pub noted_named : (name : List ℕ) (fs : List Pair) (f : Pair) (old new : Lines) → true ≡ is_named name f
+-- the lines of a name, after one field more of that name, and after one of another
+pub noted_named : (name : List ℕ) (fs : List Pair) (f : Pair) (old new : FieldLines) → true ≡ is_named name f
     → ((values : List (List ℕ)) → AreLines values old → AreLines (values ++ f.1 ∷ []) new)
     → AreLines (values_of name fs) old → AreLines (values_of name (fs ++ f ∷ [])) new
 noted_named name fs f old new named step lines =
     subst (λ (vs : List (List ℕ)). AreLines vs new) (values_named name fs f named) (step (values_of name fs) lines)
 
-pub noted_other : (name : List ℕ) (fs : List Pair) (f : Pair) (old : Lines) → false ≡ is_named name f
+pub noted_other : (name : List ℕ) (fs : List Pair) (f : Pair) (old : FieldLines) → false ≡ is_named name f
     → AreLines (values_of name fs) old → AreLines (values_of name (fs ++ f ∷ [])) old
 noted_other name fs f old other lines =
     subst (λ (vs : List (List ℕ)). AreLines vs old) (values_other name fs f other) lines

@@ -11,11 +11,11 @@ use Rattle.http_uri.specs.ByteClasses.{is_path_byte, is_query_byte, index_of, sp
 use Rattle.http_uri.specs.Grammar.{IsUriText, IsOriginForm, IsPathAndQuery, without_fragment}
 use Rattle.http_uri.proofs.RunLemmas.{index_of_is, index_of_found}
 use Rattle.http_uri.proofs.UriLemmas.{cut_first}
-use Rattle.http1_model.specs.Target.{Target, origin, http, is_visible, is_path_value_byte, is_path_value, target_of, IsTargetOf}
-use Rattle.http1_model.proofs.TargetLemmas.{target_given}
+use Rattle.h1_model.specs.Target.{Target, origin, http, is_visible, is_path_value_byte, is_path_value, target_of, IsTargetOf}
+use Rattle.h1_model.proofs.TargetLemmas.{target_given}
 use Rattle.h1_head.specs.Targets.{query_passes, is_plain_origin}
 
--- the test of the bytes of a text is that of its front and of what stands behind the first `?`
+-- the test of the bytes of a text is that of its front and of what stands after the first `?`
 pub and_true : (b : Bool) → (b && true) ≡ b
 and_true true = refl
 and_true false = refl

@@ -6,12 +6,12 @@ use Rattle.header_maps.specs.Headers.{Headers}
 use Rattle.httparse.specs.declared.spans.ResponseSpans.{ResponseSpans}
 use Rattle.httparse.specs.Grammar.{RequestHead, ReadsRequest, ResponseHead, ReadsResponse, status_code}
 use Rattle.httparse.specs.Spans.{IsRequestAt, IsResponseAt}
-use Rattle.http1_model.specs.Fields.{Pair}
-use Rattle.http1_model.specs.Head.{Head, IsJudged, IsAnswer, pairs_of, listed, response_judged, IsResponseAnswer}
-use Rattle.http1_model.specs.Length.{Measure}
-use Rattle.http1_model.specs.Target.{TargetForm}
-use Rattle.http1_model.specs.Lines.{head_cut, skipped, whole}
-use Rattle.http1_model.proofs.GrammarLines.{head_fills, response_fills}
+use Rattle.h1_model.specs.Fields.{Pair}
+use Rattle.h1_model.specs.Head.{Head, IsJudged, IsAnswer, pairs_of, head_of_list, response_judged, IsResponseAnswer}
+use Rattle.h1_model.specs.Length.{Measure}
+use Rattle.h1_model.specs.Target.{TargetForm}
+use Rattle.h1_model.specs.Lines.{head_cut, empty_line_bytes, whole}
+use Rattle.h1_model.proofs.GrammarLines.{head_fills, response_fills}
 use Rattle.h1_text.specs.Spans.{fields_at}
 
 -- the judgement of equal parts
@@ -25,7 +25,7 @@ judged_along m m' t t' v v' fs fs' a em et ev ef j =
 
 pub head_text : (text : List ℕ) (len : ℕ) (headers : List HeaderSpan) (spans : RequestSpans) (h : RequestHead)
     (method target : List ℕ) (fields : List HeaderSpan) (a : Result Head ℕ)
-    → len ≤ length text → len ≤ 65536 → head_cut text ≡ whole len → skipped text ≡ 0
+    → len ≤ length text → len ≤ 65536 → head_cut text ≡ whole len → empty_line_bytes text ≡ 0
     → IsRequestAt (take len text) headers spans h
     → method ≡ slice_range (take len text) spans.method.start spans.method.end
     → target ≡ slice_range (take len text) spans.path.start spans.path.end
@@ -41,7 +41,7 @@ head_text text len headers spans h method target fields a fits limit cut filled 
           (em ∙ at.method) (et ∙ at.path) at.version (ap (fields_at front) ef ∙ at.fields) judged;
     })
 
-pub no_head_text : (text : List ℕ) (len : ℕ) → len ≤ length text → len ≤ 65536 → head_cut text ≡ whole len → skipped text ≡ 0
+pub no_head_text : (text : List ℕ) (len : ℕ) → len ≤ length text → len ≤ 65536 → head_cut text ≡ whole len → empty_line_bytes text ≡ 0
     → ((h : RequestHead) (rest : List ℕ) → ReadsRequest (take len text) h rest → length h.fields ≤ 100 → ⊥)
     → IsAnswer (take len text) (Err 400)
 no_head_text text len fits limit cut filled none =
@@ -54,7 +54,7 @@ no_head_text text len fits limit cut filled none =
 
 pub response_text : (to_head : Bool) (text : List ℕ) (len : ℕ) (headers : List HeaderSpan) (spans : ResponseSpans) (h : ResponseHead)
     (fields : List HeaderSpan) (a : Result Head ℕ)
-    → len ≤ length text → len ≤ 65536 → head_cut text ≡ whole len → skipped text ≡ 0
+    → len ≤ length text → len ≤ 65536 → head_cut text ≡ whole len → empty_line_bytes text ≡ 0
     → IsResponseAt (take len text) headers spans h → fields ≡ take spans.headers headers
     → a ≡ response_judged to_head spans.version spans.code (fields_at (take len text) fields)
     → IsResponseAnswer to_head (take len text) a
@@ -70,7 +70,7 @@ response_text to_head text len headers spans h fields a fits limit cut filled at
           ∙ ap (response_judged to_head h.minor (status_code h)) (ap (fields_at front) ef ∙ at.fields);
     })
 
-pub no_response_text : (to_head : Bool) (text : List ℕ) (len : ℕ) → len ≤ length text → len ≤ 65536 → head_cut text ≡ whole len → skipped text ≡ 0
+pub no_response_text : (to_head : Bool) (text : List ℕ) (len : ℕ) → len ≤ length text → len ≤ 65536 → head_cut text ≡ whole len → empty_line_bytes text ≡ 0
     → ((h : ResponseHead) (rest : List ℕ) → ReadsResponse (take len text) h rest → length h.fields ≤ 100 → ⊥)
     → IsResponseAnswer to_head (take len text) (Err 502)
 no_response_text to_head text len fits limit cut filled none =
@@ -83,6 +83,6 @@ no_response_text to_head text len fits limit cut filled none =
 
 -- a message whose list is not made is malformed
 pub unlisted : (malformed number : ℕ) (form : Option TargetForm) (minor : ℕ) (fields : List Pair) (measure : Result Measure ℕ) (o : Option Headers)
-    → number ≡ malformed → o ≡ None → ◌≡◌ {A = Result Head ℕ} (Err number) (listed malformed o form minor fields measure)
+    → number ≡ malformed → o ≡ None → ◌≡◌ {A = Result Head ℕ} (Err number) (head_of_list malformed o form minor fields measure)
 unlisted malformed number form minor fields measure o same none =
-    ap Err same ∙ sym (ap (λ (x : Option Headers). listed malformed x form minor fields measure) none)
+    ap Err same ∙ sym (ap (λ (x : Option Headers). head_of_list malformed x form minor fields measure) none)

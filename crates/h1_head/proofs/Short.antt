@@ -6,10 +6,10 @@ use Rattle.std.specs.List.{list_any}
 use Rattle.httparse.specs.declared.spans.HeaderSpan.{HeaderSpan}
 use Rattle.httparse.specs.Spans.{header_bytes}
 use Rattle.http_uri.specs.Grammar.{IsUriText}
-use Rattle.http1_model.specs.Fields.{is_named, values_of}
-use Rattle.http1_model.specs.Head.{host_of}
-use Rattle.http1_model.specs.Target.{Target, origin, absolute, asterisk, Scheme, http, is_path_value, is_options, scheme_of, absolute_path, is_absolute_path, absolute_parts, target_of, IsTargetOf}
-use Rattle.http1_model.proofs.FieldLemmas.{values_of-named, values_of-other}
+use Rattle.h1_model.specs.Fields.{is_named, values_of}
+use Rattle.h1_model.specs.Head.{host_of}
+use Rattle.h1_model.specs.Target.{Target, origin, absolute, asterisk, Scheme, http, is_path_value, is_options, scheme_of, absolute_path, is_absolute_path, absolute_parts, target_of, IsTargetOf}
+use Rattle.h1_model.proofs.FieldLemmas.{values_of-named, values_of-other}
 use Rattle.h1_text.specs.Spans.{fields_at}
 
 -- ---- Host

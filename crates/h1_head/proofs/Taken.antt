@@ -6,9 +6,9 @@ use Rattle.httparse.specs.declared.spans.RequestSpans.{RequestSpans}
 use Rattle.httparse.specs.declared.spans.ResponseSpans.{ResponseSpans}
 use Rattle.httparse.specs.Grammar.{LineEnd, Field, IsField, print_field, print_section, print_request, print_response}
 use Rattle.httparse.specs.Spans.{header_bytes, name_and_value, IsRequestOf, IsResponseOf}
-use Rattle.http1_model.specs.Fields.{Pair}
-use Rattle.http1_model.proofs.GrammarLines.{request_parts, request_prints, response_parts, response_prints}
-use Rattle.http1_model.proofs.Taken.{name_taken, value_taken, section_more, name_within, section_short}
+use Rattle.h1_model.specs.Fields.{Pair}
+use Rattle.h1_model.proofs.GrammarLines.{request_parts, request_prints, response_parts, response_prints}
+use Rattle.h1_model.proofs.Taken.{name_taken, value_taken, section_more, name_within, section_short}
 use Rattle.h1_head.specs.Spans.{IsRead}
 
 first_same : (x y : Pair) (xs ys : List Pair) → x ∷ xs ≡ y ∷ ys → x ≡ y

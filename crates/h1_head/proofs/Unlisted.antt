@@ -15,7 +15,7 @@ use Rattle.header_maps.specs.Kept.{is_kept_field}
 use Rattle.header_maps.specs.Operations.{removed, without}
 use Rattle.header_maps.specs.Pairs.{is_not_named}
 use Rattle.header_maps.proofs.Shapes.{bytes_are, filter_all}
-use Rattle.http1_model.specs.Fields.{Pair, lists, members, unlisted}
+use Rattle.h1_model.specs.Fields.{Pair, lists, members, fields_not_listed}
 use Rattle.h1_head.specs.Unnamed.{unnamed}
 
 -- ---- two tests
@@ -48,11 +48,11 @@ pub unnamed-nil : (fields : List Pair) → unnamed [] fields ≡ fields
 unnamed-nil fields = filter_none fields
 
 pub unlisted-cons : (value : List ℕ) (values : List (List ℕ)) (fields : List Pair)
-    → unlisted values (unnamed (members value) fields) ≡ unlisted (value ∷ values) fields
+    → fields_not_listed values (unnamed (members value) fields) ≡ fields_not_listed (value ∷ values) fields
 unlisted-cons value values fields =
     filter_twice (λ (f : Pair). lists f.0 value) (λ (f : Pair). list_any (lists f.0) values) fields
 
-pub unlisted-nil : (fields : List Pair) → unlisted [] fields ≡ fields
+pub unlisted-nil : (fields : List Pair) → fields_not_listed [] fields ≡ fields
 unlisted-nil fields = filter_none fields
 
 -- ---- one name
@@ -170,16 +170,16 @@ all_at (f ∷ fields) (suc i) d lt h = all_at fields i d (omega arith) (and_part
 -- what is unlisted from a place on, by the field that stands there
 unlisted_from : (values : List (List ℕ)) (fields : List Pair) (i : ℕ) (d f : Pair) → i < length fields → f ≡ get_or fields i d
     → list_all is_kept_field fields ≡ true
-    → unlisted values (drop i fields)
-    ≡ cond (list_any (lists (lowercase f.0)) values) (unlisted values (drop (i + 1) fields)) ((lowercase f.0, f.1) ∷ unlisted values (drop (i + 1) fields))
+    → fields_not_listed values (drop i fields)
+    ≡ cond (list_any (lists (lowercase f.0)) values) (fields_not_listed values (drop (i + 1) fields)) ((lowercase f.0, f.1) ∷ fields_not_listed values (drop (i + 1) fields))
 unlisted_from values fields i d f lt is kept =
-    ap (unlisted values) (drop_more fields i d lt)
-    ∙ ap (λ (g : Pair). unlisted values (g ∷ drop (i + 1) fields)) (sym is)
+    ap (fields_not_listed values) (drop_more fields i d lt)
+    ∙ ap (λ (g : Pair). fields_not_listed values (g ∷ drop (i + 1) fields)) (sym is)
     ∙ by_test (list_any (lists f.0) values)
     ∙ ap (λ (n : List ℕ). cond (list_any (lists n) values) behind ((n, f.1) ∷ behind)) (sym named.lower)
   where
     behind : List Pair
-    behind = unlisted values (drop (i + 1) fields)
+    behind = fields_not_listed values (drop (i + 1) fields)
 
     named : IsNamed f
     named = kept_named f (subst (λ (g : Pair). is_kept_field g ≡ true) (sym is) (all_at fields i d lt kept))
@@ -191,15 +191,15 @@ unlisted_from values fields i d f lt is kept =
 -- one field more is left, or is not
 pub left_step : (values : List (List ℕ)) (fields : List Pair) (i : ℕ) (d f : Pair) (left new all : List Pair) (b : Bool) → i < length fields
     → f ≡ get_or fields i d → list_all is_kept_field fields ≡ true → b ≡ list_any (lists (lowercase f.0)) values
-    → new ≡ cond b left (left ++ (lowercase f.0, f.1) ∷ []) → left ++ unlisted values (drop i fields) ≡ all
-    → new ++ unlisted values (drop (i + 1) fields) ≡ all
+    → new ≡ cond b left (left ++ (lowercase f.0, f.1) ∷ []) → left ++ fields_not_listed values (drop i fields) ≡ all
+    → new ++ fields_not_listed values (drop (i + 1) fields) ≡ all
 left_step values fields i d f left new all b lt is kept listed put so_far =
     ap (λ (ps : List Pair). ps ++ behind) put ∙ by_test b
     ∙ ap (λ t. left ++ cond t behind ((lowercase f.0, f.1) ∷ behind)) listed
     ∙ ap (λ (ps : List Pair). left ++ ps) (sym (unlisted_from values fields i d f lt is kept)) ∙ so_far
   where
     behind : List Pair
-    behind = unlisted values (drop (i + 1) fields)
+    behind = fields_not_listed values (drop (i + 1) fields)
 
     by_test : (t : Bool) → cond t left (left ++ (lowercase f.0, f.1) ∷ []) ++ behind ≡ left ++ cond t behind ((lowercase f.0, f.1) ∷ behind)
     by_test true = refl

@@ -3,8 +3,8 @@ use Rattle.std.proofs.Common.{◌≡◌, ℕ, Bool, true, false, ◌||◌, List,
 use Rattle.std.proofs.lemmas.Bool.{false≢true}
 use Rattle.std.specs.List.{list_all}
 use Rattle.header_maps.specs.Judged.{is_path}
-use Rattle.http1_model.specs.Head.{host_of, is_host_right}
-use Rattle.http1_model.specs.Target.{is_path_value, is_visible}
+use Rattle.h1_model.specs.Head.{host_of, is_host_right}
+use Rattle.h1_model.specs.Target.{is_path_value, is_visible}
 
 -- the value of Host lines that are right is one of visible bytes
 pub host_visible : (minor : ℕ) (hosts : List (List ℕ)) → is_host_right minor hosts ≡ true → list_all is_visible (host_of hosts) ≡ true

@@ -1,6 +1,6 @@
 -- The fields of a head, as the code holds them.
 use Rattle.std.specs.Prelude.{List}
-use Rattle.http1_model.specs.Fields.{Pair}
+use Rattle.h1_model.specs.Fields.{Pair}
 use Rattle.h1_head.specs.declared.fields.Fields.{Fields}
 use Rattle.h1_text.specs.Spans.{fields_at}
 

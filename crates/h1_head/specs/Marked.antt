@@ -1,6 +1,6 @@
 -- What the Connection fields of a head list that goes out.
 use Rattle.std.specs.Prelude.{◌≡◌, List, [], codes, Option, MatchOption}
-use Rattle.http1_model.specs.Fields.{Pair, values_of}
+use Rattle.h1_model.specs.Fields.{Pair, values_of}
 use Rattle.h1_text.specs.Names.{AreMarked}
 use Rattle.h1_text.specs.declared.names.ListedNames.{ListedNames}
 

@@ -2,8 +2,8 @@
 use Rattle.std.specs.Prelude.{◌≡◌, ◌<◌, ℕ, Bool, true, List, [], ◌∷◌, length, Option, None, Some, Result, Ok, Err, ◌==◌, if◌then◌else◌}
 use Rattle.std.specs.Option.{option_and_then}
 use Rattle.std.specs.List.{flat_map}
-use Rattle.http1_model.specs.Fields.{members}
-use Rattle.http1_model.specs.Length as model
+use Rattle.h1_model.specs.Fields.{members}
+use Rattle.h1_model.specs.Length as model
 use Rattle.h1_head.specs.declared.head.Length as code
 use Rattle.h1_head.specs.declared.head.Length.TheVariants as lengths
 use Rattle.h1_head.specs.declared.length.Measure as measure
@@ -30,9 +30,9 @@ fits None n = true
 fits (Some known) n = n == known
 
 -- the one number that the members write, one after another, and that is the known one
-abbrev pub agreed : Option ℕ → List (List ℕ) → Option ℕ
-agreed known [] = known
-agreed known (m ∷ ms) = option_and_then (λ n. if fits known n then agreed (Some n) ms else None) (model.number_of m)
+abbrev pub agreed_length : Option ℕ → List (List ℕ) → Option ℕ
+agreed_length known [] = known
+agreed_length known (m ∷ ms) = option_and_then (λ n. if fits known n then agreed_length (Some n) ms else None) (model.number_of m)
 
 -- the lines are there, and their members write this one number, or none
 pub record AreOne (values : List (List ℕ)) (number : Option ℕ) : Type 0 where

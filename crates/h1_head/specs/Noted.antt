@@ -1,6 +1,6 @@
 -- The lines of those fields that say what a head is.
 use Rattle.std.specs.Prelude.{List, codes}
-use Rattle.http1_model.specs.Fields.{Pair, values_of}
+use Rattle.h1_model.specs.Fields.{Pair, values_of}
 use Rattle.h1_head.specs.declared.fields.Noted.{Noted}
 use Rattle.h1_head.specs.Spans.{AreLines}
 

@@ -1,13 +1,13 @@
 -- The heads and steps of the model that the code's values say.
 use Rattle.std.specs.Prelude.{◌≡◌, ◌≤◌, ⊤, ℕ, Bool, true, false, List, [], Option, None, Some, Result, Ok, Err}
-use Rattle.http1_model.specs.Head as model
-use Rattle.http1_model.specs.Length as lengths
+use Rattle.h1_model.specs.Head as model
+use Rattle.h1_model.specs.Length as lengths
 use Rattle.std.specs.Option.{option_map}
 use Rattle.header_maps.specs.Headers.{Headers}
 use Rattle.header_maps.specs.declared.kind.ListKind.TheVariants.{Plain}
 use Rattle.header_maps.specs.declared.end.HeaderEnd.{HeaderEnd}
 use Rattle.header_maps.specs.declared.end.HeaderEnd.TheVariants as ends
-use Rattle.http1_model.specs.Fields.{Pair, is_dropped, is_dropped_from_response, passing_among}
+use Rattle.h1_model.specs.Fields.{Pair, is_dropped, is_dropped_from_response, passing_among}
 use Rattle.h1_head.specs.declared.head.Head as head
 use Rattle.h1_head.specs.declared.head.Kind as kind
 use Rattle.h1_head.specs.declared.head.Kind.TheVariants as kinds

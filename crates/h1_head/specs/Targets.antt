@@ -3,12 +3,12 @@ use Rattle.std.specs.Prelude.{ℕ, Bool, true, ◌&&◌, List, length, slice_ind
 use Rattle.std.specs.Option.{option_map}
 use Rattle.std.specs.List.{list_all}
 use Rattle.http_uri.specs.ByteClasses.{slash, question_mark, is_path_byte, is_query_byte, split_once_front, split_once_back}
-use Rattle.http1_model.specs.Target as model
+use Rattle.h1_model.specs.Target as model
 use Rattle.h1_head.specs.declared.target.Scheme as scheme
 use Rattle.h1_head.specs.declared.target.Scheme.TheVariants as schemes
 use Rattle.h1_head.specs.declared.head.TargetForm as form
 use Rattle.h1_head.specs.declared.head.TargetForm.TheVariants as forms
-use Rattle.h1_head.specs.declared.target.Target as code
+use Rattle.h1_head.specs.declared.target.RequestTarget as code
 
 abbrev pub seen_scheme : scheme.Scheme → model.Scheme
 seen_scheme schemes.Http = model.http
@@ -23,13 +23,13 @@ seen_form forms.Absolute = model.absolute
 seen_form forms.Asterisk = model.asterisk
 
 -- the parts that a value says
-abbrev pub seen_target : code.Target → model.Target
+abbrev pub seen_target : code.RequestTarget → model.Target
 seen_target t = record { form = seen_form t.form; scheme = seen_scheme t.scheme; authority = t.authority; path = t.path }
 
-abbrev pub seen_target_option : Option code.Target → Option model.Target
+abbrev pub seen_target_option : Option code.RequestTarget → Option model.Target
 seen_target_option t = option_map seen_target t
 
--- the text behind a mark passes the test, if there is one
+-- the text after a mark passes the test, if there is one
 abbrev pub query_passes : (ℕ → Bool) → Option (List ℕ) → Bool
 query_passes test None = true
 query_passes test (Some text) = list_all test text

@@ -2,7 +2,7 @@
 use Rattle.std.specs.Prelude.{ℕ, not, List, filter, bytes_eq}
 use Rattle.std.specs.List.{list_any}
 use Rattle.http_header.specs.Token.{lowercase}
-use Rattle.http1_model.specs.Fields.{Pair}
+use Rattle.h1_model.specs.Fields.{Pair}
 
 -- those of some fields, with names in lower case, that none of the members names, in any case of letters
 abbrev pub unnamed : List (List ℕ) → List Pair → List Pair

@@ -1,7 +1,7 @@
 // The fields of a head, as spans of its text.
 ghost use Rattle.std.specs.Prelude.{◌≡◌, ◌≤◌, true, List, ℕ, length, All, IfOk};
-ghost use Rattle.http1_model.specs.Fields.{is_listed, is_hop_name, is_response_hop_name, values_of};
-ghost use Rattle.http1_model.specs.Lines.{head_limit};
+ghost use Rattle.h1_model.specs.Fields.{is_listed, is_hop_name, is_response_hop_name, values_of};
+ghost use Rattle.h1_model.specs.Lines.{head_limit};
 ghost use Rattle.http_header.specs.Token.{lowercase};
 ghost use Rattle.httparse.specs.Spans.{IsHeaderWithin, header_bytes};
 ghost use Rattle.h1_head.specs.Lengths.{IsBetween, IsConnectionOf};
@@ -21,32 +21,32 @@ const PSEUDO_PAIRS: usize = 4;
 
 /// The field lines of one name: none, one with its value, or more.
 #[derive(Clone, Copy)]
-pub enum Lines<'t> {
+pub enum FieldLines<'t> {
     Absent,
     One(&'t [u8]),
     Many,
 }
 
-impl<'t> Lines<'t> {
+impl<'t> FieldLines<'t> {
     ghost use Rattle.std.specs.Prelude.{◌∷◌, ◌++◌, []};
 
     /// Whether they may list so many names that going through all of them for each field is dear.
     fn are_long(self) -> bool {
         match self {
-            Lines::Absent => false,
-            Lines::One(value) => has_many_members(value),
-            Lines::Many => true,
+            FieldLines::Absent => false,
+            FieldLines::One(value) => has_many_members(value),
+            FieldLines::Many => true,
         }
     }
 
-    /// These, and one line more behind them, of this value.
+    /// These, and one line more after them, of this value.
     fn and(self, value: &'t [u8]) -> Self
         ensures { (values : List (List ℕ)) → AreLines values self.entry → AreLines (values ++ value.now ∷ []) result }
     {
         match self {
-            Lines::Absent => Lines::One(value),
-            Lines::One(_) => Lines::Many,
-            Lines::Many => Lines::Many,
+            FieldLines::Absent => FieldLines::One(value),
+            FieldLines::One(_) => FieldLines::Many,
+            FieldLines::Many => FieldLines::Many,
         }
     }
 }
@@ -54,15 +54,15 @@ impl<'t> Lines<'t> {
 /// The lines of those fields that say what a head is: looked up in one walk over its fields.
 #[derive(Clone, Copy)]
 pub struct Noted<'t> {
-    pub host: Lines<'t>,
-    pub connection: Lines<'t>,
-    pub lengths: Lines<'t>,
-    pub codings: Lines<'t>,
+    pub host: FieldLines<'t>,
+    pub connection: FieldLines<'t>,
+    pub lengths: FieldLines<'t>,
+    pub codings: FieldLines<'t>,
 }
 
 impl<'t> Noted<'t> {
     ghost use Rattle.std.specs.Prelude.{◌∷◌, ◌++◌, []};
-    ghost use Rattle.http1_model.specs.Fields.{Pair};
+    ghost use Rattle.h1_model.specs.Fields.{Pair};
     ghost use Rattle.h1_head.specs.Noted.{AreNoted};
 
     /// Those of no fields.
@@ -70,14 +70,14 @@ impl<'t> Noted<'t> {
         ensures { AreNoted [] result }
     {
         Noted {
-            host: Lines::Absent,
-            connection: Lines::Absent,
-            lengths: Lines::Absent,
-            codings: Lines::Absent,
+            host: FieldLines::Absent,
+            connection: FieldLines::Absent,
+            lengths: FieldLines::Absent,
+            codings: FieldLines::Absent,
         }
     }
 
-    /// Notes one field more, behind those that were noted.
+    /// Notes one field more, after those that were noted.
     fn note(&mut self, name: &[u8], value: &'t [u8])
         ensures { (fields : List Pair) → AreNoted fields self.old → AreNoted (fields ++ (name.now, value.now) ∷ []) self.new }
     {
@@ -96,8 +96,8 @@ impl<'t> Noted<'t> {
 /// What the Connection fields of a head say, looked up once a head: their lines, and, where they list few names, between which lengths all
 /// names lie that they list, else which of the head's own names they list.
 #[derive(Drop)]
-pub struct Connection<'t> {
-    pub lines: Lines<'t>,
+pub struct ConnectionFields<'t> {
+    pub lines: FieldLines<'t>,
     pub lengths: Lengths,
     pub listed: Option<ListedNames>,
 }
@@ -134,7 +134,7 @@ pub fn is_hop_name(name: &[u8]) -> bool
 impl<'t> Fields<'t> {
     ghost use Rattle.std.specs.Prelude.{codes, IfSome};
     ghost use Rattle.h1_text.specs.Names.{AreMarked};
-    ghost use Rattle.http1_model.specs.Listed.{with_fields};
+    ghost use Rattle.h1_model.specs.Listed.{with_fields};
     ghost use Rattle.h1_head.specs.Held.{fields_of};
     ghost use Rattle.h1_head.specs.Noted.{AreNoted};
     ghost use Rattle.h1_head.specs.Seen.{dropped_from, passing_in, IsListed};
@@ -212,19 +212,19 @@ impl<'t> Fields<'t> {
     }
 
     /// Lengths between which all names lie that the Connection fields list, whose lines were looked up.
-    fn lengths_by(&self, lines: Lines<'t>) -> Lengths
+    fn lengths_by(&self, lines: FieldLines<'t>) -> Lengths
         requires { AreLines (values_of (codes "connection") (fields_of self.now)) lines }
         ensures { (name : List ℕ) → is_listed name (fields_of self.now) ≡ true → IsBetween result (length name) }
     {
         match lines {
-            Lines::Absent => Lengths::none(),
-            Lines::One(value) => Lengths::none().with_members(value),
-            Lines::Many => self.listed_lengths(),
+            FieldLines::Absent => Lengths::none(),
+            FieldLines::One(value) => Lengths::none().with_members(value),
+            FieldLines::Many => self.listed_lengths(),
         }
     }
 
     /// The names of these fields, and `close`, those marked that the Connection fields list, where the lines are long and there is memory for it.
-    fn marked_for(&self, alloc: Global, lines: Lines<'t>) -> Option<ListedNames>
+    fn marked_for(&self, alloc: Global, lines: FieldLines<'t>) -> Option<ListedNames>
         ensures { IfSome result (AreMarked (values_of (codes "connection") (fields_of self.now))) }
     {
         if lines.are_long() {
@@ -235,7 +235,7 @@ impl<'t> Fields<'t> {
     }
 
     /// What the Connection fields say, whose lines were looked up. Where there is no memory for it, names are looked for as where few are listed.
-    pub fn connection(&self, alloc: Global, lines: Lines<'t>) -> Connection<'t>
+    pub fn connection(&self, alloc: Global, lines: FieldLines<'t>) -> ConnectionFields<'t>
         requires { AreLines (values_of (codes "connection") (fields_of self.now)) lines }
         ensures { IsConnectionOf (fields_of self.now) result }
     {
@@ -245,7 +245,7 @@ impl<'t> Fields<'t> {
         } else {
             self.lengths_by(lines)
         };
-        Connection {
+        ConnectionFields {
             lines,
             lengths,
             listed,
@@ -256,36 +256,36 @@ impl<'t> Fields<'t> {
     pub fn connection_values(
         &self,
         alloc: Global,
-        lines: Lines<'t>,
+        lines: FieldLines<'t>,
     ) -> Result<Members<Octets>, OutOfMemory>
         requires { AreLines (values_of (codes "connection") (fields_of self.now)) lines }
         ensures { IfOk result (λ values. values ≡ values_of (codes "connection") (fields_of self.now)) }
     {
         match lines {
-            Lines::Absent => Ok(Members::new(alloc)),
-            Lines::One(value) => {
+            FieldLines::Absent => Ok(Members::new(alloc)),
+            FieldLines::One(value) => {
                 let mut values = Members::new(alloc);
                 values.push(Octets::from_slice(alloc, value)?)?;
                 Ok(values)
             }
-            Lines::Many => self.values_of(alloc, b"connection"),
+            FieldLines::Many => self.values_of(alloc, b"connection"),
         }
     }
 
     /// Whether a Connection field lists a name, in any case of letters, by the lines of these fields.
-    fn is_listed_by(&self, lines: Lines<'t>, name: &[u8]) -> bool
+    fn is_listed_by(&self, lines: FieldLines<'t>, name: &[u8]) -> bool
         requires { AreLines (values_of (codes "connection") (fields_of self.now)) lines }
         ensures { result ≡ is_listed (lowercase name.now) (fields_of self.now) }
     {
         match lines {
-            Lines::Absent => false,
-            Lines::One(value) => lists(value, name),
-            Lines::Many => self.is_listed(name),
+            FieldLines::Absent => false,
+            FieldLines::One(value) => lists(value, name),
+            FieldLines::Many => self.is_listed(name),
         }
     }
 
     /// Whether a Connection field lists a name, in any case of letters, by the marks of names, where it is one of those.
-    fn is_marked(&self, listed: &ListedNames, lines: Lines<'t>, name: &[u8]) -> bool
+    fn is_marked(&self, listed: &ListedNames, lines: FieldLines<'t>, name: &[u8]) -> bool
         requires lines { AreLines (values_of (codes "connection") (fields_of self.now)) lines }
         requires marked { AreMarked (values_of (codes "connection") (fields_of self.now)) listed.now }
         ensures { result ≡ is_listed (lowercase name.now) (fields_of self.now) }
@@ -299,7 +299,7 @@ impl<'t> Fields<'t> {
     /// Whether a Connection field lists a name, in any case of letters; one that is shorter or longer than all that they list is looked for no
     /// further.
     #[inline(always)]
-    fn is_among_few(&self, lengths: Lengths, lines: Lines<'t>, name: &[u8]) -> bool
+    fn is_among_few(&self, lengths: Lengths, lines: FieldLines<'t>, name: &[u8]) -> bool
         requires lines { AreLines (values_of (codes "connection") (fields_of self.now)) lines }
         requires lengths { (name : List ℕ) → is_listed name (fields_of self.now) ≡ true → IsBetween lengths (length name) }
         ensures { result ≡ is_listed (lowercase name.now) (fields_of self.now) }
@@ -312,7 +312,7 @@ impl<'t> Fields<'t> {
 
     /// Whether a Connection field lists a name, in any case of letters, by what these fields say.
     #[inline(always)]
-    pub fn is_among(&self, connection: &Connection<'t>, name: &[u8]) -> bool
+    pub fn is_among(&self, connection: &ConnectionFields<'t>, name: &[u8]) -> bool
         requires { IsConnectionOf (fields_of self.now) connection.now }
         ensures { result ≡ is_listed (lowercase name.now) (fields_of self.now) }
     {
@@ -324,7 +324,7 @@ impl<'t> Fields<'t> {
 
     /// Whether a field of this name, in any case of letters, is dropped, by what the Connection fields say; `host` may pass, as
     /// in a response.
-    fn is_dropped(&self, host_passes: bool, connection: &Connection<'t>, name: &[u8]) -> bool
+    fn is_dropped(&self, host_passes: bool, connection: &ConnectionFields<'t>, name: &[u8]) -> bool
         requires { IsConnectionOf (fields_of self.now) connection.now }
         ensures { result ≡ dropped_from host_passes (fields_of self.now) (lowercase name.now) }
     {
@@ -340,7 +340,7 @@ impl<'t> Fields<'t> {
     pub fn passing(
         &self,
         host_passes: bool,
-        connection: &Connection<'t>,
+        connection: &ConnectionFields<'t>,
         list: HeaderList,
     ) -> Result<HeaderList, HeaderEnd>
         requires { IsConnectionOf (fields_of self.now) connection.now }

@@ -56,7 +56,7 @@ pub enum TargetForm {
 pub struct Head {
     /// The pseudo-headers, and the fields that pass, in order, with names in lower case.
     pub fields: HeaderList,
-    /// The fields that stand behind the framing field on the way out. There are none as a head is read.
+    /// The fields that stand after the framing field on the way out. There are none as a head is read.
     pub tail: HeaderList,
     /// The form of a request's target.
     pub form: Option<TargetForm>,

@@ -1,14 +1,14 @@
 // The length of a message's body.
 ghost use Rattle.std.specs.Prelude.{◌≡◌, ◌<◌, ◌∷◌, length, IfSome, option_copied, codes};
-ghost use Rattle.http1_model.specs.Fields.{members, values_of};
-ghost use Rattle.http1_model.specs.Length.{number_of, told_measure, request_measure, response_measure, bodied};
+ghost use Rattle.h1_model.specs.Fields.{members, values_of};
+ghost use Rattle.h1_model.specs.Length.{number_of, told_measure, request_measure, response_measure, measure_of_body};
 ghost use Rattle.h1_head.specs.Held.{fields_of};
 ghost use Rattle.h1_head.specs.Noted.{AreNoted};
 ghost use Rattle.h1_head.specs.Spans.{AreLines};
 ghost use Rattle.h1_text.specs.Members.{rest_members};
-ghost use Rattle.h1_head.specs.Measures.{agreed, AreTold, seen_measure, seen_measure_result};
+ghost use Rattle.h1_head.specs.Measures.{agreed_length, AreTold, seen_measure, seen_measure_result};
 
-use crate::fields::{Fields, Lines, Noted};
+use crate::fields::{FieldLines, Fields, Noted};
 use crate::head::Length;
 use h1_text::{first_member, trim};
 use header_maps::is_same_word;
@@ -57,7 +57,7 @@ fn number(member: &[u8]) -> Option<u64>
 
 /// The one number that all members of a value write, and that is `known` where the members before wrote that.
 fn agreed(value: &[u8], known: Option<u64>) -> Option<u64>
-    ensures { result ≡ agreed known (members value.now) }
+    ensures { result ≡ agreed_length known (members value.now) }
 {
     let mut known = known;
     let mut rest = Some(value);
@@ -96,14 +96,14 @@ fn told_length(fields: &Fields) -> Told
 }
 
 /// What the Content-Length lines of a head tell, which were looked up.
-fn told_by(fields: &Fields, lines: Lines) -> Told
+fn told_by(fields: &Fields, lines: FieldLines) -> Told
     requires { AreLines (values_of (codes "content-length") (fields_of fields.now)) lines }
     ensures { AreTold (values_of (codes "content-length") (fields_of fields.now)) result }
 {
     match lines {
-        Lines::Absent => Told::Absent,
-        Lines::One(_) => told_length(fields),
-        Lines::Many => told_length(fields),
+        FieldLines::Absent => Told::Absent,
+        FieldLines::One(_) => told_length(fields),
+        FieldLines::Many => told_length(fields),
     }
 }
 
@@ -131,12 +131,12 @@ pub fn request_measure(fields: &Fields, noted: &Noted, minor: u8) -> Result<Meas
 {
     let told = told_by(fields, noted.lengths);
     match (noted.codings, told) {
-        (Lines::Absent, Told::Absent) => Ok(Measure {
+        (FieldLines::Absent, Told::Absent) => Ok(Measure {
             length: Length::Nothing,
             told: None,
         }),
-        (Lines::Absent, Told::Number(n)) => Ok(exact_measure(n)),
-        (Lines::One(coding), Told::Absent) if minor != 0 => {
+        (FieldLines::Absent, Told::Number(n)) => Ok(exact_measure(n)),
+        (FieldLines::One(coding), Told::Absent) if minor != 0 => {
             if is_same_word(coding, b"chunked") {
                 Ok(Measure {
                     length: Length::Chunked,
@@ -146,7 +146,7 @@ pub fn request_measure(fields: &Fields, noted: &Noted, minor: u8) -> Result<Meas
                 Err(501)
             }
         }
-        (Lines::Many, Told::Absent) if minor != 0 => Err(501),
+        (FieldLines::Many, Told::Absent) if minor != 0 => Err(501),
         _ => Err(400),
     }
 }
@@ -175,7 +175,7 @@ pub fn response_measure(fields: &Fields, noted: &Noted, minor: u8) -> Result<Mea
 
 /// A response that has no body whatever its fields tell, where `bare` says so.
 pub fn bodied(bare: bool, measure: Result<Measure, u16>) -> Result<Measure, u16>
-    ensures { seen_measure_result result ≡ bodied bare (seen_measure_result measure) }
+    ensures { seen_measure_result result ≡ measure_of_body bare (seen_measure_result measure) }
 {
     let measure = measure?;
     if bare {

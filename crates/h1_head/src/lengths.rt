@@ -1,6 +1,6 @@
 // The lengths of the names that a head's Connection lists.
 ghost use Rattle.std.specs.Prelude.{◌≡◌, ◌≤◌, true, List, ℕ, length};
-ghost use Rattle.http1_model.specs.Fields.{lists};
+ghost use Rattle.h1_model.specs.Fields.{lists};
 ghost use Rattle.h1_head.specs.Lengths.{IsBetween};
 
 use h1_text::first_member;

@@ -1,13 +1,13 @@
 // Where a head begins and ends.
 ghost use Rattle.std.specs.Prelude.{◌≡◌, ◌≤◌, length};
-ghost use Rattle.http1_model.specs.Lines.{head_limit, skipped, head_cut, window_cut};
+ghost use Rattle.h1_model.specs.Lines.{head_limit, empty_line_bytes, head_cut, window_cut};
 ghost use Rattle.h1_text.specs.Cuts.{seen_cut, IsCutWithin};
 
 use h1_text::{BYTE_LIMIT, Cut, closed_cut, is_empty_line, line_len, line_len_at, open_cut};
 
 /// How many bytes the empty lines at the front of a text take (RFC 9112 section 2.2).
 pub fn skip_empty_lines(text: &[u8]) -> usize
-    ensures value { result ≡ skipped text.now }
+    ensures value { result ≡ empty_line_bytes text.now }
     ensures within { result ≤ length text.now }
 {
     let mut at = 0;

@@ -3,7 +3,7 @@ ghost use Rattle.std.specs.List.{list_all, list_any};
 ghost use Rattle.std.specs.Prelude.{◌≡◌, [], ◌∷◌, ◌++◌, true, cond, IfOk, IfSome, OnOk};
 ghost use Rattle.header_maps.specs.Kept.{is_kept_field};
 ghost use Rattle.http_header.specs.Token.{lowercase};
-ghost use Rattle.http1_model.specs.Fields.{lists, members, unlisted};
+ghost use Rattle.h1_model.specs.Fields.{lists, members, fields_not_listed};
 ghost use Rattle.h1_head.specs.Unnamed.{unnamed};
 ghost use Rattle.h1_text.specs.Names.{AreMarked};
 
@@ -35,7 +35,7 @@ fn without_members(value: &[u8], fields: HeaderList) -> HeaderList
 /// The list without the fields that one of the values lists, each member looked for among all fields.
 fn without_each(connection: &Members<Octets>, fields: HeaderList) -> HeaderList
     requires { list_all is_kept_field fields.pairs ≡ true }
-    ensures { result.pairs ≡ unlisted connection.now fields.pairs }
+    ensures { result.pairs ≡ fields_not_listed connection.now fields.pairs }
 {
     let mut fields = fields;
     for value in connection.as_slice() {
@@ -128,7 +128,7 @@ fn left_by(
 ) -> Result<HeaderList, HeaderEnd>
     requires kept { list_all is_kept_field fields.now.pairs ≡ true }
     requires marked { AreMarked connection.now listed.now }
-    ensures { IfOk result (λ left. left.pairs ≡ unlisted connection.now fields.now.pairs) }
+    ensures { IfOk result (λ left. left.pairs ≡ fields_not_listed connection.now fields.now.pairs) }
 {
     let mut left = HeaderList::new(alloc);
     for at in 0..fields.len() {
@@ -155,7 +155,7 @@ fn left_if_long(
     fields: &HeaderList,
 ) -> Option<HeaderList>
     requires { list_all is_kept_field fields.now.pairs ≡ true }
-    ensures { IfSome result (λ left. left.pairs ≡ unlisted connection.now fields.now.pairs) }
+    ensures { IfSome result (λ left. left.pairs ≡ fields_not_listed connection.now fields.now.pairs) }
 {
     if !are_long(connection) {
         return None;
@@ -169,7 +169,7 @@ fn left_if_long(
 /// among all fields.
 pub fn without_listed(alloc: Global, connection: &Members<Octets>, fields: HeaderList) -> HeaderList
     requires { list_all is_kept_field fields.pairs ≡ true }
-    ensures { result.pairs ≡ unlisted connection.now fields.pairs }
+    ensures { result.pairs ≡ fields_not_listed connection.now fields.pairs }
 {
     match left_if_long(alloc, connection, &fields) {
         Some(left) => left,

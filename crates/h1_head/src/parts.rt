@@ -2,14 +2,14 @@
 ghost use Rattle.std.specs.Option.{option_map};
 ghost use Rattle.std.specs.Prelude.{◌≡◌, Option, None, Err, IfOk};
 ghost use Rattle.header_maps.specs.Headers.{Headers};
-ghost use Rattle.http1_model.specs.Head.{measured};
+ghost use Rattle.h1_model.specs.Head.{measured};
 ghost use Rattle.h1_head.specs.Held.{fields_of};
 ghost use Rattle.h1_head.specs.Lengths.{IsConnectionOf};
 ghost use Rattle.h1_head.specs.Measures.{seen_measure_result};
 ghost use Rattle.h1_head.specs.Seen.{seen_answer, IsListed};
 ghost use Rattle.h1_head.specs.Targets.{seen_form};
 
-use crate::fields::{Connection, Fields};
+use crate::fields::{ConnectionFields, Fields};
 use crate::head::{Head, TargetForm};
 use crate::length::Measure;
 use gate_base::OutOfMemory;
@@ -23,7 +23,7 @@ pub const FIELD_LIMIT: usize = 100;
 pub const FEW_FIELDS: usize = 32;
 
 /// A head that is taken in, or the status of its refusal.
-pub type Answer = Result<Head, u16>;
+pub type HeadOrStatus = Result<Head, u16>;
 
 /// The status of a refusal where a list was not made, `malformed` but for want of memory.
 pub fn refusal_of(end: HeaderEnd, malformed: u16) -> Result<u16, OutOfMemory>
@@ -42,9 +42,9 @@ pub fn measured(
     form: Option<TargetForm>,
     minor: u8,
     fields: &Fields,
-    connection: &Connection,
+    connection: &ConnectionFields,
     measure: Result<Measure, u16>,
-) -> Result<Answer, OutOfMemory>
+) -> Result<HeadOrStatus, OutOfMemory>
     requires { IsConnectionOf (fields_of fields.now) connection.now }
     ensures { IfOk result (λ answer. seen_answer answer ≡
         measured list (option_map seen_form form) minor (fields_of fields.now) (seen_measure_result measure)) }

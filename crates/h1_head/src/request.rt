@@ -3,12 +3,12 @@ ghost use Rattle.std.specs.List.{list_all};
 ghost use Rattle.std.specs.Prelude.{◌≡◌, ◌≤◌, true, ℕ, List, Option, Some, codes, length, slice_index, take, All, IfOk, IfSome, IfNone, option_copied};
 ghost use Rattle.header_maps.specs.Headers.{Headers};
 ghost use Rattle.header_maps.specs.Kept.{byte_limit};
-ghost use Rattle.http1_model.specs.Fields.{values_of};
-ghost use Rattle.http1_model.specs.Head.{host_of, listed, IsTargeted, IsJudged, IsAnswer};
-ghost use Rattle.http1_model.specs.Length.{request_measure};
-ghost use Rattle.http1_model.specs.Lines.{head_cut, head_limit, skipped, whole};
-ghost use Rattle.http1_model.specs.Listed.{request_list};
-ghost use Rattle.http1_model.specs.Target.{is_path_value, is_visible};
+ghost use Rattle.h1_model.specs.Fields.{values_of};
+ghost use Rattle.h1_model.specs.Head.{host_of, head_of_list, IsTargeted, IsJudged, IsAnswer};
+ghost use Rattle.h1_model.specs.Length.{request_measure};
+ghost use Rattle.h1_model.specs.Lines.{head_cut, head_limit, empty_line_bytes, whole};
+ghost use Rattle.h1_model.specs.Listed.{request_list};
+ghost use Rattle.h1_model.specs.Target.{is_path_value, is_visible};
 ghost use Rattle.http_uri.specs.ByteClasses.{slash};
 ghost use Rattle.httparse.specs.Grammar.{RequestHead, ReadsRequest};
 ghost use Rattle.httparse.specs.Spans.{IsRequestWithin, IsRequestOf, header_bytes};
@@ -19,11 +19,11 @@ ghost use Rattle.h1_head.specs.Spans.{AreLines, IsRead};
 ghost use Rattle.h1_head.specs.Seen.{seen_answer, IsHost, IsListed};
 ghost use Rattle.h1_head.specs.Targets.{path_parts, seen_form, seen_target};
 
-use crate::fields::{Connection, Fields, Lines, Noted};
+use crate::fields::{ConnectionFields, FieldLines, Fields, Noted};
 use crate::head::TargetForm;
 use crate::length::request_measure;
-use crate::parts::{Answer, FEW_FIELDS, FIELD_LIMIT, measured, refusal_of};
-use crate::target::{Target, begins_with, is_plain_origin, is_visible, target_of};
+use crate::parts::{FEW_FIELDS, FIELD_LIMIT, HeadOrStatus, measured, refusal_of};
+use crate::target::{RequestTarget, begins_with, is_plain_origin, is_visible, target_of};
 use gate_base::OutOfMemory;
 use header_maps::{HeaderEnd, HeaderList};
 use httparse::Status;
@@ -39,12 +39,12 @@ fn is_all_visible(value: &[u8]) -> bool
 
 /// The value of Host, or nothing in a head of HTTP/1.0 without one; none where the Host lines are wrong
 /// (RFC 9112 section 3.2).
-fn host_value<'t>(lines: Lines<'t>, minor: u8) -> Option<&'t [u8]>
+fn host_value<'t>(lines: FieldLines<'t>, minor: u8) -> Option<&'t [u8]>
     ensures { (hosts : List (List ℕ)) → AreLines hosts lines.entry → IsHost minor hosts (option_copied result) }
 {
     match lines {
-        Lines::Absent if minor == 0 => Some(&[]),
-        Lines::One(host) if is_all_visible(host) => Some(host),
+        FieldLines::Absent if minor == 0 => Some(&[]),
+        FieldLines::One(host) if is_all_visible(host) => Some(host),
         _ => None,
     }
 }
@@ -53,10 +53,10 @@ fn host_value<'t>(lines: Lines<'t>, minor: u8) -> Option<&'t [u8]>
 fn request_list(
     alloc: Global,
     method: &[u8],
-    target: &Target,
+    target: &RequestTarget,
     host: &[u8],
     fields: &Fields,
-    connection: &Connection,
+    connection: &ConnectionFields,
 ) -> Result<HeaderList, HeaderEnd>
     requires connection { IsConnectionOf (fields_of fields.now) connection.now }
     requires method { length method.now ≤ byte_limit }
@@ -81,7 +81,7 @@ fn path_list(
     path: &[u8],
     host: &[u8],
     fields: &Fields,
-    connection: &Connection,
+    connection: &ConnectionFields,
 ) -> Result<HeaderList, HeaderEnd>
     requires connection { IsConnectionOf (fields_of fields.now) connection.now }
     requires method { length method.now ≤ byte_limit }
@@ -104,12 +104,12 @@ fn listed(
     minor: u8,
     fields: &Fields,
     noted: &Noted,
-    connection: &Connection,
-) -> Result<Answer, OutOfMemory>
+    connection: &ConnectionFields,
+) -> Result<HeadOrStatus, OutOfMemory>
     requires noted { AreNoted (fields_of fields.now) noted.now }
     requires connection { IsConnectionOf (fields_of fields.now) connection.now }
     ensures { (o : Option Headers) → IsListed o list → IfOk result (λ answer. seen_answer answer ≡
-        listed 400 o (Some (seen_form form)) minor (fields_of fields.now) (request_measure minor
+        head_of_list 400 o (Some (seen_form form)) minor (fields_of fields.now) (request_measure minor
         (values_of (codes "transfer-encoding") (fields_of fields.now)) (values_of (codes "content-length") (fields_of fields.now)))) }
 {
     let list = match list {
@@ -129,7 +129,7 @@ fn path_targeted(
     fields: &Fields,
     noted: &Noted,
     host: &[u8],
-) -> Result<Answer, OutOfMemory>
+) -> Result<HeadOrStatus, OutOfMemory>
     requires noted { AreNoted (fields_of fields.now) noted.now }
     requires host { host.now ≡ host_of (values_of (codes "host") (fields_of fields.now)) }
     requires visible { list_all is_visible host.now ≡ true }
@@ -164,7 +164,7 @@ fn parts_targeted(
     fields: &Fields,
     noted: &Noted,
     host: &[u8],
-) -> Result<Answer, OutOfMemory>
+) -> Result<HeadOrStatus, OutOfMemory>
     requires noted { AreNoted (fields_of fields.now) noted.now }
     requires host { host.now ≡ host_of (values_of (codes "host") (fields_of fields.now)) }
     requires method { length method.now ≤ head_limit }
@@ -189,7 +189,7 @@ fn targeted(
     fields: &Fields,
     noted: &Noted,
     host: &[u8],
-) -> Result<Answer, OutOfMemory>
+) -> Result<HeadOrStatus, OutOfMemory>
     requires noted { AreNoted (fields_of fields.now) noted.now }
     requires host { host.now ≡ host_of (values_of (codes "host") (fields_of fields.now)) }
     requires visible { list_all is_visible host.now ≡ true }
@@ -212,7 +212,7 @@ fn judged(
     target: &[u8],
     minor: u8,
     fields: &Fields,
-) -> Result<Answer, OutOfMemory>
+) -> Result<HeadOrStatus, OutOfMemory>
     requires method { length method.now ≤ head_limit }
     requires target { length target.now ≤ head_limit }
     ensures { IfOk result (λ answer.
@@ -250,11 +250,11 @@ fn found_answer(
     len: usize,
     head: &RequestSpans,
     headers: &[HeaderSpan],
-) -> Result<Answer, OutOfMemory>
+) -> Result<HeadOrStatus, OutOfMemory>
     requires fits { len ≤ length text.now }
     requires limit { len ≤ head_limit }
     requires cut { head_cut text.now ≡ whole len }
-    requires filled { skipped text.now ≡ 0 }
+    requires filled { empty_line_bytes text.now ≡ 0 }
     requires within { IsRequestWithin (take len text.now) headers.now head.now }
     requires read { All (λ s. IsRead (header_bytes (take len text.now) s)) (take head.now.headers headers.now) }
     requires found { IsRequestOf (take len text.now) headers.now head.now }
@@ -274,11 +274,11 @@ fn found_answer(
 }
 
 /// What the whole request head gives that takes the first `len` bytes of a text.
-fn answer_of_many(alloc: Global, text: &[u8], len: usize) -> Result<Answer, OutOfMemory>
+fn answer_of_many(alloc: Global, text: &[u8], len: usize) -> Result<HeadOrStatus, OutOfMemory>
     requires fits { len ≤ length text.now }
     requires limit { len ≤ head_limit }
     requires cut { head_cut text.now ≡ whole len }
-    requires filled { skipped text.now ≡ 0 }
+    requires filled { empty_line_bytes text.now ≡ 0 }
     ensures { IfOk result (λ answer. IsAnswer (take len text.now) (seen_answer answer)) }
 {
     let mut headers = [EMPTY_HEADER_SPAN; FIELD_LIMIT];
@@ -289,11 +289,11 @@ fn answer_of_many(alloc: Global, text: &[u8], len: usize) -> Result<Answer, OutO
 }
 
 /// The same, looked for with room for few fields first: where it has more of them, or is none, with room for all.
-fn answer_of_few(alloc: Global, text: &[u8], len: usize) -> Result<Answer, OutOfMemory>
+fn answer_of_few(alloc: Global, text: &[u8], len: usize) -> Result<HeadOrStatus, OutOfMemory>
     requires fits { len ≤ length text.now }
     requires limit { len ≤ head_limit }
     requires cut { head_cut text.now ≡ whole len }
-    requires filled { skipped text.now ≡ 0 }
+    requires filled { empty_line_bytes text.now ≡ 0 }
     ensures { IfOk result (λ answer. IsAnswer (take len text.now) (seen_answer answer)) }
 {
     let mut headers = [EMPTY_HEADER_SPAN; FEW_FIELDS];
@@ -303,18 +303,18 @@ fn answer_of_few(alloc: Global, text: &[u8], len: usize) -> Result<Answer, OutOf
     }
 }
 
-/// What the whole request head gives that takes the first `len` bytes of a text. How many lines it has behind its first says what room is made
+/// What the whole request head gives that takes the first `len` bytes of a text. How many lines it has after its first says what room is made
 /// for its fields.
 pub fn request_answer(
     alloc: Global,
     text: &[u8],
     len: usize,
     lines: usize,
-) -> Result<Answer, OutOfMemory>
+) -> Result<HeadOrStatus, OutOfMemory>
     requires fits { len ≤ length text.now }
     requires limit { len ≤ head_limit }
     requires cut { head_cut text.now ≡ whole len }
-    requires filled { skipped text.now ≡ 0 }
+    requires filled { empty_line_bytes text.now ≡ 0 }
     ensures { IfOk result (λ answer. IsAnswer (take len text.now) (seen_answer answer)) }
 {
     if lines <= FEW_FIELDS {

@@ -1,9 +1,9 @@
 // From the text of a whole response head to what a gateway makes of it.
 ghost use Rattle.std.specs.Prelude.{◌≡◌, ◌≤◌, ℕ, List, length, take, All, IfOk, IfSome, IfNone};
-ghost use Rattle.http1_model.specs.Head.{response_judged, IsResponseAnswer};
-ghost use Rattle.http1_model.specs.Length.{is_without_body};
-ghost use Rattle.http1_model.specs.Lines.{head_cut, head_limit, skipped, whole};
-ghost use Rattle.http1_model.specs.Listed.{response_list};
+ghost use Rattle.h1_model.specs.Head.{response_judged, IsResponseAnswer};
+ghost use Rattle.h1_model.specs.Length.{is_without_body};
+ghost use Rattle.h1_model.specs.Lines.{head_cut, head_limit, empty_line_bytes, whole};
+ghost use Rattle.h1_model.specs.Listed.{response_list};
 ghost use Rattle.httparse.specs.Grammar.{ResponseHead, ReadsResponse};
 ghost use Rattle.httparse.specs.Spans.{IsResponseWithin, IsResponseOf, header_bytes};
 ghost use Rattle.h1_head.specs.Held.{fields_of};
@@ -11,9 +11,9 @@ ghost use Rattle.h1_head.specs.Lengths.{IsConnectionOf};
 ghost use Rattle.h1_head.specs.Spans.{IsRead};
 ghost use Rattle.h1_head.specs.Seen.{seen_answer, IsListed};
 
-use crate::fields::{Connection, Fields};
+use crate::fields::{ConnectionFields, Fields};
 use crate::length::{bodied, response_measure};
-use crate::parts::{Answer, FEW_FIELDS, FIELD_LIMIT, measured, refusal_of};
+use crate::parts::{FEW_FIELDS, FIELD_LIMIT, HeadOrStatus, measured, refusal_of};
 use gate_base::OutOfMemory;
 use header_maps::{HeaderEnd, HeaderList};
 use httparse::Status;
@@ -25,7 +25,7 @@ fn response_list(
     alloc: Global,
     status: u16,
     fields: &Fields,
-    connection: &Connection,
+    connection: &ConnectionFields,
 ) -> Result<HeaderList, HeaderEnd>
     requires { IsConnectionOf (fields_of fields.now) connection.now }
     ensures { IsListed (response_list status (fields_of fields.now)) result }
@@ -51,7 +51,7 @@ fn response_judged(
     minor: u8,
     status: u16,
     fields: &Fields,
-) -> Result<Answer, OutOfMemory>
+) -> Result<HeadOrStatus, OutOfMemory>
     ensures { IfOk result (λ answer.
         seen_answer answer ≡ response_judged to_head minor status (fields_of fields.now)) }
 {
@@ -91,11 +91,11 @@ fn found_answer(
     to_head: bool,
     head: &ResponseSpans,
     headers: &[HeaderSpan],
-) -> Result<Answer, OutOfMemory>
+) -> Result<HeadOrStatus, OutOfMemory>
     requires fits { len ≤ length text.now }
     requires limit { len ≤ head_limit }
     requires cut { head_cut text.now ≡ whole len }
-    requires filled { skipped text.now ≡ 0 }
+    requires filled { empty_line_bytes text.now ≡ 0 }
     requires within { IsResponseWithin (take len text.now) headers.now head.now }
     requires read { All (λ s. IsRead (header_bytes (take len text.now) s)) (take head.now.headers headers.now) }
     requires found { IsResponseOf (take len text.now) headers.now head.now }
@@ -119,11 +119,11 @@ fn answer_of_many(
     text: &[u8],
     len: usize,
     to_head: bool,
-) -> Result<Answer, OutOfMemory>
+) -> Result<HeadOrStatus, OutOfMemory>
     requires fits { len ≤ length text.now }
     requires limit { len ≤ head_limit }
     requires cut { head_cut text.now ≡ whole len }
-    requires filled { skipped text.now ≡ 0 }
+    requires filled { empty_line_bytes text.now ≡ 0 }
     ensures { IfOk result (λ answer. IsResponseAnswer to_head (take len text.now) (seen_answer answer)) }
 {
     let mut headers = [EMPTY_HEADER_SPAN; FIELD_LIMIT];
@@ -139,11 +139,11 @@ fn answer_of_few(
     text: &[u8],
     len: usize,
     to_head: bool,
-) -> Result<Answer, OutOfMemory>
+) -> Result<HeadOrStatus, OutOfMemory>
     requires fits { len ≤ length text.now }
     requires limit { len ≤ head_limit }
     requires cut { head_cut text.now ≡ whole len }
-    requires filled { skipped text.now ≡ 0 }
+    requires filled { empty_line_bytes text.now ≡ 0 }
     ensures { IfOk result (λ answer. IsResponseAnswer to_head (take len text.now) (seen_answer answer)) }
 {
     let mut headers = [EMPTY_HEADER_SPAN; FEW_FIELDS];
@@ -153,7 +153,7 @@ fn answer_of_few(
     }
 }
 
-/// What the whole response head gives that takes the first `len` bytes of a text. How many lines it has behind its first says what room is made
+/// What the whole response head gives that takes the first `len` bytes of a text. How many lines it has after its first says what room is made
 /// for its fields.
 pub fn response_answer(
     alloc: Global,
@@ -161,11 +161,11 @@ pub fn response_answer(
     len: usize,
     lines: usize,
     to_head: bool,
-) -> Result<Answer, OutOfMemory>
+) -> Result<HeadOrStatus, OutOfMemory>
     requires fits { len ≤ length text.now }
     requires limit { len ≤ head_limit }
     requires cut { head_cut text.now ≡ whole len }
-    requires filled { skipped text.now ≡ 0 }
+    requires filled { empty_line_bytes text.now ≡ 0 }
     ensures { IfOk result (λ answer. IsResponseAnswer to_head (take len text.now) (seen_answer answer)) }
 {
     if lines <= FEW_FIELDS {

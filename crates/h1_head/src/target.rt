@@ -1,8 +1,8 @@
 // What a request's target gives.
 ghost use Rattle.std.specs.List.{list_all};
 ghost use Rattle.std.specs.Prelude.{◌≡◌, ◌<◌, ◌+◌, ◌^◌, ◌==◌, ◌&&◌, length, drop, slice_index, IfOk};
-ghost use Rattle.http1_model.specs.Listed.{scheme_text};
-ghost use Rattle.http1_model.specs.Target.{is_visible, is_path_value_byte, is_path_value, is_options, scheme_of, origin_target, absolute_path, is_absolute_path, absolute_target, target_of, IsTargetOf};
+ghost use Rattle.h1_model.specs.Listed.{scheme_text};
+ghost use Rattle.h1_model.specs.Target.{is_visible, is_path_value_byte, is_path_value, is_options, scheme_of, origin_target, absolute_path, is_absolute_path, absolute_target, target_of, IsTargetOf};
 ghost use Rattle.http_uri.specs.ByteClasses.{slash, question_mark, split_once_front, split_once_back};
 ghost use Rattle.http_uri.specs.Uri.{uri_scheme, uri_authority};
 ghost use Rattle.h1_head.specs.Targets.{seen_scheme, seen_scheme_option, seen_target_option, query_passes, is_plain_path_byte, is_plain_query_byte, is_plain_origin};
@@ -37,7 +37,7 @@ impl Scheme {
 
 /// The parts that a target gives. Where it gives no authority, Host does.
 #[derive(Drop)]
-pub struct Target {
+pub struct RequestTarget {
     pub form: TargetForm,
     pub scheme: Scheme,
     pub authority: Option<Octets>,
@@ -111,7 +111,7 @@ fn has_plain_query(query: &[u8]) -> bool
     query.iter().all(|b| is_plain_query_byte(*b))
 }
 
-/// Whether the bytes of a path and of the query behind its first `?` are such.
+/// Whether the bytes of a path and of the query after its first `?` are such.
 fn has_plain_bytes(target: &[u8]) -> bool
     ensures { result ≡ (list_all is_plain_path_byte (split_once_front question_mark target.now)
         && query_passes is_plain_query_byte (split_once_back question_mark target.now)) }
@@ -143,7 +143,11 @@ fn scheme_of(text: &[u8]) -> Option<Scheme>
 }
 
 /// What a target of the origin form or the asterisk form gives.
-fn origin_target(alloc: Global, method: &[u8], target: &[u8]) -> Result<Option<Target>, OutOfMemory>
+fn origin_target(
+    alloc: Global,
+    method: &[u8],
+    target: &[u8],
+) -> Result<Option<RequestTarget>, OutOfMemory>
     ensures { IfOk result (λ parts. seen_target_option parts ≡ origin_target method.now target.now) }
 {
     let form = if target == b"*".as_slice() {
@@ -157,7 +161,7 @@ fn origin_target(alloc: Global, method: &[u8], target: &[u8]) -> Result<Option<T
         }
         TargetForm::Origin
     };
-    Ok(Some(Target {
+    Ok(Some(RequestTarget {
         form,
         scheme: Scheme::Http,
         authority: None,
@@ -165,7 +169,7 @@ fn origin_target(alloc: Global, method: &[u8], target: &[u8]) -> Result<Option<T
     }))
 }
 
-/// The path of an absolute target with this text behind its authority.
+/// The path of an absolute target with this text after its authority.
 fn absolute_path(alloc: Global, method: &[u8], tail: &[u8]) -> Result<Octets, OutOfMemory>
     ensures { IfOk result (λ path. path ≡ absolute_path method.now tail.now) }
 {
@@ -181,7 +185,7 @@ fn absolute_path(alloc: Global, method: &[u8], tail: &[u8]) -> Result<Octets, Ou
     Octets::from_slice(alloc, tail)
 }
 
-/// The text behind the authority of an absolute target.
+/// The text after the authority of an absolute target.
 fn tail_of<'t>(target: &'t [u8], scheme: &[u8], authority: &[u8]) -> &'t [u8]
     requires { length scheme.now + 3 + length authority.now < 2 ^ 64 }
     ensures { result.now ≡ drop (length scheme.now + 3 + length authority.now) target.now }
@@ -198,7 +202,7 @@ fn absolute_target(
     target: &[u8],
     scheme: &[u8],
     authority: &[u8],
-) -> Result<Option<Target>, OutOfMemory>
+) -> Result<Option<RequestTarget>, OutOfMemory>
     requires { length scheme.now + 3 + length authority.now < 2 ^ 64 }
     ensures { IfOk result (λ parts. seen_target_option parts ≡ absolute_target method.now target.now scheme.now authority.now) }
 {
@@ -209,7 +213,7 @@ fn absolute_target(
     if authority.contains(&b'@') || !is_absolute_path(path.as_slice()) {
         return Ok(None);
     }
-    Ok(Some(Target {
+    Ok(Some(RequestTarget {
         form: TargetForm::Absolute,
         scheme: scheme_is,
         authority: Some(Octets::from_slice(alloc, authority)?),
@@ -230,7 +234,7 @@ fn parts_of(
     method: &[u8],
     target: &[u8],
     uri: &Uri,
-) -> Result<Option<Target>, OutOfMemory>
+) -> Result<Option<RequestTarget>, OutOfMemory>
     ensures { IfOk result (λ parts.
         seen_target_option parts ≡ target_of method.now target.now (uri_scheme uri.now) (uri_authority uri.now)) }
 {
@@ -248,7 +252,11 @@ fn parts_of(
 }
 
 /// What a target gives, or none where it gives no parts that this profile takes (RFC 9112 section 3.2).
-pub fn target_of(alloc: Global, method: &[u8], target: &[u8]) -> Result<Option<Target>, OutOfMemory>
+pub fn target_of(
+    alloc: Global,
+    method: &[u8],
+    target: &[u8],
+) -> Result<Option<RequestTarget>, OutOfMemory>
     ensures { IfOk result (λ parts. IsTargetOf method.now target.now (seen_target_option parts)) }
 {
     match Uri::from_bytes(alloc, target) {

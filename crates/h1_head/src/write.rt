@@ -2,8 +2,8 @@
 ghost use Rattle.std.specs.List.{list_any};
 ghost use Rattle.std.specs.Prelude.{◌≡◌, ◌++◌, ◌||◌, [], codes, bytes_eq, length, take, IfOk, OnOk, OnErr};
 ghost use Rattle.header_maps.specs.Pairs.{is_pseudo};
-ghost use Rattle.http1_model.specs.Fields.{is_hop_name, is_listed, is_named, values_of};
-ghost use Rattle.http1_model.specs.Wire.{field_line, field_lines, is_left_out, sent_fields, pseudo_of, request_line};
+ghost use Rattle.h1_model.specs.Fields.{is_hop_name, is_listed, is_named, values_of};
+ghost use Rattle.h1_model.specs.Wire.{field_line, field_lines, is_left_out, sent_fields, pseudo_of, request_line};
 ghost use Rattle.http_header.specs.Token.{lowercase};
 ghost use Rattle.h1_head.specs.Marked.{IsMarkedIn};
 ghost use Rattle.h1_head.specs.Seen.{bare_head};

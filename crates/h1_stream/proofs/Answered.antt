@@ -1,6 +1,6 @@
 -- What is taken is an answer.
 use Rattle.std.proofs.Common.{sym, subst}
-use Rattle.http1_model.specs.Unread.{Reading, IsNext}
+use Rattle.h1_model.specs.Unread.{Reading, IsNext}
 use Rattle.h1_stream.specs.declared.next.Next.{Next}
 use Rattle.h1_stream.specs.declared.next.Next.TheVariants as nexts
 use Rattle.h1_stream.specs.declared.next.Stop.{Stop}

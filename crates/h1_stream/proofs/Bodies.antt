@@ -1,9 +1,9 @@
 -- What stands at a place in a body, and what is unread next there.
 use Rattle.std.proofs.Common.{◌≡◌, ◌⊎◌, ℕ, suc, ◌+◌, ◌-◌, ◌≤◌, ◌<◌, Bool, true, false, List, [], ◌∷◌, length, take, drop, Option, Some, min, refl, sym, ap, ◌∙◌, subst, inl, inr, arith}
 use Rattle.std.proofs.lemmas.List.{length-take-le, length-drop}
-use Rattle.http1_model.specs.Messages.{request, interim, response, octet, end, trailers, counted, unbounded, Due, body, due_next, stop_short, counted_step, unbounded_step, Step, item, stop, StepsTo}
-use Rattle.http1_model.specs.Unread.{Next, piece, part, Carries, by_itself, piece_before, IsNoOctet, IsNext}
-use Rattle.http1_model.proofs.Carried.{take_carries, take_carries_unbounded}
+use Rattle.h1_model.specs.Messages.{request, interim, response, octet, end, trailers, counted, unbounded, Due, body, due_next, stop_short, counted_step, unbounded_step, Step, item, stop, StepsTo}
+use Rattle.h1_model.specs.Unread.{Next, piece, part, Carries, by_itself, piece_before, IsNoOctet, IsNext}
+use Rattle.h1_model.proofs.Carried.{take_carries, take_carries_unbounded}
 use Rattle.h1_stream.specs.Behind.{is_no_end}
 
 -- a step by itself
@@ -11,7 +11,7 @@ pub alone : (ended : Bool) (asked : Option (List ℕ)) (due : Due) (text : List 
     → by_itself step ≡ Some next → IsNext ended asked due text next
 alone ended asked due text step next there is = inl (record { step = step; there = there; is = is })
 
--- a piece with the end behind it
+-- a piece with the end after it
 pub with_end : (ended : Bool) (asked : Option (List ℕ)) (due mid after : Due) (text bytes : List ℕ) (used n : ℕ)
     → Carries ended asked due text bytes used mid → 0 < length bytes → length bytes ≤ 16384
     → StepsTo ended asked mid (drop used text) (item end n after) → IsNext ended asked due text (part (piece bytes true) (used + n) after)
@@ -39,7 +39,7 @@ no_end_before (item end n due) bytes used mid e = cc
 no_end_before (item (trailers fields) n due) bytes used mid e = refl
 no_end_before (stop why) bytes used mid e = refl
 
--- a piece with something else behind it
+-- a piece with something else after it
 pub without_end : (ended : Bool) (asked : Option (List ℕ)) (due mid : Due) (text bytes : List ℕ) (used : ℕ) (step : Step)
     → Carries ended asked due text bytes used mid → 0 < length bytes → length bytes ≤ 16384
     → StepsTo ended asked mid (drop used text) step → is_no_end step ≡ true → IsNoOctet step ⊎ (length bytes ≡ 16384)
@@ -117,7 +117,7 @@ unbounded_full ended asked len text bytes len_is bytes_is some more =
     let piece_is = without_end ended asked (body unbounded) (body unbounded) text (take len text) len b.0 carried (omega arith) (omega arith) b.1 b.2 b.3 in
     subst (λ (bs : List ℕ). IsNext ended asked (body unbounded) text (part (piece bs false) len (body unbounded))) (sym bytes_is) piece_is
 
--- nothing is left behind all of a text
+-- nothing is left after all of a text
 drop_nothing : (len : ℕ) (text : List ℕ) → length text ≤ len → drop len text ≡ []
 drop_nothing len text all = no_bytes (drop len text) (omega (arith, length-drop len text))
   where

@@ -1,14 +1,14 @@
 -- What a step of the chunk reader says of what stands in a message, and of what is unread next.
 use Rattle.std.proofs.Common.{◌≡◌, ◌⊎◌, ℕ, zero, suc, ◌+◌, ◌-◌, ◌≤◌, ◌<◌, Bool, true, false, List, [], ◌∷◌, length, drop, get_or, Option, None, Some, refl, sym, ap, subst, inl, inr, arith}
 use Rattle.std.proofs.lemmas.List.{drop-drop}
-use Rattle.http1_model.specs.Fields.{Pair}
-use Rattle.http1_model.specs.Lines.{Cut, whole, too_large, unfinished}
-use Rattle.http1_model.specs.Chunks.{Place, inside, Sought, data_at, section_at, waiting, malformed, sought, Run, run_of}
-use Rattle.http1_model.specs.Trailers.{carried, ended, not_yet, refused, end_of, section_cut, IsEnd, IsBehind, SpellsChunks}
-use Rattle.http1_model.specs.Messages.{octet, end, body, coded, due_next, Step, item, section_step, end_step, trailers_left, IsCodedStep, StepsTo}
-use Rattle.http1_model.specs.Unread.{piece, part, IsNoOctet, IsNext}
-use Rattle.http1_model.proofs.ChunkLaws.{run_step, run_zero, run_behind}
-use Rattle.http1_model.proofs.Carried.{run_carries, coded_there}
+use Rattle.h1_model.specs.Fields.{Pair}
+use Rattle.h1_model.specs.Lines.{Cut, whole, too_large, unfinished}
+use Rattle.h1_model.specs.Chunks.{Place, inside, Sought, data_at, section_at, waiting, malformed, sought, Run, run_of}
+use Rattle.h1_model.specs.Trailers.{carried, ended, not_yet, refused, end_of, section_cut, IsEnd, IsBehind, SpellsChunks}
+use Rattle.h1_model.specs.Messages.{octet, end, body, coded, due_next, Step, item, section_step, end_step, trailers_left, IsCodedStep, StepsTo}
+use Rattle.h1_model.specs.Unread.{piece, part, IsNoOctet, IsNext}
+use Rattle.h1_model.proofs.ChunkLaws.{run_step, run_zero, run_behind}
+use Rattle.h1_model.proofs.Carried.{run_carries, coded_there}
 use Rattle.h1_chunks.specs.Answers.{is_data}
 use Rattle.h1_stream.specs.Behind.{is_no_end, StandsBehind}
 use Rattle.h1_stream.proofs.Bodies.{with_end, without_end}
@@ -51,7 +51,7 @@ run_some place text some = by_sought (sought place text) refl some
     by_sought waiting is e = absurd (cc)
     by_sought malformed is e = absurd (cc)
 
--- it has at most as many as there is room for, and as many where data stands behind it
+-- it has at most as many as there is room for, and as many where data stands after it
 pub run_few : (n : ℕ) (place : Place) (text : List ℕ) → length (run_of n place text).bytes ≤ n
 run_few zero place text = subst (λ (r : Run). length r.bytes ≤ 0) (sym (run_zero place text)) (omega arith)
 run_few (suc n) place text = by_sought (sought place text) refl (run_few n)
@@ -152,7 +152,7 @@ refusal_there is_over asked connection place text number x =
 
 -- ---- pieces
 
--- a piece of data with the end right behind it
+-- a piece of data with the end right after it
 pub piece_ends : (is_over : Bool) (asked : Option (List ℕ)) (connection : List (List ℕ)) (place : Place) (text : List ℕ) (run : Run) (n : ℕ) → SpellsChunks place text (carried run)
     → StandsBehind is_over asked connection run.place (drop run.used text) (Some n)
     → IsNext is_over asked (body (coded connection place)) text (part (piece run.bytes true) (run.used + n) (due_next asked))
@@ -166,13 +166,13 @@ piece_ends is_over asked connection place text run n x b =
     (run_carries is_over asked connection 16384 place text) (run_some place text r.sought_data) (run_few 16384 place text) moved in
     subst (λ (q : Run). IsNext is_over asked (body (coded connection place)) text (part (piece q.bytes true) (q.used + n) (due_next asked))) (sym r.is) whole
 
--- data stands behind a run that is full
+-- data stands after a run that is full
 full_behind : (s : Step) (place : Place) (text : List ℕ) → IsNoOctet s ⊎ (is_data (sought (run_of 16384 place text).place (drop (run_of 16384 place text).used text)) ≡ true)
     → IsNoOctet s ⊎ (length (run_of 16384 place text).bytes ≡ 16384)
 full_behind s place text (inl other) = inl other
 full_behind s place text (inr some) = inr (run_full 16384 place text some)
 
--- and one with something else behind it
+-- and one with something else after it
 pub piece_goes_on : (is_over : Bool) (asked : Option (List ℕ)) (connection : List (List ℕ)) (place : Place) (text : List ℕ) (run : Run) → SpellsChunks place text (carried run)
     → StandsBehind is_over asked connection run.place (drop run.used text) None
     → IsNext is_over asked (body (coded connection place)) text (part (piece run.bytes false) run.used (body (coded connection run.place)))

@@ -3,9 +3,9 @@ use Rattle.std.proofs.Common.{◌≡◌, ℕ, Bool, true, false, List, Some, ref
 use Rattle.h1_head.specs.declared.head.Kind.{Kind}
 use Rattle.h1_head.specs.declared.head.Kind.TheVariants as kinds
 use Rattle.h1_head.specs.Seen.{Spells}
-use Rattle.http1_model.specs.Head.{HeadStep}
-use Rattle.http1_model.specs.Messages.{head, SpellsHead, step_from}
-use Rattle.http1_model.specs.Unread.{Next, IsNext, by_itself}
+use Rattle.h1_model.specs.Head.{HeadStep}
+use Rattle.h1_model.specs.Messages.{head, SpellsHead, step_from}
+use Rattle.h1_model.specs.Unread.{Next, IsNext, by_itself}
 use Rattle.h1_stream.specs.Seen.{asked_of}
 
 -- a text of that kind spells it

@@ -5,13 +5,13 @@ use Rattle.std.specs.List.{list_all}
 use Rattle.std.proofs.lemmas.List.{take_all, append_assoc, append-nil}
 use Rattle.std.proofs.lemmas.List.Folds.{list_all-append}
 use Rattle.std.proofs.lemmas.Bool.{lt-leb, and_from}
-use Rattle.http1_model.specs.Lines.{with_first, whole_lines, empty_len, skipped, after_empty_lines, section_of, Cut, too_large, unfinished, cut_open, cut_lines, cut_of, window_cut, head_cut, head_limit, line_limit}
-use Rattle.http1_model.specs.Head.{not_yet, IsStepAt, IsAnswer, IsResponseAnswer}
-use Rattle.http1_model.specs.Chunks.{Place, section, Sought, sought, waiting, place_taken, section_taken}
-use Rattle.http1_model.specs.Messages.{counted, coded, unbounded, Due, head, body, done, rest, IsCodedStep, SpellsHead, stop, stop_at}
-use Rattle.http1_model.specs.Trailers as trailing
-use Rattle.http1_model.specs.Trailers.{window_section, section_cut, IsEnd}
-use Rattle.http1_model.specs.Unread.{Reading, none, IsNext, Halts, due_at, unread_at}
+use Rattle.h1_model.specs.Lines.{with_first, whole_lines, empty_len, empty_line_bytes, after_empty_lines, section_of, Cut, too_large, unfinished, cut_open, cut_lines, cut_of, window_cut, head_cut, head_limit, line_limit}
+use Rattle.h1_model.specs.Head.{not_yet, IsStepAt, IsAnswer, IsResponseAnswer}
+use Rattle.h1_model.specs.Chunks.{Place, section, Sought, sought, waiting, place_taken, section_taken}
+use Rattle.h1_model.specs.Messages.{counted, coded, unbounded, Due, head, body, done, rest, IsCodedStep, SpellsHead, stop, stop_at}
+use Rattle.h1_model.specs.Trailers as trailing
+use Rattle.h1_model.specs.Trailers.{window_section, section_cut, IsEnd}
+use Rattle.h1_model.specs.Unread.{Reading, none, IsNext, Halts, due_at, unread_at}
 use Rattle.h1_chunks.specs.Waits.{extends, IsWithinSize}
 use Rattle.h1_stream.specs.declared.reader.Quiet.{Quiet}
 use Rattle.h1_stream.specs.declared.reader.Quiet.TheVariants as quiets
@@ -98,13 +98,13 @@ pub stays_size : (ended : Bool) (due : Due) (t p : List ℕ) → (list_all exten
     → IsQuiet quiets.Size ended due (t ++ p)
 stays_size ended due t p (all, lt) (e, h) = (e, size_stays due t p all lt h)
 
-spelled : (asked : Option (List ℕ)) (t : List ℕ) → skipped t ≡ 0 → head_cut t ≡ unfinished → SpellsHead asked t not_yet
+spelled : (asked : Option (List ℕ)) (t : List ℕ) → empty_line_bytes t ≡ 0 → head_cut t ≡ unfinished → SpellsHead asked t not_yet
 spelled None t s h =
     let cut : head_cut (after_empty_lines t) ≡ unfinished = ap (λ (n : ℕ). head_cut (drop n t)) s ∙ h in
-    subst (λ (c : Cut). IsStepAt IsAnswer 431 (skipped t) (after_empty_lines t) c not_yet) (sym cut) refl
+    subst (λ (c : Cut). IsStepAt IsAnswer 431 (empty_line_bytes t) (after_empty_lines t) c not_yet) (sym cut) refl
 spelled (Some a) t s h =
     let cut : head_cut (after_empty_lines t) ≡ unfinished = ap (λ (n : ℕ). head_cut (drop n t)) s ∙ h in
-    subst (λ (c : Cut). IsStepAt (IsResponseAnswer (bytes_eq a (codes "HEAD"))) 502 (skipped t) (after_empty_lines t) c not_yet) (sym cut) refl
+    subst (λ (c : Cut). IsStepAt (IsResponseAnswer (bytes_eq a (codes "HEAD"))) 502 (empty_line_bytes t) (after_empty_lines t) c not_yet) (sym cut) refl
 
 still : (asked : Option (List ℕ)) (t : List ℕ) → rest ≡ stop_at false asked t
 still None t = refl

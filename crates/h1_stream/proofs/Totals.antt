@@ -1,17 +1,17 @@
 -- Something is next at each place.
 use Rattle.std.proofs.Common.{◌≡◌, ◌⊎◌, ℕ, zero, suc, ◌+◌, ◌-◌, Bool, true, false, cond, List, [], ◌∷◌, length, take, drop, min, get_or, bytes_eq, codes, Option, None, Some, refl, sym, ap, ◌∙◌, subst, inl, inr, arith}
-use Rattle.http1_model.specs.Fields.{Pair}
-use Rattle.http1_model.specs.Head.{Head, HeadStep, found, not_yet, refused, IsStepAt, IsAnswer, IsResponseAnswer, SpellsBy}
-use Rattle.http1_model.specs.Lines.{Cut, whole, too_large, unfinished, skipped, after_empty_lines, head_cut}
-use Rattle.http1_model.specs.Chunks.{Place, inside, Sought, data_at, section_at, waiting, malformed, sought, Run, no_run, run_of}
-use Rattle.http1_model.specs.Messages as model
-use Rattle.http1_model.specs.Messages.{request, interim, response, octet, end, trailers, counted, coded, unbounded, Due, head, body, done, over, rest, due_behind, due_next, stop_short, is_interim, item_of, step_from, response_item, SpellsHead, Step, item, stop, end_step, section_step, trailers_left, IsCodedStep, StepsTo}
-use Rattle.http1_model.specs.Trailers as trailing
-use Rattle.http1_model.specs.Trailers.{section_cut, IsSectionText, EndsWith, end_of, IsEnd}
-use Rattle.http1_model.specs.Unread.{Next, head_part, interim_part, piece, trailer_part, part, none, by_itself, piece_before, IsNoOctet}
-use Rattle.http1_model.proofs.Carried.{run_carries}
-use Rattle.http1_model.proofs.Readings.{Answers}
-use Rattle.http1_model.proofs.Totals as heads
+use Rattle.h1_model.specs.Fields.{Pair}
+use Rattle.h1_model.specs.Head.{Head, HeadStep, found, not_yet, refused, IsStepAt, IsAnswer, IsResponseAnswer, SpellsBy}
+use Rattle.h1_model.specs.Lines.{Cut, whole, too_large, unfinished, empty_line_bytes, after_empty_lines, head_cut}
+use Rattle.h1_model.specs.Chunks.{Place, inside, Sought, data_at, section_at, waiting, malformed, sought, Run, no_run, run_of}
+use Rattle.h1_model.specs.Messages as model
+use Rattle.h1_model.specs.Messages.{request, interim, response, octet, end, trailers, counted, coded, unbounded, Due, head, body, done, over, rest, due_behind, due_next, stop_short, is_interim, item_of, step_from, response_item, SpellsHead, Step, item, stop, end_step, section_step, trailers_left, IsCodedStep, StepsTo}
+use Rattle.h1_model.specs.Trailers as trailing
+use Rattle.h1_model.specs.Trailers.{section_cut, IsSectionText, EndsWith, end_of, IsEnd}
+use Rattle.h1_model.specs.Unread.{Next, head_part, interim_part, piece, trailer_part, part, none, by_itself, piece_before, IsNoOctet}
+use Rattle.h1_model.proofs.Carried.{run_carries}
+use Rattle.h1_model.proofs.Readings.{Answers}
+use Rattle.h1_model.proofs.Totals as heads
 use Rattle.h1_chunks.proofs.Runs.{run_none}
 use Rattle.h1_chunks.specs.Answers.{is_data}
 use Rattle.h1_stream.proofs.Bodies.{alone, counted_whole, counted_part, unbounded_full, unbounded_whole, unbounded_open}
@@ -135,7 +135,7 @@ coded_step ended asked connection place text judged = by_sought (sought place te
     by_sought waiting is =
         let step = stop (stop_short ended asked) in record { step = step; there = there waiting step is refl; bytes = inl tt }
     by_sought malformed is =
-        let step = stop (model.malformed asked) in record { step = step; there = there malformed step is refl; bytes = inl tt }
+        let step = stop (model.malformed_status asked) in record { step = step; there = there malformed step is refl; bytes = inl tt }
 
 differ : true ≡ false → ⊥
 differ e = cc
@@ -189,7 +189,7 @@ head_cut_judged : (answers : Answers) (large : ℕ) (text : List ℕ) → ((len 
     → (h : HeadStep) × SpellsBy answers large text h
 head_cut_judged answers large text open_yet = by_cut (head_cut (after_empty_lines text)) open_yet
   where
-    by_cut : (c : Cut) → ((len : ℕ) → c ≡ whole len → ⊥) → (h : HeadStep) × IsStepAt answers large (skipped text) (after_empty_lines text) c h
+    by_cut : (c : Cut) → ((len : ℕ) → c ≡ whole len → ⊥) → (h : HeadStep) × IsStepAt answers large (empty_line_bytes text) (after_empty_lines text) c h
     by_cut (whole len) later = absurd (later len refl)
     by_cut too_large later = (refused large, refl)
     by_cut unfinished later = (not_yet, refl)

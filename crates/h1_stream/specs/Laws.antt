@@ -1,17 +1,17 @@
 -- At each place of each text something is unread next.
 use Rattle.std.specs.Prelude.{◌≡◌, ℕ, Bool, List, Option, ⊤, drop}
-use Rattle.http1_model.specs.Chunks.{Place, section_at, sought, run_of}
-use Rattle.http1_model.specs.Head.{HeadStep}
-use Rattle.http1_model.specs.Lines.{after_empty_lines, whole, head_cut}
-use Rattle.http1_model.specs.Messages.{counted, coded, unbounded, Due, head, body, done, SpellsHead}
-use Rattle.http1_model.specs.Trailers.{ChunkStep, section_cut, IsEnd, piece_limit}
-use Rattle.http1_model.specs.Unread.{Next, IsNext}
+use Rattle.h1_model.specs.Chunks.{Place, section_at, sought, run_of}
+use Rattle.h1_model.specs.Head.{HeadStep}
+use Rattle.h1_model.specs.Lines.{after_empty_lines, whole, head_cut}
+use Rattle.h1_model.specs.Messages.{counted, coded, unbounded, Due, head, body, done, SpellsHead}
+use Rattle.h1_model.specs.Trailers.{ChunkStep, section_cut, IsEnd, piece_limit}
+use Rattle.h1_model.specs.Unread.{Next, IsNext}
 
 -- this is next, for some answer
 abbrev pub HasNext : Bool → Option (List ℕ) → Due → List ℕ → Type 0
 HasNext ended asked due text = (next : Next) × IsNext ended asked due text next
 
--- what the trailer section behind so many bytes of a text gives
+-- what the trailer section after so many bytes of a text gives
 abbrev pub IsEndJudged : ℕ → List ℕ → Type 0
 IsEndJudged at text = (c : ChunkStep) × IsEnd at (drop at text) (section_cut (drop at text)) c
 
@@ -19,7 +19,7 @@ IsEndJudged at text = (c : ChunkStep) × IsEnd at (drop at text) (section_cut (d
 abbrev pub IsSectionJudged : Place → List ℕ → Type 0
 IsSectionJudged place text = (at : ℕ) → sought place text ≡ section_at at → IsEndJudged at text
 
--- What is next is known but for one thing: what the text of a whole head gives, or that of a whole trailer section, where one comes behind the
+-- What is next is known but for one thing: what the text of a whole head gives, or that of a whole trailer section, where one comes after the
 -- data of one piece. `httparse` reads them by its grammar, which is a relation and no test. This says that it is known.
 abbrev pub IsJudged : Option (List ℕ) → Due → List ℕ → Type 0
 IsJudged asked head text = (h : HeadStep) × SpellsHead asked text h
@@ -29,7 +29,7 @@ IsJudged asked (body (coded connection place)) text =
 IsJudged asked (body unbounded) text = ⊤
 IsJudged asked done text = ⊤
 
--- where it is known, this is next; so in each body that has a length or goes on until the line ends, and behind a whole response
+-- where it is known, this is next; so in each body that has a length or goes on until the line ends, and after a whole response
 abbrev pub NextWhereJudged : Type 0
 NextWhereJudged = (ended : Bool) (asked : Option (List ℕ)) (due : Due) (text : List ℕ) → IsJudged asked due text → HasNext ended asked due text
 

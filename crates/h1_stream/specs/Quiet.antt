@@ -4,12 +4,12 @@ use Rattle.h1_chunks.specs.Answers.{IsWithinSection}
 use Rattle.h1_chunks.specs.Waits.{IsWithinSize}
 use Rattle.h1_stream.specs.declared.reader.Quiet as quiet
 use Rattle.h1_stream.specs.declared.reader.Quiet.TheVariants as quiets
-use Rattle.http1_model.specs.Lines.{skipped, head_cut, unfinished}
-use Rattle.http1_model.specs.Messages.{counted, coded, unbounded, Due, head, body, done}
+use Rattle.h1_model.specs.Lines.{empty_line_bytes, head_cut, unfinished}
+use Rattle.h1_model.specs.Messages.{counted, coded, unbounded, Due, head, body, done}
 
 -- a head is due, with no empty lines before it, or a trailer section, and neither its end nor too much of it has come
 abbrev pub IsOpen : Due → List ℕ → Type 0
-IsOpen head text = (skipped text ≡ 0) × (head_cut text ≡ unfinished)
+IsOpen head text = (empty_line_bytes text ≡ 0) × (head_cut text ≡ unfinished)
 IsOpen (body (counted n)) text = ⊥
 IsOpen (body (coded connection place)) text = IsWithinSection place text
 IsOpen (body unbounded) text = ⊥

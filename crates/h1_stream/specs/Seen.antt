@@ -5,10 +5,10 @@ use Rattle.h1_head.specs.declared.item.Item as item
 use Rattle.h1_head.specs.declared.item.Item.TheVariants as items
 use Rattle.h1_head.specs.declared.head.Kind as kind
 use Rattle.h1_head.specs.declared.head.Kind.TheVariants as kinds
-use Rattle.http1_model.specs.Length.{BodyLength, nothing, exactly, chunked, until_end}
-use Rattle.http1_model.specs.Chunks.{Place}
-use Rattle.http1_model.specs.Messages as model
-use Rattle.http1_model.specs.Unread as unread
+use Rattle.h1_model.specs.Length.{BodyLength, nothing, exactly, chunked, until_end}
+use Rattle.h1_model.specs.Chunks.{Place}
+use Rattle.h1_model.specs.Messages as model
+use Rattle.h1_model.specs.Unread as unread
 use Rattle.h1_stream.specs.declared.next.Body as body
 use Rattle.h1_stream.specs.declared.next.Body.TheVariants as bodies
 use Rattle.h1_stream.specs.declared.next.Due as due
@@ -58,7 +58,7 @@ seen_stop stops.Rest = model.rest
 seen_stop stops.Over = model.over
 seen_stop (stops.Refusal number) = model.refusal number
 
--- a chunked body goes on at this place of the coding, behind the same head; what else is due stays
+-- a chunked body goes on at this place of the coding, after the same head; what else is due stays
 abbrev pub gone_on : Place → model.Due → model.Due
 gone_on place model.head = model.head
 gone_on place (model.body (model.counted n)) = model.body (model.counted n)

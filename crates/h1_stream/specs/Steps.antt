@@ -1,7 +1,7 @@
 -- What an answer of the reader says.
 use Rattle.std.specs.Prelude.{◌≡◌, false}
-use Rattle.http1_model.specs.Messages as model
-use Rattle.http1_model.specs.Unread.{Reading, moved_on, waiting, Hands, Halts}
+use Rattle.h1_model.specs.Messages as model
+use Rattle.h1_model.specs.Unread.{Reading, moved_on, awaiting_bytes, Hands, Halts}
 use Rattle.h1_stream.specs.declared.next.Next as next
 use Rattle.h1_stream.specs.declared.next.Next.TheVariants as nexts
 use Rattle.h1_stream.specs.declared.next.Stop as stop
@@ -24,9 +24,9 @@ halted stops.Rest = steps.NotYet
 halted stops.Over = steps.Over
 halted (stops.Refusal number) = steps.Refused number
 
--- the answer for what is next, and the reading behind it
+-- the answer for what is next, and the reading after it
 abbrev pub Takes : Reading → next.Next → step.Step → Reading → Type 0
 Takes old (nexts.Part i used d) answer new = (answer ≡ steps.Item i) × (new ≡ moved_on used (seen_due d) old)
 Takes old (nexts.Chunks bytes used place) answer new =
     (answer ≡ steps.Item (items.Piece bytes false)) × (new ≡ moved_on used (gone_on place old.due) old)
-Takes old (nexts.Halt why) answer new = (answer ≡ halted why) × (new ≡ waiting old)
+Takes old (nexts.Halt why) answer new = (answer ≡ halted why) × (new ≡ awaiting_bytes old)

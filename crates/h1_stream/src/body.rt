@@ -2,10 +2,10 @@
 ghost use Rattle.std.specs.List.{list_all};
 ghost use Rattle.std.specs.Prelude.{◌≡◌, ◌≤◌, Bool, true, Some, [], length, min, IfOk, IfSome};
 ghost use Rattle.header_maps.specs.Kept.{is_kept_field};
-ghost use Rattle.http1_model.specs.Messages as model;
-ghost use Rattle.http1_model.specs.Messages.{body, unbounded_step, trailers_left, end_step};
-ghost use Rattle.http1_model.specs.Trailers.{piece_limit};
-ghost use Rattle.http1_model.specs.Unread.{IsNext, by_itself};
+ghost use Rattle.h1_model.specs.Messages as model;
+ghost use Rattle.h1_model.specs.Messages.{body, unbounded_step, trailers_left, end_step};
+ghost use Rattle.h1_model.specs.Trailers.{piece_limit};
+ghost use Rattle.h1_model.specs.Unread.{IsNext, by_itself};
 ghost use Rattle.h1_stream.specs.Seen.{asked_of, seen_body, seen_next, IsWithin, IsFlagged};
 ghost use Rattle.h1_stream.specs.Behind.{StandsBehind};
 

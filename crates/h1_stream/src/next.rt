@@ -1,8 +1,8 @@
 // What is unread next, where a head is due; and what all bodies share.
 ghost use Rattle.std.specs.Prelude.{◌≡◌, ◌≤◌, Some, drop, length, IfOk};
-ghost use Rattle.http1_model.specs.Messages.{head, due_next, malformed, stop_short, item_of, stop_at};
-ghost use Rattle.http1_model.specs.Messages as model;
-ghost use Rattle.http1_model.specs.Unread.{IsNext, by_itself};
+ghost use Rattle.h1_model.specs.Messages.{head, due_next, malformed_status, stop_short, item_of, stop_at};
+ghost use Rattle.h1_model.specs.Messages as model;
+ghost use Rattle.h1_model.specs.Unread.{IsNext, by_itself};
 ghost use Rattle.h1_head.specs.Seen.{seen_head};
 ghost use Rattle.h1_head.specs.Measures.{seen_length};
 ghost use Rattle.h1_stream.specs.Seen.{asked_of, is_nothing, seen_due, seen_stop, seen_next, IsWithin, IsFlagged};
@@ -39,7 +39,7 @@ pub(crate) enum Due {
 }
 
 impl Due {
-    ghost use Rattle.http1_model.specs.Unread.{due_at, unread_at};
+    ghost use Rattle.h1_model.specs.Unread.{due_at, unread_at};
     ghost use Rattle.h1_stream.specs.Seen.{gone_on};
 
     /// Goes on in a chunked body at this place of the coding.
@@ -81,13 +81,13 @@ pub(crate) enum Stop {
 /// What is unread next.
 #[derive(Drop)]
 pub(crate) enum Next {
-    /// An item that uses up so many bytes, and what is due behind it.
+    /// An item that uses up so many bytes, and what is due after it.
     Part {
         item: Item,
         used: usize,
         due: Due,
     },
-    /// A piece of a chunked body that goes on: its bytes, how many bytes it uses up, and the place in the coding behind it.
+    /// A piece of a chunked body that goes on: its bytes, how many bytes it uses up, and the place in the coding after it.
     Chunks {
         bytes: Octets,
         used: usize,
@@ -97,7 +97,7 @@ pub(crate) enum Next {
     Halt(Stop),
 }
 
-/// What is due behind a whole message.
+/// What is due after a whole message.
 pub(crate) fn due_next(kind: Kind) -> Due
     ensures { seen_due result ≡ due_next (asked_of kind) }
 {
@@ -109,7 +109,7 @@ pub(crate) fn due_next(kind: Kind) -> Due
 
 /// What is malformed, or ends too early.
 pub(crate) fn malformed(kind: Kind) -> Stop
-    ensures { seen_stop result ≡ malformed (asked_of kind) }
+    ensures { seen_stop result ≡ malformed_status (asked_of kind) }
 {
     match kind {
         Kind::Request => Stop::Refusal(400),
@@ -135,7 +135,7 @@ fn copied(alloc: Global, values: &Members<Octets>) -> Result<Members<Octets>, Ou
     Ok(copy)
 }
 
-/// What is due behind a head, by the length of its body.
+/// What is due after a head, by the length of its body.
 fn due_behind(alloc: Global, kind: Kind, head: &Head) -> Result<Due, OutOfMemory>
     ensures { IfOk result (λ due. seen_due due ≡
         model.due_behind (due_next (asked_of kind)) head.now.connection (seen_length head.now.length)) }

@@ -1,10 +1,10 @@
 // The reader of one side of a line.
 ghost use Rattle.std.specs.List.{list_all};
 ghost use Rattle.std.specs.Prelude.{◌≡◌, ◌↔◌, ◌++◌, ◌+◌, ◌<◌, ◌≤◌, Bool, true, false, List, ℕ, [], length, IfOk, OnOk, OnErr, IsTrue};
-ghost use Rattle.http1_model.specs.Unread.{IsNext, new_reading, fed, finished, waiting};
+ghost use Rattle.h1_model.specs.Unread.{IsNext, new_reading, reading_with_bytes, reading_with_end, awaiting_bytes};
 ghost use Rattle.h1_stream.specs.Quiet.{IsOpen, IsQuiet};
-ghost use Rattle.http1_model.specs.Messages.{head, body, coded, Due as Dues};
-ghost use Rattle.http1_model.specs.Lines.{whole_lines};
+ghost use Rattle.h1_model.specs.Messages.{head, body, coded, Due as Dues};
+ghost use Rattle.h1_model.specs.Lines.{whole_lines};
 ghost use Rattle.h1_chunks.specs.Waits.{extends, IsWithinSize};
 ghost use Rattle.h1_stream.specs.Seen.{seen_due};
 
@@ -157,7 +157,7 @@ pub struct MessageReader {
 }
 
 impl Model for MessageReader {
-    ghost use Rattle.http1_model.specs.Unread.{Reading};
+    ghost use Rattle.h1_model.specs.Unread.{Reading};
 
     ghost Value = { Reading };
 
@@ -191,7 +191,7 @@ impl MessageReader {
     /// Takes more of the text.
     pub fn feed(&mut self, piece: &[u8]) -> Result<(), OutOfMemory>
         requires { self.old.ended ≡ false }
-        ensures ok { OnOk result (self.new ≡ fed piece.now self.old) }
+        ensures ok { OnOk result (self.new ≡ reading_with_bytes piece.now self.old) }
         ensures err { OnErr result (self.new ≡ self.old) }
     {
         let quiet = stays_quiet(self.quiet, self.text.as_slice(), piece);
@@ -202,7 +202,7 @@ impl MessageReader {
 
     /// Says that the text has ended. It takes no memory.
     pub fn end(&mut self)
-        ensures { self.new ≡ finished self.old }
+        ensures { self.new ≡ reading_with_end self.old }
     {
         self.quiet = Quiet::No;
         self.ended = true;
@@ -252,7 +252,7 @@ impl MessageReader {
         }
     }
 
-    /// Goes on behind what is next.
+    /// Goes on after what is next.
     fn take(&mut self, next: Next) -> Step
         requires { IsWithin (length self.old.unread) next }
         ensures { Takes self.old next result self.new }
@@ -295,7 +295,7 @@ impl MessageReader {
 
     /// Reads over what counts as read where no part is next.
     fn skip(&mut self)
-        ensures { self.new ≡ waiting self.old }
+        ensures { self.new ≡ awaiting_bytes self.old }
     {
         self.quiet = Quiet::No;
         let used = self.due.read_over(self.text.as_slice());

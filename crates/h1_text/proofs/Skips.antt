@@ -8,13 +8,13 @@ use Rattle.std.proofs.lemmas.List.{reverse-append, drop-drop}
 use Rattle.std.proofs.lemmas.List.Splits.{slice_split-cons_yes, slice_split-cons_no}
 use Rattle.http_header.specs.Token.{lowercase}
 use Rattle.httparse.specs.Grammar.{is_ows, skip_ows, trim_ows}
-use Rattle.http1_model.specs.Fields.{members}
+use Rattle.h1_model.specs.Fields.{members}
 use Rattle.h1_text.specs.declared.wanted.Wanted.{Wanted}
 use Rattle.h1_text.specs.Members.{is_comma}
 use Rattle.h1_text.specs.Wanted.{first_of, shape_of, begins, HasBlanks, IsLostOn}
 use Rattle.h1_text.proofs.Splits.{members-comma, members-no_comma}
 
--- the members behind the first, and whether the test passes on one of them
+-- the members after the first, and whether the test passes on one of them
 abbrev pub behind : List (List ℕ) → List (List ℕ)
 behind [] = []
 behind (m ∷ ms) = ms
@@ -36,7 +36,7 @@ skip_keeps b other (x ∷ xs) = by_test (is_ows x) refl (skip_keeps b other xs)
     by_test true e later = rw e later
     by_test false e later = record { front = x ∷ xs; is = rw e }
 
--- a member begins with the first byte behind a comma, where that is no blank
+-- a member begins with the first byte after a comma, where that is no blank
 first_trim : (b : ℕ) (h : List ℕ) → is_ows b ≡ false → first_of (trim_ows (b ∷ h)) ≡ b
 unfolding trim_ows
 first_trim b h other =
@@ -202,7 +202,7 @@ run_lost w p blanks lost (suc n) list i low h =
     ∙ run_lost w p blanks lost n list (suc i) (omega arith) later
     ∙ ap (λ m. left p (drop m list)) end
 
--- what is left behind the first comma
+-- what is left after the first comma
 pub left-comma : (p : List ℕ → Bool) (list : List ℕ) (at j : ℕ) → j < length (drop at list) → is_comma (get_or (drop at list) j 0) ≡ true
     → ((k : ℕ) → k < j → is_comma (get_or (drop at list) k 0) ≡ false)
     → left p (drop at list) ≡ list_any p (members (drop (at + suc j) list))

@@ -8,7 +8,7 @@ use Rattle.std.proofs.lemmas.List.{get_or_past}
 use Rattle.http_header.specs.Token.{lowercase}
 use Rattle.h1_text.specs.declared.names.ListedNames.{ListedNames}
 use Rattle.h1_text.specs.declared.wanted.Wanted.{Wanted}
-use Rattle.h1_text.specs.Names.{found, is_number, is_met}
+use Rattle.h1_text.specs.Names.{name_in_tree, is_number, is_met}
 use Rattle.h1_text.specs.Wanted.{AreWanted, IsLostOn, has}
 use Rattle.h1_text.proofs.Marked.{found_within, found_name, met_next}
 
@@ -21,13 +21,13 @@ last k n low = by_test (nat_lt k n) refl
 
 -- the test whether a member is found under the number of a name that is not marked
 abbrev pub meets : ListedNames → ℕ → List ℕ → Bool
-meets listed k m = is_number k (found listed.tree (lowercase m))
+meets listed k m = is_number k (name_in_tree listed.tree (lowercase m))
 
 pub lost_on : (listed : ListedNames) (w : Wanted) → AreWanted listed w → (k : ℕ) → slice_index_or listed.marks.items k false ≡ false
     → IsLostOn w (meets listed k)
-lost_on listed w wanted k none m other = by_number (found listed.tree (lowercase m)) refl
+lost_on listed w wanted k none m other = by_number (name_in_tree listed.tree (lowercase m)) refl
   where
-    by_number : (o : Option ℕ) → found listed.tree (lowercase m) ≡ o → is_number k o ≡ false
+    by_number : (o : Option ℕ) → name_in_tree listed.tree (lowercase m) ≡ o → is_number k o ≡ false
     by_number None e = refl
     by_number (Some j) e = by_same (k == j) refl
       where

@@ -3,11 +3,11 @@ use Rattle.std.proofs.Common.{◌≡◌, ℕ, ◌+◌, ◌<◌, Bool, true, fals
 use Rattle.std.proofs.lemmas.List.{take_more, map-append}
 use Rattle.httparse.specs.declared.spans.HeaderSpan.{HeaderSpan}
 use Rattle.httparse.specs.Spans.{header_bytes}
-use Rattle.http1_model.specs.Fields.{Pair, is_named, values_of}
-use Rattle.http1_model.proofs.FieldLemmas.{values_of-named, values_of-other}
+use Rattle.h1_model.specs.Fields.{Pair, is_named, values_of}
+use Rattle.h1_model.proofs.FieldLemmas.{values_of-named, values_of-other}
 use Rattle.h1_text.specs.Spans.{fields_at}
 
--- the values of a name among some fields and one more behind them
+-- the values of a name among some fields and one more after them
 pub values_of-more : (name : List ℕ) (fs : List Pair) (f : Pair)
     → values_of name (fs ++ f ∷ []) ≡ cond (is_named name f) (values_of name fs ++ f.1 ∷ []) (values_of name fs)
 values_of-more name [] f = by_test (is_named name f) refl
@@ -34,7 +34,7 @@ values_of-more name (g ∷ gs) f = by_test (is_named name g) (is_named name f) r
         let here = values_of-other name g gs other in
         values_of-other name g (gs ++ f ∷ []) other ∙ later ∙ ap (λ (vs : List (List ℕ)). cond b (vs ++ f.1 ∷ []) vs) (sym here)
 
--- the values of a name, behind one field more of that name, and behind one of another
+-- the values of a name, after one field more of that name, and after one of another
 pub values_named : (name : List ℕ) (fs : List Pair) (f : Pair) → true ≡ is_named name f → values_of name fs ++ f.1 ∷ [] ≡ values_of name (fs ++ f ∷ [])
 values_named name fs f named =
     ap (λ b. cond b (values_of name fs ++ f.1 ∷ []) (values_of name fs)) named ∙ sym (values_of-more name fs f)

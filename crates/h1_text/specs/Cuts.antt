@@ -2,7 +2,7 @@
 use Rattle.std.specs.Prelude.{ℕ, ◌≤◌, ⊤}
 use Rattle.h1_text.specs.declared.lines.Cut as code
 use Rattle.h1_text.specs.declared.lines.Cut.TheVariants as cuts
-use Rattle.http1_model.specs.Lines.{Cut, whole, too_large, unfinished}
+use Rattle.h1_model.specs.Lines.{Cut, whole, too_large, unfinished}
 
 -- the cut that a value says
 abbrev pub seen_cut : code.Cut → Cut

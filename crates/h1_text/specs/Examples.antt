@@ -1,6 +1,6 @@
 -- Names that are looked for, and their marks, worked.
 use Rattle.std.specs.Prelude.{◌≡◌, ◌++◌, ◌∷◌, [], ℕ, true, false, List, Option, None, Some, codes, replicate}
-use Rattle.h1_text.specs.declared.names.Next.TheVariants as nexts
+use Rattle.h1_text.specs.declared.names.NamesLeft.TheVariants as nexts
 use Rattle.h1_text.specs.declared.names.Node.{Node}
 use Rattle.h1_text.specs.Names.{found_in, is_met_among}
 

@@ -2,7 +2,7 @@
 use Rattle.std.specs.Prelude.{ℕ, List, map}
 use Rattle.httparse.specs.declared.spans.HeaderSpan.{HeaderSpan}
 use Rattle.httparse.specs.Spans.{header_bytes}
-use Rattle.http1_model.specs.Fields.{Pair}
+use Rattle.h1_model.specs.Fields.{Pair}
 
 -- the names and values that the spans cover
 abbrev pub fields_at : List ℕ → List HeaderSpan → List Pair

@@ -38,7 +38,7 @@ pub record HasBlanks (w : Wanted) : Type 0 where
 abbrev pub IsLostOn : Wanted → (List ℕ → Bool) → Type 0
 IsLostOn w p = (m : List ℕ) → has w m ≡ false → p m ≡ false
 
--- the next member and those behind it
+-- the next member and those after it
 abbrev pub members_from : Option (Bor (List ℕ) × Option (Bor (List ℕ))) → List (List ℕ)
 members_from None = []
 members_from (Some r) = r.0.now ∷ rest_members (option_copied r.1)

@@ -1,6 +1,6 @@
 // The lines of a text, and where a part of it ends that ends with an empty line.
 ghost use Rattle.std.specs.Prelude.{◌≡◌, ◌+◌, ◌^◌, ◌<◌, ◌≤◌, [], ◌∷◌, length, take, drop, IfSome, MatchOption};
-ghost use Rattle.http1_model.specs.Lines.{whole_lines, is_empty_line, cut_at, cut_open};
+ghost use Rattle.h1_model.specs.Lines.{whole_lines, is_empty_line, cut_at, cut_open};
 ghost use Rattle.h1_text.specs.Cuts.{seen_cut, IsCutWithin};
 
 use memchr::memchr;
@@ -60,7 +60,7 @@ pub fn open_cut(bytes: usize, lines: usize) -> Cut
     }
 }
 
-/// What stands where an empty line of so many bytes comes at a place, behind so many field lines.
+/// What stands where an empty line of so many bytes comes at a place, after so many field lines.
 pub fn closed_cut(at: usize, lines: usize, len: usize) -> Cut
     requires { at + len < 2 ^ 64 }
     ensures cut { seen_cut result ≡ cut_at at (lines, len) }

@@ -1,6 +1,6 @@
 // Which of the names of some fields a Connection among them lists.
 ghost use Rattle.std.specs.Prelude.{◌≡◌, [], codes, length, All, IfOk};
-ghost use Rattle.http1_model.specs.Fields.{values_of};
+ghost use Rattle.h1_model.specs.Fields.{values_of};
 ghost use Rattle.httparse.specs.Spans.{IsHeaderWithin, header_bytes};
 ghost use Rattle.h1_text.specs.Names.{AreMarked};
 ghost use Rattle.h1_text.specs.Spans.{fields_at};

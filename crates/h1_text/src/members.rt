@@ -1,6 +1,6 @@
 // Values, and the members of a list in a value.
 ghost use Rattle.std.specs.Prelude.{◌≡◌, ◌<◌, ◌≤◌, ◌∷◌, ℕ, true, false, length, nat_lt, slice_index, IfSome, option_copied};
-ghost use Rattle.http1_model.specs.Fields.{lists, members};
+ghost use Rattle.h1_model.specs.Fields.{lists, members};
 ghost use Rattle.http_header.specs.Token.{lowercase};
 ghost use Rattle.httparse.specs.Grammar.{is_ows, trim_ows};
 ghost use Rattle.h1_text.specs.Members.{is_comma, rest_members};
@@ -45,7 +45,7 @@ pub fn comma_at(list: &[u8]) -> usize
     at
 }
 
-/// The first member of a list in a value, and what stands behind its comma.
+/// The first member of a list in a value, and what stands after its comma.
 pub fn first_member(list: &[u8]) -> (&[u8], Option<&[u8]>)
     ensures members { members list.now ≡ result.0.now ∷ rest_members (option_copied result.1) }
     ensures shorter { IfSome (option_copied result.1) (λ rest. length rest < length list.now) }

@@ -2,8 +2,8 @@
 ghost use Rattle.std.specs.Prelude.{◌≡◌, ◌<◌, ◌+◌, ◌++◌, ◌∷◌, [], ◌||◌, ◌⊎◌, ℕ, List, length, IfOk, IfSome, IfNone, None, false, slice_index_or, slice_get};
 ghost use Rattle.std.specs.List.{list_any};
 ghost use Rattle.http_header.specs.Token.{lowercase};
-ghost use Rattle.http1_model.specs.Fields.{lists};
-ghost use Rattle.h1_text.specs.Names.{byte_at, next_in, number_of, is_name, found, is_number, AreMarked};
+ghost use Rattle.h1_model.specs.Fields.{lists};
+ghost use Rattle.h1_text.specs.Names.{byte_at, next_in, number_of, is_name, name_in_tree, is_number, AreMarked};
 ghost use Rattle.h1_text.specs.Wanted.{AreWanted, HasBlanks};
 
 use crate::wanted::Wanted;
@@ -20,9 +20,9 @@ const STEP_LIMIT: usize = 128;
 /// How many members are looked for before it is noted anew what those names look like that are not marked.
 const LOOK_LIMIT: usize = 16;
 
-/// What is left of the names behind a byte.
+/// What is left of the names after a byte.
 #[derive(Clone, Copy)]
-pub enum Next {
+pub enum NamesLeft {
     /// None of them.
     Nothing,
     /// The one of this number.
@@ -39,7 +39,7 @@ pub struct Node {
     /// The number of one of the names.
     pub one: u8,
     /// What is left of the names, by the byte that they have there; the byte 0 stands for their end.
-    pub next: [Next; 128],
+    pub next: [NamesLeft; 128],
 }
 
 /// Different names, of which each is looked for by as many bytes as tell it from the others: a tree of those places at which names differ (a Patricia
@@ -48,10 +48,10 @@ pub struct Node {
 pub struct NameTree {
     pub names: Members<Octets>,
     pub nodes: Vec<Node>,
-    pub root: Next,
+    pub root: NamesLeft,
 }
 
-/// The byte at a place of a name, in lower case, and 0 behind its end.
+/// The byte at a place of a name, in lower case, and 0 after its end.
 pub fn byte_at(name: &[u8], place: usize) -> usize
     ensures value { result ≡ byte_at (lowercase name.now) place }
     ensures within { result < 128 }
@@ -74,17 +74,17 @@ impl NameTree {
         NameTree {
             names: Members::new(alloc),
             nodes: Vec::new(alloc),
-            root: Next::Nothing,
+            root: NamesLeft::Nothing,
         }
     }
 
     /// What is left of the names of a node, by the byte that a name has there.
-    fn next_of(&self, at: u8, name: &[u8]) -> Next
+    fn next_of(&self, at: u8, name: &[u8]) -> NamesLeft
         ensures { result ≡ next_in (lowercase name.now) (slice_get self.now.nodes.items at) }
     {
         match self.nodes.as_slice().get(at as usize) {
             Some(node) => node.next[byte_at(name, node.place)],
-            None => Next::Nothing,
+            None => NamesLeft::Nothing,
         }
     }
 
@@ -96,9 +96,9 @@ impl NameTree {
         let mut left = STEP_LIMIT;
         while left > 0 {
             match next {
-                Next::Nothing => return None,
-                Next::Name(number) => return Some(number),
-                Next::Node(at) => next = self.next_of(at, name),
+                NamesLeft::Nothing => return None,
+                NamesLeft::Name(number) => return Some(number),
+                NamesLeft::Node(at) => next = self.next_of(at, name),
             }
             left -= 1;
         }
@@ -122,7 +122,7 @@ impl NameTree {
 
     /// The number under which a name is found, in any case of letters.
     fn found(&self, name: &[u8]) -> Option<usize>
-        ensures { result ≡ found self.now (lowercase name.now) }
+        ensures { result ≡ name_in_tree self.now (lowercase name.now) }
     {
         match self.number_of(name) {
             Some(number) if self.is_name(number as usize, name) => Some(number as usize),
@@ -136,9 +136,9 @@ impl NameTree {
         let mut near = 0;
         for _ in 0..NAME_LIMIT {
             match next {
-                Next::Nothing => break,
-                Next::Name(number) => return number as usize,
-                Next::Node(at) => {
+                NamesLeft::Nothing => break,
+                NamesLeft::Name(number) => return number as usize,
+                NamesLeft::Node(at) => {
                     near = self.one_of(at);
                     next = self.next_of(at, name);
                 }
@@ -181,14 +181,14 @@ impl NameTree {
         self.hang(name, place, byte, count as u8)
     }
 
-    /// What the tree has at the first node that looks at a place or behind it, on the way of a name, and the node above with its byte.
+    /// What the tree has at the first node that looks at a place or after it, on the way of a name, and the node above with its byte.
     fn way(&self, name: &[u8], place: usize) -> Way {
         let mut way = Way {
             above: None,
             next: self.root,
         };
         for _ in 0..NAME_LIMIT {
-            let Next::Node(at) = way.next else {
+            let NamesLeft::Node(at) = way.next else {
                 break;
             };
             if self.place_of(at) >= place {
@@ -222,10 +222,10 @@ impl NameTree {
         ensures { self.new.names ≡ self.old.names }
     {
         let way = self.way(name, place);
-        if let Next::Node(at) = way.next
+        if let NamesLeft::Node(at) = way.next
             && self.place_of(at) == place
         {
-            self.set(at, name, Next::Name(number));
+            self.set(at, name, NamesLeft::Name(number));
             return Ok(());
         }
         if self.nodes.len() >= NAME_LIMIT {
@@ -235,20 +235,20 @@ impl NameTree {
         let mut node = Node {
             place,
             one: number,
-            next: [Next::Nothing; 128],
+            next: [NamesLeft::Nothing; 128],
         };
         node.next[byte] = way.next;
-        node.next[byte_at(name, place)] = Next::Name(number);
+        node.next[byte_at(name, place)] = NamesLeft::Name(number);
         self.nodes.push(node)?;
         match way.above {
-            Some(above) => self.set(above, name, Next::Node(at)),
-            None => self.root = Next::Node(at),
+            Some(above) => self.set(above, name, NamesLeft::Node(at)),
+            None => self.root = NamesLeft::Node(at),
         }
         Ok(())
     }
 
-    /// Says what is left of the names of a node, behind the byte that a name has there.
-    fn set(&mut self, at: u8, name: &[u8], next: Next)
+    /// Says what is left of the names of a node, after the byte that a name has there.
+    fn set(&mut self, at: u8, name: &[u8], next: NamesLeft)
         ensures { self.new.names ≡ self.old.names }
     {
         if let Some(node) = self.nodes.get_mut(at as usize) {
@@ -257,11 +257,11 @@ impl NameTree {
     }
 }
 
-/// A node, and what stands behind a byte of it.
+/// A node, and what stands after a byte of it.
 #[derive(Clone, Copy)]
 struct Way {
     above: Option<u8>,
-    next: Next,
+    next: NamesLeft,
 }
 
 /// Names, and for each whether it is marked: a member of the values that were gone through is this name, in any case of letters.
@@ -289,7 +289,7 @@ impl ListedNames {
         ensures tree { self.new.tree ≡ self.old.tree }
         ensures count { length self.new.marks.items ≡ length self.old.marks.items }
         ensures marks { (k : ℕ) → k < length self.old.marks.items → slice_index_or self.new.marks.items k false
-            ≡ (slice_index_or self.old.marks.items k false || is_number k (found self.old.tree (lowercase member.now))) }
+            ≡ (slice_index_or self.old.marks.items k false || is_number k (name_in_tree self.old.tree (lowercase member.now))) }
     {
         let Some(number) = self.tree.number_of(member) else {
             return false;
@@ -350,7 +350,7 @@ impl ListedNames {
     /// Whether a member of the values is this name, in any case of letters; none where it is no name of the tree.
     pub fn is_listed(&self, name: &[u8]) -> Option<bool>
         ensures some { (values : List (List ℕ)) → AreMarked values self.now → IfSome result (λ b. b ≡ list_any (lists (lowercase name.now)) values) }
-        ensures none { IfNone result (found self.now.tree (lowercase name.now) ≡ None) }
+        ensures none { IfNone result (name_in_tree self.now.tree (lowercase name.now) ≡ None) }
     {
         match self.tree.found(name) {
             Some(number) => Some(self.mark_of(number)),

@@ -1,7 +1,7 @@
 // Which members of values can be names that are looked for, by how they begin and how long they are.
 ghost use Rattle.std.specs.Prelude.{◌≡◌, ◌<◌, ◌≤◌, ◌+◌, ℕ, Bool, true, false, List, [], length, slice_index, slice_index_or, option_copied, MatchOption, IfSome};
 ghost use Rattle.std.specs.List.{list_any};
-ghost use Rattle.http1_model.specs.Fields.{members};
+ghost use Rattle.h1_model.specs.Fields.{members};
 ghost use Rattle.http_header.specs.Token.{lowercase};
 ghost use Rattle.h1_text.specs.Members.{rest_members};
 ghost use Rattle.h1_text.specs.Wanted.{first_of, shape_of, begins, has, CanBe, HasBlanks, IsLostOn, members_from, rest_len};
@@ -86,7 +86,7 @@ impl Wanted {
         self.firsts[first_of(bytes) as usize]
     }
 
-    /// Whether none of the next eight bytes behind a place begins a name, and there are eight.
+    /// Whether none of the next eight bytes after a place begins a name, and there are eight.
     fn begins_none(&self, list: &[u8], at: usize) -> bool
         requires table { HasBlanks self.now }
         requires within { at ≤ length list.now }
@@ -104,7 +104,7 @@ impl Wanted {
                 | self.firsts[list[at + 8] as usize])
     }
 
-    /// What stands behind the comma of a member that begins as no name does, and behind those members behind it of which no byte begins a name.
+    /// What stands after the comma of a member that begins as no name does, and after those members after it of which no byte begins a name.
     fn behind_run<'t>(&self, list: &'t [u8]) -> Option<&'t [u8]>
         requires blanks { HasBlanks self.now }
         requires other { begins self.now list.now ≡ false }
@@ -123,7 +123,7 @@ impl Wanted {
         }
     }
 
-    /// The next member that can be a name, of those of a list that are left, and what stands behind its comma.
+    /// The next member that can be a name, of those of a list that are left, and what stands after its comma.
     pub fn next<'t>(&self, list: Option<&'t [u8]>) -> Option<(&'t [u8], Option<&'t [u8]>)>
         requires { HasBlanks self.now }
         ensures members { (p : List ℕ → Bool) → IsLostOn self.now p → list_any p (members_from result) ≡ list_any p (rest_members (option_copied list.entry)) }

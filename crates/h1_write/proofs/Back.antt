@@ -10,18 +10,18 @@ use Rattle.std.specs.Prelude.{nat_lt}
 use Rattle.httparse.specs.Ascii.{crlf_bytes}
 use Rattle.httparse.specs.Grammar.{crlf, IsField}
 use Rattle.httparse.proofs.OnLiterals.{httparse_on_literals}
-use Rattle.http1_model.specs.ChunkWire.{chunk_of, chunks_of, last_chunk}
-use Rattle.http1_model.specs.Chunks.{Place, size_line, inside, start, Sought, data_at, section_at, waiting, malformed, sought, behind_size, behind_data, moved, size_step, sized, size_open, Run, no_run, with_byte, if_data, run_of}
-use Rattle.http1_model.specs.Fields.{Pair}
-use Rattle.http1_model.specs.Framing.{OutItem, piece, trailers, by_chunks, items_wire}
-use Rattle.http1_model.specs.Length.{length_limit}
-use Rattle.http1_model.specs.Trailers.{ended, IsBehind, IsEnd, section_cut}
+use Rattle.h1_model.specs.ChunkWire.{chunk_of, chunks_of, last_chunk}
+use Rattle.h1_model.specs.Chunks.{Place, size_line, inside, start, Sought, data_at, section_at, waiting, malformed, sought, behind_size, behind_data, sought_after, size_step, sized, size_open, Run, no_run, with_byte, if_data, run_of}
+use Rattle.h1_model.specs.Fields.{Pair}
+use Rattle.h1_model.specs.Framing.{OutItem, piece, trailers, by_chunks, items_wire}
+use Rattle.h1_model.specs.Length.{length_limit}
+use Rattle.h1_model.specs.Trailers.{ended, IsBehind, IsEnd, section_cut}
 use Rattle.h1_write.specs.Laws.{is_short, ReadsFrom, middle_items, body_wire, PiecesReadBack, EndsThere, EndReadBack, trailed_wire, section_wire, TrailersReadBack}
 use Rattle.h1_write.proofs.Sizes.{size_text, size_read}
 
 -- ---- one byte, and the data of one chunk
 
--- the run behind what is sought
+-- the run after what is sought
 abbrev run_behind : ℕ → Place → List ℕ → Sought → Run
 run_behind room p text s =
     if_data s (no_run p) (λ at left. with_byte (get_or text at 0) (at + 1) (run_of room (inside (left - 1)) (drop (at + 1) text)))
@@ -46,7 +46,7 @@ reads_by room p text bytes section r is carried at due rest = record {
   rest = subst (λ (x : Run). drop at (drop x.used text) ≡ section) (sym is) rest;
 }
 
--- a byte of data behind the coding in front of it
+-- a byte of data after the coding in front of it
 step_back : (n room : ℕ) (p : Place) (front : List ℕ) (b : ℕ) (more bytes section : List ℕ) (l : ℕ) → n ≡ suc room
     → sought p (front ++ b ∷ more) ≡ data_at (length front) (suc l) → ReadsFrom room (inside l) more bytes section
     → ReadsFrom n p (front ++ b ∷ more) (b ∷ bytes) section
@@ -82,7 +82,7 @@ inside_back (x ∷ xs) more bytes section room r =
     (omega arith) (sought_inside (length (x ∷ xs)) ((x ∷ xs) ++ more) (omega arith) (omega arith))
     (inside_back xs more bytes section room r)
 
--- ---- where a size line is due: at the start, or behind the CR LF of a chunk
+-- ---- where a size line is due: at the start, or after the CR LF of a chunk
 
 abbrev due_place : Bool → Place
 due_place false = size_line
@@ -92,16 +92,16 @@ abbrev lead : Bool → List ℕ
 lead false = []
 lead true = crlf_bytes
 
-moved_zero : (s : Sought) → s ≡ moved 0 s
+moved_zero : (s : Sought) → s ≡ sought_after 0 s
 moved_zero (data_at at left) = ap (λ k. data_at k left) (sym (zero-add at))
 moved_zero (section_at at) = ap section_at (sym (zero-add at))
 moved_zero waiting = refl
 moved_zero malformed = refl
 
 sought_due : (b : Bool) (text : List ℕ) (s : Sought) → behind_size text (size_step text) ≡ s
-    → sought (due_place b) (lead b ++ text) ≡ moved (length (lead b)) s
+    → sought (due_place b) (lead b ++ text) ≡ sought_after (length (lead b)) s
 sought_due false text s e = e ∙ moved_zero s
-sought_due true text s e = ap (moved 2) e
+sought_due true text s e = ap (sought_after 2) e
 
 -- the last chunk
 last_read : (section : List ℕ) → behind_size (last_chunk ++ section) (size_step (last_chunk ++ section)) ≡ section_at 3
@@ -199,7 +199,7 @@ trailers_read_back pieces fields room short fits =
 
 -- ---- the end
 
--- behind the bytes stands a section that is read as these fields
+-- after the bytes stands a section that is read as these fields
 pub ends_there : (room : ℕ) (text bytes section : List ℕ) (fields : List Pair) → ReadsFrom room start text bytes section → 0 < length section
     → ((at : ℕ) → IsEnd at section (section_cut section) (ended fields (at + length section)))
     → EndsThere text (run_of room start text) fields

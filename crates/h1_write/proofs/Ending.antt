@@ -15,11 +15,11 @@ use Rattle.header_maps.specs.Judged.{is_token_text}
 use Rattle.header_maps.specs.Kept.{is_kept_field}
 use Rattle.header_maps.specs.Pairs.{is_pseudo}
 use Rattle.header_maps.proofs.Shapes.{bytes_are, filter_fewer}
-use Rattle.http1_model.specs.Fields.{Pair, is_named, values_of, is_listed, lists, lowered}
-use Rattle.http1_model.specs.Lines.{head_limit, Cut, whole, whole_lines, section_of, cut_lines}
-use Rattle.http1_model.specs.Trailers.{trailer_names, is_trailer_dropped, kept_trailers, section_cut, window_section, IsSectionText, EndsWith, ended, IsEnd}
-use Rattle.http1_model.specs.Wire.{field_line, field_lines, is_left_out, sent_among, sent_fields}
-use Rattle.http1_model.proofs.GrammarLines.{whole_lines-section, section_of-section}
+use Rattle.h1_model.specs.Fields.{Pair, is_named, values_of, is_listed, lists, lowercase_name}
+use Rattle.h1_model.specs.Lines.{head_limit, Cut, whole, whole_lines, section_of, cut_lines}
+use Rattle.h1_model.specs.Trailers.{trailer_names, is_trailer_dropped, kept_trailers, section_cut, window_section, IsSectionText, EndsWith, ended, IsEnd}
+use Rattle.h1_model.specs.Wire.{field_line, field_lines, is_left_out, sent_among, sent_fields}
+use Rattle.h1_model.proofs.GrammarLines.{whole_lines-section, section_of-section}
 use Rattle.h1_write.specs.Laws.{read_field, section_wire, trailed_wire, TrailedEndReadBack}
 use Rattle.h1_write.proofs.Back.{ends_there, trailers_read_back}
 
@@ -143,7 +143,7 @@ unfolding trim_ows
 values_read [] = refl
 values_read (f ∷ fs) = ap (λ (ps : List Pair). read_field f ∷ ps) (values_read fs)
 
-lowered_same : (fs : List Pair) → AllByRecursion IsSent fs → map lowered (map read_field fs) ≡ map read_field fs
+lowered_same : (fs : List Pair) → AllByRecursion IsSent fs → map lowercase_name (map read_field fs) ≡ map read_field fs
 lowered_same [] all = refl
 lowered_same (f ∷ fs) all = λ t. (all.0.low t, trim_ows f.1) ∷ lowered_same fs all.1 t
 

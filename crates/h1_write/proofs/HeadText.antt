@@ -25,12 +25,12 @@ use Rattle.header_maps.specs.Kept.{is_kept_field, AreFields, BeginsWith, IsHeade
 use Rattle.header_maps.specs.Kinds.{pseudo_names}
 use Rattle.header_maps.specs.Operations.{status_kind}
 use Rattle.header_maps.specs.Pairs.{is_named}
-use Rattle.http1_model.specs.Fields.{Pair}
-use Rattle.http1_model.specs.Framing.{Framing, no_body, by_length, by_chunks, by_close, framing_line, response_line, start_lines, head_wire}
-use Rattle.http1_model.specs.Head.{Head, step_of, SpellsBy, IsStepAt}
-use Rattle.http1_model.specs.Lines.{Cut, whole, too_large, is_empty_line, skipped, head_cut, window_cut, empty_len, whole_lines}
-use Rattle.http1_model.specs.Wire.{field_line, field_lines, is_left_out, sent_among, sent_fields, pseudo_of}
-use Rattle.http1_model.proofs.GrammarLines.{AreParts, first_line, whole_lines-head, length-head, window_cut-head, filled_line, response_words-line, response_parts, response_prints}
+use Rattle.h1_model.specs.Fields.{Pair}
+use Rattle.h1_model.specs.Framing.{Framing, no_body, by_length, by_chunks, by_close, framing_line, response_line, start_lines, head_wire}
+use Rattle.h1_model.specs.Head.{Head, step_of, SpellsBy, IsStepAt}
+use Rattle.h1_model.specs.Lines.{Cut, whole, too_large, is_empty_line, empty_line_bytes, head_cut, window_cut, empty_len, whole_lines}
+use Rattle.h1_model.specs.Wire.{field_line, field_lines, is_left_out, sent_among, sent_fields, pseudo_of}
+use Rattle.h1_model.proofs.GrammarLines.{AreParts, first_line, whole_lines-head, length-head, window_cut-head, filled_line, response_words-line, response_parts, response_prints}
 use Rattle.h1_write.specs.Heads.{framing_fields, written_fields, is_answer_kind, IsTail, IsInLimit, status_said}
 use Rattle.h1_write.proofs.Ending.{fields_at, section_is, IsSent, sent_all}
 use Rattle.h1_write.proofs.Told.{decimal_digits, IsCode, code_of}
@@ -212,7 +212,7 @@ tree_is framing h list tail small = record {
 }
 
 -- a text that is a whole head, with no empty line in front, is its answer
-pub spells_whole : (answers : List ℕ → Result Head ℕ → Type 0) (large : ℕ) (text : List ℕ) (answer : Result Head ℕ) → skipped text ≡ 0
+pub spells_whole : (answers : List ℕ → Result Head ℕ → Type 0) (large : ℕ) (text : List ℕ) (answer : Result Head ℕ) → empty_line_bytes text ≡ 0
     → head_cut text ≡ whole (length text) → answers text answer → SpellsBy answers large text (step_of (length text) answer)
 spells_whole answers large text answer none cut is =
     let n = length text in
@@ -223,7 +223,7 @@ spells_whole answers large text answer none cut is =
     subst (λ (k : ℕ). IsStepAt answers large k (drop k text) (head_cut (drop k text)) step) (sym none) there
 
 pub record IsWhole (text : List ℕ) : Type 0 where
-  pub none : skipped text ≡ 0
+  pub none : empty_line_bytes text ≡ 0
   pub cut : head_cut text ≡ whole (length text)
 
 -- so is a response head with few lines and bytes
@@ -236,8 +236,8 @@ tree_whole tree is blank few short =
     let lines = whole_lines-head text p [] (response_prints tree) are blank in
     let first : is_empty_line (first_line p) ≡ false = filled_line 72 (drop 1 (first_line p)) refl refl in
     let after = map print_field p.fields ++ print_end p.last ∷ whole_lines [] in
-    let skip : skipped text ≡ 0 =
-    ap skipped (sym (append-nil text)) ∙ ap empty_len lines
+    let skip : empty_line_bytes text ≡ 0 =
+    ap empty_line_bytes (sym (append-nil text)) ∙ ap empty_len lines
     ∙ cond-false (is_empty_line (first_line p)) (length (first_line p) + empty_len after) 0 first in
     let few_lines : nat_lt 100 (length p.fields) ≡ false = le-ltb 100 (length p.fields) few in
     record {

@@ -9,15 +9,15 @@ use Rattle.header_maps.specs.declared.kind.ListKind.TheVariants as kinds
 use Rattle.header_maps.specs.Headers.{Headers}
 use Rattle.header_maps.specs.Judged.{status_text}
 use Rattle.header_maps.specs.Operations.{no_headers}
-use Rattle.http1_model.specs.Fields.{Pair, values_of, lists, kept_response_fields}
-use Rattle.http1_model.specs.Framing.{Framing, no_body, by_length, by_chunks, by_close, head_wire}
-use Rattle.http1_model.specs.Head.{Head, head_of, measured, listed, pairs_at, response_judged, IsResponseAnswer, found, step_of, SpellsResponse}
-use Rattle.http1_model.specs.Length.{BodyLength, nothing, Measure, response_measure, is_without_body, without_body, bodied}
-use Rattle.http1_model.specs.Listed.{response_list}
-use Rattle.http1_model.specs.Messages.{response, interim, head, done, Step, item, due_behind, is_interim, response_item, StepsTo}
-use Rattle.http1_model.specs.Wire.{sent_fields, pseudo_of}
-use Rattle.http1_model.proofs.Listing.{response_listed}
-use Rattle.http1_model.proofs.Taken.{response_taken}
+use Rattle.h1_model.specs.Fields.{Pair, values_of, lists, kept_response_fields}
+use Rattle.h1_model.specs.Framing.{Framing, no_body, by_length, by_chunks, by_close, head_wire}
+use Rattle.h1_model.specs.Head.{Head, head_of, measured, head_of_list, pairs_at, response_judged, IsResponseAnswer, found, step_of, SpellsResponse}
+use Rattle.h1_model.specs.Length.{BodyLength, nothing, Measure, response_measure, is_without_body, without_body, measure_of_body}
+use Rattle.h1_model.specs.Listed.{response_list}
+use Rattle.h1_model.specs.Messages.{response, interim, head, done, Step, item, due_behind, is_interim, response_item, StepsTo}
+use Rattle.h1_model.specs.Wire.{sent_fields, pseudo_of}
+use Rattle.h1_model.proofs.Listing.{response_listed}
+use Rattle.h1_model.proofs.Taken.{response_taken}
 use Rattle.h1_write.specs.Heads.{written_fields, status_said, IsReadable, measure_said, connection_read, fields_read, head_read, frames_body, ResponseHeadReadBack, InterimReadBack, ResponseReadBack, BareResponseReadBack}
 use Rattle.h1_write.specs.Laws.{read_field}
 use Rattle.h1_write.specs.Round.{last_bytes, length_said, ReadsAs, IsHeadWith}
@@ -66,9 +66,9 @@ judged_is to_head framing h r list some = by_list (response_list status all) ref
     by_list None is some = absurd (cc)
     by_list (Some l) is some =
         let taken : response_judged to_head 1 status all ≡ Ok (head_of l None 1 all measure) =
-        ap (λ (o : Option Headers). listed 502 o None 1 all (bodied (is_without_body to_head status)
+        ap (λ (o : Option Headers). head_of_list 502 o None 1 all (measure_of_body (is_without_body to_head status)
         (response_measure 1 (values_of (codes "transfer-encoding") all) (values_of (codes "content-length") all)))) is
-        ∙ ap (λ (m : Result Measure ℕ). measured l None 1 all (bodied (is_without_body to_head status) m)) told in
+        ∙ ap (λ (m : Result Measure ℕ). measured l None 1 all (measure_of_body (is_without_body to_head status) m)) told in
         let shape = response_listed to_head 1 status all (head_of l None 1 all measure) taken in
         let kind : l.kind ≡ h.fields.kind = shape.0 ∙ sym list.kind_is in
         let pairs : l.pairs ≡ (codes ":status", pseudo_of h.fields (codes ":status")) ∷ fields_read framing h =

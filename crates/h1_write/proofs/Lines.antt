@@ -1,10 +1,10 @@
 -- All that is written of a line is read back.
 use Rattle.std.proofs.Common.{◌≡◌, ℕ, Bool, List, [], ◌∷◌, ◌++◌, map, None, Some, refl, ap, subst, ◌∙◌, append_assoc}
 use Rattle.std.specs.List.{flat_map}
-use Rattle.http1_model.specs.Framing.{Framing, no_body, OutItem, items_wire, head_wire}
-use Rattle.http1_model.specs.Framing as out
-use Rattle.http1_model.specs.Head.{Head}
-use Rattle.http1_model.specs.Messages.{Item, request, head, over}
+use Rattle.h1_model.specs.Framing.{Framing, no_body, OutItem, items_wire, head_wire}
+use Rattle.h1_model.specs.Framing as out
+use Rattle.h1_model.specs.Head.{Head}
+use Rattle.h1_model.specs.Messages.{Item, request, head, over}
 use Rattle.h1_write.specs.Heads.{connection_read}
 use Rattle.h1_write.specs.Lines.{OutRequest, out_wire, in_items, AreReadable, RequestLineReadBack, AreInterim, interim_out, interim_in, response_in, AnswerLineReadBack, BareAnswerLineReadBack}
 use Rattle.h1_write.specs.Requests.{request_read}

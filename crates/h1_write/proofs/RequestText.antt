@@ -15,10 +15,10 @@ use Rattle.header_maps.specs.Judged.{is_method, is_authority, is_path, is_visibl
 use Rattle.header_maps.specs.Kept.{is_kept_field, AreFields, BeginsWith, IsHeaders}
 use Rattle.header_maps.specs.Kinds.{pseudo_names}
 use Rattle.header_maps.specs.Pairs.{is_named}
-use Rattle.http1_model.specs.Fields.{Pair, is_hop_name, is_listed}
-use Rattle.http1_model.specs.Framing.{Framing}
-use Rattle.http1_model.specs.Head.{Head}
-use Rattle.http1_model.specs.Wire.{is_left_out, sent_among, sent_fields}
+use Rattle.h1_model.specs.Fields.{Pair, is_hop_name, is_listed}
+use Rattle.h1_model.specs.Framing.{Framing}
+use Rattle.h1_model.specs.Head.{Head}
+use Rattle.h1_model.specs.Wire.{is_left_out, sent_among, sent_fields}
 use Rattle.h1_write.specs.Heads.{framing_fields, IsTail, IsInLimit}
 use Rattle.h1_write.specs.Requests.{method_of, path_of, authority_of, request_fields}
 use Rattle.h1_write.proofs.Ending.{IsSent, sent_all, kept_low}

@@ -16,11 +16,11 @@ use Rattle.header_maps.specs.declared.kind.ListKind.{ListKind}
 use Rattle.header_maps.specs.declared.kind.ListKind.TheVariants as kinds
 use Rattle.header_maps.specs.Judged.{is_token_text, is_path, is_path_byte}
 use Rattle.header_maps.proofs.Shapes.{bytes_are}
-use Rattle.http1_model.specs.Framing.{Framing, framing_line, start_lines, head_wire}
-use Rattle.http1_model.specs.Head.{Head}
-use Rattle.http1_model.specs.Lines.{whole, too_large, is_empty_line, skipped, window_cut, empty_len, whole_lines}
-use Rattle.http1_model.specs.Wire.{field_line, field_lines, sent_fields, request_line}
-use Rattle.http1_model.proofs.GrammarLines.{AreParts, first_line, whole_lines-head, length-head, window_cut-head, token_first, request_words-line, request_parts, request_prints}
+use Rattle.h1_model.specs.Framing.{Framing, framing_line, start_lines, head_wire}
+use Rattle.h1_model.specs.Head.{Head}
+use Rattle.h1_model.specs.Lines.{whole, too_large, is_empty_line, empty_line_bytes, window_cut, empty_len, whole_lines}
+use Rattle.h1_model.specs.Wire.{field_line, field_lines, sent_fields, request_line}
+use Rattle.h1_model.proofs.GrammarLines.{AreParts, first_line, whole_lines-head, length-head, window_cut-head, token_first, request_words-line, request_parts, request_prints}
 use Rattle.h1_write.specs.Heads.{framing_fields, written_fields, IsTail, IsInLimit}
 use Rattle.h1_write.specs.Requests.{method_of, path_of, authority_of, request_fields}
 use Rattle.h1_write.proofs.Ending.{fields_at, section_is, token_read}
@@ -125,8 +125,8 @@ tree_whole tree is blank few short =
     ap is_empty_line (append_assoc tree.method behind (print_end tree.line_end))
     ∙ token_first tree.method (behind ++ print_end tree.line_end) is.method.0 is.method.1 in
     let after = map print_field p.fields ++ print_end p.last ∷ whole_lines [] in
-    let skip : skipped text ≡ 0 =
-    ap skipped (sym (append-nil text)) ∙ ap empty_len lines
+    let skip : empty_line_bytes text ≡ 0 =
+    ap empty_line_bytes (sym (append-nil text)) ∙ ap empty_len lines
     ∙ cond-false (is_empty_line (first_line p)) (length (first_line p) + empty_len after) 0 first in
     let few_lines : nat_lt 100 (length p.fields) ≡ false = le-ltb 100 (length p.fields) few in
     record {

@@ -11,18 +11,18 @@ use Rattle.header_maps.specs.Headers.{Headers}
 use Rattle.header_maps.specs.Judged.{is_token_text}
 use Rattle.header_maps.specs.Kept.{is_kept_field}
 use Rattle.header_maps.specs.Operations.{no_headers, request_headers}
-use Rattle.http1_model.specs.Fields.{Pair, is_named, values_of, lists, is_hop_name, unlisted, kept_fields}
-use Rattle.http1_model.specs.Framing.{Framing, no_body, by_length, by_chunks, by_close, head_wire}
-use Rattle.http1_model.specs.Head.{Head, host_of, is_host_right, head_of, measured, listed, targeted, early_refusal, IsTargeted, IsJudged, pairs_at, IsAnswer, found, step_of, SpellsStep}
-use Rattle.http1_model.specs.Length.{BodyLength, Measure, request_measure}
-use Rattle.http1_model.specs.Listed.{scheme_text, request_list}
-use Rattle.http1_model.specs.Messages.{request, head, item, due_behind, StepsTo}
-use Rattle.http1_model.specs.Target.{Target}
-use Rattle.http1_model.specs.Wire.{sent_fields}
-use Rattle.http1_model.proofs.FieldLemmas.{values_of-other, values_of-named}
-use Rattle.http1_model.proofs.Listing.{passing-kept, request_listed}
-use Rattle.http1_model.proofs.Taken.{request_taken}
-use Rattle.http1_model.proofs.TargetLemmas.{IsTargetOf-unique}
+use Rattle.h1_model.specs.Fields.{Pair, is_named, values_of, lists, is_hop_name, fields_not_listed, kept_fields}
+use Rattle.h1_model.specs.Framing.{Framing, no_body, by_length, by_chunks, by_close, head_wire}
+use Rattle.h1_model.specs.Head.{Head, host_of, is_host_right, head_of, measured, head_of_list, head_of_target, early_refusal, IsTargeted, IsJudged, pairs_at, IsAnswer, found, step_of, SpellsStep}
+use Rattle.h1_model.specs.Length.{BodyLength, Measure, request_measure}
+use Rattle.h1_model.specs.Listed.{scheme_text, request_list}
+use Rattle.h1_model.specs.Messages.{request, head, item, due_behind, StepsTo}
+use Rattle.h1_model.specs.Target.{Target}
+use Rattle.h1_model.specs.Wire.{sent_fields}
+use Rattle.h1_model.proofs.FieldLemmas.{values_of-other, values_of-named}
+use Rattle.h1_model.proofs.Listing.{passing-kept, request_listed}
+use Rattle.h1_model.proofs.Taken.{request_taken}
+use Rattle.h1_model.proofs.TargetLemmas.{IsTargetOf-unique}
 use Rattle.h1_write.specs.Heads.{framing_fields, written_fields, IsInLimit, told_fields, tail_read, connection_read}
 use Rattle.h1_write.specs.Laws.{read_field}
 use Rattle.h1_write.specs.Requests.{method_of, path_of, authority_of, request_fields, own_target, is_for_request, IsReadableRequest, request_said, request_fields_read, request_read, RequestHeadReadBack, RequestReadBack}
@@ -144,7 +144,7 @@ kept_is framing h list =
     ∙ ap (λ (vs : List (List ℕ)). passing_by is_hop_name vs all) (connection_is framing h list)
     ∙ dropped_first is_hop_name connection (read_field (codes "host", authority_of h)) (map read_field (written_fields framing h)) host_is_hop.1 host_is_hop.0
     ∙ written_passing is_hop_name connection framing sent h.tail.pairs hops (request_out h list)
-    ∙ ap (λ (t : List Pair). unlisted connection (map read_field (sent ++ told_fields framing)) ++ t) (passing-kept (tail_read h) (tail_read h))
+    ∙ ap (λ (t : List Pair). fields_not_listed connection (map read_field (sent ++ told_fields framing)) ++ t) (passing-kept (tail_read h) (tail_read h))
 
 -- ---- what is judged
 
@@ -169,7 +169,7 @@ judged_is framing h r list some = by_list (request_list method target (host_of (
     all : List Pair
     all = all_read framing h
 
-    judged : (answer : Result Head ℕ) → answer ≡ targeted method 1 all (Some target) → IsJudged method (path_of h) 1 all answer
+    judged : (answer : Result Head ℕ) → answer ≡ head_of_target method 1 all (Some target) → IsJudged method (path_of h) 1 all answer
     judged answer is =
         subst (λ (o : Option ℕ). MatchOption o (IsTargeted method (path_of h) 1 all answer) (λ number. answer ≡ Err number)) (sym (early_is framing h r list))
         (record { parts = Some target; gives = r.target; is = is })
@@ -183,9 +183,9 @@ judged_is framing h r list some = by_list (request_list method target (host_of (
     by_list (Some l) is some =
         let measure = request_said framing in
         let told = request_measure 1 (values_of (codes "transfer-encoding") all) (values_of (codes "content-length") all) in
-        let first : targeted method 1 all (Some target) ≡ measured l (Some target.form) 1 all told =
-        ap (λ (o : Option Headers). listed 400 o (Some target.form) 1 all told) is in
-        let taken : targeted method 1 all (Some target) ≡ Ok (head_of l (Some target.form) 1 all measure) =
+        let first : head_of_target method 1 all (Some target) ≡ measured l (Some target.form) 1 all told =
+        ap (λ (o : Option Headers). head_of_list 400 o (Some target.form) 1 all told) is in
+        let taken : head_of_target method 1 all (Some target) ≡ Ok (head_of l (Some target.form) 1 all measure) =
         first ∙ ap (λ (m : Result Measure ℕ). measured l (Some target.form) 1 all m) (told_is framing h r list) in
         let shape = request_listed method (path_of h) 1 all (head_of l (Some target.form) 1 all measure)
         (judged (Ok (head_of l (Some target.form) 1 all measure)) (sym taken)) in

@@ -4,17 +4,17 @@ use Rattle.std.proofs.lemmas.Bool.{eqb-true}
 use Rattle.std.proofs.lemmas.List.{append-nil, length-append, map-append, take_all, nil_from_length}
 use Rattle.std.proofs.Math.Seq.{drop-append-add, drop-append_seam}
 use Rattle.std.specs.List.{concat, list_all}
-use Rattle.http1_model.specs.Chunks.{start, run_of}
-use Rattle.http1_model.specs.Fields.{Pair}
-use Rattle.http1_model.specs.Framing.{Framing, no_body, by_length, by_chunks, by_close, piece_wire, trailer_wire, items_wire}
-use Rattle.http1_model.specs.Length.{nothing, exactly}
-use Rattle.http1_model.specs.Messages.{Item, octet, end, Placed, Due, body, counted, coded, unbounded, Stop, Step, item, due_behind, due_next, end_step, section_step, trailers_left, StepsTo, SpellsFrom}
-use Rattle.http1_model.specs.ReadingLaws.{item_at}
-use Rattle.http1_model.specs.Trailers as trailing
-use Rattle.http1_model.specs.Unread.{Carries}
-use Rattle.http1_model.specs.Wire.{sent_fields}
-use Rattle.http1_model.proofs.Carried.{run_carries, take_carries, take_carries_unbounded, coded_there}
-use Rattle.http1_model.proofs.Chains.{Chain, chain_joins, chain_grows, placed_at, one_item, RunChain, chain_run}
+use Rattle.h1_model.specs.Chunks.{start, run_of}
+use Rattle.h1_model.specs.Fields.{Pair}
+use Rattle.h1_model.specs.Framing.{Framing, no_body, by_length, by_chunks, by_close, piece_wire, trailer_wire, items_wire}
+use Rattle.h1_model.specs.Length.{nothing, exactly}
+use Rattle.h1_model.specs.Messages.{Item, octet, end, Placed, Due, body, counted, coded, unbounded, Stop, Step, item, due_behind, due_next, end_step, section_step, trailers_left, StepsTo, SpellsFrom}
+use Rattle.h1_model.specs.ReadingLaws.{item_at}
+use Rattle.h1_model.specs.Trailers as trailing
+use Rattle.h1_model.specs.Unread.{Carries}
+use Rattle.h1_model.specs.Wire.{sent_fields}
+use Rattle.h1_model.proofs.Carried.{run_carries, take_carries, take_carries_unbounded, coded_there}
+use Rattle.h1_model.proofs.Chains.{Chain, chain_joins, chain_grows, placed_at, one_item, RunChain, chain_run}
 use Rattle.h1_write.specs.Laws.{is_short, EndsThere, read_field, body_wire, trailed_wire}
 use Rattle.h1_write.specs.Round.{Ending, last_bytes, last_trailers, body_items, all_pieces, body_bytes, FitsSection, length_said, end_item, items_read, place_behind, ReadsAs, BodyReadBack}
 use Rattle.h1_write.proofs.Back.{pieces_read_back, end_read_back, trailers_read_back}
@@ -22,7 +22,7 @@ use Rattle.h1_write.proofs.Ending.{trailed_end_read_back}
 
 -- ---- chains of items
 
--- what is spelled behind a chain is spelled behind its items
+-- what is spelled after a chain is spelled after its items
 chain_then : (text : List ℕ) (ended : Bool) (asked : Option (List ℕ)) (due : Due) (at : ℕ) (xs ys : List Placed) (mid : Due) (to : ℕ) (why : Stop)
     → Chain text ended asked due at xs mid to → SpellsFrom text ended asked mid to ys why → SpellsFrom text ended asked due at (xs ++ ys) why
 chain_then text ended asked due at [] ys mid to why x y =
@@ -42,7 +42,7 @@ pub record Chained (text : List ℕ) (ended : Bool) (asked : Option (List ℕ)) 
   pub chain : Chain text ended asked due at placed next to
   pub are : map item_at placed ≡ items
 
--- bytes of a body, and an item behind them
+-- bytes of a body, and an item after them
 run_then : (text : List ℕ) (ended : Bool) (asked : Option (List ℕ)) (due : Due) (at : ℕ) (bytes : List ℕ) (mid : Due) (to : ℕ) (i : Item) (used : ℕ) (next : Due)
     → RunChain text ended asked due at bytes mid to → StepsTo ended asked mid (drop to text) (item i used next)
     → Chained text ended asked due at (map octet bytes ++ i ∷ []) next (to + used)
@@ -77,7 +77,7 @@ reads_grown ended asked due front wire behind items next c =
 
 -- ---- bodies
 
--- the bytes of a body behind the front of a text, and its end behind them
+-- the bytes of a body after the front of a text, and its end after them
 carried_chain : (ended : Bool) (asked : Option (List ℕ)) (due : Due) (front wire bytes : List ℕ) (used : ℕ) (mid : Due) (i : Item) (last : ℕ) (next : Due)
     → Carries ended asked due wire bytes used mid → StepsTo ended asked mid (drop used wire) (item i last next) → used + last ≡ length wire
     → Chained (front ++ wire) ended asked due (length front) (map octet bytes ++ i ∷ []) next (length (front ++ wire))

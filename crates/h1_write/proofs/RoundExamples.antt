@@ -4,8 +4,8 @@ use Rattle.std.specs.Fmt.{digits}
 use Rattle.http_header.specs.Token as token
 use Rattle.httparse.proofs.OnLiterals.{httparse_on_literals}
 use Rattle.header_maps.specs.Kept.{IsHeaders}
-use Rattle.http1_model.specs.Framing.{by_length, by_chunks}
-use Rattle.http1_model.proofs.Examples.{slash_target}
+use Rattle.h1_model.specs.Framing.{by_length, by_chunks}
+use Rattle.h1_model.proofs.Examples.{slash_target}
 use Rattle.h1_write.specs.Heads.{IsTail, IsReadable}
 use Rattle.h1_write.specs.Requests.{IsReadableRequest}
 use Rattle.h1_write.specs.RoundExamples.{tail_fields, written_response, ResponseExamples, written_request, RequestExamples}

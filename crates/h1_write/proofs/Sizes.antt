@@ -11,13 +11,13 @@ use Rattle.std.specs.Int.Digits.{digits_of, AllBelowBase}
 use Rattle.std.specs.Fmt.{digits, digits_onto}
 use Rattle.std.specs.List.{list_all, prefix_len, take_while}
 use Rattle.std.specs.Str.Parse.{digits_value}
-use Rattle.http1_model.specs.ChunkWire.{hex_digit, hex_text}
+use Rattle.h1_model.specs.ChunkWire.{hex_digit, hex_text}
 use Rattle.std.specs.Prelude.{nat_lt}
 use Rattle.httparse.specs.Grammar.{skip_ows}
-use Rattle.http1_model.specs.Length.{length_limit}
-use Rattle.http1_model.specs.Chunks.{is_before_end, front_of, number_of_digits, are_extensions, size_told, told_step, front_step, sized, size_step}
+use Rattle.h1_model.specs.Length.{length_limit}
+use Rattle.h1_model.specs.Chunks.{is_before_end, front_of, number_of_digits, are_extensions, size_told, told_step, front_step, sized, size_step}
 
--- the last digit of a number stands behind those in front of it
+-- the last digit of a number stands after those in front of it
 hex_push : (n : ℕ) → 0 < n → hex_text n ≡ hex_text (n / 16) ++ hex_digit (n % 16) ∷ []
 hex_push n some = ap (map hex_digit) (digits_of_step 16 n (omega arith) some) ∙ map_push hex_digit (digits_of 16 (n / 16)) (n % 16)
 

@@ -17,8 +17,8 @@ use Rattle.httparse.proofs.OnLiterals.{httparse_on_literals}
 use Rattle.httparse.proofs.TrimLemmas.{AllPass-reverse}
 use Rattle.std.proofs.lemmas.List.{reverse-reverse}
 use Rattle.header_maps.specs.Judged.{is_visible, status_text, is_within, is_status}
-use Rattle.http1_model.specs.Fields.{members}
-use Rattle.http1_model.specs.Length.{nothing, exactly, chunked, Measure, length_limit, number_of, all_as, one_number, told_measure, or_malformed, request_measure, response_measure}
+use Rattle.h1_model.specs.Fields.{members}
+use Rattle.h1_model.specs.Length.{nothing, exactly, chunked, Measure, length_limit, number_of, all_as, one_number, told_measure, or_malformed, request_measure, response_measure}
 
 -- ---- digits
 

@@ -4,11 +4,11 @@ use Rattle.std.proofs.lemmas.Bool.{false≢true}
 use Rattle.std.specs.List.{flat_map}
 use Rattle.std.proofs.lemmas.List.{append-nil, length-append, map-append}
 use Rattle.std.proofs.Math.Seq.{drop-append_seam}
-use Rattle.http1_model.specs.Framing.{Framing, no_body, by_length, by_chunks, by_close, items_wire}
-use Rattle.http1_model.specs.Head.{not_yet}
-use Rattle.http1_model.specs.Messages.{Item, Placed, Due, head, done, item, stop, due_behind, due_next, step_from, StepsTo, SpellsFrom}
-use Rattle.http1_model.specs.ReadingLaws.{item_at}
-use Rattle.http1_model.proofs.Chains.{Chain, placed_at, one_item}
+use Rattle.h1_model.specs.Framing.{Framing, no_body, by_length, by_chunks, by_close, items_wire}
+use Rattle.h1_model.specs.Head.{not_yet}
+use Rattle.h1_model.specs.Messages.{Item, Placed, Due, head, done, item, stop, due_behind, due_next, step_from, StepsTo, SpellsFrom}
+use Rattle.h1_model.specs.ReadingLaws.{item_at}
+use Rattle.h1_model.proofs.Chains.{Chain, placed_at, one_item}
 use Rattle.h1_write.specs.Round.{Ending, body_items, Suits, length_said, items_read, place_behind, ReadsAs, IsReadAs, stop_behind, BodyIsAll, ReadingsJoin, HeadReadBack, MessageReadBack, MessageIsAll, IsHeadWith, Sent, sent_wire, sent_items, AreRequests, RequestsReadBack, AreInterims, bytes_at, head_at, AnswerReadBack}
 use Rattle.h1_write.proofs.Round.{reads_grown, body_read_back}
 

@@ -9,10 +9,10 @@ use Rattle.http_header.specs.Token.{lowercase}
 use Rattle.httparse.specs.Grammar.{trim_ows, IsField}
 use Rattle.httparse.proofs.OnLiterals.{httparse_on_literals}
 use Rattle.header_maps.specs.Kept.{is_kept_field}
-use Rattle.http1_model.specs.Fields.{Pair, is_named, values_of, lists, lowered, is_response_hop_name, passing_among, kept_response_fields, unlisted}
-use Rattle.http1_model.specs.Framing.{Framing, no_body, by_length, by_chunks, by_close}
-use Rattle.http1_model.specs.Length.{response_measure}
-use Rattle.http1_model.proofs.FieldLemmas.{passing_among-dropped, passing_among-passing}
+use Rattle.h1_model.specs.Fields.{Pair, is_named, values_of, lists, lowercase_name, is_response_hop_name, passing_among, kept_response_fields, fields_not_listed}
+use Rattle.h1_model.specs.Framing.{Framing, no_body, by_length, by_chunks, by_close}
+use Rattle.h1_model.specs.Length.{response_measure}
+use Rattle.h1_model.proofs.FieldLemmas.{passing_among-dropped, passing_among-passing}
 use Rattle.h1_write.specs.Heads.{framing_fields, is_framing_name, IsTail, IsInLimit, measure_said, told_fields}
 use Rattle.h1_write.specs.Laws.{read_field}
 use Rattle.h1_write.proofs.Ending.{field_at, fields_at, kept_is_field, kept_low, IsSent}
@@ -165,10 +165,10 @@ abbrev pub dropped_by : (List ℕ → Bool) → List (List ℕ) → List ℕ →
 dropped_by hop connection name = hop name || list_any (lists name) connection
 
 abbrev pub passing_by : (List ℕ → Bool) → List (List ℕ) → List Pair → List Pair
-passing_by hop connection fields = map lowered (passing_among (dropped_by hop connection) fields)
+passing_by hop connection fields = map lowercase_name (passing_among (dropped_by hop connection) fields)
 
 out_kept : (hop : List ℕ → Bool) (connection : List (List ℕ)) (fs : List Pair) → AllByRecursion (IsOut hop) fs
-    → passing_by hop connection (map read_field fs) ≡ unlisted connection (map read_field fs)
+    → passing_by hop connection (map read_field fs) ≡ fields_not_listed connection (map read_field fs)
 out_kept hop connection [] all = refl
 out_kept hop connection (f ∷ fs) all = by_test (list_any (lists f.0) connection) refl (out_kept hop connection fs all.1)
   where
@@ -176,25 +176,25 @@ out_kept hop connection (f ∷ fs) all = by_test (list_any (lists f.0) connectio
     same b e = ap (dropped_by hop connection) all.0.low ∙ ap (λ h. h || list_any (lists f.0) connection) all.0.stays ∙ e
 
     by_test : (b : Bool) → list_any (lists f.0) connection ≡ b
-        → passing_by hop connection (map read_field fs) ≡ unlisted connection (map read_field fs)
-        → passing_by hop connection (map read_field (f ∷ fs)) ≡ unlisted connection (map read_field (f ∷ fs))
+        → passing_by hop connection (map read_field fs) ≡ fields_not_listed connection (map read_field fs)
+        → passing_by hop connection (map read_field (f ∷ fs)) ≡ fields_not_listed connection (map read_field (f ∷ fs))
     by_test true e later =
-        ap (map lowered) (passing_among-dropped (dropped_by hop connection) (read_field f) (map read_field fs) (same true e)) ∙ later
-        ∙ sym (ap (λ b. cond (not b) (read_field f ∷ unlisted connection (map read_field fs)) (unlisted connection (map read_field fs))) e)
+        ap (map lowercase_name) (passing_among-dropped (dropped_by hop connection) (read_field f) (map read_field fs) (same true e)) ∙ later
+        ∙ sym (ap (λ b. cond (not b) (read_field f ∷ fields_not_listed connection (map read_field fs)) (fields_not_listed connection (map read_field fs))) e)
     by_test false e later =
-        ap (map lowered) (passing_among-passing (dropped_by hop connection) (read_field f) (map read_field fs) (same false e))
+        ap (map lowercase_name) (passing_among-passing (dropped_by hop connection) (read_field f) (map read_field fs) (same false e))
         ∙ (λ t. (all.0.low t, trim_ows f.1) ∷ later t)
-        ∙ sym (ap (λ b. cond (not b) (read_field f ∷ unlisted connection (map read_field fs)) (unlisted connection (map read_field fs))) e)
+        ∙ sym (ap (λ b. cond (not b) (read_field f ∷ fields_not_listed connection (map read_field fs)) (fields_not_listed connection (map read_field fs))) e)
 
 -- a field of a name that is dropped, in front of others
 pub dropped_first : (hop : List ℕ → Bool) (connection : List (List ℕ)) (f : Pair) (fs : List Pair) → lowercase f.0 ≡ f.0 → hop f.0 ≡ true
     → passing_by hop connection (f ∷ fs) ≡ passing_by hop connection fs
 dropped_first hop connection f fs low is =
-    ap (map lowered) (passing_among-dropped (dropped_by hop connection) f fs
+    ap (map lowercase_name) (passing_among-dropped (dropped_by hop connection) f fs
     (ap (dropped_by hop connection) low ∙ ap (λ h. h || list_any (lists f.0) connection) is))
 
 framing_kept : (hop : List ℕ → Bool) (connection : List (List ℕ)) (framing : Framing) → AreHops hop
-    → passing_by hop connection (map read_field (framing_fields framing)) ≡ unlisted connection (map read_field (told_fields framing))
+    → passing_by hop connection (map read_field (framing_fields framing)) ≡ fields_not_listed connection (map read_field (told_fields framing))
 unfolding httparse_on_literals
 framing_kept hop connection no_body are = refl
 framing_kept hop connection (by_length n) are =
@@ -205,18 +205,18 @@ framing_kept hop connection by_close are = refl
 passing_append : (hop : List ℕ → Bool) (connection : List (List ℕ)) (xs ys : List Pair)
     → passing_by hop connection (xs ++ ys) ≡ passing_by hop connection xs ++ passing_by hop connection ys
 passing_append hop connection xs ys =
-    ap (map lowered) (filter-append (λ (f : Pair). not (dropped_by hop connection (lowercase f.0))) xs ys)
-    ∙ map-append lowered (passing_among (dropped_by hop connection) xs) (passing_among (dropped_by hop connection) ys)
+    ap (map lowercase_name) (filter-append (λ (f : Pair). not (dropped_by hop connection (lowercase f.0))) xs ys)
+    ∙ map-append lowercase_name (passing_among (dropped_by hop connection) xs) (passing_among (dropped_by hop connection) ys)
 
 pub written_passing : (hop : List ℕ → Bool) (connection : List (List ℕ)) (framing : Framing) (sent tail : List Pair) → AreHops hop
     → AllByRecursion (IsOut hop) sent
     → passing_by hop connection (map read_field (sent ++ (framing_fields framing ++ tail)))
-    ≡ unlisted connection (map read_field (sent ++ told_fields framing)) ++ passing_by hop connection (map read_field tail)
+    ≡ fields_not_listed connection (map read_field (sent ++ told_fields framing)) ++ passing_by hop connection (map read_field tail)
 written_passing hop connection framing sent tail are out =
     let told = framing_fields framing in
     let last = map read_field tail in
     let kept = passing_by hop connection in
-    let pass = unlisted connection in
+    let pass = fields_not_listed connection in
     let split : map read_field (sent ++ (told ++ tail)) ≡ map read_field sent ++ (map read_field told ++ last) =
     map-append read_field sent (told ++ tail) ∙ ap (λ (t : List Pair). map read_field sent ++ t) (map-append read_field told tail) in
     let parts : kept (map read_field sent ++ (map read_field told ++ last)) ≡ kept (map read_field sent) ++ (kept (map read_field told) ++ kept last) =
@@ -238,7 +238,7 @@ response_hops = record { coding = refl; counting = refl }
 
 pub written_kept : (framing : Framing) (sent tail : List Pair) → AllByRecursion IsSent sent
     → kept_response_fields (map read_field (sent ++ (framing_fields framing ++ tail)))
-    ≡ unlisted (values_of (codes "connection") (map read_field tail)) (map read_field (sent ++ told_fields framing)) ++ kept_response_fields (map read_field tail)
+    ≡ fields_not_listed (values_of (codes "connection") (map read_field tail)) (map read_field (sent ++ told_fields framing)) ++ kept_response_fields (map read_field tail)
 written_kept framing sent tail out =
     let all = map read_field (sent ++ (framing_fields framing ++ tail)) in
     let connection = values_of (codes "connection") (map read_field tail) in

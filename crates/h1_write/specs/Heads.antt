@@ -7,14 +7,14 @@ use Rattle.header_maps.specs.declared.kind.ListKind.TheVariants as kinds
 use Rattle.header_maps.specs.Headers.{Headers}
 use Rattle.header_maps.specs.Kept.{is_kept_field, IsHeaders}
 use Rattle.header_maps.specs.Operations.{no_headers}
-use Rattle.http1_model.specs.Fields.{Pair, values_of, is_listed, unlisted, kept_response_fields}
-use Rattle.http1_model.specs.Framing.{Framing, no_body, by_length, by_chunks, by_close, piece, items_wire, head_wire}
-use Rattle.http1_model.specs.Framing as out
-use Rattle.http1_model.specs.Head.{Head, found, SpellsResponse}
-use Rattle.http1_model.specs.Length.{nothing, exactly, chunked, Measure, open_measure, length_limit, is_without_body, without_body}
-use Rattle.http1_model.specs.Lines.{head_limit, line_limit}
-use Rattle.http1_model.specs.Messages.{response, interim, head, over}
-use Rattle.http1_model.specs.Wire.{sent_fields, pseudo_of}
+use Rattle.h1_model.specs.Fields.{Pair, values_of, is_listed, fields_not_listed, kept_response_fields}
+use Rattle.h1_model.specs.Framing.{Framing, no_body, by_length, by_chunks, by_close, piece, items_wire, head_wire}
+use Rattle.h1_model.specs.Framing as out
+use Rattle.h1_model.specs.Head.{Head, found, SpellsResponse}
+use Rattle.h1_model.specs.Length.{nothing, exactly, chunked, Measure, open_measure, length_limit, is_without_body, without_body}
+use Rattle.h1_model.specs.Lines.{head_limit, line_limit}
+use Rattle.h1_model.specs.Messages.{response, interim, head, over}
+use Rattle.h1_model.specs.Wire.{sent_fields, pseudo_of}
 use Rattle.h1_write.specs.Laws.{read_field}
 use Rattle.h1_write.specs.Round.{Ending, body_items, Suits, length_said, items_read, ReadsAs, IsReadAs}
 
@@ -45,7 +45,7 @@ status_said headers = digits_value 10 (pseudo_of headers (codes ":status"))
 abbrev pub is_framing_name : List ℕ → Bool
 is_framing_name name = bytes_eq name (codes "content-length") || bytes_eq name (codes "transfer-encoding")
 
--- fields that may stand behind the framing field: as a list keeps them, and none that tells a framing
+-- fields that may stand after the framing field: as a list keeps them, and none that tells a framing
 pub record IsTail (fields : List Pair) : Type 0 where
   pub kept : list_all is_kept_field fields ≡ true
   pub plain : list_all (λ (f : Pair). not (is_framing_name f.0)) fields ≡ true
@@ -96,7 +96,7 @@ connection_read h = values_of (codes "connection") (tail_read h)
 -- Connection lists; and what passes of the tail.
 abbrev pub fields_read : Framing → Head → List Pair
 fields_read framing h =
-    unlisted (connection_read h) (map read_field (sent_fields h.fields.pairs ++ told_fields framing)) ++ kept_response_fields (tail_read h)
+    fields_not_listed (connection_read h) (map read_field (sent_fields h.fields.pairs ++ told_fields framing)) ++ kept_response_fields (tail_read h)
 
 -- the head that is read: the same status, and the length that the framing says where such a response has a body
 abbrev pub head_read : Bool → Framing → Head → Head
@@ -121,7 +121,7 @@ ResponseHeadReadBack =
     (to_head : Bool) (framing : Framing) (h : Head) → IsReadable framing h
     → SpellsResponse to_head (head_wire framing h) (found (head_read to_head framing h) (length (head_wire framing h)))
 
--- an interim head, wherever the response is due: it has no framing field, and the response is still due behind it
+-- an interim head, wherever the response is due: it has no framing field, and the response is still due after it
 abbrev pub InterimReadBack : Type 0
 InterimReadBack =
     (asked : List ℕ) (framing : Framing) (h : Head) (ended : Bool) (front behind : List ℕ) → IsReadable no_body h → h.fields.kind ≡ kinds.Interim

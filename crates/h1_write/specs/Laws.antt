@@ -5,19 +5,19 @@ use Rattle.httparse.specs.Ascii.{crlf_bytes}
 use Rattle.httparse.specs.Grammar.{trim_ows}
 use Rattle.header_maps.specs.Headers.{Headers}
 use Rattle.header_maps.specs.Kept.{AreFields}
-use Rattle.http1_model.specs.Chunks.{Place, start, sought, section_at, Run, run_of}
-use Rattle.http1_model.specs.Fields.{Pair}
-use Rattle.http1_model.specs.Framing.{OutItem, piece, trailers, by_chunks, items_wire}
-use Rattle.http1_model.specs.Length.{length_limit}
-use Rattle.http1_model.specs.Lines.{head_limit}
-use Rattle.http1_model.specs.Trailers.{SpellsChunks, ended}
-use Rattle.http1_model.specs.Wire.{field_lines, sent_fields}
+use Rattle.h1_model.specs.Chunks.{Place, start, sought, section_at, Run, run_of}
+use Rattle.h1_model.specs.Fields.{Pair}
+use Rattle.h1_model.specs.Framing.{OutItem, piece, trailers, by_chunks, items_wire}
+use Rattle.h1_model.specs.Length.{length_limit}
+use Rattle.h1_model.specs.Lines.{head_limit}
+use Rattle.h1_model.specs.Trailers.{SpellsChunks, ended}
+use Rattle.h1_model.specs.Wire.{field_lines, sent_fields}
 
 -- a piece is short enough for a size line, whose number is below 2^63
 abbrev pub is_short : List ℕ → Bool
 is_short bytes = nat_le (length bytes) length_limit
 
--- Of a text, from a place on, at most so many bytes of data are carried: it carries these, and behind them a trailer section is
+-- Of a text, from a place on, at most so many bytes of data are carried: it carries these, and after them a trailer section is
 -- due, which is the rest of it.
 pub record ReadsFrom (room : ℕ) (place : Place) (text bytes section : List ℕ) : Type 0 where
   pub carried : (run_of room place text).bytes ≡ bytes
@@ -41,7 +41,7 @@ PiecesReadBack =
     → length (concat (pieces ++ last ∷ [])) ≤ room
     → ReadsFrom room start (body_wire pieces last) (concat (pieces ++ last ∷ [])) crlf_bytes
 
--- behind the bytes the body has its end with these trailers, which uses up all that was written
+-- after the bytes the body has its end with these trailers, which uses up all that was written
 pub record EndsThere (text : List ℕ) (run : Run) (fields : List Pair) : Type 0 where
   pub used : ℕ
   pub spelled : SpellsChunks run.place (drop run.used text) (ended fields used)
@@ -61,7 +61,7 @@ trailed_wire pieces fields = items_wire by_chunks (middle_items pieces ++ traile
 abbrev pub section_wire : Headers → List ℕ
 section_wire fields = field_lines (sent_fields fields.pairs) ++ crlf_bytes
 
--- with trailers, their section is what stands behind the bytes
+-- with trailers, their section is what stands after the bytes
 abbrev pub TrailersReadBack : Type 0
 TrailersReadBack =
     (pieces : List (List ℕ)) (fields : Headers) (room : ℕ) → list_all is_short pieces ≡ true → length (concat pieces) ≤ room

@@ -1,12 +1,12 @@
--- All that is written of a line is read back: requests one behind another, and an answer with its interim heads.
+-- All that is written of a line is read back: requests one after another, and an answer with its interim heads.
 use Rattle.std.specs.Prelude.{◌≡◌, ℕ, Bool, true, false, List, [], ◌∷◌, ◌++◌, map, None, Some, codes, bytes_eq}
 use Rattle.std.specs.List.{flat_map}
 use Rattle.header_maps.specs.declared.kind.ListKind.TheVariants as kinds
-use Rattle.http1_model.specs.Framing.{Framing, no_body, OutItem, items_wire}
-use Rattle.http1_model.specs.Framing as out
-use Rattle.http1_model.specs.Head.{Head}
-use Rattle.http1_model.specs.Length.{is_without_body}
-use Rattle.http1_model.specs.Messages.{Item, request, response, interim, head, over}
+use Rattle.h1_model.specs.Framing.{Framing, no_body, OutItem, items_wire}
+use Rattle.h1_model.specs.Framing as out
+use Rattle.h1_model.specs.Head.{Head}
+use Rattle.h1_model.specs.Length.{is_without_body}
+use Rattle.h1_model.specs.Messages.{Item, request, response, interim, head, over}
 use Rattle.h1_write.specs.Heads.{IsReadable, head_read, connection_read, status_said, frames_body}
 use Rattle.h1_write.specs.Requests.{IsReadableRequest, request_read}
 use Rattle.h1_write.specs.Round.{Ending, body_items, Suits, length_said, items_read, stop_behind, IsReadAs}
@@ -31,7 +31,7 @@ abbrev pub AreReadable : List OutRequest → Type 0
 AreReadable [] = Unit {0}
 AreReadable (q ∷ qs) = IsReadableRequest q.framing q.head × Suits q.framing q.pieces q.ending false [] × AreReadable qs
 
--- REQUESTS that are written one behind another are read as the items of each, in order, and nothing else.
+-- REQUESTS that are written one after another are read as the items of each, in order, and nothing else.
 abbrev pub RequestLineReadBack : Type 0
 RequestLineReadBack =
     (qs : List OutRequest) (ended : Bool) → AreReadable qs → IsReadAs (flat_map out_wire qs) ended None head (flat_map in_items qs) (stop_behind ended None)

@@ -4,15 +4,15 @@ use Rattle.std.specs.List.{list_all}
 use Rattle.header_maps.specs.declared.kind.ListKind.TheVariants as kinds
 use Rattle.header_maps.specs.Kept.{IsHeaders}
 use Rattle.header_maps.specs.Operations.{no_headers}
-use Rattle.http1_model.specs.Fields.{Pair, is_listed, unlisted, kept_fields}
-use Rattle.http1_model.specs.Framing.{Framing, no_body, by_length, by_chunks, by_close, items_wire, head_wire}
-use Rattle.http1_model.specs.Framing as out
-use Rattle.http1_model.specs.Head.{Head, found, SpellsStep}
-use Rattle.http1_model.specs.Length.{nothing, exactly, chunked, Measure}
-use Rattle.http1_model.specs.Lines.{head_limit, line_limit}
-use Rattle.http1_model.specs.Messages.{request, head}
-use Rattle.http1_model.specs.Target.{TargetForm, origin, asterisk, http, Target, GivesTarget}
-use Rattle.http1_model.specs.Wire.{sent_fields, pseudo_of}
+use Rattle.h1_model.specs.Fields.{Pair, is_listed, fields_not_listed, kept_fields}
+use Rattle.h1_model.specs.Framing.{Framing, no_body, by_length, by_chunks, by_close, items_wire, head_wire}
+use Rattle.h1_model.specs.Framing as out
+use Rattle.h1_model.specs.Head.{Head, found, SpellsStep}
+use Rattle.h1_model.specs.Length.{nothing, exactly, chunked, Measure}
+use Rattle.h1_model.specs.Lines.{head_limit, line_limit}
+use Rattle.h1_model.specs.Messages.{request, head}
+use Rattle.h1_model.specs.Target.{TargetForm, origin, asterisk, http, Target, GivesTarget}
+use Rattle.h1_model.specs.Wire.{sent_fields, pseudo_of}
 use Rattle.h1_write.specs.Heads.{written_fields, told_fields, IsTail, IsInLimit, tail_read, connection_read}
 use Rattle.h1_write.specs.Laws.{read_field}
 use Rattle.h1_write.specs.Round.{Ending, body_items, Suits, length_said, items_read, stop_behind, IsReadAs}
@@ -73,7 +73,7 @@ request_said by_close = record { length = nothing; told = None }
 -- the fields of the list that is read
 abbrev pub request_fields_read : Framing → Head → List Pair
 request_fields_read framing h =
-    unlisted (connection_read h) (map read_field (sent_fields h.fields.pairs ++ told_fields framing)) ++ kept_fields (tail_read h)
+    fields_not_listed (connection_read h) (map read_field (sent_fields h.fields.pairs ++ told_fields framing)) ++ kept_fields (tail_read h)
 
 -- the head that is read: the same method, authority and path; the scheme is that of the line, which no byte tells
 abbrev pub request_read : Framing → Head → Head

@@ -3,14 +3,14 @@ use Rattle.std.specs.Prelude.{◌≡◌, ℕ, ◌≤◌, Bool, true, false, List
 use Rattle.std.specs.List.{concat, flat_map, list_all}
 use Rattle.header_maps.specs.Headers.{Headers}
 use Rattle.header_maps.specs.Kept.{AreFields}
-use Rattle.http1_model.specs.Fields.{Pair}
-use Rattle.http1_model.specs.Framing.{Framing, no_body, by_length, by_chunks, by_close, OutItem, piece, trailers, items_wire}
-use Rattle.http1_model.specs.Length.{BodyLength, nothing, exactly, chunked, until_end}
-use Rattle.http1_model.specs.Lines.{head_limit}
-use Rattle.http1_model.specs.Messages as read
-use Rattle.http1_model.specs.Messages.{Item, octet, end, Placed, Due, head, Stop, rest, over, item, due_behind, due_next, trailers_left, StepsTo, SpellsFrom, Messages}
-use Rattle.http1_model.specs.ReadingLaws.{item_at}
-use Rattle.http1_model.specs.Wire.{sent_fields}
+use Rattle.h1_model.specs.Fields.{Pair}
+use Rattle.h1_model.specs.Framing.{Framing, no_body, by_length, by_chunks, by_close, OutItem, piece, trailers, items_wire}
+use Rattle.h1_model.specs.Length.{BodyLength, nothing, exactly, chunked, until_end}
+use Rattle.h1_model.specs.Lines.{head_limit}
+use Rattle.h1_model.specs.Messages as read
+use Rattle.h1_model.specs.Messages.{Item, octet, end, Placed, Due, head, Stop, rest, over, item, due_behind, due_next, trailers_left, StepsTo, SpellsFrom, Messages}
+use Rattle.h1_model.specs.ReadingLaws.{item_at}
+use Rattle.h1_model.specs.Wire.{sent_fields}
 use Rattle.h1_write.specs.Laws.{is_short, middle_items, section_wire, read_field}
 
 -- ---- a body on its way out
@@ -42,7 +42,7 @@ FitsSection (last_bytes bytes) = Unit {0}
 FitsSection (last_trailers fields) = AreFields fields.pairs × (length (section_wire fields) ≤ head_limit)
 
 -- A body is one that its framing can carry: it has as many bytes as are told; each chunk is short enough for a size line, and
--- trailers are fields; or the line ends behind it. (`behind` is the text behind it, and `ended` says that no more follows.)
+-- trailers are fields; or the line ends after it. (`behind` is the text after it, and `ended` says that no more follows.)
 abbrev pub Suits : Framing → List (List ℕ) → Ending → Bool → List ℕ → Type 0
 Suits no_body pieces ending ended behind = Unit {0}
 Suits (by_length n) pieces ending ended behind = length (body_bytes pieces ending) ≡ n
@@ -77,12 +77,12 @@ items_read asked connection (exactly n) pieces ending = map octet (body_bytes pi
 items_read asked connection chunked pieces ending = map octet (body_bytes pieces ending) ++ chunked_end asked connection ending ∷ []
 items_read asked connection until_end pieces ending = map octet (body_bytes pieces ending) ++ end ∷ []
 
--- the place behind the last of the items
+-- the place after the last of the items
 abbrev pub place_behind : ℕ → List Placed → ℕ
 place_behind at [] = at
 place_behind at (p ∷ placed) = place_behind p.to placed
 
--- In a text in which this is due behind `front`, the bytes of `wire` are read as these items, which use up all of them, and then
+-- In a text in which this is due after `front`, the bytes of `wire` are read as these items, which use up all of them, and then
 -- `next` is due: whatever the text spells from there on, it spells these items in front of that.
 pub record ReadsAs (ended : Bool) (asked : Option (List ℕ)) (due : Due) (front wire behind : List ℕ) (items : List Item) (next : Due) : Type 0 where
   pub placed : List Placed
@@ -98,7 +98,7 @@ pub record IsReadAs (text : List ℕ) (ended : Bool) (asked : Option (List ℕ))
   pub uses_all : place_behind 0 placed ≡ length text
   pub spelled : SpellsFrom text ended asked due 0 placed why
 
--- behind a whole message: nothing of a text of requests is left, which ended or goes on; a response is whole
+-- after a whole message: nothing of a text of requests is left, which ended or goes on; a response is whole
 abbrev pub stop_behind : Bool → Option (List ℕ) → Stop
 stop_behind ended None = if ended then over else rest
 stop_behind ended (Some asked) = over
@@ -106,7 +106,7 @@ stop_behind ended (Some asked) = over
 -- ---- the laws
 
 -- BODIES. What is written of a body in any framing, from where it is due in any text, is read as its bytes, joined and in order,
--- and its end, however the bytes came in pieces; and then what is due behind a message.
+-- and its end, however the bytes came in pieces; and then what is due after a message.
 abbrev pub BodyReadBack : Type 0
 BodyReadBack =
     (framing : Framing) (pieces : List (List ℕ)) (ending : Ending) (ended : Bool) (asked : Option (List ℕ)) (connection : List (List ℕ))
@@ -122,14 +122,14 @@ BodyIsAll =
     → IsReadAs (items_wire framing (body_items pieces ending)) ended asked (due_behind (due_next asked) connection (length_said framing))
     (items_read asked connection (length_said framing) pieces ending) (stop_behind ended asked)
 
--- what is read behind another is read behind it
+-- what is read after another is read after it
 abbrev pub ReadingsJoin : Type 0
 ReadingsJoin =
     (ended : Bool) (asked : Option (List ℕ)) (due mid next : Due) (front wire more behind : List ℕ) (xs ys : List Item)
     → ReadsAs ended asked due front wire (more ++ behind) xs mid → ReadsAs ended asked mid (front ++ wire) more behind ys next
     → ReadsAs ended asked due front (wire ++ more) behind (xs ++ ys) next
 
--- the bytes of a head, behind which its framing says the length of a body
+-- the bytes of a head, after which its framing says the length of a body
 abbrev pub IsHeadWith : Option (List ℕ) → List ℕ → Item → List (List ℕ) → Framing → Type 0
 IsHeadWith asked bytes i connection framing =
     StepsTo false asked head bytes (item i (length bytes) (due_behind (due_next asked) connection (length_said framing)))
@@ -179,13 +179,13 @@ abbrev pub AreRequests : List Sent → Type 0
 AreRequests [] = Unit {0}
 AreRequests (s ∷ sent) = IsHeadWith None s.bytes s.item s.connection s.framing × Suits s.framing s.pieces s.ending false [] × AreRequests sent
 
--- REQUESTS one behind another, which ended or go on, are read as the items of each, in order.
+-- REQUESTS one after another, which ended or go on, are read as the items of each, in order.
 abbrev pub RequestsReadBack : Type 0
 RequestsReadBack =
     (sent : List Sent) (ended : Bool) → AreRequests sent
     → IsReadAs (flat_map sent_wire sent) ended None head (flat_map (sent_items None) sent) (stop_behind ended None)
 
--- heads behind which the response is still due: the bytes of each, and the item that they are read as
+-- heads after which the response is still due: the bytes of each, and the item that they are read as
 abbrev pub AreInterims : List ℕ → List (List ℕ × Item) → Type 0
 AreInterims asked [] = Unit {0}
 AreInterims asked (h ∷ heads) = StepsTo false (Some asked) head h.0 (item h.1 (length h.0) head) × AreInterims asked heads

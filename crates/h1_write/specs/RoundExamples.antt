@@ -3,17 +3,17 @@ use Rattle.std.specs.Prelude.{◌≡◌, ℕ, true, false, List, [], ◌∷◌, 
 use Rattle.httparse.specs.Ascii.{crlf_bytes}
 use Rattle.header_maps.specs.declared.kind.ListKind.TheVariants as kinds
 use Rattle.header_maps.specs.Headers.{Headers}
-use Rattle.http1_model.specs.Framing.{by_length, by_chunks, items_wire}
-use Rattle.http1_model.specs.Framing as out
-use Rattle.http1_model.specs.Head.{Head}
-use Rattle.http1_model.specs.Length.{nothing, exactly, chunked}
-use Rattle.http1_model.specs.Messages.{octet, end, trailers}
-use Rattle.http1_model.specs.Target.{origin}
+use Rattle.h1_model.specs.Framing.{by_length, by_chunks, items_wire}
+use Rattle.h1_model.specs.Framing as out
+use Rattle.h1_model.specs.Head.{Head}
+use Rattle.h1_model.specs.Length.{nothing, exactly, chunked}
+use Rattle.h1_model.specs.Messages.{octet, end, trailers}
+use Rattle.h1_model.specs.Target.{origin}
 use Rattle.h1_write.specs.Heads.{IsReadable, head_read, connection_read}
 use Rattle.h1_write.specs.Requests.{IsReadableRequest, request_read}
 use Rattle.h1_write.specs.Round.{last_bytes, last_trailers, body_items, Suits, items_read}
 
--- fields that stand behind the framing field
+-- fields that stand after the framing field
 abbrev pub tail_fields : Headers
 tail_fields = record { kind = kinds.Plain; pairs = (codes "via", codes "1.1 wasmgate") ∷ (codes "connection", codes "close") ∷ [] }
 

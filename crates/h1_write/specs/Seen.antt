@@ -1,5 +1,5 @@
 -- The framings and items of the model that the code's values say.
-use Rattle.http1_model.specs.Framing as model
+use Rattle.h1_model.specs.Framing as model
 use Rattle.h1_head.specs.Seen.{seen_head}
 use Rattle.h1_head.specs.declared.item.Item as item
 use Rattle.h1_head.specs.declared.item.Item.TheVariants as items

@@ -1,8 +1,8 @@
 // The bytes of a body, and of its trailers.
 ghost use Rattle.std.specs.Prelude.{◌≡◌, ◌++◌, ◌<◌, IfOk, OnOk};
-ghost use Rattle.http1_model.specs.ChunkWire.{hex_text, chunk_of, body_end};
-ghost use Rattle.http1_model.specs.Framing.{end_wire};
-ghost use Rattle.http1_model.specs.Wire.{sent_fields};
+ghost use Rattle.h1_model.specs.ChunkWire.{hex_text, chunk_of, body_end};
+ghost use Rattle.h1_model.specs.Framing.{end_wire};
+ghost use Rattle.h1_model.specs.Wire.{sent_fields};
 
 use gate_base::{Octets, OutOfMemory};
 use h1_head::push_fields;

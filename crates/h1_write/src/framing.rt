@@ -1,6 +1,6 @@
 // How a message on its way out says where its body ends.
 ghost use Rattle.std.specs.Prelude.{◌≡◌, if◌then◌else◌};
-ghost use Rattle.http1_model.specs.Framing.{may_tell, bare_framing, kept_framing, body_framing, for_client, framing_of};
+ghost use Rattle.h1_model.specs.Framing.{may_tell, bare_framing, kept_framing, body_framing, for_client, framing_of};
 ghost use Rattle.h1_head.specs.Measures.{seen_length};
 ghost use Rattle.h1_write.specs.Seen.{seen_framing};
 

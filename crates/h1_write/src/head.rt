@@ -1,7 +1,7 @@
 // The bytes of a head.
 ghost use Rattle.std.specs.Prelude.{◌≡◌, ◌++◌, IfOk, OnOk};
-ghost use Rattle.http1_model.specs.Framing.{head_wire};
-ghost use Rattle.http1_model.specs.Wire.{field_lines};
+ghost use Rattle.h1_model.specs.Framing.{head_wire};
+ghost use Rattle.h1_model.specs.Wire.{field_lines};
 ghost use Rattle.h1_head.specs.Seen.{seen_head};
 ghost use Rattle.h1_write.specs.Seen.{seen_framing};
 

@@ -35,7 +35,7 @@ pub fn message_read_back()
     ensures alone { MessageIsAll }
 {}
 
-/// Requests one behind another, and a response behind interim heads, are read as the items of each, in order.
+/// Requests one after another, and a response behind interim heads, are read as the items of each, in order.
 pub fn lines_read_back()
     ensures requests { RequestsReadBack }
     ensures answer { AnswerReadBack }
@@ -57,7 +57,7 @@ pub fn requests_read_back()
     ensures whole { RequestReadBack }
 {}
 
-/// All that is written of a line is read back: requests one behind another, and a response behind its interim heads.
+/// All that is written of a line is read back: requests one after another, and a response after its interim heads.
 pub fn written_lines_read_back()
     ensures requests { RequestLineReadBack }
     ensures answer { AnswerLineReadBack }

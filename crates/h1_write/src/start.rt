@@ -1,6 +1,6 @@
 // What stands round the fields of a head on its way out.
 ghost use Rattle.std.specs.Prelude.{◌≡◌, ◌++◌, OnOk};
-ghost use Rattle.http1_model.specs.Framing.{framing_line, response_line, start_lines};
+ghost use Rattle.h1_model.specs.Framing.{framing_line, response_line, start_lines};
 ghost use Rattle.h1_head.specs.Seen.{bare_head};
 ghost use Rattle.h1_write.specs.Seen.{seen_framing};
 

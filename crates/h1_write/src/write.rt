@@ -1,6 +1,6 @@
 // From an item to its bytes.
 ghost use Rattle.std.specs.Prelude.{◌≡◌, ◌++◌, OnOk, OnErr};
-ghost use Rattle.http1_model.specs.Framing.{head_wire, piece_wire, trailer_wire, item_wire};
+ghost use Rattle.h1_model.specs.Framing.{head_wire, piece_wire, trailer_wire, item_wire};
 ghost use Rattle.h1_head.specs.Seen.{seen_head};
 ghost use Rattle.h1_write.specs.Seen.{seen_framing, seen_item};
 

@@ -11,7 +11,7 @@ use Rattle.gate_io.specs.Told.{gains_nothing, gains_more}
 use Rattle.live_lines.specs.Passing.{told_from, GainsAt, GainsUp, GoesOnUp, TellsLast, StaysUnless, RefusedUnless, HasSide, IsOfStanding, HeardOn}
 use Rattle.live_lines.specs.Told.{IsHeardFrom, IsLast}
 use Rattle.live_lines.specs.Waiting.{GoesOn}
-use Rattle.live_lines.specs.declared.line.Line.{Line}
+use Rattle.live_lines.specs.declared.line.SocketPair.{SocketPair}
 use Rattle.live_lines.specs.declared.upstream.Upstream.{Upstream}
 
 -- two steps are one
@@ -70,7 +70,7 @@ refused_more n m a b told c same (inl first) (inl second) = inl (second ∙ firs
 refused_more n m a b told c same (inl first) (inr second) = inr (second.0, second.1 ∙ ap (λ k. Some (Refused k)) same)
 refused_more n m a b told c same (inr first) second = cc (first.1)
 
--- a connection that is there behind a call was there before
+-- a connection that is there after a call was there before
 down_stood : {P : Type 0} (told : P → Option (List ℕ)) (a b : Option P) → GainsAt told a [] b → IsSome b → IsSome a
 down_stood told None b gains there = subst (λ x. IsSome x) gains.1 there
 down_stood told (Some p) b gains there = refl
@@ -79,7 +79,7 @@ up_stood : {P : Type 0} (told : P → Option (List ℕ)) (a b : Option (Upstream
 up_stood told None b gains there = subst (λ x. IsSome x) gains.1 there
 up_stood told (Some p) b gains there = refl
 
-side_stood : {P : Type 0} (gave took : P → Option (List ℕ)) (a b : Line P) → HeardOn gave took a None b → (side : Side) → HasSide b side → HasSide a side
+side_stood : {P : Type 0} (gave took : P → Option (List ℕ)) (a b : SocketPair P) → HeardOn gave took a None b → (side : Side) → HasSide b side → HasSide a side
 side_stood gave took a b first Down there = down_stood gave a.down b.down first.down there
 side_stood gave took a b first Up there = up_stood gave a.up b.up first.up there
 
@@ -87,7 +87,7 @@ refused_stood : (n : ℕ) (a b : Bool) → RefusedUnless n a None b → b ≡ tr
 refused_stood n a b (inl same) is = sym same ∙ is
 refused_stood n a b (inr none) is = let told = none.1 in cc
 
-standing_more : {P : Type 0} (gave took : P → Option (List ℕ)) (a b : Line P) → HeardOn gave took a None b → (told : Option What) → IfSome told (IsOfStanding b) → IfSome told (IsOfStanding a)
+standing_more : {P : Type 0} (gave took : P → Option (List ℕ)) (a b : SocketPair P) → HeardOn gave took a None b → (told : Option What) → IfSome told (IsOfStanding b) → IfSome told (IsOfStanding a)
 standing_more gave took a b first None of = tt
 standing_more gave took a b first (Some (Bytes l side bytes)) of = side_stood gave took a b first side of
 standing_more gave took a b first (Some (End l side)) of = side_stood gave took a b first side of
@@ -101,7 +101,7 @@ standing_more gave took a b first (Some Clock) of = of
 standing_more gave took a b first (Some Stop) of = of
 
 -- an event of a connection that is there
-of_side_there : {P : Type 0} (line : Line P) (n : ℕ) (side : Side) (told : Option What) → HasSide line side → IfSome told (IsHeardFrom n side) → IfSome told (IsOfStanding line)
+of_side_there : {P : Type 0} (line : SocketPair P) (n : ℕ) (side : Side) (told : Option What) → HasSide line side → IfSome told (IsHeardFrom n side) → IfSome told (IsOfStanding line)
 of_side_there line n side None there from = tt
 of_side_there line n side (Some (Bytes l s bytes)) there from = subst (λ x. HasSide line x) (sym from.1) there
 of_side_there line n side (Some (End l s)) there from = subst (λ x. HasSide line x) (sym from.1) there
@@ -113,19 +113,19 @@ of_side_there line n side (Some (Opened l)) there from = from
 of_side_there line n side (Some Clock) there from = from
 of_side_there line n side (Some Stop) there from = from
 
-pub of_client : {P : Type 0} (line : Line P) (told : Option What) → IsSome line.down → IfSome told (IsHeardFrom line.number Down) → IfSome told (IsOfStanding line)
+pub of_client : {P : Type 0} (line : SocketPair P) (told : Option What) → IsSome line.down → IfSome told (IsHeardFrom line.number Down) → IfSome told (IsOfStanding line)
 of_client line told there from = of_side_there line line.number Down told there from
 
-pub of_server : {P : Type 0} (line : Line P) (told : Option What) → IsSome line.up → IfSome told (IsHeardFrom line.number Up) → IfSome told (IsOfStanding line)
+pub of_server : {P : Type 0} (line : SocketPair P) (told : Option What) → IsSome line.up → IfSome told (IsHeardFrom line.number Up) → IfSome told (IsOfStanding line)
 of_server line told there from = of_side_there line line.number Up told there from
 
--- an event of a connection behind which it is let go
+-- an event of a connection after which it is let go
 pub tells_last : (line : ℕ) (side : Side) (told : Option What) → IsSomeAnd told IsLast → IfSome told (IsHeardFrom line side) → TellsLast line side told
 tells_last line side None last from = absurd last
 tells_last line side (Some what) last from = (last, from)
 
 -- nothing is heard of a line that is as before
-pub heard_same : {P : Type 0} (gave took : P → Option (List ℕ)) (line : Line P) → HeardOn gave took line None line
+pub heard_same : {P : Type 0} (gave took : P → Option (List ℕ)) (line : SocketPair P) → HeardOn gave took line None line
 heard_same gave took line = record {
   number = refl;
   down = at_same gave line.down;
@@ -139,7 +139,7 @@ heard_same gave took line = record {
 }
 
 -- nothing is heard, and then this
-pub heard_more : {P : Type 0} (gave took : P → Option (List ℕ)) (a b : Line P) (told : Option What) (c : Line P) → HeardOn gave took a None b → HeardOn gave took b told c → HeardOn gave took a told c
+pub heard_more : {P : Type 0} (gave took : P → Option (List ℕ)) (a b : SocketPair P) (told : Option What) (c : SocketPair P) → HeardOn gave took a None b → HeardOn gave took b told c → HeardOn gave took a told c
 heard_more gave took a b told c first second = record {
   number = second.number ∙ first.number;
   down = at_more gave a.down b.down c.down (told_from Down told) first.down second.down;

@@ -25,7 +25,7 @@ lasts_more gave now a b c last (inl first) (inr second) = inr (subst (λ o. Came
 lasts_more gave now a b c last (inr first) (inl second) = inr (subst (λ o. Came (gave a.peer) o) (sym second.0) first.0, second.1 ∙ first.1)
 lasts_more gave now a b c last (inr first) (inr second) = inr (came_more (gave a.peer) (gave b.peer) (gave c.peer) first.0 second.0, second.1 ∙ ap (lasts_to now) last)
 
--- what a read gives: bytes, behind which it lasts, or nothing
+-- what a read gives: bytes, after which it lasts, or nothing
 pub lasts_after : {P : Type 0} (gave : P → Option (List ℕ)) (now n : ℕ) (room : List ℕ) (a b : Lingering P) → 1 ≤ n → n ≤ length room → Gains (gave a.peer) (take n room) (gave b.peer) → b.until ≡ lasts_to now a.last → Lasts gave now a b
 lasts_after gave now n room a b some fits gains until = inr (record { bytes = take n room; some = (let long = length-take-le n room fits in omega arith); gains = gains }, until)
 

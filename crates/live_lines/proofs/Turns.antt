@@ -9,7 +9,7 @@ use Rattle.live_lines.specs.Told.{IsHeardFrom}
 use Rattle.live_lines.specs.Turns.{is_same, is_from, is_told_from, IsToldOf, OnEnd, WasRead, EndWasRead, IsSilent}
 use Rattle.live_lines.specs.declared.duplex.Heard.{Heard}
 use Rattle.live_lines.specs.declared.duplex.Heard.TheVariants as heards
-use Rattle.live_lines.specs.declared.line.Line.{Line}
+use Rattle.live_lines.specs.declared.line.SocketPair.{SocketPair}
 
 pub told_weaker : (P Q : Heard → Type 0) → ((heard : Heard) → P heard → Q heard) → (told : Option What) → IsToldOf P told → IsToldOf Q told
 told_weaker P Q f None h = f heards.Nothing h
@@ -41,7 +41,7 @@ told_end reads old new (Some (Room l s)) h = tt
 told_end reads old new (Some Clock) h = tt
 told_end reads old new (Some Stop) h = tt
 
--- behind a call that keeps what may be there to read
+-- after a call that keeps what may be there to read
 pub silent_behind : {P : Type 0} (ready : P → Bool) (reads : P → Heard → P → Type 0) (asked : Type 0) (a b c : P) (told : Option What) → (IsTrue (ready a) → IsTrue (ready b)) → IfNone told (IsSilent ready reads asked b c) → IfNone told (IsSilent ready reads asked a c)
 silent_behind ready reads asked a b c None kept silent = λ there. silent (kept there)
 silent_behind ready reads asked a b c (Some what) kept silent = tt
@@ -75,16 +75,16 @@ not_of_client n (Some (Opened l)) from = refl
 not_of_client n (Some Clock) from = refl
 not_of_client n (Some Stop) from = refl
 
--- behind a turn of the server it is the client's
+-- after a turn of the server it is the client's
 pub server_was_first : (first told new : Bool) → first ≡ true → new ≡ false → new ≡ (not first && told)
 server_was_first first told new is none = none ∙ sym (ap (λ f. not f && told) is)
 
--- behind one of the client it is the server's where the client told something
+-- after one of the client it is the server's where the client told something
 pub client_was_first : (first told new : Bool) → first ≡ false → new ≡ told → new ≡ (not first && told)
 client_was_first first told new is same = same ∙ sym (ap (λ f. not f && told) is)
 
 -- an end that is told of the client was read, where its read gave it
-pub end_of_client : {P : Type 0} (reads : P → Heard → P → Type 0) (n : ℕ) (new : Line P) (told : Option What) → IfSome told (IsHeardFrom n Down) → IfSome new.down (λ p. IfSome told (OnEnd (WasRead reads heards.End p))) → IfSome told (EndWasRead reads new)
+pub end_of_client : {P : Type 0} (reads : P → Heard → P → Type 0) (n : ℕ) (new : SocketPair P) (told : Option What) → IfSome told (IsHeardFrom n Down) → IfSome new.down (λ p. IfSome told (OnEnd (WasRead reads heards.End p))) → IfSome told (EndWasRead reads new)
 end_of_client reads n new None from read = tt
 end_of_client reads n new (Some (End l s)) from read = subst (λ x. EndWasRead reads new (End l x)) (sym from.1) read
 end_of_client reads n new (Some (Gone l s)) from read = tt
@@ -97,7 +97,7 @@ end_of_client reads n new (Some Clock) from read = tt
 end_of_client reads n new (Some Stop) from read = tt
 
 -- the same of the server
-pub end_of_server : {P : Type 0} (reads : P → Heard → P → Type 0) (n : ℕ) (new : Line P) (told : Option What) → IfSome told (IsHeardFrom n Up) → IfSome new.up (λ up. IfSome told (OnEnd (WasRead reads heards.End up.peer))) → IfSome told (EndWasRead reads new)
+pub end_of_server : {P : Type 0} (reads : P → Heard → P → Type 0) (n : ℕ) (new : SocketPair P) (told : Option What) → IfSome told (IsHeardFrom n Up) → IfSome new.up (λ up. IfSome told (OnEnd (WasRead reads heards.End up.peer))) → IfSome told (EndWasRead reads new)
 end_of_server reads n new None from read = tt
 end_of_server reads n new (Some (End l s)) from read = subst (λ x. EndWasRead reads new (End l x)) (sym from.1) read
 end_of_server reads n new (Some (Gone l s)) from read = tt

@@ -7,7 +7,7 @@ use Rattle.gate_io.specs.declared.event.What.TheVariants.{Opened, Bytes, End, Go
 use Rattle.gate_io.specs.Told.{Gains}
 use Rattle.live_lines.specs.Told.{IsHeardFrom, IsLast}
 use Rattle.live_lines.specs.Waiting.{GoesOn}
-use Rattle.live_lines.specs.declared.line.Line.{Line}
+use Rattle.live_lines.specs.declared.line.SocketPair.{SocketPair}
 use Rattle.live_lines.specs.declared.upstream.Upstream.{Upstream}
 
 -- these bytes, where they are of the side that is asked for
@@ -67,12 +67,12 @@ abbrev pub RefusedUnless : ℕ → Bool → Option What → Bool → Type 0
 RefusedUnless line old told new = (new ≡ old) ⊎ ((new ≡ false) × (told ≡ Some (Refused line)))
 
 -- the connection of this side of a line is there
-abbrev pub HasSide : {P : Type 0} → Line P → Side → Type 0
+abbrev pub HasSide : {P : Type 0} → SocketPair P → Side → Type 0
 HasSide line Down = IsSome line.down
 HasSide line Up = IsSome line.up
 
 -- an event may come of a line as it stands: of a connection that is there, or that a server was refused, where that is to be told
-abbrev pub IsOfStanding : {P : Type 0} → Line P → What → Type 0
+abbrev pub IsOfStanding : {P : Type 0} → SocketPair P → What → Type 0
 IsOfStanding line (Bytes l side bytes) = HasSide line side
 IsOfStanding line (End l side) = HasSide line side
 IsOfStanding line (Gone l side) = HasSide line side
@@ -86,7 +86,7 @@ IsOfStanding line Stop = ⊥
 -- A line is heard: the bytes of the event are those that the connection of their side gave, no other bytes were given, and to the connections went
 -- nothing but a front of what waits for the server. A connection is let go only with an event of it that says that it is gone or was refused, and
 -- an event of a connection comes only where that is there.
-pub record HeardOn {P : Type 0} (gave took : P → Option (List ℕ)) (old : Line P) (told : Option What) (new : Line P) : Type 0 where
+pub record HeardOn {P : Type 0} (gave took : P → Option (List ℕ)) (old : SocketPair P) (told : Option What) (new : SocketPair P) : Type 0 where
   pub number : new.number ≡ old.number
   pub down : GainsAt gave old.down (told_from Down told) new.down
   pub up : GainsUp gave old.up (told_from Up told) new.up
@@ -103,14 +103,14 @@ TakesDown gave took None bytes n new = (n ≡ length bytes) × (new ≡ None)
 TakesDown gave took (Some p) bytes n None = ⊥
 TakesDown gave took (Some p) bytes n (Some q) = Gains (took p) (take n bytes) (took q) × (gave q ≡ gave p)
 
--- A piece for a server goes behind what waits for it. One that is not there takes it, and nothing comes of it.
+-- A piece for a server goes after what waits for it. One that is not there takes it, and nothing comes of it.
 abbrev pub TakesUp : {P : Type 0} → (P → Option (List ℕ)) → (P → Option (List ℕ)) → Option (Upstream P) → List ℕ → Option (Upstream P) → Type 0
 TakesUp gave took None bytes new = new ≡ None
 TakesUp gave took (Some p) bytes None = ⊥
 TakesUp gave took (Some p) bytes (Some q) = GoesOn (took p.peer) p.waiting bytes (took q.peer) q.waiting × (gave q.peer ≡ gave p.peer)
 
 -- the first n bytes of a piece go to this side of a line, and nothing else of it changes
-abbrev pub SentOn : {P : Type 0} → (P → Option (List ℕ)) → (P → Option (List ℕ)) → Line P → Side → List ℕ → ℕ → Line P → Type 0
+abbrev pub SentOn : {P : Type 0} → (P → Option (List ℕ)) → (P → Option (List ℕ)) → SocketPair P → Side → List ℕ → ℕ → SocketPair P → Type 0
 SentOn gave took old Down bytes n new =
     ((new.number ≡ old.number) × (new.refused ≡ old.refused)) × ((new.up ≡ old.up) × TakesDown gave took old.down bytes n new.down)
 SentOn gave took old Up bytes n new =

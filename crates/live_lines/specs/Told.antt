@@ -42,7 +42,7 @@ IsHeardFrom line side (Opened l) = ⊥
 IsHeardFrom line side Clock = ⊥
 IsHeardFrom line side Stop = ⊥
 
--- an event behind which its connection is let go
+-- an event after which its connection is let go
 abbrev pub IsLast : What → Type 0
 IsLast (Gone line side) = Unit {0}
 IsLast (Refused line) = Unit {0}

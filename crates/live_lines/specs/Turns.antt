@@ -8,7 +8,7 @@ use Rattle.gate_io.specs.declared.event.What.{What}
 use Rattle.gate_io.specs.declared.event.What.TheVariants.{Opened, Bytes, End, Gone, Joined, Refused, Room, Clock, Stop}
 use Rattle.live_lines.specs.declared.duplex.Heard.{Heard}
 use Rattle.live_lines.specs.declared.duplex.Heard.TheVariants as heards
-use Rattle.live_lines.specs.declared.line.Line.{Line}
+use Rattle.live_lines.specs.declared.line.SocketPair.{SocketPair}
 use Rattle.live_lines.specs.declared.upstream.Upstream.{Upstream}
 
 -- whether two sides are the same
@@ -64,8 +64,8 @@ OnEnd why Stop = Unit {0}
 abbrev pub WasRead : {P : Type 0} → (P → Heard → P → Type 0) → Heard → P → Type 0
 WasRead {P} reads heard new = (at : P) × reads at heard new
 
--- an end is told of a connection only behind a read that gave it
-abbrev pub EndWasRead : {P : Type 0} → (P → Heard → P → Type 0) → Line P → What → Type 0
+-- an end is told of a connection only after a read that gave it
+abbrev pub EndWasRead : {P : Type 0} → (P → Heard → P → Type 0) → SocketPair P → What → Type 0
 EndWasRead reads new (End line Down) = IfSome new.down (λ peer. WasRead reads heards.End peer)
 EndWasRead reads new (End line Up) = IfSome new.up (λ up. WasRead reads heards.End up.peer)
 EndWasRead reads new (Bytes line side bytes) = Unit {0}
@@ -103,6 +103,6 @@ ServerIsStill {P} ready broken asked None = Unit {0}
 ServerIsStill {P} ready broken asked (Some up) = (up.waiting ≡ []) × (broken up.peer ≡ false) × (IsTrue (ready up.peer) → asked → ⊥)
 
 -- nothing is to be told of a line: it has no refusal to tell, and its client and its server are still
-abbrev pub LineIsStill : {P : Type 0} → (ready broken again : P → Bool) → Wants → Line P → Type 0
+abbrev pub LineIsStill : {P : Type 0} → (ready broken again : P → Bool) → Wants → SocketPair P → Type 0
 LineIsStill ready broken again wants line =
     (line.refused ≡ false) × ClientIsStill ready broken again line.down × ServerIsStill ready broken (Contains (wanted wants Up) line.number) line.up

@@ -4,7 +4,7 @@ ghost use Rattle.gate_io.specs.Told.{Gains};
 ghost use Rattle.live_lines.specs.Heard.{IsHeard, bytes_heard};
 ghost use Rattle.live_lines.specs.declared.duplex.Heard.{Heard};
 
-use crate::room::Room;
+use crate::room::ReadBuffer;
 use mio::event::Event as Readiness;
 use mio::net::TcpStream;
 use mio::{Registry, Token};
@@ -36,7 +36,7 @@ pub trait Duplex: Drop {
     /// Whether a call on it failed, as far as is known.
     ghost broken: { Self → Bool };
 
-    /// Whether there is room again behind a write that took less than its piece, which was not told.
+    /// Whether there is room again after a write that took less than its piece, which was not told.
     ghost again: { Self → Bool };
 
     /// What a read of it may give, and what it leaves of it.
@@ -48,7 +48,7 @@ pub trait Duplex: Drop {
         ensures took { IfOk result (λ peer. IfSome (took peer) (λ bytes. bytes ≡ [])) };
 
     /// Reads what is there, at most 16,384 bytes.
-    fn read(&mut self, room: &mut Room) -> Heard
+    fn read(&mut self, room: &mut ReadBuffer) -> Heard
         ensures heard { IsHeard result }
         ensures gave { Gains (gave self.old) (bytes_heard room.new.bytes.items result) (gave self.new) }
         ensures kept { took self.new ≡ took self.old }
@@ -88,7 +88,7 @@ pub trait Duplex: Drop {
         ensures broken { IsTrue result → broken self.now ≡ false }
         ensures again { IsTrue result → again self.now ≡ false };
 
-    /// Whether there is room again behind a write that took less than its piece. It is told once.
+    /// Whether there is room again after a write that took less than its piece. It is told once.
     fn has_room_again(&mut self) -> bool
         ensures told { result ≡ again self.old }
         ensures gave { gave self.new ≡ gave self.old }

@@ -12,7 +12,7 @@ ghost use Rattle.live_lines.specs.Waiting.{GoesOn, is_full};
 
 use crate::duplex::{Duplex, Heard};
 use crate::fault::{Fault, fault_of};
-use crate::room::Room;
+use crate::room::ReadBuffer;
 use crate::upstream::Upstream;
 use gate_base::{LineNo, Octets, OutOfMemory};
 use gate_io::{Side, Wants, What};
@@ -21,7 +21,7 @@ use std::alloc::Global;
 
 /// A line: the client's connection, and that to the upstream server.
 #[derive(Drop)]
-pub struct Line<P> {
+pub struct SocketPair<P> {
     pub number: LineNo,
     pub down: Option<P>,
     pub up: Option<Upstream<P>>,
@@ -50,7 +50,7 @@ fn told<P: Duplex>(
     line: LineNo,
     side: Side,
     peer: &mut P,
-    room: &mut Room,
+    room: &mut ReadBuffer,
 ) -> Result<Option<What>, OutOfMemory>
     requires { Contains (wanted wants.now side) line }
     ensures allowed { IfOk result (λ told. IfSome told (IsAllowed wants.now)) }
@@ -71,7 +71,7 @@ fn event_of(
     line: LineNo,
     side: Side,
     heard: Heard,
-    room: &Room,
+    room: &ReadBuffer,
 ) -> Result<Option<What>, OutOfMemory>
     requires wanted { Contains (wanted wants.now side) line }
     requires sized { IsHeard heard }
@@ -103,7 +103,7 @@ fn heard_down<P: Duplex>(
     line: LineNo,
     peer: &mut P,
     is_full: bool,
-    room: &mut Room,
+    room: &mut ReadBuffer,
 ) -> Result<Option<What>, OutOfMemory>
     ensures allowed { IfOk result (λ told. IfSome told (IsAllowed wants.now)) }
     ensures of { IfOk result (λ told. IfSome told (IsOf line)) }
@@ -135,7 +135,7 @@ fn heard_up<P: Duplex>(
     wants: &Wants,
     line: LineNo,
     peer: &mut P,
-    room: &mut Room,
+    room: &mut ReadBuffer,
 ) -> Result<Option<What>, OutOfMemory>
     ensures allowed { IfOk result (λ told. IfSome told (IsAllowed wants.now)) }
     ensures of { IfOk result (λ told. IfSome told (IsOf line)) }
@@ -160,13 +160,13 @@ fn heard_up<P: Duplex>(
     Ok(None)
 }
 
-/// What is heard from the upstream server of a line, behind a write of what waits for it.
+/// What is heard from the upstream server of a line, after a write of what waits for it.
 fn heard_behind<P: Duplex>(
     alloc: Global,
     wants: &Wants,
     line: LineNo,
     up: &mut Upstream<P>,
-    room: &mut Room,
+    room: &mut ReadBuffer,
 ) -> Result<Option<What>, OutOfMemory>
     ensures allowed { IfOk result (λ told. IfSome told (IsAllowed wants.now)) }
     ensures of { IfOk result (λ told. IfSome told (IsOf line)) }
@@ -182,7 +182,7 @@ fn heard_behind<P: Duplex>(
     heard_up(alloc, wants, line, &mut up.peer, room)
 }
 
-/// Whether a connection is to be let go behind this event.
+/// Whether a connection is to be let go after this event.
 fn ends(told: &Option<What>) -> bool
     ensures none { IsTrue result → bytes_told told.now ≡ [] }
     ensures last { IsTrue result → IsSomeAnd told.now IsLast }
@@ -199,7 +199,7 @@ fn is_quiet_up<P: Duplex>(wants: &Wants, line: LineNo, up: &Upstream<P>) -> bool
         && (up.peer.is_quiet() || (!up.peer.is_broken() && !is_wanted(wants, line, Side::Up)))
 }
 
-impl<P: Duplex> Line<P> {
+impl<P: Duplex> SocketPair<P> {
     ghost use Rattle.std.specs.Prelude.{◌⊎◌, ◌&&◌, not, is_none};
     ghost use Rattle.live_lines.specs.Lines.{is_over, peer_of};
     ghost use Rattle.live_lines.specs.Passing.{HeardOn, SentOn};
@@ -212,7 +212,7 @@ impl<P: Duplex> Line<P> {
         &mut self,
         alloc: Global,
         wants: &Wants,
-        room: &mut Room,
+        room: &mut ReadBuffer,
     ) -> Result<Option<What>, OutOfMemory>
         ensures allowed { IfOk result (λ told. IfSome told (IsAllowed wants.now)) }
         ensures of { IfOk result (λ told. IfSome told (IsOf self.old.number)) }
@@ -222,7 +222,7 @@ impl<P: Duplex> Line<P> {
         ensures heard { IfOk result (λ told. HeardOn P.gave P.took self.old told self.new) }
         ensures number { self.new.number ≡ self.old.number }
 
-        // A refusal is told first, and no turn changes by it. Else the client's turn is behind each call, but for one in which the client was heard first and told something.
+        // A refusal is told first, and no turn changes by it. Else the client's turn is after each call, but for one in which the client was heard first and told something.
         ensures refusal { self.old.refused ≡ true → IfOk result (λ told. (told ≡ Some (whats.Refused self.old.number)) × (self.new.server_first ≡ self.old.server_first)) }
         ensures turn { self.old.refused ≡ false → IfOk result (λ told. self.new.server_first ≡ (not self.old.server_first && is_told_from sides.Down told)) }
         ensures server { self.old.refused ≡ false → self.old.server_first ≡ true → IfOk result (λ told. is_told_from sides.Up told ≡ false → ServerIsSilent P.ready P.reads (Contains (wanted wants.now sides.Up) self.old.number) self.old.up self.new.up) }
@@ -276,7 +276,7 @@ impl<P: Duplex> Line<P> {
         alloc: Global,
         wants: &Wants,
         is_full: bool,
-        room: &mut Room,
+        room: &mut ReadBuffer,
     ) -> Result<Option<What>, OutOfMemory>
         ensures allowed { IfOk result (λ told. IfSome told (IsAllowed wants.now)) }
         ensures of { IfOk result (λ told. IfSome told (IsOf self.old.number)) }
@@ -306,7 +306,7 @@ impl<P: Duplex> Line<P> {
         &mut self,
         alloc: Global,
         wants: &Wants,
-        room: &mut Room,
+        room: &mut ReadBuffer,
     ) -> Result<Option<What>, OutOfMemory>
         ensures allowed { IfOk result (λ told. IfSome told (IsAllowed wants.now)) }
         ensures of { IfOk result (λ told. IfSome told (IsOf self.old.number)) }

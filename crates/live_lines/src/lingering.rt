@@ -4,9 +4,9 @@ ghost use Rattle.live_lines.specs.Lasting.{Lasts};
 ghost use Rattle.live_lines.specs.Waiting.{GoesOn};
 
 use crate::duplex::{Duplex, Heard};
-use crate::room::Room;
+use crate::room::ReadBuffer;
 use crate::upstream::flush;
-use crate::waiting::Waiting;
+use crate::waiting::UnsentBytes;
 use mio::Token;
 
 /// How long a connection lingers of which nothing comes, in nanoseconds.
@@ -30,7 +30,7 @@ const READS: u32 = 4;
 pub struct Lingering<P> {
     pub token: Token,
     pub peer: P,
-    pub waiting: Waiting,
+    pub waiting: UnsentBytes,
     /// The moment at which it is dropped where nothing more comes of it.
     pub until: u64,
     /// The moment at which it is dropped whatever comes of it.
@@ -38,7 +38,7 @@ pub struct Lingering<P> {
 }
 
 impl<P: Duplex> Lingering<P> {
-    /// Writes what waits as far as there is room, and the end behind it.
+    /// Writes what waits as far as there is room, and the end after it.
     #[tactic(auto, using(crate::proofs::Hearing::goes_on_none))]
     fn flush(&mut self)
         ensures goes_on { GoesOn (P.took self.old.peer) self.old.waiting [] (P.took self.new.peer) self.new.waiting }
@@ -57,7 +57,7 @@ impl<P: Duplex> Lingering<P> {
 
     /// Reads once, as of this moment, and drops what came. False says that the connection is lost.
     #[tactic(auto, using(crate::proofs::Lasting::lasts_after))]
-    fn drop_some(&mut self, room: &mut Room, now: u64) -> bool
+    fn drop_some(&mut self, room: &mut ReadBuffer, now: u64) -> bool
         ensures lasts { Lasts P.gave now self.old self.new }
         ensures last { self.new.last ≡ self.old.last }
         ensures waiting { self.new.waiting ≡ self.old.waiting }
@@ -76,7 +76,7 @@ impl<P: Duplex> Lingering<P> {
     /// Sends on what waits, and drops what the peer sent, as of this moment. After bytes that came it lasts for a second more, to its last moment at
     /// most; where none came, no longer than before. False says that it is over.
     #[tactic(auto, using(crate::proofs::Lasting::lasts_same, crate::proofs::Lasting::lasts_more))]
-    pub fn goes_on(&mut self, room: &mut Room, now: u64) -> bool
+    pub fn goes_on(&mut self, room: &mut ReadBuffer, now: u64) -> bool
         ensures goes_on { GoesOn (P.took self.old.peer) self.old.waiting [] (P.took self.new.peer) self.new.waiting }
         ensures lasts { Lasts P.gave now self.old self.new }
         ensures last { self.new.last ≡ self.old.last }

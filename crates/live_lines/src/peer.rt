@@ -4,7 +4,7 @@ ghost use Rattle.live_lines.specs.Heard.{IsHeard, OnEndHeard};
 
 use crate::duplex::{Duplex, Heard};
 use crate::options::reset;
-use crate::room::Room;
+use crate::room::ReadBuffer;
 use mio::event::Event as Readiness;
 use mio::net::TcpStream;
 use mio::{Interest, Registry, Token};
@@ -22,7 +22,7 @@ pub struct Peer {
     stream: TcpStream,
     /// Something may be there to read.
     readable: bool,
-    /// The peer's end stands behind what is there to read.
+    /// The peer's end stands after what is there to read.
     ending: bool,
     /// There may be room to write.
     writable: bool,
@@ -212,11 +212,11 @@ impl Duplex for Peer {
         self.turned_away
     }
 
-    fn read(&mut self, room: &mut Room) -> Heard {
+    fn read(&mut self, room: &mut ReadBuffer) -> Heard {
         match self.stream.read(room.bytes.as_mut_slice()) {
             Ok(0) => self.end(),
             Ok(n) => {
-                // Less than there was room for is all that was there, unless the end stands behind it.
+                // Less than there was room for is all that was there, unless the end stands after it.
                 if n < MOST_BYTES && !self.ending {
                     self.readable = false;
                 }

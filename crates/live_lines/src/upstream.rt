@@ -4,7 +4,7 @@ ghost use Rattle.gate_io.specs.Told.{Gains, GainsFront};
 ghost use Rattle.live_lines.specs.Waiting.{GoesOn};
 
 use crate::duplex::Duplex;
-use crate::waiting::Waiting;
+use crate::waiting::UnsentBytes;
 use gate_base::OutOfMemory;
 use mio::event::Event as Readiness;
 use std::alloc::Global;
@@ -13,15 +13,15 @@ use std::alloc::Global;
 const ENOUGH: usize = 65_536;
 
 /// The connection of one exchange to the upstream server, and what waits until it takes it. It takes each piece whole, so
-/// that nothing of a worker waits for it behind the end of the exchange.
+/// that nothing of a worker waits for it after the end of the exchange.
 #[derive(Drop)]
 pub struct Upstream<P> {
     pub peer: P,
-    pub waiting: Waiting,
+    pub waiting: UnsentBytes,
 }
 
 /// Writes what waits, as far as there is room.
-pub fn flush<P: Duplex>(peer: &mut P, waiting: &mut Waiting)
+pub fn flush<P: Duplex>(peer: &mut P, waiting: &mut UnsentBytes)
     ensures goes_on { GoesOn (P.took peer.old) waiting.old [] (P.took peer.new) waiting.new }
     ensures gave { P.gave peer.new ≡ P.gave peer.old }
     ensures ready { IsTrue (P.ready peer.old) → IsTrue (P.ready peer.new) }
@@ -31,7 +31,7 @@ pub fn flush<P: Duplex>(peer: &mut P, waiting: &mut Waiting)
 }
 
 /// Writes a piece where nothing waits that it would overtake: the answer is how many of its bytes went.
-fn offer<P: Duplex>(peer: &mut P, waiting: &Waiting, bytes: &[u8]) -> usize
+fn offer<P: Duplex>(peer: &mut P, waiting: &UnsentBytes, bytes: &[u8]) -> usize
     ensures bound { result ≤ length bytes.now }
     ensures took { Gains (P.took peer.old) (take result bytes.now) (P.took peer.new) }
     ensures gave { P.gave peer.new ≡ P.gave peer.old }
@@ -52,7 +52,7 @@ impl<P: Duplex> Upstream<P> {
     {
         Upstream {
             peer,
-            waiting: Waiting::new(alloc),
+            waiting: UnsentBytes::new(alloc),
         }
     }
 

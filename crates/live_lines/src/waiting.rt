@@ -7,13 +7,13 @@ use std::marker::Model;
 
 /// Bytes that wait until a connection takes them, in order. Clauses see them.
 #[derive(Drop)]
-pub struct Waiting {
+pub struct UnsentBytes {
     bytes: Vec<u8>,
     /// So many of them were taken.
     taken: usize,
 }
 
-impl Model for Waiting {
+impl Model for UnsentBytes {
     ghost use Rattle.std.specs.Prelude.{List, ℕ, ◌≤◌, drop, length};
 
     ghost Value = { List ℕ };
@@ -23,12 +23,12 @@ impl Model for Waiting {
     ghost invariant = { λ w. w.taken ≤ length w.bytes.items };
 }
 
-impl Waiting {
+impl UnsentBytes {
     /// Nothing waits. It takes no memory.
     pub fn new(alloc: Global) -> Self
         ensures { result ≡ [] }
     {
-        Waiting {
+        UnsentBytes {
             bytes: Vec::new(alloc),
             taken: 0,
         }
@@ -55,7 +55,7 @@ impl Waiting {
         &self.bytes[self.taken..]
     }
 
-    /// Puts bytes behind those that wait, all or none.
+    /// Puts bytes after those that wait, all or none.
     pub fn put(&mut self, alloc: Global, bytes: &[u8]) -> Result<(), OutOfMemory>
         ensures ok { OnOk result (self.new ≡ self.old ++ bytes.now) }
         ensures err { OnErr result (self.new ≡ self.old) }

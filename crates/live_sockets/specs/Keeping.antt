@@ -5,57 +5,57 @@ use Rattle.gate_io.specs.declared.event.What.{What}
 use Rattle.gate_io.specs.declared.event.What.TheVariants.{Opened, Bytes, End, Gone, Joined, Refused, Room, Clock, Stop}
 use Rattle.live_lines.specs.Lines.{IsHeardAt, HeardIn, is_over}
 use Rattle.live_lines.specs.Passing.{HeardOn}
-use Rattle.live_lines.specs.declared.line.Line.{Line}
+use Rattle.live_lines.specs.declared.line.SocketPair.{SocketPair}
 
 -- A line stood before, and nothing was heard of it.
-pub record Stood {P : Type 0} (gave took : P → Option (List ℕ)) (old : List (Line P)) (now : Line P) : Type 0 where
+pub record Stood {P : Type 0} (gave took : P → Option (List ℕ)) (old : List (SocketPair P)) (now : SocketPair P) : Type 0 where
   pub at : ℕ
-  pub line : Line P
+  pub line : SocketPair P
   pub stands : slice_get old at ≡ Some line
   pub heard : HeardOn gave took line None now
 
 -- a line stands among these, or it is over and may be gone
-abbrev pub StandsOrIsOver : {P : Type 0} → Line P → List (Line P) → Type 0
+abbrev pub StandsOrIsOver : {P : Type 0} → SocketPair P → List (SocketPair P) → Type 0
 StandsOrIsOver line lines = ((at : ℕ) × (slice_get lines at ≡ Some line)) ⊎ IsTrue (is_over line)
 
 -- Nothing was heard of a line, which stands then, or is over and may be gone.
-pub record Remains {P : Type 0} (gave took : P → Option (List ℕ)) (line : Line P) (new : List (Line P)) : Type 0 where
-  pub behind : Line P
+pub record Remains {P : Type 0} (gave took : P → Option (List ℕ)) (line : SocketPair P) (new : List (SocketPair P)) : Type 0 where
+  pub behind : SocketPair P
   pub heard : HeardOn gave took line None behind
   pub stands : StandsOrIsOver behind new
 
 -- Each line stood before, nothing was heard of it, and each that stood stands, but for those that are over.
-pub record AreKept {P : Type 0} (gave took : P → Option (List ℕ)) (old new : List (Line P)) : Type 0 where
-  pub each : (i : ℕ) (now : Line P) → slice_get new i ≡ Some now → Stood gave took old now
-  pub all : (i : ℕ) (line : Line P) → slice_get old i ≡ Some line → Remains gave took line new
+pub record AreKept {P : Type 0} (gave took : P → Option (List ℕ)) (old new : List (SocketPair P)) : Type 0 where
+  pub each : (i : ℕ) (now : SocketPair P) → slice_get new i ≡ Some now → Stood gave took old now
+  pub all : (i : ℕ) (line : SocketPair P) → slice_get old i ≡ Some line → Remains gave took line new
 
--- A line of a number that no other has comes behind the others.
-pub record Comes {P : Type 0} (old : List (Line P)) (number : ℕ) (new : List (Line P)) : Type 0 where
-  pub line : Line P
+-- A line of a number that no other has comes after the others.
+pub record Comes {P : Type 0} (old : List (SocketPair P)) (number : ℕ) (new : List (SocketPair P)) : Type 0 where
+  pub line : SocketPair P
   pub number_is : line.number ≡ number
-  pub fresh : position (λ (other : Line P). other.number == number) old ≡ None
+  pub fresh : position (λ (other : SocketPair P). other.number == number) old ≡ None
   pub lines : new ≡ old ++ line ∷ []
 
 -- a line comes, or all are as before
-abbrev pub Arrives : {P : Type 0} → List (Line P) → Option ℕ → List (Line P) → Type 0
+abbrev pub Arrives : {P : Type 0} → List (SocketPair P) → Option ℕ → List (SocketPair P) → Type 0
 Arrives old None new = new ≡ old
 Arrives old (Some number) new = Comes old number new
 
 -- this line was kept, or all are as before
-abbrev pub Begins : {P : Type 0} → List (Line P) → ℕ → Bool → List (Line P) → Type 0
+abbrev pub Begins : {P : Type 0} → List (SocketPair P) → ℕ → Bool → List (SocketPair P) → Type 0
 Begins old number false new = new ≡ old
 Begins old number true new = Comes old number new
 
 -- Nothing was heard of some lines, and then this of one.
-pub record Tells {P : Type 0} (gave took : P → Option (List ℕ)) (old : List (Line P)) (what : What) (new : List (Line P)) : Type 0 where
-  pub between : List (Line P)
+pub record Tells {P : Type 0} (gave took : P → Option (List ℕ)) (old : List (SocketPair P)) (what : What) (new : List (SocketPair P)) : Type 0 where
+  pub between : List (SocketPair P)
   pub kept : AreKept gave took old between
   pub at : ℕ
   pub of : IsHeardAt between at what
   pub heard : HeardIn gave took between at (Some what) new
 
 -- what is heard of all lines in turn
-abbrev pub Heard : {P : Type 0} → (P → Option (List ℕ)) → (P → Option (List ℕ)) → List (Line P) → Option What → List (Line P) → Type 0
+abbrev pub Heard : {P : Type 0} → (P → Option (List ℕ)) → (P → Option (List ℕ)) → List (SocketPair P) → Option What → List (SocketPair P) → Type 0
 Heard gave took old None new = AreKept gave took old new
 Heard gave took old (Some (Opened line)) new = Comes old line new
 Heard gave took old (Some (Bytes line side bytes)) new = Tells gave took old (Bytes line side bytes) new
@@ -68,13 +68,13 @@ Heard gave took old (Some Clock) new = ⊥
 Heard gave took old (Some Stop) new = ⊥
 
 -- A line of this number comes behind lines of which nothing was heard.
-pub record ComesBehind {P : Type 0} (gave took : P → Option (List ℕ)) (old : List (Line P)) (number : ℕ) (new : List (Line P)) : Type 0 where
-  pub between : List (Line P)
+pub record ComesBehind {P : Type 0} (gave took : P → Option (List ℕ)) (old : List (SocketPair P)) (number : ℕ) (new : List (SocketPair P)) : Type 0 where
+  pub between : List (SocketPair P)
   pub kept : AreKept gave took old between
   pub comes : Comes between number new
 
 -- an event of a line was heard of these lines, of the others nothing, and nothing of any of them at Clock and Stop
-abbrev pub WasHeard : {P : Type 0} → (P → Option (List ℕ)) → (P → Option (List ℕ)) → List (Line P) → What → List (Line P) → Type 0
+abbrev pub WasHeard : {P : Type 0} → (P → Option (List ℕ)) → (P → Option (List ℕ)) → List (SocketPair P) → What → List (SocketPair P) → Type 0
 WasHeard gave took old Clock new = AreKept gave took old new
 WasHeard gave took old Stop new = AreKept gave took old new
 WasHeard gave took old (Opened line) new = ComesBehind gave took old line new

@@ -4,7 +4,7 @@ use Rattle.live_sockets.specs.Homes.{AreHome}
 use Rattle.live_sockets.specs.Numbers.{home_of}
 use Rattle.live_sockets.specs.Places.{HasWaited, most_places}
 use Rattle.live_sockets.specs.declared.origin.Acceptor.{Acceptor}
-use Rattle.live_sockets.specs.declared.origin.Guest.{Guest}
+use Rattle.live_sockets.specs.declared.origin.AcceptedLine.{AcceptedLine}
 use Rattle.live_sockets.specs.declared.origin.Origin.{Origin}
 use Rattle.live_sockets.specs.declared.origin.Origin.TheVariants.{Listener, Mailbox}
 
@@ -26,7 +26,7 @@ HasEnded (Mailbox mailbox) = Unit {0}
 -- Lines were accepted, while the worker that accepts keeps so many, at a moment: each of which the number is of this worker's place is what comes, so that there is one at most, and no number of
 -- this place was passed over while it had a place for a line. None comes to this worker where it has none, but for one that waited for a second. The others were of other workers, of whom each was
 -- offered lines of its place alone.
-pub record Accepted (kept now : ℕ) (old : Acceptor) (guest : Option Guest) (new : Acceptor) : Type 0 where
+pub record Accepted (kept now : ℕ) (old : Acceptor) (guest : Option AcceptedLine) (new : Acceptor) : Type 0 where
   pub most : new.most ≡ old.most
   pub within : old.accepted ≤ old.most → new.accepted ≤ new.most
   pub few : new.accepted + new.left ≤ old.accepted + old.left
@@ -37,7 +37,7 @@ pub record Accepted (kept now : ℕ) (old : Acceptor) (guest : Option Guest) (ne
   pub offered : AreHome old.number old.others.items → AreHome new.number new.others.items
 
 -- the next line of a worker: one that was accepted, or one that was handed over, of which fewer may come then
-abbrev pub GivesNext : ℕ → ℕ → Origin → Option Guest → Origin → Type 0
+abbrev pub GivesNext : ℕ → ℕ → Origin → Option AcceptedLine → Origin → Type 0
 GivesNext kept now (Listener old) guest (Listener new) = Accepted kept now old guest new
 GivesNext kept now (Listener old) guest (Mailbox new) = ⊥
 GivesNext kept now (Mailbox old) guest (Listener new) = ⊥

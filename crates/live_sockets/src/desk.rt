@@ -12,7 +12,7 @@ const ENDED: u64 = 2;
 
 /// How far the worker that accepts is, as the others see it.
 #[derive(Drop)]
-pub struct Stage {
+pub struct AcceptState {
     state: AtomicU64,
     lives: Lives,
 }
@@ -51,10 +51,10 @@ impl Lives {
     }
 }
 
-impl Stage {
+impl AcceptState {
     /// It did not ask for an event yet.
-    pub fn new() -> Stage {
-        Stage {
+    pub fn new() -> AcceptState {
+        AcceptState {
             state: AtomicU64::new(BEGINS),
             lives: Lives::new(),
         }

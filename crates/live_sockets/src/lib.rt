@@ -9,10 +9,10 @@ mod notices;
 mod origin;
 mod sockets;
 
-pub use desk::Stage;
+pub use desk::AcceptState;
 pub use laws::worked_moments;
 pub use looks::Looks;
 pub use moments::Moments;
 pub use notices::{KINDS, LEVEL, Notice, Notices, TEXTS};
-pub use origin::{Acceptor, Guest, Mailbox, Neighbor, Origin, join_queue};
+pub use origin::{AcceptedLine, Acceptor, Mailbox, Neighbor, Origin, join_queue};
 pub use sockets::{Buffers, ORIGIN, Sockets};

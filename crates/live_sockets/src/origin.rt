@@ -4,7 +4,7 @@ ghost use Rattle.std.specs.Arc.{arc_value};
 ghost use Rattle.live_sockets.specs.Numbers.{MayGain, home_of};
 ghost use Rattle.live_sockets.specs.Places.{HasWaited, most_places};
 
-use crate::desk::{Desk, Stage};
+use crate::desk::{AcceptState, Desk};
 use crate::notices::{Notice, Notices};
 use gate_base::{LineNo, OutOfMemory};
 use handoff::{Giver, Handoff, HasLine, Taker};
@@ -38,20 +38,20 @@ const GIVE_UP: u64 = 10_000_000_000;
 
 /// A line that was accepted.
 #[derive(Drop)]
-pub struct Guest {
+pub struct AcceptedLine {
     pub number: LineNo,
     pub stream: TcpStream,
 }
 
-impl HasLine for Guest {
+impl HasLine for AcceptedLine {
     ghost line = { λ guest. guest.number };
 }
 
 /// The queue to another worker.
 #[derive(Drop)]
 pub struct Neighbor {
-    queue: Arc<Handoff<Guest>>,
-    giver: Giver<Guest>,
+    queue: Arc<Handoff<AcceptedLine>>,
+    giver: Giver<AcceptedLine>,
     waker: Waker,
     /// What the worker tells.
     desk: Arc<Desk>,
@@ -63,8 +63,8 @@ pub struct Neighbor {
 /// The queue from the worker that accepts.
 #[derive(Drop)]
 pub struct Mailbox {
-    queue: Arc<Handoff<Guest>>,
-    taker: Taker<Guest>,
+    queue: Arc<Handoff<AcceptedLine>>,
+    taker: Taker<AcceptedLine>,
     /// A line may be there to take.
     ready: bool,
     /// So many may be taken before an open line is heard.
@@ -74,7 +74,7 @@ pub struct Mailbox {
     /// How many lines were taken.
     taken: u64,
     /// How far the worker that accepts is.
-    stage: Arc<Stage>,
+    stage: Arc<AcceptState>,
     /// Since when that worker was seen to begin a life and not to ask for events, where it does.
     begins: Option<u64>,
     /// All lines were taken that are ever offered.
@@ -107,7 +107,7 @@ pub struct Acceptor {
     refusals: u32,
     others: Vec<Neighbor>,
     /// How far this worker is.
-    stage: Arc<Stage>,
+    stage: Arc<AcceptState>,
 }
 
 /// Where a worker's lines come from.
@@ -121,7 +121,7 @@ pub enum Origin {
 pub fn join_queue(
     alloc: Global,
     waker: Waker,
-    stage: Arc<Stage>,
+    stage: Arc<AcceptState>,
 ) -> Result<(Neighbor, Mailbox), OutOfMemory>
     ensures { IfOk result (λ ends. ends.0.giver.lines ≡ []) }
 {
@@ -159,10 +159,10 @@ pub fn join_queue(
 /// A queue, twice, with both of its ends.
 #[derive(Drop)]
 struct Queue {
-    queue: Arc<Handoff<Guest>>,
-    theirs: Arc<Handoff<Guest>>,
-    giver: Giver<Guest>,
-    taker: Taker<Guest>,
+    queue: Arc<Handoff<AcceptedLine>>,
+    theirs: Arc<Handoff<AcceptedLine>>,
+    giver: Giver<AcceptedLine>,
+    taker: Taker<AcceptedLine>,
     ghost gives: { giver.queue ≡ arc_value queue },
     ghost takes: { taker.queue ≡ arc_value theirs },
 }
@@ -184,7 +184,7 @@ fn queue_of(alloc: Global) -> Result<Queue, OutOfMemory>
 
 impl Neighbor {
     /// Hands a line over. One that there is no room for is closed, never before 128 were handed over.
-    fn hand<R: Wait>(&mut self, rt: &R, guest: Guest)
+    fn hand<R: Wait>(&mut self, rt: &R, guest: AcceptedLine)
         ensures gains { MayGain self.old.giver.lines guest.number self.new.giver.lines }
         ensures full { (self.new.giver.lines ≡ self.old.giver.lines ++ guest.number ∷ []) ⊎ (128 ≤ length self.old.giver.lines) }
     {
@@ -202,7 +202,7 @@ impl Neighbor {
 
 impl Mailbox {
     /// A line that was handed over. None comes once as many came as may before an open line is heard.
-    fn take<R: Wait>(&mut self, rt: &R) -> Option<Guest>
+    fn take<R: Wait>(&mut self, rt: &R) -> Option<AcceptedLine>
         ensures few { IfSome result (λ guest. self.new.left < self.old.left) }
         ensures some { IfSome result (λ guest. self.new.taker.lines ≡ self.old.taker.lines ++ guest.number ∷ []) }
         ensures none { IfNone result (self.new.taker.lines ≡ self.old.taker.lines) }
@@ -211,7 +211,7 @@ impl Mailbox {
             return None;
         }
         self.left -= 1;
-        // Read first: where it is so, nothing comes behind what the queue holds.
+        // Read first: where it is so, nothing comes after what the queue holds.
         let ended = self.stage.has_ended();
         let guest = self.queue.take(rt, &mut self.taker);
         if guest.is_none() {
@@ -262,7 +262,12 @@ impl Acceptor {
     ghost use Rattle.live_sockets.specs.Homes.{AreHome};
 
     /// Accepts at a listener so many lines, for this worker and the others.
-    pub fn new(listener: TcpListener, most: u32, others: Vec<Neighbor>, stage: Arc<Stage>) -> Self
+    pub fn new(
+        listener: TcpListener,
+        most: u32,
+        others: Vec<Neighbor>,
+        stage: Arc<AcceptState>,
+    ) -> Self
         ensures none { result.accepted ≡ 0 }
         ensures number { result.number ≡ 0 }
         ensures most { result.most ≡ most }
@@ -308,7 +313,7 @@ impl Acceptor {
     /// come; numbers of workers that have no place are passed over, and where none has one no line is accepted before it has waited for a second. None
     /// comes once as many were accepted as may be before an open line is heard.
     #[tactic(auto, using(crate::proofs::Homes::next_home))]
-    fn accept<R: Wait>(&mut self, rt: &R, kept: usize, now: u64) -> Option<Guest>
+    fn accept<R: Wait>(&mut self, rt: &R, kept: usize, now: u64) -> Option<AcceptedLine>
         ensures grows { self.old.accepted ≤ self.new.accepted }
         ensures rises { self.old.number ≤ self.new.number }
         ensures most { self.new.most ≡ self.old.most }
@@ -396,7 +401,7 @@ impl Acceptor {
     }
 
     /// Gives a line a number after the last, and hands it over where it is another worker's.
-    fn place<R: Wait>(&mut self, rt: &R, number: LineNo, stream: TcpStream) -> Option<Guest>
+    fn place<R: Wait>(&mut self, rt: &R, number: LineNo, stream: TcpStream) -> Option<AcceptedLine>
         requires few { self.old.accepted < self.old.most }
         requires next { self.old.number < number }
         ensures next { self.new.accepted ≡ self.old.accepted + 1 }
@@ -412,7 +417,7 @@ impl Acceptor {
     {
         self.accepted += 1;
         self.number = number.get();
-        let own = self.route(rt, Guest { number, stream });
+        let own = self.route(rt, AcceptedLine { number, stream });
         if self.is_done() {
             self.end();
         }
@@ -420,7 +425,7 @@ impl Acceptor {
     }
 
     /// Keeps a line of this worker, and hands over one of another.
-    fn route<R: Wait>(&mut self, rt: &R, guest: Guest) -> Option<Guest>
+    fn route<R: Wait>(&mut self, rt: &R, guest: AcceptedLine) -> Option<AcceptedLine>
         ensures own { IfSome result (λ own. own ≡ guest) }
         ensures home { IfSome result (λ own. home_of guest.number (vec_len self.new.others) ≡ 0) }
         ensures keeps { home_of guest.number (vec_len self.new.others) ≡ 0 → IsSome result }
@@ -442,7 +447,7 @@ impl Origin {
     ghost use Rattle.live_sockets.specs.Origins.{GivesNext, HasEnded, is_done};
 
     /// The next line, where so many are kept, at this moment.
-    pub fn next<R: Wait>(&mut self, rt: &R, kept: usize, now: u64) -> Option<Guest>
+    pub fn next<R: Wait>(&mut self, rt: &R, kept: usize, now: u64) -> Option<AcceptedLine>
         ensures { GivesNext kept now self.old result self.new }
     {
         match self {

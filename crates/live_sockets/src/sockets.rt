@@ -10,12 +10,12 @@ ghost use Rattle.live_lines.specs.Turns.{LineIsStill};
 use crate::looks::Looks;
 use crate::moments::Moments;
 use crate::notices::{KINDS, Notice, Notices};
-use crate::origin::{Guest, Origin};
+use crate::origin::{AcceptedLine, Origin};
 use gate_base::{LineNo, OutOfMemory};
 use gate_io::{Side, Wants, What, WorldEnd};
 use live_lines::{
-    Duplex, Fault, LINGER, LINGER_MOST, Line, Lingering, MOST_LEFT, MOST_LINGERING, Room, Upstream,
-    Waiting,
+    Duplex, Fault, LINGER, LINGER_MOST, Lingering, MOST_LEFT, MOST_LINGERING, ReadBuffer,
+    SocketPair, UnsentBytes, Upstream,
 };
 use mio::event::Event as Readiness;
 use mio::net::TcpStream;
@@ -31,7 +31,7 @@ pub const ORIGIN: Token = Token(0);
 /// The tokens of closed connections to servers begin here, above those of all lines.
 const CLOSED: usize = 1_099_511_627_776;
 
-/// So many lines are kept: twice as many as a worker has open, so that as many more may wait to be closed behind what their clients have not
+/// So many lines are kept: twice as many as a worker has open, so that as many more may wait to be closed after what their clients have not
 /// read. A further one is closed at once, or else a client that opens lines and reads nothing would take descriptors and memory without end.
 const MOST_LINES: usize = 256;
 
@@ -48,14 +48,14 @@ pub struct Sockets<P> {
     /// The address of the upstream server.
     pub upstream: SocketAddr,
     /// The lines that are kept.
-    pub lines: Vec<Line<P>>,
+    pub lines: Vec<SocketPair<P>>,
     /// The connections that were closed and are not over.
     pub lingering: Vec<Lingering<P>>,
     /// What was read last.
-    pub room: Room,
+    pub room: ReadBuffer,
     /// The place of the line that is heard next.
     next: usize,
-    /// The place behind the line to which bytes were offered last: what waits is offered to one line after the other.
+    /// The place after the line to which bytes were offered last: what waits is offered to one line after the other.
     behind: usize,
     /// When the system was asked what is ready, and how much was heard since.
     pub looks: Looks,
@@ -71,14 +71,14 @@ pub struct Sockets<P> {
 #[derive(Drop)]
 pub struct Buffers {
     events: Events,
-    room: Room,
+    room: ReadBuffer,
 }
 
 impl Buffers {
     /// Buffers with nothing in them.
     pub fn new(alloc: Global) -> Result<Buffers, OutOfMemory> {
         let events = Events::with_capacity(alloc, 256)?;
-        let room = Room::new(alloc)?;
+        let room = ReadBuffer::new(alloc)?;
         Ok(Buffers { events, room })
     }
 }
@@ -102,7 +102,7 @@ fn side_of(token: Token) -> Side {
 }
 
 /// The place of the line of this number.
-fn place_of<P>(lines: &[Line<P>], number: LineNo) -> Option<usize>
+fn place_of<P>(lines: &[SocketPair<P>], number: LineNo) -> Option<usize>
     ensures place { result ≡ position (λ line. line.number == number) lines.now }
     ensures within { IfSome result (λ i. i < length lines.now) }
     ensures found { IfSome result (HoldsAt (λ line. line.number ≡ number) lines.now) }
@@ -112,7 +112,7 @@ fn place_of<P>(lines: &[Line<P>], number: LineNo) -> Option<usize>
 
 /// A place of a line of this number. Lines come in the order of their numbers, so it is looked for by halves first, and through all of
 /// them where that finds none: what is found does not rest on that order.
-fn find<P>(lines: &[Line<P>], number: LineNo) -> Option<usize>
+fn find<P>(lines: &[SocketPair<P>], number: LineNo) -> Option<usize>
     ensures within { IfSome result (λ i. i < length lines.now) }
     ensures found { IfSome result (HoldsAt (λ line. line.number ≡ number) lines.now) }
     ensures none { IfNone result (position (λ line. line.number == number) lines.now ≡ None) }
@@ -126,7 +126,7 @@ fn find<P>(lines: &[Line<P>], number: LineNo) -> Option<usize>
 
 /// Whether the line of this number stands at a place.
 #[inline(always)]
-fn stands_at<P>(lines: &[Line<P>], number: LineNo, at: usize) -> bool
+fn stands_at<P>(lines: &[SocketPair<P>], number: LineNo, at: usize) -> bool
     ensures within { IsTrue result → at < length lines.now }
     ensures found { IsTrue result → HoldsAt (λ line. line.number ≡ number) lines.now at }
 {
@@ -135,7 +135,7 @@ fn stands_at<P>(lines: &[Line<P>], number: LineNo, at: usize) -> bool
 
 /// The same as `find`, where it is likely to be this place.
 #[inline(always)]
-fn find_near<P>(lines: &[Line<P>], number: LineNo, near: usize) -> Option<usize>
+fn find_near<P>(lines: &[SocketPair<P>], number: LineNo, near: usize) -> Option<usize>
     ensures within { IfSome result (λ i. i < length lines.now) }
     ensures found { IfSome result (HoldsAt (λ line. line.number ≡ number) lines.now) }
     ensures none { IfNone result (position (λ line. line.number == number) lines.now ≡ None) }
@@ -149,7 +149,7 @@ fn find_near<P>(lines: &[Line<P>], number: LineNo, near: usize) -> Option<usize>
 /// Offers bytes to a side of the line at a place.
 #[inline(always)]
 fn send_at<P: Duplex>(
-    lines: &mut [Line<P>],
+    lines: &mut [SocketPair<P>],
     alloc: Global,
     at: usize,
     side: Side,
@@ -168,7 +168,7 @@ fn send_at<P: Duplex>(
 }
 
 /// Keeps what the system told of a side of the line at a place.
-fn note_at<P: Duplex>(lines: &mut Vec<Line<P>>, at: usize, side: Side, event: &Readiness)
+fn note_at<P: Duplex>(lines: &mut Vec<SocketPair<P>>, at: usize, side: Side, event: &Readiness)
     requires { at < vec_len lines.old }
     ensures { HeardIn P.gave P.took lines.old.items at None lines.new.items }
 {
@@ -344,7 +344,7 @@ impl<P: Duplex> Sockets<P> {
         }
     }
 
-    /// Asks the system what is ready. A line that it refused is asked for again behind that.
+    /// Asks the system what is ready. A line that it refused is asked for again after that.
     #[tactic(auto, using(crate::proofs::Kept::kept_same))]
     fn look<R: Clock>(&mut self, rt: &R, timeout: Option<Duration>) -> Result<(), WorldEnd>
         ensures kept { AreKept P.gave P.took self.old.lines.items self.new.lines.items }
@@ -472,7 +472,9 @@ impl<P: Duplex> Sockets<P> {
         ensures looks { self.new.looks ≡ self.old.looks }
     {
         for _ in 0..u32::MAX {
-            let Guest { number, stream } = self.origin.next(rt, self.lines.len(), self.looks.seen)?;
+            let AcceptedLine { number, stream } = self
+                .origin
+                .next(rt, self.lines.len(), self.looks.seen)?;
             if self.begin(number, stream) {
                 return Some(number);
             }
@@ -518,7 +520,7 @@ impl<P: Duplex> Sockets<P> {
         ensures few { vec_len self.new.lines ≤ most_lines }
         ensures looks { self.new.looks ≡ self.old.looks }
     {
-        let line = Line {
+        let line = SocketPair {
             number,
             down: Some(down),
             up: None,
@@ -593,7 +595,7 @@ impl<P: Duplex> Sockets<P> {
         }
     }
 
-    /// The line at a place is gone: where the one that is heard next comes behind it, it stays the next.
+    /// The line at a place is gone: where the one that is heard next comes after it, it stays the next.
     fn step_back(&mut self, at: usize)
         ensures next { at < self.old.next → self.new.next + 1 ≡ self.old.next }
         ensures before { self.old.next ≤ at → self.new.next ≡ self.old.next }
@@ -642,7 +644,7 @@ impl<P: Duplex> Sockets<P> {
         if !peer.is_ended() && !peer.is_broken() {
             peer.finish();
             let token = token_of(number, Side::Down);
-            self.linger(rt, token, peer, Waiting::new(alloc), LINGER_MOST);
+            self.linger(rt, token, peer, UnsentBytes::new(alloc), LINGER_MOST);
         }
     }
 
@@ -670,7 +672,7 @@ impl<P: Duplex> Sockets<P> {
     }
 
     /// Sends on what waits for a server whose connection is closed, under a token of its own.
-    fn send_on<R: Clock>(&mut self, rt: &R, peer: P, waiting: Waiting)
+    fn send_on<R: Clock>(&mut self, rt: &R, peer: P, waiting: UnsentBytes)
         ensures { self.new.lines ≡ self.old.lines }
     {
         let token = Token(CLOSED + self.closed as usize);
@@ -682,7 +684,7 @@ impl<P: Duplex> Sockets<P> {
     }
 
     /// Lets a connection linger until nothing came of it for a second, for so long at most. Where too many do, the first of them is dropped.
-    fn linger<R: Clock>(&mut self, rt: &R, token: Token, peer: P, waiting: Waiting, most: u64)
+    fn linger<R: Clock>(&mut self, rt: &R, token: Token, peer: P, waiting: UnsentBytes, most: u64)
         ensures { self.new.lines ≡ self.old.lines }
     {
         if let Ok(now) = self.moments.now(rt) {
@@ -747,7 +749,7 @@ impl<P: Duplex> Sockets<P> {
 }
 
 /// The place of the line of a token, which is looked for by halves first, as in `find`.
-fn place_of_token<P>(lines: &[Line<P>], token: Token, side: Side) -> Option<usize>
+fn place_of_token<P>(lines: &[SocketPair<P>], token: Token, side: Side) -> Option<usize>
     ensures within { IfSome result (λ i. i < length lines.now) }
 {
     let number = token.0 / 2;
@@ -766,7 +768,7 @@ fn place_of_token<P>(lines: &[Line<P>], token: Token, side: Side) -> Option<usiz
 fn note_all<P: Duplex>(
     events: &Events,
     origin: &mut Origin,
-    lines: &mut Vec<Line<P>>,
+    lines: &mut Vec<SocketPair<P>>,
     lingering: &mut [Lingering<P>],
 )
     ensures { AreKept P.gave P.took lines.old.items lines.new.items }
@@ -782,7 +784,11 @@ fn note_all<P: Duplex>(
 
 /// Keeps what the system told of a connection.
 #[tactic(auto, using(crate::proofs::Kept::kept_same, crate::proofs::Kept::heard_in_kept))]
-fn note<P: Duplex>(lines: &mut Vec<Line<P>>, lingering: &mut [Lingering<P>], event: &Readiness)
+fn note<P: Duplex>(
+    lines: &mut Vec<SocketPair<P>>,
+    lingering: &mut [Lingering<P>],
+    event: &Readiness,
+)
     ensures { AreKept P.gave P.took lines.old.items lines.new.items }
 {
     let token = event.token();
@@ -831,8 +837,8 @@ fn fault_told(told: &Option<What>, fault: Option<Fault>) -> Option<Fault> {
 }
 
 /// The connection to the client of a line, of which nothing else is kept.
-fn client_of<P: Duplex>(line: Line<P>) -> Option<P> {
-    let Line {
+fn client_of<P: Duplex>(line: SocketPair<P>) -> Option<P> {
+    let SocketPair {
         number: _,
         down,
         up: _,

@@ -3,8 +3,8 @@ use Rattle.std.proofs.Common.{◌≡◌, ℕ, Bool, true, false, ◌||◌, ◌&&
 use Rattle.std.specs.List.{list_any}
 use Rattle.http_header.specs.Token.{lowercase}
 use Rattle.header_maps.proofs.Shapes.{bytes_are}
-use Rattle.http1_model.specs.Fields.{Pair, is_named}
-use Rattle.http1_model.specs.Wire.{is_left_out, sent_among}
+use Rattle.h1_model.specs.Fields.{Pair, is_named}
+use Rattle.h1_model.specs.Wire.{is_left_out, sent_among}
 
 and_false : (b : Bool) → (b && false) ≡ false
 and_false true = refl

@@ -3,7 +3,7 @@ use Rattle.std.proofs.Common.{refl}
 use Rattle.std.specs.Fmt.{digits}
 use Rattle.httparse.proofs.OnLiterals.{httparse_on_literals}
 use Rattle.httpdate.proofs.OnLiterals.{httpdate_on_literals}
-use Rattle.http1_model.specs.Moment.{year_from, month_from}
+use Rattle.h1_model.specs.Moment.{year_from, month_from}
 use Rattle.local_reply.specs.Examples.{MomentExamples, ReplyExamples}
 
 pub moment_examples : MomentExamples

@@ -8,7 +8,7 @@ use Rattle.httpdate.specs.declared.date.HttpDate.{HttpDate}
 use Rattle.httpdate.proofs.CalendarLemmas.{days_of_months_more, days_of_months_all}
 use Rattle.httpdate.proofs.Theorems.{date_text_is}
 use Rattle.httpdate.proofs.ValidLemmas.{is_valid_complete}
-use Rattle.http1_model.specs.Moment.{second_of, year_from, month_from, year_of_day, month_of_day, date_of_second, moment_text}
+use Rattle.h1_model.specs.Moment.{second_of, year_from, month_from, year_of_day, month_of_day, date_of_second, moment_text}
 use Rattle.local_reply.specs.Laws.{IsDateOfSecond, MomentsHaveTexts}
 
 -- ---- years

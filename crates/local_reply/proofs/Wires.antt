@@ -6,13 +6,13 @@ use Rattle.header_maps.specs.Judged.{status_text}
 use Rattle.header_maps.specs.declared.kind.ListKind.TheVariants.{Request}
 use Rattle.httparse.specs.Ascii.{crlf_bytes}
 use Rattle.httparse.proofs.OnLiterals.{httparse_on_literals}
-use Rattle.http1_model.specs.Fields.{Pair}
-use Rattle.http1_model.specs.Framing.{Framing, no_body, told_framing, body_framing, for_client, framing_line, piece_wire, head_wire, response_line, start_lines}
-use Rattle.http1_model.specs.Head.{Head}
-use Rattle.http1_model.specs.Length.{exactly}
-use Rattle.http1_model.specs.LocalReply.{status_line, length_line, has_date, date_line, close_line, sent_body}
-use Rattle.http1_model.specs.Moment.{moment_text}
-use Rattle.http1_model.specs.Wire.{field_line, field_lines, sent_fields, via_of, close_field}
+use Rattle.h1_model.specs.Fields.{Pair}
+use Rattle.h1_model.specs.Framing.{Framing, no_body, told_framing, body_framing, for_client, framing_line, piece_wire, head_wire, response_line, start_lines}
+use Rattle.h1_model.specs.Head.{Head}
+use Rattle.h1_model.specs.Length.{exactly}
+use Rattle.h1_model.specs.LocalReply.{status_line, length_line, has_date, date_line, close_line, sent_body}
+use Rattle.h1_model.specs.Moment.{moment_text}
+use Rattle.h1_model.specs.Wire.{field_line, field_lines, sent_fields, via_of, close_field}
 use Rattle.local_reply.specs.Laws.{date_pairs, close_pairs, reply_head, reply_framing, ReplyIsWire, HeadIsWire}
 
 -- the tail of a reply, as lines

@@ -1,9 +1,9 @@
 -- Worked examples: the texts of moments, and replies byte by byte.
 use Rattle.std.specs.Prelude.{◌≡◌, ℕ, true, false, List, [], ◌∷◌, ◌++◌, codes}
 use Rattle.httparse.specs.Ascii.{crlf_bytes}
-use Rattle.http1_model.specs.Fields.{Pair}
-use Rattle.http1_model.specs.LocalReply.{local_reply_of}
-use Rattle.http1_model.specs.Moment.{moment_text}
+use Rattle.h1_model.specs.Fields.{Pair}
+use Rattle.h1_model.specs.LocalReply.{local_reply_of}
+use Rattle.h1_model.specs.Moment.{moment_text}
 
 -- the first second and the second one, the example of RFC 9110, section 5.6.7, the first and last seconds of days and years, the
 -- end of February in a leap year and in a year that is none, and the last moment of 64 bits

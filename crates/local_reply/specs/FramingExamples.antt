@@ -4,11 +4,11 @@ use Rattle.httparse.specs.Ascii.{crlf_bytes}
 use Rattle.header_maps.specs.declared.kind.ListKind.TheVariants.{Plain}
 use Rattle.header_maps.specs.Headers.{Headers}
 use Rattle.header_maps.specs.Operations.{no_headers, added, request_headers, response_headers}
-use Rattle.http1_model.specs.Fields.{Pair}
-use Rattle.http1_model.specs.Framing.{no_body, by_length, by_chunks, by_close, framing_of, head, interim, piece, trailers, items_wire}
-use Rattle.http1_model.specs.Head.{Head}
-use Rattle.http1_model.specs.Length.{nothing, exactly, chunked, until_end}
-use Rattle.http1_model.specs.Wire.{via_of, close_field}
+use Rattle.h1_model.specs.Fields.{Pair}
+use Rattle.h1_model.specs.Framing.{no_body, by_length, by_chunks, by_close, framing_of, head, interim, piece, trailers, items_wire}
+use Rattle.h1_model.specs.Head.{Head}
+use Rattle.h1_model.specs.Length.{nothing, exactly, chunked, until_end}
+use Rattle.h1_model.specs.Wire.{via_of, close_field}
 
 -- a head leaves with an end flag; a filter exports the callback for bodies; the client is one of HTTP/1.0
 pub record FramingExamples : Type 0 where
@@ -54,7 +54,7 @@ request_start = line (codes "POST / HTTP/1.1") ++ line (codes "host: a")
 abbrev request_end : List ℕ
 request_end = line (codes "via: 1.1 wasmgate") ++ line (codes "connection: close") ++ line []
 
--- a response head of this status with one field, and `connection: close` behind the framing field
+-- a response head of this status with one field, and `connection: close` after the framing field
 abbrev response_head : ℕ → Head
 response_head status = record {
   fields = added (response_headers status) (codes "x-a") (codes "1");

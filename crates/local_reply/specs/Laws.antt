@@ -3,13 +3,13 @@ use Rattle.std.specs.Prelude.{◌≡◌, ℕ, ◌<◌, ◌^◌, Bool, false, tru
 use Rattle.header_maps.specs.declared.kind.ListKind.TheVariants.{Request, Response, Plain}
 use Rattle.header_maps.specs.Judged.{status_text}
 use Rattle.httpdate.specs.Valid.{IsValid, parts_secs}
-use Rattle.http1_model.specs.Fields.{Pair}
-use Rattle.http1_model.specs.Framing.{Framing, no_body, framing_of, head, piece, head_wire, items_wire}
-use Rattle.http1_model.specs.Head.{Head}
-use Rattle.http1_model.specs.Length.{exactly, is_without_body}
-use Rattle.http1_model.specs.LocalReply.{has_date, sent_body, local_reply_of}
-use Rattle.http1_model.specs.Moment.{second_of, date_of_second, moment_text}
-use Rattle.http1_model.specs.Wire.{sent_fields, via_of, close_field, wire_of}
+use Rattle.h1_model.specs.Fields.{Pair}
+use Rattle.h1_model.specs.Framing.{Framing, no_body, framing_of, head, piece, head_wire, items_wire}
+use Rattle.h1_model.specs.Head.{Head}
+use Rattle.h1_model.specs.Length.{exactly, is_without_body}
+use Rattle.h1_model.specs.LocalReply.{has_date, sent_body, local_reply_of}
+use Rattle.h1_model.specs.Moment.{second_of, date_of_second, moment_text}
+use Rattle.h1_model.specs.Wire.{sent_fields, via_of, close_field, wire_of}
 
 -- the numbers are a date and a time of day of the calendar, and they are those of this second
 pub record IsDateOfSecond (second : ℕ) : Type 0 where
@@ -22,7 +22,7 @@ MomentsHaveTexts = (now : ℕ) → now < 2 ^ 64 → IsDateOfSecond (second_of no
 
 -- ---- replies as messages
 
--- the fields that stand behind the framing field of a reply
+-- the fields that stand after the framing field of a reply
 abbrev pub date_pairs : List Pair → ℕ → List Pair
 date_pairs sent now = if has_date sent then [] else (codes "date", moment_text now) ∷ []
 

@@ -1,6 +1,6 @@
 // The text of a moment.
 ghost use Rattle.std.specs.Prelude.{◌≡◌};
-ghost use Rattle.http1_model.specs.Moment.{moment_text};
+ghost use Rattle.h1_model.specs.Moment.{moment_text};
 
 use httpdate::HttpDate;
 

@@ -1,7 +1,7 @@
 // The date among the fields that go out.
 ghost use Rattle.std.specs.Prelude.{◌≡◌};
-ghost use Rattle.http1_model.specs.LocalReply.{has_date};
-ghost use Rattle.http1_model.specs.Wire.{sent_fields};
+ghost use Rattle.h1_model.specs.LocalReply.{has_date};
+ghost use Rattle.h1_model.specs.Wire.{sent_fields};
 
 use h1_head::is_left_out;
 use header_maps::{HeaderList, is_same_word};

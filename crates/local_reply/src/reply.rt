@@ -2,9 +2,9 @@
 ghost use Rattle.std.specs.Prelude.{◌≡◌, ◌≤◌, ◌<◌, ◌++◌, codes, IfOk, OnOk};
 ghost use Rattle.httparse.specs.Ascii.{crlf_bytes};
 ghost use Rattle.header_maps.specs.Judged.{status_text};
-ghost use Rattle.http1_model.specs.Length.{is_without_body};
-ghost use Rattle.http1_model.specs.LocalReply.{status_line, length_line, date_line, close_line, sent_body, local_reply_of};
-ghost use Rattle.http1_model.specs.Wire.{sent_fields};
+ghost use Rattle.h1_model.specs.Length.{is_without_body};
+ghost use Rattle.h1_model.specs.LocalReply.{status_line, length_line, date_line, close_line, sent_body, local_reply_of};
+ghost use Rattle.h1_model.specs.Wire.{sent_fields};
 
 use crate::date::moment_text;
 use crate::fields::has_date;
@@ -72,7 +72,7 @@ fn push_date(out: &mut Octets, fields: &HeaderList, now: u64) -> Result<(), OutO
     push_field(out, b"date", &moment_text(now))
 }
 
-/// Puts `connection: close` at the end, where the line is closed behind the response.
+/// Puts `connection: close` at the end, where the line is closed after the response.
 fn push_close(out: &mut Octets, closes: bool) -> Result<(), OutOfMemory>
     ensures { OnOk result (out.new ≡ out.old ++ close_line closes) }
 {
@@ -95,7 +95,7 @@ fn sent_body<'b>(status: u16, head_request: bool, body: &'b [u8]) -> &'b [u8]
 
 /// The bytes of a response that is answered without an upstream, at the moment `now` in nanoseconds since 1970: the status
 /// line, the fields that go out in order, `content-length`, `date` where the fields have none, `connection: close` where the
-/// line is closed behind it, and the body. The status is from 200 to 599. A response to a HEAD request has no body; one of
+/// line is closed after it, and the body. The status is from 200 to 599. A response to a HEAD request has no body; one of
 /// status 204 or 304 has neither a body nor `content-length`.
 pub fn local(
     alloc: Global,

@@ -15,7 +15,7 @@ one_there : (workers who : ℕ) (what : Option What) → IsThere workers who →
 one_there workers who None there = All-nil (IsThere workers)
 one_there workers who (Some what) there = All-cons (IsThere workers) who [] there (All-nil (IsThere workers))
 
--- behind a line the worker is one
+-- after a line the worker is one
 is_one : (who : ℕ) (c : Command) → IsInForm c → 1 ≤ who → 1 ≤ worker_behind who c
 is_one who (On worker) form low = form.low
 is_one who c form low = low

@@ -5,7 +5,7 @@ use Rattle.replay_script.specs.declared.command.Command.{Command}
 use Rattle.replay_script.specs.declared.command.Command.TheVariants.{On, At, Bytes, UpBytes, Stop}
 use Rattle.replay_script.specs.Scripts.{Standing, at_start, behind, AreLines, events_from, events_of}
 
--- behind an event that was no Stop, at its moment or later
+-- after an event that was no Stop, at its moment or later
 in_order : (s : Standing) (last : Last) (cs : List Command) → last.now ≤ s.now → last.stopped ≡ false → AreLines s cs → AreInOrder last (events_from s.now cs)
 in_order s last [] low going lines = (record { rises = low; stays = λ stopped. refl; sized = tt }, tt)
 in_order s last (On worker ∷ cs) low going lines = in_order (behind s (On worker)) last cs low going lines.1

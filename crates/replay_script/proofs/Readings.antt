@@ -61,7 +61,7 @@ not_next_there line more rest c free at spells s none command behind next e =
     let same : line ≡ text_of command = (split_alone 10 line (text_of command) more behind free (text_has_no_end command next.in_form) (sym at ∙ e)).0 in
     none (subst (ComesNext s) (sym (text_alone c command spells.in_form next.in_form (sym spells.text ∙ same))) next)
 
--- the one list is the other and more: a line that may come next and others, and s is what they spell and r behind them
+-- the one list is the other and more: a line that may come next and others, and s is what they spell and r after them
 pub record Extends (at : Standing) (f g : List Command) (r s : List ℕ) : Type 0 where
   pub line : Command
   pub more : List Command
@@ -118,7 +118,7 @@ one_first_bad workers text m n A B =
       | inr one ↦ elim one [ inl x ↦ absurd (B.bad x.line _ x.next x.spelled) | inr y ↦ absurd (A.bad y.line _ y.next y.spelled) ]
     ]
 
--- the text behind one more line
+-- the text after one more line
 pub is_more : (text : List ℕ) (cs new : List Command) (rest line more : List ℕ) (c : Command) → text ≡ script_text cs ++ rest → rest ≡ line ++ (10 ∷ more) → line ≡ text_of c
     → new ≡ cs ++ (c ∷ []) → text ≡ script_text new ++ more
 is_more text cs new rest line more c at front spelled added =

@@ -71,7 +71,7 @@ not_spelled (Ok found) refusal digits (inr bad) given = λ bytes piece e.
     let good : decode_of digits ≡ Ok bytes = ap decode_of e ∙ decode_of-encode_lower bytes piece.each in
     cc
 
--- what stands before and behind the first byte of a kind
+-- what stands before and after the first byte of a kind
 pub split_alone : (b : ℕ) (x y r s : List ℕ) → IsFree b x → IsFree b y → x ++ (b ∷ r) ≡ y ++ (b ∷ s) → (x ≡ y) × (r ≡ s)
 split_alone b [] [] r s f g e = (refl, cc)
 split_alone b [] (d ∷ y) r s f g e = absurd (g.0 (let same : d ≡ b = cc in same))

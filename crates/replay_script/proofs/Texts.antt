@@ -17,7 +17,7 @@ begins [] text = true
 begins (b ∷ word) [] = false
 begins (b ∷ word) (x ∷ text) = eqb b x && begins word text
 
--- what stands before the first space, all where there is none, and what stands behind it
+-- what stands before the first space, all where there is none, and what stands after it
 abbrev before : List ℕ → List ℕ
 before [] = []
 before (x ∷ xs) = cond (eqb x 32) [] (x ∷ before xs)

@@ -72,7 +72,7 @@ last_gave w wants event = ap (last_of nothing_given) (more_happened w.trace want
 pub last_took : (w : Playing) (sent : Sent) → last (took_more w (Took sent ∷ [])) ≡ last w
 last_took w sent = ap (last_of nothing_given) (same_happened w.trace sent)
 
--- what was taken behind the last event, over two parts
+-- what was taken after the last event, over two parts
 taken_behind-append : (before : List Sent) (a b : List Passed) → taken_behind before (a ++ b) ≡ taken_behind (taken_behind before a) b
 taken_behind-append before [] b = refl
 taken_behind-append before (Asked wants ∷ a) b = taken_behind-append before a b
@@ -160,7 +160,7 @@ gave_all commands w same once =
     same_events (events_of commands) (happened w.trace) (end_of (events_of commands)) (stops_once 0 commands) once
     (gives_its_events.fresh (in_memory (fresh (events_of commands))) (in_memory w) refl same)
 
--- where no event is given, what is taken is taken behind the last one
+-- where no event is given, what is taken is taken after the last one
 taken_all : (before : List Sent) (steps : List Passed) → happened steps ≡ [] → taken_behind before steps ≡ before ++ received steps
 taken_all before [] none = sym (append-nil before)
 taken_all before (Asked wants ∷ steps) none = taken_all before steps none

@@ -18,7 +18,7 @@ abbrev wants : Wants
 wants = record { down = []; up = []; due = None }
 
 pub record WorkedScripts : Type 0 where
-  -- what stands behind `at` happens at its moment, and so does the Stop at the end
+  -- what stands after `at` happens at its moment, and so does the Stop at the end
   pub moments : events_of (Open 1 ∷ At 5 ∷ Bytes 1 (65 ∷ []) ∷ Clock ∷ At 9 ∷ []) ≡ moment 0 (what.Opened 1) ∷ moment 5 (what.Bytes 1 Down (65 ∷ [])) ∷ moment 5 what.Clock ∷ moment 9 what.Stop ∷ []
   pub client : events_of (End 1 ∷ Gone 1 ∷ []) ≡ moment 0 (what.End 1 Down) ∷ moment 0 (what.Gone 1 Down) ∷ moment 0 what.Stop ∷ []
   pub server : events_of (Joined 1 ∷ UpBytes 1 (66 ∷ []) ∷ UpEnd 1 ∷ UpGone 1 ∷ Refused 2 ∷ []) ≡
@@ -29,7 +29,7 @@ pub record WorkedScripts : Type 0 where
   -- a moment may come again, and may not fall
   pub rising : IsScript 1 (codes "at 5\nclock\nat 5\nstop\n") (At 5 ∷ Clock ∷ At 5 ∷ Stop ∷ [])
   pub falling : FirstBad 1 (codes "at 5\nclock\nat 4\nstop\n") 3
-  -- what stands behind `on` happens at its worker, from worker 1 on; a worker that is not there is of no form
+  -- what stands after `on` happens at its worker, from worker 1 on; a worker that is not there is of no form
   pub workers : workers_of (Open 1 ∷ On 2 ∷ Open 1 ∷ At 5 ∷ Clock ∷ On 1 ∷ End 1 ∷ []) ≡ 1 ∷ 2 ∷ 2 ∷ 1 ∷ 1 ∷ []
   pub no_worker : FirstBad 2 (codes "on 2\non 3\nstop\n") 2
   -- what was taken since the last event

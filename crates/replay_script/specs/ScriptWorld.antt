@@ -45,7 +45,7 @@ went_on w wants event = record { trace = w.trace ++ Asked wants ∷ Gave event �
 abbrev pub took_more : Playing → List Passed → Playing
 took_more w steps = record w { trace = w.trace ++ steps }
 
--- what was taken behind the last event, where this was taken before these steps
+-- what was taken after the last event, where this was taken before these steps
 abbrev pub taken_behind : List Sent → List Passed → List Sent
 taken_behind before [] = before
 taken_behind before (Asked wants ∷ trace) = taken_behind before trace
@@ -57,7 +57,7 @@ taken_behind before (Short line side ∷ trace) = taken_behind before trace
 abbrev pub taken_since : List Passed → List Sent
 taken_since trace = taken_behind [] trace
 
--- What the world keeps is that of its trace: the moment of the last event, behind which those that are left may come, and
+-- What the world keeps is that of its trace: the moment of the last event, after which those that are left may come, and
 -- what was taken since.
 pub record IsInStep (now : ℕ) (taken : List Sent) (trace : List Passed) (left : List Event) : Type 0 where
   pub moment : now ≡ (last_of nothing_given (happened trace)).now

@@ -7,7 +7,7 @@ use Rattle.replay_script.specs.declared.command.Command.{Command}
 use Rattle.replay_script.specs.declared.command.Command.TheVariants.{On, At, Open, Bytes, End, Gone, Joined, Refused, UpBytes, UpEnd, UpGone, Clock, Stop}
 use Rattle.replay_script.specs.Commands.{text_of, what_of, IsInForm}
 
--- the text of the lines, each with an LF behind it
+-- the text of the lines, each with an LF after it
 abbrev pub script_text : List Command → List ℕ
 script_text [] = []
 script_text (command ∷ commands) = text_of command ++ (10 ∷ script_text commands)
@@ -24,7 +24,7 @@ pub record Standing : Type 0 where
 abbrev pub at_start : ℕ → Standing
 at_start workers = record { now = 0; who = 1; stopped = false; workers = workers }
 
--- the moment behind a line: `at` sets it
+-- the moment after a line: `at` sets it
 abbrev pub moment_behind : ℕ → Command → ℕ
 moment_behind now (On worker) = now
 moment_behind now (At moment) = moment
@@ -40,7 +40,7 @@ moment_behind now (UpGone line) = now
 moment_behind now Clock = now
 moment_behind now Stop = now
 
--- the worker behind a line: `on` sets it
+-- the worker after a line: `on` sets it
 abbrev pub worker_behind : ℕ → Command → ℕ
 worker_behind who (On worker) = worker
 worker_behind who (At moment) = who
@@ -71,7 +71,7 @@ is_stop (UpGone line) = false
 is_stop Clock = false
 is_stop Stop = true
 
--- behind one line, and behind these
+-- after one line, and after these
 abbrev pub behind : Standing → Command → Standing
 behind standing command = record {
   now = moment_behind standing.now command;
@@ -92,7 +92,7 @@ pub record ComesNext (standing : Standing) (command : Command) : Type 0 where
   pub there : worker_behind standing.who command ≤ standing.workers
   pub goes_on : standing.stopped ≡ false
 
--- each of the lines may come next behind those before it
+-- each of the lines may come next after those before it
 abbrev pub AreLines : Standing → List Command → Type 0
 AreLines standing [] = Unit {0}
 AreLines standing (command ∷ commands) = ComesNext standing command × AreLines (behind standing command) commands
@@ -102,7 +102,7 @@ pub record IsScript (workers : ℕ) (text : List ℕ) (commands : List Command) 
   pub lines : AreLines (at_start workers) commands
   pub is : text ≡ script_text commands
 
--- The text begins with these lines, which are a script, and the line behind them, of this number from 1, is of no form:
+-- The text begins with these lines, which are a script, and the line after them, of this number from 1, is of no form:
 -- it is none of a script with these lines before it.
 pub record FirstBad (workers : ℕ) (text : List ℕ) (number : ℕ) : Type 0 where
   pub front : List Command

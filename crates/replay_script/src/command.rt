@@ -11,9 +11,9 @@ use std::alloc::Global;
 /// One line of a script.
 #[derive(Drop)]
 pub enum Command {
-    /// `on K`: what stands behind it happens at this worker.
+    /// `on K`: what stands after it happens at this worker.
     On { worker: WorkerNo },
-    /// `at N`: what stands behind it happens at this moment, in nanoseconds since 1970-01-01 00:00:00 UTC.
+    /// `at N`: what stands after it happens at this moment, in nanoseconds since 1970-01-01 00:00:00 UTC.
     At { moment: u64 },
     /// `open L`: a client's connection is opened.
     Open { line: LineNo },
@@ -132,7 +132,7 @@ impl Command {
         )
     }
 
-    /// The moment of what stands behind this line, where this is the moment before it.
+    /// The moment of what stands after this line, where this is the moment before it.
     pub fn moment_behind(&self, now: u64) -> u64
         ensures { result ≡ moment_behind now self.now }
     {
@@ -142,7 +142,7 @@ impl Command {
         }
     }
 
-    /// The worker of what stands behind this line, where this is the worker before it.
+    /// The worker of what stands after this line, where this is the worker before it.
     pub fn worker_behind(&self, who: WorkerNo) -> WorkerNo
         ensures { result ≡ worker_behind who self.now }
     {

@@ -82,7 +82,7 @@ fn numbered(line: &[u8]) -> Option<Command>
     }
 }
 
-/// The command of the text behind `up`: what comes from the upstream server.
+/// The command of the text after `up`: what comes from the upstream server.
 fn from_server(alloc: Global, up: &[u8]) -> Result<Option<Command>, OutOfMemory>
     ensures in_form { IfOk result (λ found. ForSome found IsInForm) }
     ensures bytes { IfOk result (λ found. (n : ℕ) (bytes : List ℕ) → IsLine n → IsPiece bytes → up.now ≡ codes "bytes " ++ (decimal n ++ (32 ∷ encode_lower bytes)) → found ≡ Some (Command.UpBytes n bytes)) }
@@ -169,7 +169,7 @@ fn line_of(word: &[u8]) -> Option<LineNo>
     }
 }
 
-/// The command of the words behind `bytes`.
+/// The command of the words after `bytes`.
 fn bytes_of(alloc: Global, words: &[u8]) -> Result<Option<Command>, OutOfMemory>
     ensures in_form { IfOk result (λ found. ForSome found IsInForm) }
     ensures only { IfOk result (λ found. (n : ℕ) (bytes : List ℕ) → IsLine n → IsPiece bytes → words.now ≡ decimal n ++ (32 ∷ encode_lower bytes) → found ≡ Some (Command.Bytes n bytes)) }
@@ -180,7 +180,7 @@ fn bytes_of(alloc: Global, words: &[u8]) -> Result<Option<Command>, OutOfMemory>
     }
 }
 
-/// The command of the words behind `upbytes`.
+/// The command of the words after `upbytes`.
 fn up_bytes_of(alloc: Global, words: &[u8]) -> Result<Option<Command>, OutOfMemory>
     ensures in_form { IfOk result (λ found. ForSome found IsInForm) }
     ensures only { IfOk result (λ found. (n : ℕ) (bytes : List ℕ) → IsLine n → IsPiece bytes → words.now ≡ decimal n ++ (32 ∷ encode_lower bytes) → found ≡ Some (Command.UpBytes n bytes)) }

@@ -2,7 +2,7 @@
 ghost use Rattle.std.specs.Prelude.{◌≡◌, ◌∷◌, ◌++◌, MatchOption};
 ghost use Rattle.replay_script.specs.Commands.{IsFree};
 
-/// What stands before the first such byte and what stands behind it. There is none where the byte is not in the text.
+/// What stands before the first such byte and what stands after it. There is none where the byte is not in the text.
 pub(crate) fn split_once(text: &[u8], byte: u8) -> Option<(&[u8], &[u8])>
     ensures { MatchOption result (IsFree byte text.now) (λ parts. IsFree byte parts.0.now × (text.now ≡ parts.0.now ++ (byte ∷ parts.1.now))) }
 {

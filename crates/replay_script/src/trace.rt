@@ -26,14 +26,14 @@ impl Trace {
         Trace {}
     }
 
-    /// Behind it an event was asked for, and given.
+    /// After it an event was asked for, and given.
     pub(crate) fn gave(&self, _wants: &Wants, _event: &Event) -> Trace
         ensures { result.steps ≡ self.now.steps ++ Asked _wants.now ∷ Gave _event.entry.now ∷ [] }
     {
         Trace {}
     }
 
-    /// Behind it something was taken.
+    /// After it something was taken.
     pub(crate) fn took(&self, _sent: &Sent) -> Trace
         ensures { result.steps ≡ self.now.steps ++ Took _sent.now ∷ [] }
     {

@@ -4,10 +4,10 @@ use Rattle.std.specs.Prelude.{slice_set, slice_index_or, nat_lt, if◌then◌els
 use Rattle.std.proofs.lemmas.List.{get_or-set_same, set-get_or}
 use Rattle.gate_io.specs.declared.event.Sent.{Sent}
 use Rattle.contexts.specs.declared.parts.Contexts.{Contexts}
-use Rattle.course.specs.Called.{Called, called_back}
-use Rattle.course.specs.declared.host.Callback.{Callback}
-use Rattle.course.specs.declared.host.CallEnd.{CallEnd}
-use Rattle.course.specs.declared.host.CallEnd.TheVariants as call_end
+use Rattle.filter_host.specs.Called.{Called, called_back}
+use Rattle.filter_host.specs.declared.host.Callback.{Callback}
+use Rattle.filter_host.specs.declared.host.CallbackEnd.{CallbackEnd}
+use Rattle.filter_host.specs.declared.host.CallbackEnd.TheVariants as call_end
 use Rattle.store_model.specs.Made.{Made}
 use Rattle.store_model.specs.Program.{Program, done, bind, Runs}
 use Rattle.store_model.specs.Runs.{runs_none, runs_as, runs_bind}
@@ -53,7 +53,7 @@ module _ {S : Type 0} (performs : S → List Made → S → Type 0) (name : Call
             (runs_bind performs after run),
       )
 
-module _ {S : Type 0} (performs : S → List Made → S → Type 0) (nothing : (s : S) → performs s [] s) (name : Callback) (context first second now : ℕ) (h : Contexts) (s : S) (end : CallEnd) (lines : List Sent) (returned : end ≡ call_end.Returned None) (silence : lines ≡ []) where
+module _ {S : Type 0} (performs : S → List Made → S → Type 0) (nothing : (s : S) → performs s [] s) (name : Callback) (context first second now : ℕ) (h : Contexts) (s : S) (end : CallbackEnd) (lines : List Sent) (returned : end ≡ call_end.Returned None) (silence : lines ≡ []) where
   quiet : (live : Option VmAt) → done (silent live h) ≡ done (came end lines live h)
   quiet live = λ i. done (came (sym returned i) (sym silence i) live h)
 

@@ -17,27 +17,27 @@ use Rattle.abi_model.specs.declared.table.Param.{Param}
 use Rattle.abi_model.specs.declared.ends.HostEnd.TheVariants as host_end
 use Rattle.abi_model.specs.Table.{Are}
 use Rattle.abi_calls.specs.Hosting.{Hosted, HasEnded, WasCut}
-use Rattle.proxy_links.specs.Judging.{types_in}
-use Rattle.proxy_links.specs.Numbers.{number_of, IsWithin, AreWithin}
-use Rattle.proxy_links.proofs.Typed.{are_typed}
+use Rattle.abi_links.specs.Judging.{types_in}
+use Rattle.abi_links.specs.Numbers.{number_of, IsWithin, AreWithin}
+use Rattle.abi_links.proofs.Typed.{are_typed}
 use Rattle.vm_host.specs.HostStates.{host_state}
 use Rattle.vm_host.specs.Calling.{called, call_trapped, call_spent}
-use Rattle.vm_host.specs.Dispatching.{ends_as, served_as, serving}
+use Rattle.vm_host.specs.Dispatching.{ends_as, served_as, serve_calls}
 
 module _ {S : Type 0} (performs : S → List Made → S → Type 0) (place : ℕ) (h : Contexts) (old : List Sent) (p : Program Hosted) (s t : S) (g : GuestAt) (k : Contexts) (new : List Sent) where
-  pub served_status : (n : ℕ) → HasEnded performs s p place h (host_end.Status n) g k old new t → Runs performs s (serving place (host_state h old) p) (done (called (Some (I32 n)) g (host_state k new))) t
+  pub served_status : (n : ℕ) → HasEnded performs s p place h (host_end.Status n) g k old new t → Runs performs s (serve_calls place (host_state h old) p) (done (called (Some (I32 n)) g (host_state k new))) t
   served_status n e =
       runs_as (runs_bind performs (λ x. done (served_as place (host_state h old) x)) e.run) (λ i. done (ends_as (e.called i) (host_state (sym e.contexts i) (sym e.lines i))))
 
-  pub served_trapped : (c : Cause) → HasEnded performs s p place h (host_end.Trapped c) g k old new t → Runs performs s (serving place (host_state h old) p) (done (call_trapped c g.fuel (host_state k new))) t
+  pub served_trapped : (c : Cause) → HasEnded performs s p place h (host_end.Trapped c) g k old new t → Runs performs s (serve_calls place (host_state h old) p) (done (call_trapped c g.fuel (host_state k new))) t
   served_trapped c e =
       runs_as (runs_bind performs (λ x. done (served_as place (host_state h old) x)) e.run) (λ i. done (ends_as (e.called i) (host_state (sym e.contexts i) (sym e.lines i))))
 
-  pub served_spent : HasEnded performs s p place h host_end.FuelSpent g k old new t → Runs performs s (serving place (host_state h old) p) (done (call_spent g.fuel (host_state k new))) t
+  pub served_spent : HasEnded performs s p place h host_end.FuelSpent g k old new t → Runs performs s (serve_calls place (host_state h old) p) (done (call_spent g.fuel (host_state k new))) t
   served_spent e =
       runs_as (runs_bind performs (λ x. done (served_as place (host_state h old) x)) e.run) (λ i. done (ends_as (e.called i) (host_state (sym e.contexts i) (sym e.lines i))))
 
-  pub served_cut : WasCut performs s p h k old new t → (q : Program _) × Runs performs s (serving place (host_state h old) p) q t
+  pub served_cut : WasCut performs s p h k old new t → (q : Program _) × Runs performs s (serve_calls place (host_state h old) p) q t
   served_cut cut = (bind cut.rest (λ x. done (served_as place (host_state h old) x)), runs_bind performs (λ x. done (served_as place (host_state h old) x)) cut.run)
 
 -- as many VMs as before

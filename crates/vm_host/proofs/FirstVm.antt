@@ -6,7 +6,7 @@ use Rattle.wasm_syntax.specs.Reduction.{Program}
 use Rattle.wasm_syntax.specs.ReductionPrograms.{program_of}
 use Rattle.wasm_machine.specs.Machines.{View, program_at}
 use Rattle.wasm_machine.specs.declared.machine.Pending.{Pending}
-use Rattle.proxy_links.specs.declared.target.Target.{Target}
+use Rattle.abi_links.specs.declared.target.ImportTarget.{ImportTarget}
 use Rattle.abi_types.specs.declared.guest.Closing.{Closing}
 use Rattle.vm_host.specs.Fits.{fit_fault}
 use Rattle.vm_host.specs.Seeing.{AreClosings, IsAllocator}
@@ -20,7 +20,7 @@ module _ (m : Module) (pages : ℕ) (valid : IsValid m) (fit : fit_fault m pages
   in_machine : (P : Program → Type 0) → P (program_of m pages) → P (program_at machine)
   in_machine P h = subst P (sym first.program) h
 
-  pub first_is : (targets : List Target) (closed : List Closing) (functions : List (Option ℕ)) (start : Option ℕ) → IsOutline m targets closed functions start → (place fuel : ℕ) (allocator : Option ℕ) → allocator ≡ allocator_in functions →
+  pub first_is : (targets : List ImportTarget) (closed : List Closing) (functions : List (Option ℕ)) (start : Option ℕ) → IsOutline m targets closed functions start → (place fuel : ℕ) (allocator : Option ℕ) → allocator ≡ allocator_in functions →
       IsVm (record { machine = machine; allocator = allocator; closed = closed; fuel = fuel }) (record { place = place; targets = targets }) functions start
   first_is targets closed functions start o place fuel allocator is =
       let linked = fits_linked m pages fit in
@@ -35,7 +35,7 @@ module _ (m : Module) (pages : ℕ) (valid : IsValid m) (fit : fit_fault m pages
           };
         };
         idle = first.pending;
-        links = in_machine (λ p. AreTargets targets p) (subst (λ (ks : List Target). AreTargets ks (program_of m pages)) (sym o.targets_are) (are_targets m pages linked));
+        links = in_machine (λ p. AreTargets targets p) (subst (λ (ks : List ImportTarget). AreTargets ks (program_of m pages)) (sym o.targets_are) (are_targets m pages linked));
         start_takes = in_machine (λ p. TakesNothing p start) (subst (λ (a : Option ℕ). TakesNothing (program_of m pages) a) (sym o.start_is) (start_takes m pages valid m.start refl));
         count = ap (λ (fs : List (Option ℕ)). length fs) o.functions_are;
         typed = in_machine (λ p. AreFunctions p functions) are;

@@ -19,12 +19,12 @@ use Rattle.wasm_store.specs.declared.instance.LinkEnd.TheVariants as end
 use Rattle.wasm_store.specs.Linking.{judged_as, judged_kind, judgement, link_fault}
 use Rattle.wasm_store.proofs.Causes.{none_is_clear}
 use Rattle.wasm_flat.proofs.Splits.{same_some, no_some}
-use Rattle.proxy_links.specs.declared.target.Target.{Target}
-use Rattle.proxy_links.specs.declared.target.Target.TheVariants as target
+use Rattle.abi_links.specs.declared.target.ImportTarget.{ImportTarget}
+use Rattle.abi_links.specs.declared.target.ImportTarget.TheVariants as target
 use Rattle.abi_model.specs.declared.table.WasiCall.TheVariants as wasi
 use Rattle.abi_model.specs.Table.{row_of, wasi_row_of}
-use Rattle.proxy_links.specs.Judging.{types_in, wasi_results, target_of, fits_target, judged_of}
-use Rattle.proxy_links.specs.Short.{linked_fits, has_types, lenient_gives}
+use Rattle.abi_links.specs.Judging.{types_in, wasi_results, target_of, fits_target, judged_of}
+use Rattle.abi_links.specs.Short.{linked_fits, has_types, lenient_gives}
 use Rattle.vm_host.specs.Seeing.{Answers, AreClosings}
 use Rattle.vm_host.specs.Dispatching.{TakesAs, results_for}
 use Rattle.vm_host.specs.Targets.{targets_of, AreTargets, closing_of, closings_of}
@@ -61,8 +61,8 @@ own_only types (y ∷ ys) [] x t e = no_some (imported t) e
 own_only types (y ∷ ys) (c ∷ cs) zero t e = cc
 own_only types (y ∷ ys) (c ∷ cs) (suc x) t e = own_only types ys cs x t e
 
-abbrev Targeted : List Target → ℕ → FunctionType → Type 0
-Targeted targets x t = (k : Target) × (slice_get targets x ≡ Some k) × (fits_target k t ≡ true)
+abbrev Targeted : List ImportTarget → ℕ → FunctionType → Type 0
+Targeted targets x t = (k : ImportTarget) × (slice_get targets x ≡ Some k) × (fits_target k t ≡ true)
 
 -- the type that was judged, and its target
 by_type : (home name : List ℕ) (o : Option FunctionType) → judged_as judged_of home name o ≡ judged.Linked →
@@ -70,7 +70,7 @@ by_type : (home name : List ℕ) (o : Option FunctionType) → judged_as judged_
 by_type home name None is = absurd (cc)
 by_type home name (Some t) is =
     let h = linked_fits (target_of home name) t is in
-    (t, refl, subst (λ (o : Option Target). fits_target (unwrap_or o target.OtherProxy) t ≡ true) (sym h.1) h.2)
+    (t, refl, subst (λ (o : Option ImportTarget). fits_target (unwrap_or o target.OtherProxy) t ≡ true) (sym h.1) h.2)
 
 same_type : (a b : FunctionType) → imported a ≡ imported b → a ≡ b
 same_type a b e = cc
@@ -78,7 +78,7 @@ same_type a b e = cc
 type_there : (types : List FunctionType) (f : ℕ) (t : FunctionType) → slice_get types f ≡ Some t → type_at types f ≡ t
 type_there types f t e = ap (λ o. unwrap_or o (record { parameters = []; results = [] })) e
 
-here_targeted : (types : List FunctionType) (home name : List ℕ) (f : ℕ) (rest : List Target) (t : FunctionType) → judged_as judged_of home name (slice_get types f) ≡ judged.Linked →
+here_targeted : (types : List FunctionType) (home name : List ℕ) (f : ℕ) (rest : List ImportTarget) (t : FunctionType) → judged_as judged_of home name (slice_get types f) ≡ judged.Linked →
     Some (imported (type_at types f)) ≡ Some (imported t) → Targeted (unwrap_or (target_of home name) target.OtherProxy ∷ rest) zero t
 here_targeted types home name f rest t linked same =
     let h = by_type home name (slice_get types f) linked in
@@ -107,21 +107,21 @@ are_targets m pages none x t is =
 
 -- ---- and an answer of the closed host
 
-pub target_takes : (k : Target) (t : FunctionType) → fits_target k t ≡ true → TakesAs k t.parameters
+pub target_takes : (k : ImportTarget) (t : FunctionType) → fits_target k t ≡ true → TakesAs k t.parameters
 target_takes (target.Proxy c) t is = (has_types (types_in (row_of c)) (type.I32 ∷ []) t is).0
 target_takes target.OtherProxy t is = tt
 target_takes target.MemoryGrowth t is = tt
 target_takes (target.Wasi c) t is = (has_types (types_in (wasi_row_of c)) (wasi_results c) t is).0
 target_takes target.OtherWasi t is = tt
 
-pub target_gives : (k : Target) (t : FunctionType) → fits_target k t ≡ true → t.results ≡ results_for k
+pub target_gives : (k : ImportTarget) (t : FunctionType) → fits_target k t ≡ true → t.results ≡ results_for k
 target_gives (target.Proxy c) t is = (has_types (types_in (row_of c)) (type.I32 ∷ []) t is).1
 target_gives target.OtherProxy t is = (lenient_gives t is).1
 target_gives target.MemoryGrowth t is = (has_types (type.I32 ∷ []) [] t is).1
 target_gives (target.Wasi c) t is = (has_types (types_in (wasi_row_of c)) (wasi_results c) t is).1
 target_gives target.OtherWasi t is = (lenient_gives t is).1
 
-closing_answers : (k : Target) → Answers (closing_of k) (results_for k)
+closing_answers : (k : ImportTarget) → Answers (closing_of k) (results_for k)
 closing_answers (target.Proxy c) = refl
 closing_answers target.OtherProxy = refl
 closing_answers target.MemoryGrowth = tt
@@ -135,9 +135,9 @@ closing_answers (target.Wasi wasi.ArgsSizesGet) = refl
 closing_answers (target.Wasi wasi.ProcExit) = tt
 closing_answers target.OtherWasi = refl
 
-closing_at : (ks : List Target) (x : ℕ) (k : Target) → slice_get ks x ≡ Some k → slice_get (closings_of ks) x ≡ Some (closing_of k)
+closing_at : (ks : List ImportTarget) (x : ℕ) (k : ImportTarget) → slice_get ks x ≡ Some k → slice_get (closings_of ks) x ≡ Some (closing_of k)
 closing_at [] x k e = absurd (no_some k e)
-closing_at (j ∷ ks) zero k e = ap (λ (i : Target). Some (closing_of i)) (same_some j k e)
+closing_at (j ∷ ks) zero k e = ap (λ (i : ImportTarget). Some (closing_of i)) (same_some j k e)
 closing_at (j ∷ ks) (suc x) k e = closing_at ks x k e
 
 pub are_closings : (m : Module) (pages : ℕ) → link_fault judged_of m pages ≡ None → AreClosings (program_of m pages) (closings_of (targets_of m.imports))

@@ -18,8 +18,8 @@ use Rattle.wasm_flat.specs.Holds.{HasType, types_of}
 use Rattle.wasm_machine.specs.Machines.{Takes, results_in, results_of}
 use Rattle.wasm_flat.proofs.Splits.{same_some, no_some}
 use Rattle.wasm_flat.proofs.Valid.{program_fits}
-use Rattle.proxy_links.specs.Judging.{types_in, judged_of}
-use Rattle.proxy_links.specs.Short.{has_types}
+use Rattle.abi_links.specs.Judging.{types_in, judged_of}
+use Rattle.abi_links.specs.Short.{has_types}
 use Rattle.vm_host.specs.declared.fitting.FitEnd.TheVariants as ends
 use Rattle.vm_host.specs.declared.roles.Role.{Role}
 use Rattle.vm_host.specs.declared.roles.Role.TheVariants as role

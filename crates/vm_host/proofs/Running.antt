@@ -8,8 +8,8 @@ use Rattle.store_model.specs.Made.{Made}
 use Rattle.store_model.specs.Program.{Program, done, bind, Runs, Ends}
 use Rattle.store_model.specs.Runs.{runs_bind}
 use Rattle.vm_host.specs.HostStates.{HostState}
-use Rattle.vm_host.specs.declared.ended.Ended.{Ended}
-use Rattle.vm_host.specs.declared.ended.Ended.TheVariants as ended
+use Rattle.vm_host.specs.declared.ended.LastRunEnd.{LastRunEnd}
+use Rattle.vm_host.specs.declared.ended.LastRunEnd.TheVariants as ended
 use Rattle.vm_host.specs.declared.calls.RunEnd.{RunEnd}
 use Rattle.vm_host.specs.declared.calls.RunEnd.TheVariants as back
 use Rattle.vm_host.specs.Calling.{Returned, ReturnsAs, run_trapped, run_spent, calling_back}
@@ -37,7 +37,7 @@ module _ {S : Type 0} (performs : S → List Made → S → Type 0) (v : VmAt) (
   begun_cut o (q, run) = (bind q (λ x. begins_then now x.vm x), runs_bind performs (λ x. begins_then now x.vm x) run)
 
   -- a run that did not return, by how it is told
-  told_so : {B E : Type 0} (end_of : B → Ended) (vm_of : B → Option VmAt) (g : HostState) (r : Result B E) (e : Ended) → IsOkAnd r (λ b. (end_of b ≡ e) × (vm_of b ≡ None)) →
+  told_so : {B E : Type 0} (end_of : B → LastRunEnd) (vm_of : B → Option VmAt) (g : HostState) (r : Result B E) (e : LastRunEnd) → IsOkAnd r (λ b. (end_of b ≡ e) × (vm_of b ≡ None)) →
       Runs performs s (running v now f args h) (done (ran e None g)) t → Ends performs s (running v now f args h) (λ b. ran (end_of b) (vm_of b) g) r t
   told_so end_of vm_of g (Ok b) e k run = rw (k.0, k.1) run
   told_so end_of vm_of g (Err x) e k run = absurd k
@@ -46,7 +46,7 @@ module _ {S : Type 0} (performs : S → List Made → S → Type 0) (v : VmAt) (
   cut_so view (Ok b) k run = cc
   cut_so view (Err x) k run = run
 
-  pub gone_ends : {B E : Type 0} (end_of : B → Ended) (vm_of : B → Option VmAt) (r : Result B E) (end : RunEnd) (guest : GuestAt) (g : HostState) → ((value : Option Value) → end ≢ back.Returned value) →
+  pub gone_ends : {B E : Type 0} (end_of : B → LastRunEnd) (vm_of : B → Option VmAt) (r : Result B E) (end : RunEnd) (guest : GuestAt) (g : HostState) → ((value : Option Value) → end ≢ back.Returned value) →
       ((cause : Cause) → end ≡ back.Trapped cause → IsOkAnd r (λ b. (end_of b ≡ ended.Trapped cause) × (vm_of b ≡ None))) → (end ≡ back.FuelSpent → IsOkAnd r (λ b. (end_of b ≡ ended.FuelSpent) × (vm_of b ≡ None))) →
       (end ≡ back.OutOfMemory → IsErr r) → ReturnsAs performs s (calling_back (dispatching v.calls now) f args (with_budget v) h) end guest g t → Ends performs s (running v now f args h) (λ b. ran (end_of b) (vm_of b) g) r t
   gone_ends end_of vm_of r (back.Returned value) guest g none trapped spent memory run = absurd (none value refl)

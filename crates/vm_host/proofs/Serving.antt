@@ -10,7 +10,7 @@ use Rattle.store_model.specs.Program.{Program, done, bind, Runs}
 use Rattle.store_model.specs.Runs.{runs_none, runs_as, runs_bind, runs_then, then_part}
 use Rattle.abi_types.specs.GuestAt.{GuestAt, invoked_at}
 use Rattle.vm_host.specs.Seeing.{waiting_of}
-use Rattle.vm_host.specs.Calling.{Called, called, Returned, Abi, now_asked, asked_at, answered_at, begun_at, served, running_by, running, calling_back}
+use Rattle.vm_host.specs.Calling.{Called, called, Returned, Abi, now_asked, asked_at, answered_at, begun_at, serve_result, running_by, running, calling_back}
 
 module _ {S H : Type 0} (performs : S → List Made → S → Type 0) (abi : Abi H) where
   more : (k : ℕ) (g : GuestAt) (h : H) → running abi (suc k) g h ≡ running_by abi (run g.program g.fuel g.config) g h (λ d i. running abi k d i)
@@ -37,7 +37,7 @@ module _ {S H : Type 0} (performs : S → List Made → S → Type 0) (abi : Abi
         (at : GuestAt) → at ≡ asked_at x d n g → (v : Option Value) (g' : GuestAt) (h' : H) (t : S) → Runs performs s (abi h x args at) (done (called v g' h')) t → enough g'.fuel g'.config ≤ enough n d →
         (now : GuestAt) → now ≡ answered_at v g' → enough now.fuel now.config ≤ enough g'.fuel g'.config → Serving s0 target now h' t
     serving_on s0 target g h s r x n args d is less at at_is v g' h' t call low now now_is still =
-        let F = λ (c : Called H). served c (λ e i. running abi (r.bound - 1) e i) in
+        let F = λ (c : Called H). serve_result c (λ e i. running abi (r.bound - 1) e i) in
         let first = serving_stop s0 target g h s r (has_asked x args d n) is in
         let next : Runs performs s (abi h x args (asked_at x d n g)) (done (called v g' h')) t = subst (λ (y : GuestAt). Runs performs s (abi h x args y) (done (called v g' h')) t) at_is call in
         record {
@@ -48,16 +48,16 @@ module _ {S H : Type 0} (performs : S → List Made → S → Type 0) (abi : Abi
 
     -- a call ended the callback
     pub serving_end : (s0 : S) (target : Program (Returned H)) (g : GuestAt) (h : H) (s : S) (r : Serving s0 target g h s) (x n : ℕ) (args : List Value) (d : Config) → run g.program g.fuel g.config ≡ has_asked x args d n →
-        (at : GuestAt) → at ≡ asked_at x d n g → (c : Called H) (t : S) → Runs performs s (abi h x args at) (done c) t → Runs performs s0 target (served c (λ e i. running abi (r.bound - 1) e i)) t
+        (at : GuestAt) → at ≡ asked_at x d n g → (c : Called H) (t : S) → Runs performs s (abi h x args at) (done c) t → Runs performs s0 target (serve_result c (λ e i. running abi (r.bound - 1) e i)) t
     serving_end s0 target g h s r x n args d is at at_is c t call =
-        then_part joined (λ (b : Called H). served b (λ e i. running abi (r.bound - 1) e i)) (serving_stop s0 target g h s r (has_asked x args d n) is)
+        then_part joined (λ (b : Called H). serve_result b (λ e i. running abi (r.bound - 1) e i)) (serving_stop s0 target g h s r (has_asked x args d n) is)
         (subst (λ (y : GuestAt). Runs performs s (abi h x args y) (done c) t) at_is call)
 
     -- it was cut short
     pub serving_cut : (s0 : S) (target : Program (Returned H)) (g : GuestAt) (h : H) (s : S) → Serving s0 target g h s → (x n : ℕ) (args : List Value) (d : Config) → run g.program g.fuel g.config ≡ has_asked x args d n →
         (at : GuestAt) → at ≡ asked_at x d n g → (t : S) → ((q : Program (Called H)) × Runs performs s (abi h x args at) q t) → (q : Program (Returned H)) × Runs performs s0 target q t
     serving_cut s0 target g h s r x n args d is at at_is t (q, call) =
-        let F = λ (b : Called H). served b (λ e i. running abi (r.bound - 1) e i) in (
+        let F = λ (b : Called H). serve_result b (λ e i. running abi (r.bound - 1) e i) in (
           bind q F,
           runs_then joined (serving_stop s0 target g h s r (has_asked x args d n) is)
               (runs_bind performs F (subst (λ (y : GuestAt). Runs performs s (abi h x args y) q t) at_is call)),

@@ -52,15 +52,15 @@ begun_at f args g = record g { config = invoked_at f args g; waiting = record { 
 
 -- ---- THE RUN
 
-abbrev pub served : {H : Type 0} → Called H → (GuestAt → H → Program (Returned H)) → Program (Returned H)
-served (called v g h) go = go (answered_at v g) h
-served (call_trapped c n h) go = done (run_trapped c n h)
-served (call_spent n h) go = done (run_spent n h)
-served call_open go = done run_open
+abbrev pub serve_result : {H : Type 0} → Called H → (GuestAt → H → Program (Returned H)) → Program (Returned H)
+serve_result (called v g h) go = go (answered_at v g) h
+serve_result (call_trapped c n h) go = done (run_trapped c n h)
+serve_result (call_spent n h) go = done (run_spent n h)
+serve_result call_open go = done run_open
 
 abbrev pub running_by : {H : Type 0} → Abi H → Stopped → GuestAt → H → (GuestAt → H → Program (Returned H)) → Program (Returned H)
 running_by abi (has_finished v d n) g h go = done (returned v (finished_at d n g) h)
-running_by abi (has_asked x args d n) g h go = bind (abi h x args (asked_at x d n g)) (λ c. served c go)
+running_by abi (has_asked x args d n) g h go = bind (abi h x args (asked_at x d n g)) (λ c. serve_result c go)
 running_by abi (has_trapped c n) g h go = done (run_trapped c n h)
 running_by abi (has_spent n) g h go = done (run_spent n h)
 running_by abi goes_on g h go = done run_open

@@ -9,10 +9,10 @@ use Rattle.contexts.specs.Reached.{seen, put}
 use Rattle.wasm_syntax.specs.declared.types.ValueType.{ValueType}
 use Rattle.wasm_syntax.specs.declared.types.ValueType.TheVariants as type
 use Rattle.abi_model.specs.Table.{row_of, wasi_row_of}
-use Rattle.proxy_links.specs.Judging.{types_in, wasi_results}
-use Rattle.proxy_links.specs.Numbers.{number_of}
-use Rattle.proxy_links.specs.declared.target.Target.{Target}
-use Rattle.proxy_links.specs.declared.target.Target.TheVariants as target
+use Rattle.abi_links.specs.Judging.{types_in, wasi_results}
+use Rattle.abi_links.specs.Numbers.{number_of}
+use Rattle.abi_links.specs.declared.target.ImportTarget.{ImportTarget}
+use Rattle.abi_links.specs.declared.target.ImportTarget.TheVariants as target
 use Rattle.abi_model.specs.Calls as model
 use Rattle.abi_model.specs.declared.table.HostCall.{HostCall}
 use Rattle.abi_model.specs.declared.table.WasiCall.{WasiCall}
@@ -35,8 +35,8 @@ ends_as model.called_open s = call_open
 abbrev pub served_as : (place : ℕ) → HostState → Hosted → Called HostState
 served_as place s h = ends_as h.called (host_state (put h.changes place s.contexts) (s.lines ++ h.lines))
 
-abbrev pub serving : (place : ℕ) → HostState → Program Hosted → Program (Called HostState)
-serving place s p = bind p (λ h. done (served_as place s h))
+abbrev pub serve_calls : (place : ℕ) → HostState → Program Hosted → Program (Called HostState)
+serve_calls place s p = bind p (λ h. done (served_as place s h))
 
 -- ---- each call
 
@@ -45,13 +45,13 @@ abbrev pub answering : ℕ → HostState → GuestAt → Program (Called HostSta
 answering n s g = done (called (Some (I32 n)) g s)
 
 abbrev pub proxy_call : HostCall → (place now : ℕ) → HostState → List Value → GuestAt → Program (Called HostState)
-proxy_call c place now s args g = serving place s (hosting c now place (map number_of args) g (seen s.contexts place))
+proxy_call c place now s args g = serve_calls place s (hosting c now place (map number_of args) g (seen s.contexts place))
 
 abbrev pub wasi_call : WasiCall → (place now : ℕ) → HostState → List Value → GuestAt → Program (Called HostState)
 wasi_call wasi.ProcExit place now s args g = done (call_trapped cause.Exit g.fuel s)
-wasi_call c place now s args g = serving place s (wasi_hosting c now place (map number_of args) g (seen s.contexts place))
+wasi_call c place now s args g = serve_calls place s (wasi_hosting c now place (map number_of args) g (seen s.contexts place))
 
-abbrev pub by_target : Target → (place now : ℕ) → HostState → List Value → GuestAt → Program (Called HostState)
+abbrev pub by_target : ImportTarget → (place now : ℕ) → HostState → List Value → GuestAt → Program (Called HostState)
 by_target (target.Proxy c) place now s args g = proxy_call c place now s args g
 by_target target.OtherProxy place now s args g = answering 12 s g
 by_target target.MemoryGrowth place now s args g = done (called None g s)
@@ -59,7 +59,7 @@ by_target (target.Wasi c) place now s args g = wasi_call c place now s args g
 by_target target.OtherWasi place now s args g = answering 52 s g
 
 -- what is not imported is never asked
-abbrev pub by_found : Option Target → (place now : ℕ) → HostState → List Value → GuestAt → Program (Called HostState)
+abbrev pub by_found : Option ImportTarget → (place now : ℕ) → HostState → List Value → GuestAt → Program (Called HostState)
 by_found None place now s args g = done call_open
 by_found (Some k) place now s args g = by_target k place now s args g
 
@@ -71,7 +71,7 @@ abbrev pub LinksTo : Dispatcher → Code → Type 0
 LinksTo d p = AreTargets d.targets p
 
 -- a call of the tables is given values of its row's types
-abbrev pub TakesAs : Target → List ValueType → Type 0
+abbrev pub TakesAs : ImportTarget → List ValueType → Type 0
 TakesAs (target.Proxy c) ts = ts ≡ types_in (row_of c)
 TakesAs target.OtherProxy ts = Unit {0}
 TakesAs target.MemoryGrowth ts = Unit {0}
@@ -79,7 +79,7 @@ TakesAs (target.Wasi c) ts = ts ≡ types_in (wasi_row_of c)
 TakesAs target.OtherWasi ts = Unit {0}
 
 -- what a target gives
-abbrev pub results_for : Target → List ValueType
+abbrev pub results_for : ImportTarget → List ValueType
 results_for (target.Proxy c) = type.I32 ∷ []
 results_for target.OtherProxy = type.I32 ∷ []
 results_for target.MemoryGrowth = []

@@ -11,7 +11,7 @@ use Rattle.wasm_syntax.specs.declared.module.ExportKind.TheVariants as kinds
 use Rattle.wasm_syntax.specs.declared.module.Module.{Module}
 use Rattle.wasm_syntax.specs.Validity.{functions_of}
 use Rattle.wasm_store.specs.Linking.{link_fault}
-use Rattle.proxy_links.specs.Judging.{types_in, has_type, judged_of}
+use Rattle.abi_links.specs.Judging.{types_in, has_type, judged_of}
 use Rattle.vm_host.specs.declared.fitting.FitEnd.{FitEnd}
 use Rattle.vm_host.specs.declared.fitting.FitEnd.TheVariants as ends
 use Rattle.vm_host.specs.declared.roles.Role.{Role}

@@ -8,7 +8,7 @@ use Rattle.wasm_syntax.specs.declared.module.Export.{Export}
 use Rattle.wasm_syntax.specs.Reduction.{Program}
 use Rattle.wasm_flat.specs.Holds.{HasType}
 use Rattle.wasm_machine.specs.Machines.{Takes}
-use Rattle.proxy_links.specs.Judging.{types_in}
+use Rattle.abi_links.specs.Judging.{types_in}
 use Rattle.contexts.specs.declared.parts.CallAnswer.{CallAnswer}
 use Rattle.contexts.specs.declared.parts.Own.{Own}
 use Rattle.contexts.specs.declared.parts.Contexts.{Contexts}
@@ -34,7 +34,7 @@ function_for functions r = slice_index_or functions (place_of r) None
 abbrev pub allocator_in : List (Option ℕ) → Option ℕ
 allocator_in functions = option_or (function_for functions role.MemoryAllocate) (function_for functions role.Malloc)
 
--- the one that begins, behind the module's start function
+-- the one that begins, after the module's start function
 abbrev pub beginner_in : List (Option ℕ) → Option ℕ
 beginner_in functions = option_or (function_for functions role.Initialize) (function_for functions role.Start)
 

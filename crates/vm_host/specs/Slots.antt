@@ -4,14 +4,14 @@ use Rattle.wasm_syntax.specs.declared.module.Module.{Module}
 use Rattle.gate_io.specs.declared.event.Sent.{Sent}
 use Rattle.store_model.specs.Program.{Program, done, bind}
 use Rattle.contexts.specs.declared.parts.Contexts.{Contexts}
-use Rattle.course.specs.Called.{Called, called_back}
-use Rattle.course.specs.declared.host.Callback.{Callback}
-use Rattle.course.specs.declared.host.Callback.TheVariants as callback
-use Rattle.course.specs.declared.host.CallEnd.{CallEnd}
-use Rattle.course.specs.declared.host.CallEnd.TheVariants as call_end
-use Rattle.course.specs.declared.host.Death.TheVariants as death
-use Rattle.vm_host.specs.declared.ended.Ended.{Ended}
-use Rattle.vm_host.specs.declared.ended.Ended.TheVariants as ended
+use Rattle.filter_host.specs.Called.{Called, called_back}
+use Rattle.filter_host.specs.declared.host.Callback.{Callback}
+use Rattle.filter_host.specs.declared.host.Callback.TheVariants as callback
+use Rattle.filter_host.specs.declared.host.CallbackEnd.{CallbackEnd}
+use Rattle.filter_host.specs.declared.host.CallbackEnd.TheVariants as call_end
+use Rattle.filter_host.specs.declared.host.Death.TheVariants as death
+use Rattle.vm_host.specs.declared.ended.LastRunEnd.{LastRunEnd}
+use Rattle.vm_host.specs.declared.ended.LastRunEnd.TheVariants as ended
 use Rattle.vm_host.specs.declared.roles.Role.{Role}
 use Rattle.vm_host.specs.declared.roles.Role.TheVariants as role
 use Rattle.vm_host.specs.declared.slots.Slot.{Slot}
@@ -70,19 +70,19 @@ registering_in v vm = (slot_in v vm).registers
 
 -- ---- callbacks
 
-abbrev pub end_of : Ended → CallEnd
+abbrev pub end_of : LastRunEnd → CallbackEnd
 end_of (ended.Returned v) = call_end.Returned v
 end_of (ended.Trapped c) = call_end.Died (death.Trapped c)
 end_of ended.FuelSpent = call_end.Died death.FuelSpent
 
 -- how a callback ended, what it wrote into the log, what is left of the VM, and the contexts
 pub record Came : Type 0 where
-  pub end : CallEnd
+  pub end : CallbackEnd
   pub lines : List Sent
   pub live : Option VmAt
   pub contexts : Contexts
 
-abbrev pub came : CallEnd → List Sent → Option VmAt → Contexts → Came
+abbrev pub came : CallbackEnd → List Sent → Option VmAt → Contexts → Came
 came end lines live contexts = record { end = end; lines = lines; live = live; contexts = contexts }
 
 abbrev pub came_of : Ran → Came

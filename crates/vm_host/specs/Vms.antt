@@ -6,7 +6,7 @@ use Rattle.wasm_syntax.specs.declared.module.Module.{Module}
 use Rattle.wasm_syntax.specs.ReductionPrograms.{program_of, first_config}
 use Rattle.wasm_machine.specs.Machines.{View, program_at, config_at}
 use Rattle.wasm_machine.specs.declared.machine.Mode.TheVariants as mode
-use Rattle.proxy_links.specs.declared.target.Target.{Target}
+use Rattle.abi_links.specs.declared.target.ImportTarget.{ImportTarget}
 use Rattle.abi_types.specs.declared.guest.Closing.{Closing}
 use Rattle.store_model.specs.Program.{Program, done, bind}
 use Rattle.contexts.specs.Reached.{seen, contains, put, no_changes}
@@ -15,8 +15,8 @@ use Rattle.abi_types.specs.GuestAt.{GuestAt}
 use Rattle.vm_host.specs.declared.machine_guest.MachineGuest.{MachineGuest}
 use Rattle.vm_host.specs.declared.dispatch.Dispatcher.{Dispatcher}
 use Rattle.vm_host.specs.declared.roles.Role.{Role}
-use Rattle.vm_host.specs.declared.ended.Ended.{Ended}
-use Rattle.vm_host.specs.declared.ended.Ended.TheVariants as ended
+use Rattle.vm_host.specs.declared.ended.LastRunEnd.{LastRunEnd}
+use Rattle.vm_host.specs.declared.ended.LastRunEnd.TheVariants as ended
 use Rattle.vm_host.specs.Seeing.{RestsAt}
 use Rattle.vm_host.specs.HostStates.{HostState, host_state}
 use Rattle.vm_host.specs.Calling.{Returned, returned, run_trapped, run_spent, run_open, calling_back}
@@ -70,7 +70,7 @@ pub record IsFirst (m : Module) (pages : ℕ) (v : View) : Type 0 where
   pub mode : v.mode ≡ mode.Resting
 
 -- what a module tells of its calls
-pub record IsOutline (m : Module) (targets : List Target) (closed : List Closing) (functions : List (Option ℕ)) (start : Option ℕ) : Type 0 where
+pub record IsOutline (m : Module) (targets : List ImportTarget) (closed : List Closing) (functions : List (Option ℕ)) (start : Option ℕ) : Type 0 where
   pub targets_are : targets ≡ targets_of m.imports
   pub closed_are : closed ≡ closings_of (targets_of m.imports)
   pub functions_are : functions ≡ functions_for m.exports
@@ -80,11 +80,11 @@ pub record IsOutline (m : Module) (targets : List Target) (closed : List Closing
 
 -- what has become of a VM: none is left of one that trapped or spent its fuel
 pub record Ran : Type 0 where
-  pub end : Ended
+  pub end : LastRunEnd
   pub vm : Option VmAt
   pub state : HostState
 
-abbrev pub ran : Ended → Option VmAt → HostState → Ran
+abbrev pub ran : LastRunEnd → Option VmAt → HostState → Ran
 ran end vm state = record { end = end; vm = vm; state = state }
 
 -- a number of 32 bits that was returned

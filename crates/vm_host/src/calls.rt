@@ -46,7 +46,7 @@ pub enum RunEnd {
     OutOfMemory,
 }
 
-/// The calls that a host offers to the guest of one VM. A call may change the contexts and put lines behind those of the
+/// The calls that a host offers to the guest of one VM. A call may change the contexts and put lines after those of the
 /// log.
 pub trait Calls {
     /// The number of the VM.
@@ -84,7 +84,7 @@ pub trait Calls {
 }
 
 /// Runs a function of a guest, and answers what it asks. All runs of an allocator on the way spend of the same fuel, and
-/// so does the function behind a call of the host.
+/// so does the function after a call of the host.
 pub fn run<C: Calls, S: Shared>(
     alloc: Global,
     guest: &mut MachineGuest,

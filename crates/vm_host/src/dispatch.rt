@@ -8,20 +8,20 @@ ghost use Rattle.contexts.specs.Reached.{seen};
 ghost use Rattle.abi_types.specs.GuestAt.{StillWaits, Keeps};
 ghost use Rattle.abi_model.specs.Table.{row_of, wasi_row_of};
 ghost use Rattle.abi_calls.specs.Hosting.{hosting, wasi_hosting};
-ghost use Rattle.proxy_links.specs.Judging.{types_in};
-ghost use Rattle.proxy_links.specs.Numbers.{number_of};
+ghost use Rattle.abi_links.specs.Judging.{types_in};
+ghost use Rattle.abi_links.specs.Numbers.{number_of};
 ghost use Rattle.vm_host.specs.Calling.{CallEnds, StillAfter, AnswerFits};
 ghost use Rattle.vm_host.specs.HostStates.{host_state};
-ghost use Rattle.vm_host.specs.Dispatching.{serving, by_target, TakesAs, results_for};
+ghost use Rattle.vm_host.specs.Dispatching.{serve_calls, by_target, TakesAs, results_for};
 
 use crate::calls::{CallEnd, Calls};
 use abi_calls::{host_call, wasi_call};
+use abi_links::{ImportTarget, numbers};
 use abi_model::{HostCall, HostEnd, WasiCall};
 use abi_types::Guest;
 use contexts::Contexts;
 use gate_base::{Cause, Members, VmNo};
 use gate_io::SentList;
-use proxy_links::{Target, numbers};
 use std::alloc::Global;
 use store_model::Shared;
 use wasm_syntax::Value;
@@ -32,7 +32,7 @@ pub struct Dispatcher {
     /// The number of the VM.
     pub place: VmNo,
     /// What each import of its module stands for.
-    pub targets: Members<Target>,
+    pub targets: Members<ImportTarget>,
 }
 
 /// A number is the answer.
@@ -60,7 +60,7 @@ fn proxy<G: Guest, S: Shared>(
     requires there { place < length contexts.old.vms }
     requires stores { length contexts.old.vms ≤ S.stores shared.old }
     requires typed { types_of args.now ≡ types_in (row_of call) }
-    ensures ends { CallEnds S.performs shared.old (serving place (host_state contexts.old lines.old) (hosting call now place (map number_of args.now) (G.at guest.old) (seen contexts.old place))) result (G.at guest.new) (host_state contexts.new lines.new) shared.new }
+    ensures ends { CallEnds S.performs shared.old (serve_calls place (host_state contexts.old lines.old) (hosting call now place (map number_of args.now) (G.at guest.old) (seen contexts.old place))) result (G.at guest.new) (host_state contexts.new lines.new) shared.new }
     ensures still { StillAfter result (StillWaits (G.rests guest.new) (G.at guest.old) (G.at guest.new)) }
     ensures keeps { Keeps (G.at guest.old) (G.at guest.new) }
     ensures fits { AnswerFits result (type.I32 ∷ []) }
@@ -106,7 +106,7 @@ fn wasi<G: Guest, S: Shared>(
     requires there { place < length contexts.old.vms }
     requires stores { length contexts.old.vms ≤ S.stores shared.old }
     requires typed { types_of args.now ≡ types_in (wasi_row_of call) }
-    ensures ends { CallEnds S.performs shared.old (serving place (host_state contexts.old lines.old) (wasi_hosting call now place (map number_of args.now) (G.at guest.old) (seen contexts.old place))) result (G.at guest.new) (host_state contexts.new lines.new) shared.new }
+    ensures ends { CallEnds S.performs shared.old (serve_calls place (host_state contexts.old lines.old) (wasi_hosting call now place (map number_of args.now) (G.at guest.old) (seen contexts.old place))) result (G.at guest.new) (host_state contexts.new lines.new) shared.new }
     ensures still { StillAfter result (StillWaits (G.rests guest.new) (G.at guest.old) (G.at guest.new)) }
     ensures keeps { Keeps (G.at guest.old) (G.at guest.new) }
     ensures fits { AnswerFits result (type.I32 ∷ []) }
@@ -138,7 +138,7 @@ fn wasi<G: Guest, S: Shared>(
 
 impl Dispatcher {
     /// What an import stands for.
-    fn target(&self, import: u32) -> Target
+    fn target(&self, import: u32) -> ImportTarget
         requires { import < length self.now.targets }
         ensures { slice_get self.now.targets import ≡ Some result }
     {
@@ -149,7 +149,7 @@ impl Dispatcher {
     fn serve<G: Guest, S: Shared>(
         &self,
         alloc: Global,
-        target: Target,
+        target: ImportTarget,
         guest: &mut G,
         contexts: &mut Contexts,
         lines: &mut SentList,
@@ -169,20 +169,20 @@ impl Dispatcher {
         ensures stores { S.stores shared.new ≡ S.stores shared.old }
     {
         match target {
-            Target::Proxy(call) => {
+            ImportTarget::Proxy(call) => {
                 proxy(
                     alloc, call, guest, contexts, lines, shared, self.place, now, args,
                 )
             }
-            Target::OtherProxy => answer(12),
-            Target::MemoryGrowth => CallEnd::Answered { value: None },
-            Target::Wasi(WasiCall::ProcExit) => CallEnd::Trapped { cause: Cause::Exit },
-            Target::Wasi(call) => {
+            ImportTarget::OtherProxy => answer(12),
+            ImportTarget::MemoryGrowth => CallEnd::Answered { value: None },
+            ImportTarget::Wasi(WasiCall::ProcExit) => CallEnd::Trapped { cause: Cause::Exit },
+            ImportTarget::Wasi(call) => {
                 wasi(
                     alloc, call, guest, contexts, lines, shared, self.place, now, args,
                 )
             }
-            Target::OtherWasi => answer(52),
+            ImportTarget::OtherWasi => answer(52),
         }
     }
 }

@@ -4,7 +4,7 @@ use gate_base::Cause;
 
 /// How the last run of a VM ended.
 #[derive(Clone, Copy)]
-pub enum Ended {
+pub enum LastRunEnd {
     /// It returned, with a number where its function gives one. What is not exported returns nothing.
     Returned { value: Option<u32> },
     /// It trapped, and the VM is no more.

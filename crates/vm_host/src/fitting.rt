@@ -4,12 +4,12 @@ ghost use Rattle.std.specs.Prelude.{◌≡◌, ◌++◌, Bool, IfSome, IfNone, s
 ghost use Rattle.std.specs.Option.{option_copied, option_or};
 ghost use Rattle.std.specs.List.{list_any};
 ghost use Rattle.wasm_syntax.specs.Validity.{function_of as imported_function, imports_of, functions_of};
-ghost use Rattle.proxy_links.specs.Judging.{same_types};
+ghost use Rattle.abi_links.specs.Judging.{same_types};
 ghost use Rattle.vm_host.specs.Roles.{role_named as named_of};
 ghost use Rattle.vm_host.specs.Fits.{function_in as function_of_kind, exported as exported_in, type_in, results_for, role_results, fits_type as fits_type_of, fits_function as fits_function_of, misfits_role, unlinked as unlinked_of, is_misfit as is_misfit_of, is_marker as is_marker_of, no_marker as no_marker_in, a_misfit as a_misfit_in, fit_fault, fitting};
 
 use crate::roles::{Role, gives_number, role_named, role_row};
-use proxy_links::{ProxyLinks, fits_row, is_nothing, is_number};
+use abi_links::{ProxyLinks, fits_row, is_nothing, is_number};
 use wasm_store::{LinkEnd, link_fault};
 use wasm_syntax::{
     Export, ExportKind, FunctionType, Import, ImportKind, Module, ValidModule, ValueType,

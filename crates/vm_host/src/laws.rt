@@ -34,7 +34,7 @@ pub fn exports_have_types()
 {}
 
 /// A callback that asks its host once pays the units of its own instructions alone, and with one unit less it spends its fuel
-/// behind the host's answer.
+/// after the host's answer.
 pub fn worked_callbacks()
     ensures returned { calling_back echoing 1 [] (asking 4) 0 ≡ done (returned (Some (value.I32 11)) (asking 0) 1) }
     ensures one_short { calling_back echoing 1 [] (asking 3) 0 ≡ done (run_spent 0 1) }

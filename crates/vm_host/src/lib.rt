@@ -13,7 +13,7 @@ mod vm;
 
 pub use calls::{CallEnd, Calls, RunEnd, run};
 pub use dispatch::Dispatcher;
-pub use ended::Ended;
+pub use ended::LastRunEnd;
 pub use fitting::{FitEnd, exported, fits, fits_function};
 pub use machine_guest::MachineGuest;
 pub use roles::{ROLES, Role, gives_number, role_name, role_named, role_place, role_row};

@@ -9,15 +9,15 @@ ghost use Rattle.vm_host.specs.Targets.{is_register as is_register_of, registers
 ghost use Rattle.vm_host.specs.Vms.{ran};
 ghost use Rattle.vm_host.specs.Slots.{role_of, first_slot, no_slot, exports_role as exports_role_in, end_of, came, by_role, calling_live, is_at_home as is_at_home_in, has_work as has_work_in, calling_slot};
 
-use crate::ended::Ended;
+use crate::ended::LastRunEnd;
 use crate::roles::Role;
 use crate::vm::{Numbers, Ran, Vm, function, functions, import_targets};
+use abi_links::ImportTarget;
 use abi_model::HostCall;
 use contexts::Contexts;
-use course::{Answer, CallEnd, Callback, Death, Host};
+use filter_host::{Answer, Callback, CallbackEnd, Death, Host};
 use gate_base::{Members, OutOfMemory, VmNo};
 use gate_io::SentList;
-use proxy_links::Target;
 use std::alloc::Global;
 use std::mem;
 use store_model::Shared;
@@ -78,17 +78,17 @@ fn role(name: Callback) -> Option<Role>
 }
 
 /// Whether a target registers queues.
-fn is_register(target: Target) -> bool
+fn is_register(target: ImportTarget) -> bool
     ensures { result ≡ is_register_of target }
 {
     match target {
-        Target::Proxy(HostCall::RegisterSharedQueue) => true,
+        ImportTarget::Proxy(HostCall::RegisterSharedQueue) => true,
         _ => false,
     }
 }
 
 /// Whether some target does.
-fn registers(targets: &[Target]) -> bool
+fn registers(targets: &[ImportTarget]) -> bool
     ensures { result ≡ registers_in targets.now }
 {
     targets.iter().any(|t| is_register(*t))
@@ -105,15 +105,15 @@ fn exports_role(functions: &[Option<u32>], role: Option<Role>) -> bool
 }
 
 /// How a callback ended, as the worker is told.
-fn told(end: Ended) -> CallEnd
+fn told(end: LastRunEnd) -> CallbackEnd
     ensures { result ≡ end_of end }
 {
     match end {
-        Ended::Returned { value } => CallEnd::Returned { value },
-        Ended::Trapped { cause } => CallEnd::Died {
+        LastRunEnd::Returned { value } => CallbackEnd::Returned { value },
+        LastRunEnd::Trapped { cause } => CallbackEnd::Died {
             death: Death::Trapped { cause },
         },
-        Ended::FuelSpent => CallEnd::Died {
+        LastRunEnd::FuelSpent => CallbackEnd::Died {
             death: Death::FuelSpent,
         },
     }
@@ -151,16 +151,16 @@ fn is_called(slots: &[Slot], at: usize, name: Callback) -> bool
 
 /// Nothing was done.
 fn silence(alloc: Global) -> Answer
-    ensures end { result.end ≡ CallEnd.Returned None }
+    ensures end { result.end ≡ CallbackEnd.Returned None }
     ensures lines { result.lines ≡ [] }
 {
     Answer {
-        end: CallEnd::Returned { value: None },
+        end: CallbackEnd::Returned { value: None },
         lines: SentList::new(alloc),
     }
 }
 
-/// Runs a callback of a VM, whose lines go behind others.
+/// Runs a callback of a VM, whose lines go after others.
 fn run_role<S: Shared>(
     vm: Vm,
     alloc: Global,

@@ -5,7 +5,7 @@ ghost use Rattle.gate_base.specs.declared.cause.Cause.{Cause as Causes};
 ghost use Rattle.wasm_syntax.specs.declared.types.Value.{Value as Values};
 ghost use Rattle.std.specs.Option.{option_or};
 ghost use Rattle.wasm_store.specs.Linking.{link_fault};
-ghost use Rattle.proxy_links.specs.Judging.{judged_of, target_of};
+ghost use Rattle.abi_links.specs.Judging.{judged_of, target_of};
 ghost use Rattle.wasm_machine.specs.Machines.{Takes};
 ghost use Rattle.store_model.specs.Program.{Ends};
 ghost use Rattle.vm_host.specs.Fits.{fit_fault};
@@ -18,16 +18,16 @@ ghost use Rattle.vm_host.specs.Seeing.{guest_at};
 
 use crate::calls::{RunEnd, run};
 use crate::dispatch::Dispatcher;
-use crate::ended::Ended;
+use crate::ended::LastRunEnd;
 use crate::fitting::exported;
 use crate::machine_guest::MachineGuest;
 use crate::roles::{ROLES, Role, role_name, role_place, role_row};
+use abi_links::{ImportTarget, ProxyLinks, target_named};
 use abi_model::WasiCall;
 use abi_types::Closing;
 use contexts::{CallAnswer, Contexts};
 use gate_base::{ContextId, Members, OutOfMemory, VmNo};
 use gate_io::SentList;
-use proxy_links::{ProxyLinks, Target, target_named};
 use std::alloc::{AllocError, Global};
 use std::marker::Model;
 use store_model::Shared;
@@ -35,7 +35,7 @@ use wasm_machine::Machine;
 use wasm_store::Instance;
 use wasm_syntax::{Export, Import, Module, ValidModule, Value};
 
-/// What a VM is made of. It stands behind a pointer, which alone is moved where a callback takes the VM out of its place.
+/// What a VM is made of. It stands after a pointer, which alone is moved where a callback takes the VM out of its place.
 #[derive(Drop)]
 struct Parts {
     guest: MachineGuest,
@@ -71,7 +71,7 @@ impl Model for Vm {
 #[derive(Drop)]
 pub struct Ran {
     /// How its last run ended.
-    pub end: Ended,
+    pub end: LastRunEnd,
     /// The VM, where it lives.
     pub vm: Option<Vm>,
 }
@@ -139,12 +139,12 @@ fn first_of(all: &[Value; 5], role: Role) -> &[Value]
 }
 
 /// What two names stand for, where they are linked.
-fn target_or(home: &[u8], name: &[u8]) -> Target
-    ensures { result ≡ unwrap_or (target_of home.now name.now) Target.OtherProxy }
+fn target_or(home: &[u8], name: &[u8]) -> ImportTarget
+    ensures { result ≡ unwrap_or (target_of home.now name.now) ImportTarget.OtherProxy }
 {
     match target_named(home, name) {
         Some(target) => target,
-        None => Target::OtherProxy,
+        None => ImportTarget::OtherProxy,
     }
 }
 
@@ -165,7 +165,7 @@ pub struct Counts {
 }
 
 /// What an import stands for.
-fn import_target(i: &Import) -> Target
+fn import_target(i: &Import) -> ImportTarget
     ensures { result ≡ target_for i.now }
 {
     target_or(i.module.as_str().as_bytes(), i.name.as_str().as_bytes())
@@ -175,7 +175,7 @@ fn import_target(i: &Import) -> Target
 pub(crate) fn import_targets(
     alloc: Global,
     imports: &[Import],
-) -> Result<Members<Target>, OutOfMemory>
+) -> Result<Members<ImportTarget>, OutOfMemory>
     ensures { IfOk result (λ ts. ts ≡ targets_of imports.now) }
 {
     let mut targets = Members::new(alloc);
@@ -186,19 +186,19 @@ pub(crate) fn import_targets(
 }
 
 /// What a target answers while the host is closed.
-fn closing(target: Target) -> Closing
+fn closing(target: ImportTarget) -> Closing
     ensures { result ≡ closing_for target }
 {
     match target {
-        Target::Proxy(_) | Target::OtherProxy => Closing::Status { number: 10 },
-        Target::MemoryGrowth => Closing::Nothing,
-        Target::Wasi(WasiCall::ProcExit) => Closing::Exit,
-        Target::Wasi(_) | Target::OtherWasi => Closing::Status { number: 52 },
+        ImportTarget::Proxy(_) | ImportTarget::OtherProxy => Closing::Status { number: 10 },
+        ImportTarget::MemoryGrowth => Closing::Nothing,
+        ImportTarget::Wasi(WasiCall::ProcExit) => Closing::Exit,
+        ImportTarget::Wasi(_) | ImportTarget::OtherWasi => Closing::Status { number: 52 },
     }
 }
 
 /// What all targets answer while the host is closed.
-fn closings(alloc: Global, targets: &[Target]) -> Result<Members<Closing>, OutOfMemory>
+fn closings(alloc: Global, targets: &[ImportTarget]) -> Result<Members<Closing>, OutOfMemory>
     ensures { IfOk result (λ cs. cs ≡ closings_of targets.now) }
 {
     let mut closed = Members::new(alloc);
@@ -274,7 +274,7 @@ fn allocator(functions: &[Option<u32>]) -> Option<u32>
     )
 }
 
-/// The function that begins, behind the module's start function.
+/// The function that begins, after the module's start function.
 fn beginner(functions: &[Option<u32>]) -> Option<u32>
     ensures { result ≡ beginner_in functions.now }
 {
@@ -299,7 +299,7 @@ fn machine_of(alloc: Global, code: ValidModule, pages: u32) -> Result<Machine, O
 /// What a module tells of its calls.
 #[derive(Drop)]
 struct Outline {
-    targets: Members<Target>,
+    targets: Members<ImportTarget>,
     closed: Members<Closing>,
     functions: Members<Option<u32>>,
     start: Option<u32>,
@@ -323,19 +323,19 @@ fn outline_of(alloc: Global, m: &Module) -> Result<Outline, OutOfMemory>
 /// What is told of a run that did not return: its VM is no more.
 fn gone(end: RunEnd) -> Result<Ran, OutOfMemory>
     requires { (value : Option Values) → end ≢ RunEnd.Returned value }
-    ensures trapped { (cause : Causes) → end ≡ RunEnd.Trapped cause → IsOkAnd result (λ r. (r.end ≡ Ended.Trapped cause) × (r.vm ≡ None)) }
-    ensures spent { end ≡ RunEnd.FuelSpent → IsOkAnd result (λ r. (r.end ≡ Ended.FuelSpent) × (r.vm ≡ None)) }
+    ensures trapped { (cause : Causes) → end ≡ RunEnd.Trapped cause → IsOkAnd result (λ r. (r.end ≡ LastRunEnd.Trapped cause) × (r.vm ≡ None)) }
+    ensures spent { end ≡ RunEnd.FuelSpent → IsOkAnd result (λ r. (r.end ≡ LastRunEnd.FuelSpent) × (r.vm ≡ None)) }
     ensures memory { end ≡ RunEnd.OutOfMemory → IsErr result }
     ensures none { IfOk result (λ r. r.vm ≡ None) }
 {
     match end {
         RunEnd::Returned { .. } => unreachable!(),
         RunEnd::Trapped { cause } => Ok(Ran {
-            end: Ended::Trapped { cause },
+            end: LastRunEnd::Trapped { cause },
             vm: None,
         }),
         RunEnd::FuelSpent => Ok(Ran {
-            end: Ended::FuelSpent,
+            end: LastRunEnd::FuelSpent,
             vm: None,
         }),
         RunEnd::OutOfMemory => Err(AllocError),
@@ -345,11 +345,11 @@ fn gone(end: RunEnd) -> Result<Ran, OutOfMemory>
 /// What is told of a run that returned: its VM lives.
 fn alive(value: Option<Value>, parts: Box<Parts>) -> Ran
     requires { IsVm parts.value.guest parts.value.calls parts.value.functions parts.value.start }
-    ensures end { result.end ≡ Ended.Returned (number_of value) }
+    ensures end { result.end ≡ LastRunEnd.Returned (number_of value) }
     ensures vm { result.vm ≡ Some (record { guest = guest_at parts.value.guest; calls = parts.value.calls; functions = parts.value.functions; start = parts.value.start; budget = parts.value.budget }) }
 {
     Ran {
-        end: Ended::Returned {
+        end: LastRunEnd::Returned {
             value: number(value),
         },
         vm: Some(Vm { parts }),
@@ -491,13 +491,13 @@ impl Vm {
         match func {
             Some(f) => self.run(alloc, contexts, lines, shared, now, f, &[]),
             None => Ok(Ran {
-                end: Ended::Returned { value: None },
+                end: LastRunEnd::Returned { value: None },
                 vm: Some(self),
             }),
         }
     }
 
-    /// Runs the function that begins behind the start function, where there is one.
+    /// Runs the function that begins after the start function, where there is one.
     fn begin_further<S: Shared>(
         self,
         alloc: Global,
@@ -586,7 +586,7 @@ impl Vm {
             Some(func) => func,
             None => {
                 return Ok(Ran {
-                    end: Ended::Returned { value: None },
+                    end: LastRunEnd::Returned { value: None },
                     vm: Some(self),
                 });
             }

@@ -1,11 +1,11 @@
 //! An HTTP/1.1 gateway whose messages pass through WebAssembly filters.
 #![tactic(auto)]
 
+use command_statuses::Status;
 use commands::run;
 use gate_io::{HostFiles, HostSink, NoGate};
 use gate_live::LiveSite;
 use standard_streams::hold_standard;
-use statuses::Status;
 use std::alloc::{AllocError, Global};
 use std::process::ExitCode;
 use std::{env, io};

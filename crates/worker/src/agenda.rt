@@ -2,7 +2,7 @@
 ghost use Rattle.worker_model.specs.Plan.{plan_of};
 ghost use Rattle.std.specs.List.{list_any};
 ghost use Rattle.std.specs.Prelude.{◌≡◌, ◌≤◌, true, [], ◌∷◌, ◌++◌, length, OnOk, IfOk, Some, slice_get};
-ghost use Rattle.worker_model.specs.Turn.{is_of, roots_from, start_of, starts_of, first_vms, vms_in, starts, is_due_now, ticks_in, ticks_of, ticks_due, deadlines, registers_at, notice_of, notices_of, comes_if, happening, agenda_of};
+ghost use Rattle.worker_model.specs.Turn.{is_of, roots_from, start_of, starts_of, first_vms, vms_in, start_jobs, is_due_now, ticks_in, ticks_of, ticks_due, deadline_jobs, registers_at, notice_of, notices_of, comes_if, happening, agenda_of};
 ghost use Rattle.callouts.specs.Callouts.{callout_at};
 ghost use Rattle.contexts.specs.Reached.{vm_in};
 ghost use Rattle.worker_model.specs.Steps.{is_due_tick};
@@ -11,7 +11,7 @@ use callouts::{CallStep, callout_at, is_call_line, line_in};
 use contexts::{Context, Contexts, Plugin, Tick};
 use gate_base::{LineNo, OutOfMemory, VmNo};
 use gate_io::What;
-use queue::Queue;
+use gate_queue::Queue;
 use std::alloc::Global;
 use worker_model::{Job, OtherStep, Rules};
 use worker_room::Room;
@@ -173,7 +173,7 @@ fn push_notices(jobs: &mut Queue<Job>, rules: &Rules, count: u8) -> Result<(), O
 
 /// Responses may be due.
 fn push_deadlines(jobs: &mut Queue<Job>, rules: &Rules) -> Result<(), OutOfMemory>
-    ensures { OnOk result (jobs.new ≡ jobs.old ++ deadlines (plan_of rules.now)) }
+    ensures { OnOk result (jobs.new ≡ jobs.old ++ deadline_jobs (plan_of rules.now)) }
 {
     if rules.config.deadline_ms != 0 {
         jobs.push(Job::Expire)?;
@@ -183,7 +183,7 @@ fn push_deadlines(jobs: &mut Queue<Job>, rules: &Rules) -> Result<(), OutOfMemor
 
 /// What comes in front of the event.
 fn parts_before(alloc: Global, rules: &Rules, room: &Room) -> Result<Queue<Job>, OutOfMemory>
-    ensures { IfOk result (λ jobs. jobs ≡ starts room.now ++ (ticks_due room.now ++ deadlines (plan_of rules.now))) }
+    ensures { IfOk result (λ jobs. jobs ≡ start_jobs room.now ++ (ticks_due room.now ++ deadline_jobs (plan_of rules.now))) }
 {
     let count = vms_in(room);
     let mut jobs = Queue::new(alloc);

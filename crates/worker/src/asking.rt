@@ -8,7 +8,7 @@ ghost use Rattle.worker_model.specs.Wants.{due_in, wants_of};
 
 use crate::due::due_in;
 use gate_io::{Event, Wants, World, WorldEnd};
-use outbox::Outbox;
+use send_queue::Outbox;
 use std::alloc::Global;
 use worker_lines::wants_on;
 use worker_model::Rules;

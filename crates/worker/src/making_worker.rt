@@ -6,11 +6,11 @@ ghost use Rattle.worker_model.specs.Turn.{first_vms};
 
 use crate::agenda::vm_of;
 use contexts::{Configuration, Contexts, ShortName};
-use course::{Callback, Host};
 use exchange::Hub;
+use filter_host::{Callback, Host};
 use gate_base::{OutOfMemory, VmNo};
 use gate_config::{Config, PluginEntry, VmEntry};
-use queue::Queue;
+use gate_queue::Queue;
 use std::alloc::{AllocError, Global};
 use worker_lines::Lines;
 use worker_model::Bodies;

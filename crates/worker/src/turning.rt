@@ -1,18 +1,18 @@
 // All is done until everything is at rest.
 ghost use Rattle.worker_model.specs.Plan.{plan_of};
 ghost use Rattle.std.specs.Prelude.{◌≡◌, ◌≤◌, ◌<◌, Some, None, OnOk, IfOk, length, true};
-ghost use Rattle.course.specs.Course.{Ends};
-ghost use Rattle.worker_model.specs.Steps.{both, step, works, move_at, moved, callback_of, number_of, made_one, roots, streams, ticks, tells, starts, finishes, forgets, works_life, quietly, takes_notice, notices, tells_ready, vm_length, plugin_length};
+ghost use Rattle.filter_host.specs.Course.{Ends};
+ghost use Rattle.worker_model.specs.Steps.{both, step, works, move_at, moved, callback_of, number_of, made_one, roots, streams, ticks, tells, starts, finishes, forgets, works_life, run_silent_job, ask_notice, notice_step, tells_ready, vm_length, plugin_length};
 ghost use Rattle.worker_model.specs.Rooms.{next_of};
-ghost use Rattle.worker_model.specs.Settling.{settling, rests};
+ghost use Rattle.worker_model.specs.Settling.{settling, is_rest};
 
 use contexts::Contexts;
-use course::{Callback, Death, Host};
 use filter_chain::AskKind;
+use filter_host::{Callback, Death, Host};
 use gate_base::{ContextId, LineNo, OutOfMemory, QueueId, VmNo};
 use std::alloc::{AllocError, Global};
 use store_model::{Call, Shared};
-use worker_model::{Asked, Change, ContextAt, Job, NewContext, Next, Own, Rules};
+use worker_model::{Asked, Change, ContextAt, Job, NewContext, Next, Owner, Rules};
 use worker_room::{Room, call_back, call_live, may_stream};
 
 /// The callback that a stage is asked by.
@@ -69,7 +69,7 @@ fn ask<H: Host, S: Shared>(
     ensures stores { S.stores shared.new ≡ S.stores shared.old }
     ensures run { Ends S.performs shared.old (moved H.calling (Some a) host.old room.old) (λ _. both host.new room.new) result shared.new }
 {
-    let own = Own::Stage {
+    let own = Owner::Stage {
         context: a.context,
         response: a.response,
     };
@@ -120,7 +120,7 @@ fn tell<H: Host, S: Shared>(
     Ok(())
 }
 
-/// A callback behind which the VM is dead where it answered 0.
+/// A callback after which the VM is dead where it answered 0.
 fn start<H: Host, S: Shared>(
     alloc: Global,
     host: &mut H,
@@ -295,7 +295,7 @@ fn ask_notice<H: Host, S: Shared>(
 ) -> Result<(), OutOfMemory>
     requires stores { vm < S.stores shared.old }
     ensures stores { S.stores shared.new ≡ S.stores shared.old }
-    ensures run { Ends S.performs shared.old (takes_notice vm left host.now room.old) (λ _. both host.now room.new) result shared.new }
+    ensures run { Ends S.performs shared.old (ask_notice vm left host.now room.old) (λ _. both host.now room.new) result shared.new }
 {
     let reply = shared.call(alloc, vm, &Call::Notice)?;
     room.notice(alloc, vm, left, reply)
@@ -313,7 +313,7 @@ fn take_notice<H: Host, S: Shared>(
 ) -> Result<(), OutOfMemory>
     requires stores { (plan_of rules.now).vms ≤ S.stores shared.old }
     ensures stores { S.stores shared.new ≡ S.stores shared.old }
-    ensures run { Ends S.performs shared.old (notices (plan_of rules.now) vm left host.now room.old) (λ _. both host.now room.new) result shared.new }
+    ensures run { Ends S.performs shared.old (notice_step (plan_of rules.now) vm left host.now room.old) (λ _. both host.now room.new) result shared.new }
 {
     if (left == 0 || room.is_dead(vm)) || vm.get() as usize >= rules.config.vms.len() {
         return Ok(());
@@ -353,7 +353,7 @@ fn tell_ready<H: Host, S: Shared>(
 
 /// The jobs that call nothing.
 fn quiet(alloc: Global, room: &mut Room, job: Job) -> Result<(), OutOfMemory>
-    ensures { OnOk result (room.new ≡ quietly job room.old) }
+    ensures { OnOk result (room.new ≡ run_silent_job job room.old) }
 {
     match job {
         Job::Expire => room.expire(alloc),
@@ -494,7 +494,7 @@ fn step<H: Host, S: Shared>(
 
 /// Whether everything is at rest.
 fn is_rest(next: Next) -> bool
-    ensures { result ≡ rests next }
+    ensures { result ≡ is_rest next }
 {
     match next {
         Next::Rest => true,
@@ -516,7 +516,7 @@ pub fn settle<H: Host, S: Shared>(
     ensures needs { H.needs host.new ≡ H.needs host.old }
     ensures stores { S.stores shared.new ≡ S.stores shared.old }
     ensures run { Ends S.performs shared.old (settling H.calling (plan_of rules.now) most host.old room.old) (λ _. both host.new room.new) result shared.new }
-    ensures rest { IfOk result (λ _. rests (next_of room.new) ≡ true) }
+    ensures rest { IfOk result (λ _. is_rest (next_of room.new) ≡ true) }
 {
     let mut left = most;
     while left > 0 {

@@ -1,29 +1,29 @@
 // A worker, and its turns.
 ghost use Rattle.worker_model.specs.Plan.{plan_of};
 ghost use Rattle.std.specs.Prelude.{◌≡◌, ◌≤◌, ◌++◌, IsTrue, length, [], IfOk, OnOk, true};
-ghost use Rattle.course.specs.Course.{Ends};
+ghost use Rattle.filter_host.specs.Course.{Ends};
 ghost use Rattle.gate_io.specs.Told.{Rose};
-ghost use Rattle.outbox.specs.Delivery.{Offered};
-ghost use Rattle.outbox.specs.Joined.{joined};
+ghost use Rattle.send_queue.specs.Delivery.{Offered};
+ghost use Rattle.send_queue.specs.Joined.{join_neighbours};
 ghost use Rattle.worker.specs.Filled.{filled, event_of};
 ghost use Rattle.worker_model.specs.Making.{new_worker};
 ghost use Rattle.worker_model.specs.Rooms.{next_of};
-ghost use Rattle.worker_model.specs.Settling.{settling, rests};
+ghost use Rattle.worker_model.specs.Settling.{settling, is_rest};
 ghost use Rattle.worker_model.specs.State.{rules_of};
 ghost use Rattle.worker_model.specs.Steps.{both};
-ghost use Rattle.worker_model.specs.Turn.{facing, most_steps};
+ghost use Rattle.worker_model.specs.Turn.{room_for_event, most_steps};
 ghost use Rattle.worker_model.specs.Turned.{Turned, TurnedOn, TookWhole};
 
 use crate::agenda::agenda_of;
 use crate::asking::ask;
 use crate::making_worker::parts_of;
 use crate::turning::settle;
-use course::Host;
+use filter_host::Host;
 use gate_base::{Members, OutOfMemory, WorkerNo};
 use gate_config::Config;
 use gate_io::{Event, Sent, Wants, What, World, WorldEnd};
-use outbox::Outbox;
-use queue::Queue;
+use gate_queue::Queue;
+use send_queue::Outbox;
 use std::alloc::Global;
 use std::marker::Model;
 use store_model::Shared;
@@ -172,8 +172,8 @@ fn react<H: Host, S: Shared>(
     ensures needs { H.needs host.new ≡ H.needs host.old }
     ensures stores { S.stores shared.new ≡ S.stores shared.old }
     ensures empty { IfOk result (λ sent. room.new.hub.sent ≡ []) }
-    ensures rest { IfOk result (λ sent. rests (next_of room.new) ≡ true) }
-    ensures run { Ends S.performs shared.old (settling H.calling (plan_of rules.now) most_steps host.old (facing (plan_of rules.now) event room.old)) (λ sent. both host.new (filled sent.items room.new)) result shared.new }
+    ensures rest { IfOk result (λ sent. is_rest (next_of room.new) ≡ true) }
+    ensures run { Ends S.performs shared.old (settling H.calling (plan_of rules.now) most_steps host.old (room_for_event (plan_of rules.now) event room.old)) (λ sent. both host.new (filled sent.items room.new)) result shared.new }
 {
     face(alloc, rules, event.now, event.what, room)?;
     settle(alloc, host, rules, room, u64::MAX, shared)?;
@@ -190,7 +190,7 @@ fn deliver<W: World>(
     ensures last { W.last world.new ≡ W.last world.old }
     ensures nature { W.nature world.new ≡ W.nature world.old }
     ensures faults { W.faults world.old ≤ W.faults world.new }
-    ensures offered { Offered (W.nature world.old).takes_whole (W.trace world.old) [] (outbox.old ++ joined sent.items) result (W.trace world.new) outbox.new }
+    ensures offered { Offered (W.nature world.old).takes_whole (W.trace world.old) [] (outbox.old ++ join_neighbours sent.items) result (W.trace world.new) outbox.new }
 {
     outbox.deliver(alloc, world, &What::Clock, sent)
 }
@@ -203,7 +203,7 @@ fn face(
     what: What,
     room: &mut Room,
 ) -> Result<(), OutOfMemory>
-    ensures { OnOk result (room.new ≡ facing (plan_of rules.now) (event_of now what) room.old) }
+    ensures { OnOk result (room.new ≡ room_for_event (plan_of rules.now) (event_of now what) room.old) }
 {
     room.hub.moment = now;
     let agenda = agenda_of(alloc, rules, what, room)?;

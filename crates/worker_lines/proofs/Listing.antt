@@ -6,7 +6,7 @@ use Rattle.worker_model.specs.declared.types.Wish.{Wish}
 use Rattle.worker_model.specs.declared.types.Line.{Line}
 use Rattle.worker_model.specs.Wants.{with_lines}
 use Rattle.worker_model.specs.Wants.{earlier}
-use Rattle.worker_lines.specs.Wishes.{wish_of, wished, with_wishes}
+use Rattle.worker_lines.specs.Wishes.{wish_of, lines_with, with_wishes}
 use Rattle.worker_lines.proofs.Wished.{wished_due}
 
 -- one wish more in front, by whether it is among those
@@ -14,10 +14,10 @@ abbrev with_one : Bool → ℕ → List ℕ → List ℕ
 with_one b n ns = cond b (n ∷ ns) ns
 
 module _ (takes : Wish → Bool) where
-  front : (w : Wish) (ws : List Wish) → wished takes (w ∷ ws) ≡ with_one (takes w) w.number (wished takes ws)
+  front : (w : Wish) (ws : List Wish) → lines_with takes (w ∷ ws) ≡ with_one (takes w) w.number (lines_with takes ws)
   front w ws = by (takes w)
     where
-      by : (b : Bool) → map (λ (x : Wish). x.number) (cond b (w ∷ filter takes ws) (filter takes ws)) ≡ with_one b w.number (wished takes ws)
+      by : (b : Bool) → map (λ (x : Wish). x.number) (cond b (w ∷ filter takes ws) (filter takes ws)) ≡ with_one b w.number (lines_with takes ws)
       by true = refl
       by false = refl
 
@@ -26,12 +26,12 @@ module _ (takes : Wish → Bool) where
 
   -- of the same number, and among them as before
   pub wished_same : (each : List Wish) (at : ℕ) (was is : Wish) → slice_get each at ≡ Some was → takes was ≡ takes is → is.number ≡ was.number
-      → wished takes (slice_set each at is) ≡ wished takes each
+      → lines_with takes (slice_set each at is) ≡ lines_with takes each
   wished_same [] at was is there same number = refl
   wished_same (w ∷ ws) zero was is there same number =
       let here = same_some w was there in
-      front is ws ∙ ap (λ (b : Bool). with_one b is.number (wished takes ws)) (sym same) ∙ ap (λ (n : ℕ). with_one (takes was) n (wished takes ws)) number
-      ∙ sym (front was ws) ∙ ap (λ (x : Wish). wished takes (x ∷ ws)) (sym here)
+      front is ws ∙ ap (λ (b : Bool). with_one b is.number (lines_with takes ws)) (sym same) ∙ ap (λ (n : ℕ). with_one (takes was) n (lines_with takes ws)) number
+      ∙ sym (front was ws) ∙ ap (λ (x : Wish). lines_with takes (x ∷ ws)) (sym here)
   wished_same (w ∷ ws) (suc at) was is there same number =
       front w (slice_set ws at is) ∙ ap (λ (ns : List ℕ). with_one (takes w) w.number ns) (wished_same ws at was is there same number) ∙ sym (front w ws)
 
@@ -46,31 +46,31 @@ module _ (takes : Wish → Bool) where
 
   -- it is among them, and was not
   pub wished_more : (each : List Wish) (at : ℕ) (was is : Wish) → slice_get each at ≡ Some was → takes was ≡ false → takes is ≡ true
-      → wished takes (slice_set each at is) ≡ insert (wished takes each) (length (wished takes (take at each))) is.number
+      → lines_with takes (slice_set each at is) ≡ insert (lines_with takes each) (length (lines_with takes (take at each))) is.number
   wished_more [] at was is there off on = absurd (cc)
   wished_more (w ∷ ws) zero was is there off on =
       let here = same_some w was there in
-      let without : wished takes (w ∷ ws) ≡ wished takes ws = ap (λ (x : Wish). wished takes (x ∷ ws)) here ∙ front was ws ∙ ap (λ (b : Bool). with_one b was.number (wished takes ws)) off in
-      front is ws ∙ ap (λ (b : Bool). with_one b is.number (wished takes ws)) on ∙ sym (ap (λ (ns : List ℕ). is.number ∷ ns) without)
+      let without : lines_with takes (w ∷ ws) ≡ lines_with takes ws = ap (λ (x : Wish). lines_with takes (x ∷ ws)) here ∙ front was ws ∙ ap (λ (b : Bool). with_one b was.number (lines_with takes ws)) off in
+      front is ws ∙ ap (λ (b : Bool). with_one b is.number (lines_with takes ws)) on ∙ sym (ap (λ (ns : List ℕ). is.number ∷ ns) without)
   wished_more (w ∷ ws) (suc at) was is there off on =
       front w (slice_set ws at is) ∙ ap (λ (ns : List ℕ). with_one (takes w) w.number ns) (wished_more ws at was is there off on)
-      ∙ more_in_front (takes w) w.number is.number (wished takes ws) (wished takes (take at ws))
-      ∙ ap (λ (ns : List ℕ). insert ns (length (with_one (takes w) w.number (wished takes (take at ws)))) is.number) (sym (front w ws))
-      ∙ ap (λ (ns : List ℕ). insert (wished takes (w ∷ ws)) (length ns) is.number) (sym (front w (take at ws)))
+      ∙ more_in_front (takes w) w.number is.number (lines_with takes ws) (lines_with takes (take at ws))
+      ∙ ap (λ (ns : List ℕ). insert ns (length (with_one (takes w) w.number (lines_with takes (take at ws)))) is.number) (sym (front w ws))
+      ∙ ap (λ (ns : List ℕ). insert (lines_with takes (w ∷ ws)) (length ns) is.number) (sym (front w (take at ws)))
 
   -- it is not among them, and was
   pub wished_less : (each : List Wish) (at : ℕ) (was is : Wish) → slice_get each at ≡ Some was → takes was ≡ true → takes is ≡ false
-      → wished takes (slice_set each at is) ≡ remove (wished takes each) (length (wished takes (take at each)))
+      → lines_with takes (slice_set each at is) ≡ remove (lines_with takes each) (length (lines_with takes (take at each)))
   wished_less [] at was is there on off = absurd (cc)
   wished_less (w ∷ ws) zero was is there on off =
       let here = same_some w was there in
-      let with_it : wished takes (w ∷ ws) ≡ was.number ∷ wished takes ws = ap (λ (x : Wish). wished takes (x ∷ ws)) here ∙ front was ws ∙ ap (λ (b : Bool). with_one b was.number (wished takes ws)) on in
-      front is ws ∙ ap (λ (b : Bool). with_one b is.number (wished takes ws)) off ∙ sym (ap (λ (ns : List ℕ). remove ns 0) with_it)
+      let with_it : lines_with takes (w ∷ ws) ≡ was.number ∷ lines_with takes ws = ap (λ (x : Wish). lines_with takes (x ∷ ws)) here ∙ front was ws ∙ ap (λ (b : Bool). with_one b was.number (lines_with takes ws)) on in
+      front is ws ∙ ap (λ (b : Bool). with_one b is.number (lines_with takes ws)) off ∙ sym (ap (λ (ns : List ℕ). remove ns 0) with_it)
   wished_less (w ∷ ws) (suc at) was is there on off =
       front w (slice_set ws at is) ∙ ap (λ (ns : List ℕ). with_one (takes w) w.number ns) (wished_less ws at was is there on off)
-      ∙ less_in_front (takes w) w.number (wished takes ws) (wished takes (take at ws))
-      ∙ ap (λ (ns : List ℕ). remove ns (length (with_one (takes w) w.number (wished takes (take at ws))))) (sym (front w ws))
-      ∙ ap (λ (ns : List ℕ). remove (wished takes (w ∷ ws)) (length ns)) (sym (front w (take at ws)))
+      ∙ less_in_front (takes w) w.number (lines_with takes ws) (lines_with takes (take at ws))
+      ∙ ap (λ (ns : List ℕ). remove ns (length (with_one (takes w) w.number (lines_with takes (take at ws))))) (sym (front w ws))
+      ∙ ap (λ (ns : List ℕ). remove (lines_with takes (w ∷ ws)) (length ns)) (sym (front w (take at ws)))
 
   -- as many as are among those in front stand in front
   up_to : (b : Bool) (n : ℕ) (ms ns : List ℕ) → length ms ≤ length ns → length (with_one b n ms) ≤ length (with_one b n ns)
@@ -81,25 +81,25 @@ module _ (takes : Wish → Bool) where
   below true n ms ns low = omega (arith, low)
   below false n ms ns low = low
 
-  pub count_up_to : (each : List Wish) (at : ℕ) → length (wished takes (take at each)) ≤ length (wished takes each)
+  pub count_up_to : (each : List Wish) (at : ℕ) → length (lines_with takes (take at each)) ≤ length (lines_with takes each)
   count_up_to [] zero = omega arith
   count_up_to [] (suc at) = omega arith
   count_up_to (w ∷ ws) zero = omega arith
   count_up_to (w ∷ ws) (suc at) =
-      subst (λ (ns : List ℕ). length (wished takes (w ∷ take at ws)) ≤ length ns) (sym (front w ws))
-      (subst (λ (ms : List ℕ). length ms ≤ length (with_one (takes w) w.number (wished takes ws))) (sym (front w (take at ws)))
-      (up_to (takes w) w.number (wished takes (take at ws)) (wished takes ws) (count_up_to ws at)))
+      subst (λ (ns : List ℕ). length (lines_with takes (w ∷ take at ws)) ≤ length ns) (sym (front w ws))
+      (subst (λ (ms : List ℕ). length ms ≤ length (with_one (takes w) w.number (lines_with takes ws))) (sym (front w (take at ws)))
+      (up_to (takes w) w.number (lines_with takes (take at ws)) (lines_with takes ws) (count_up_to ws at)))
 
-  pub count_below : (each : List Wish) (at : ℕ) (was : Wish) → slice_get each at ≡ Some was → takes was ≡ true → length (wished takes (take at each)) < length (wished takes each)
+  pub count_below : (each : List Wish) (at : ℕ) (was : Wish) → slice_get each at ≡ Some was → takes was ≡ true → length (lines_with takes (take at each)) < length (lines_with takes each)
   count_below [] at was there on = absurd (cc)
   count_below (w ∷ ws) zero was there on =
       let here = same_some w was there in
-      let with_it : wished takes (w ∷ ws) ≡ was.number ∷ wished takes ws = ap (λ (x : Wish). wished takes (x ∷ ws)) here ∙ front was ws ∙ ap (λ (b : Bool). with_one b was.number (wished takes ws)) on in
+      let with_it : lines_with takes (w ∷ ws) ≡ was.number ∷ lines_with takes ws = ap (λ (x : Wish). lines_with takes (x ∷ ws)) here ∙ front was ws ∙ ap (λ (b : Bool). with_one b was.number (lines_with takes ws)) on in
       subst (λ (ns : List ℕ). 0 < length ns) (sym with_it) (omega arith)
   count_below (w ∷ ws) (suc at) was there on =
-      subst (λ (ns : List ℕ). length (wished takes (w ∷ take at ws)) < length ns) (sym (front w ws))
-      (subst (λ (ms : List ℕ). length ms < length (with_one (takes w) w.number (wished takes ws))) (sym (front w (take at ws)))
-      (below (takes w) w.number (wished takes (take at ws)) (wished takes ws) (count_below ws at was there on)))
+      subst (λ (ns : List ℕ). length (lines_with takes (w ∷ take at ws)) < length ns) (sym (front w ws))
+      (subst (λ (ms : List ℕ). length ms < length (with_one (takes w) w.number (lines_with takes ws))) (sym (front w (take at ws)))
+      (below (takes w) w.number (lines_with takes (take at ws)) (lines_with takes ws) (count_below ws at was there on)))
 
 -- a response that falls due when it did
 pub due_same : (each : List Wish) (at : ℕ) (was is : Wish) (due : Option ℕ) → slice_get each at ≡ Some was → was.due ≡ is.due → with_wishes due (slice_set each at is) ≡ with_wishes due each

@@ -4,7 +4,7 @@ use Rattle.std.proofs.lemmas.List.{set-get_or}
 use Rattle.std.proofs.lemmas.List.Quantifiers.{position-Some}
 use Rattle.std.proofs.lemmas.Option.{get_or_from_slice_get, slice_get-get_or}
 use Rattle.std.specs.Prelude.{Option, None, Some, Result, Ok, Err, IfOk, OnOk, slice_get, slice_set}
-use Rattle.http1_model.specs.Unread.{Reading}
+use Rattle.h1_model.specs.Unread.{Reading}
 use Rattle.h1_stream.specs.declared.reader.Step as step
 use Rattle.worker_model.specs.declared.types.Line.{Line}
 use Rattle.worker_lines.specs.Hearing.{HearsLine, HearsOn}

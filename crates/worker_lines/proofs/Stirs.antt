@@ -3,7 +3,7 @@ use Rattle.std.proofs.Common.{◌≡◌, ◌≤◌, ◌<◌, ℕ, zero, suc, Lis
 use Rattle.std.specs.Prelude.{slice_get, slice_set, position}
 use Rattle.exchange.specs.declared.types.Exchange.{Exchange}
 use Rattle.filter_chain.specs.Chains.{ready}
-use Rattle.worker_model.specs.Rooms.{moves, is_over, exchange_moves, exchange_ends}
+use Rattle.worker_model.specs.Rooms.{has_move, is_over, exchange_moves, exchange_ends}
 use Rattle.worker_lines.specs.Stirring.{stirs, stirs_in, Covers, StirsWithin}
 use Rattle.worker_lines.specs.declared.span.Span.{Span}
 use Rattle.worker_model.specs.declared.types.Line.{Line}
@@ -35,7 +35,7 @@ pub stirs_all : (span : Span) (lines : List Line) → span.is_all ≡ true → S
 stirs_all span lines all = record { at = λ k x there is not_all. absurd (cc) }
 
 -- what moves, or is over, stirs
-pub moves_stirs : (line : Line) → moves line ≡ true → stirs line ≡ true
+pub moves_stirs : (line : Line) → has_move line ≡ true → stirs line ≡ true
 moves_stirs line is = by line.exchange is
   where
     both : (a b : Bool) → (not a && b) ≡ true → (a || b) ≡ true
@@ -57,7 +57,7 @@ fails_of : (b : Bool) → (b ≡ true → ⊥) → b ≡ false
 fails_of true never = absurd (never refl)
 fails_of false never = refl
 
--- none in front of those that are covered, and none behind them
+-- none in front of those that are covered, and none after them
 module _ (p : Line → Bool) (is_due : (line : Line) → p line ≡ true → stirs line ≡ true) (span : Span) (lines : List Line) (within : StirsWithin span lines) where
   pub fails_before : (n : ℕ) → ((k : ℕ) → Covers span k → n ≤ k) → Fails p lines n
   fails_before n low k x less there = fails_of (p x) (λ is. let at = low k (within.at k x there (is_due x is)) in omega arith)
@@ -70,7 +70,7 @@ module _ (p : Line → Bool) (is_due : (line : Line) → p line ≡ true → sti
       by (inr past) = fails_of (p x) (λ is. let at = high k less (within.at k x there (is_due x is)) in omega arith)
 
 -- none moves, and none is over
-fail_both : (line : Line) → moves line ≡ false → is_over line ≡ false → stirs line ≡ false
+fail_both : (line : Line) → has_move line ≡ false → is_over line ≡ false → stirs line ≡ false
 fail_both line first next = by line.exchange first next
   where
     both : (a b : Bool) → (not a && b) ≡ false → a ≡ false → (a || b) ≡ false
@@ -81,10 +81,10 @@ fail_both line first next = by line.exchange first next
     by None first next = refl
     by (Some x) first next = both x.has_ended _ first next
 
-pub stirs_calm : (span : Span) (lines : List Line) → position moves lines ≡ None → position is_over lines ≡ None → StirsWithin span lines
+pub stirs_calm : (span : Span) (lines : List Line) → position has_move lines ≡ None → position is_over lines ≡ None → StirsWithin span lines
 stirs_calm span lines first next = record { at = λ k x there is. absurd (never k x there is) }
   where
     never : (k : ℕ) (x : Line) → slice_get lines k ≡ Some x → stirs x ≡ true → ⊥
     never k x there is =
-        let no : stirs x ≡ false = fail_both x (fails_none moves lines k x first there) (fails_none is_over lines k x next there) in
+        let no : stirs x ≡ false = fail_both x (fails_none has_move lines k x first there) (fails_none is_over lines k x next there) in
         absurd (cc)

@@ -6,13 +6,13 @@ use Rattle.std.specs.Prelude.{not, slice_get, slice_set, position, filter, optio
 use Rattle.std.proofs.lemmas.Option.{slice_get-map, slice_get_past, slice_get_read}
 use Rattle.gate_io.specs.declared.event.Sent.{Sent}
 use Rattle.gate_io.specs.declared.event.Side.TheVariants.{Down, Up}
-use Rattle.worker_model.specs.Rooms.{moves, is_over}
+use Rattle.worker_model.specs.Rooms.{has_move, is_over}
 use Rattle.worker_lines.specs.Stirring.{Covers}
 use Rattle.worker_model.specs.Steps.{exchange_reading}
 use Rattle.worker_model.specs.Wants.{earlier, is_wanted, wanted_of, with_lines, due_on, reads_more}
-use Rattle.worker_lines.specs.Wishes.{wish_of, takes_on, takes_up, falls_due, wished, with_wishes, Fits, Touched, Listed, Lists, Sees, Sound}
+use Rattle.worker_lines.specs.Wishes.{wish_of, takes_on, takes_up, falls_due, lines_with, with_wishes, Fits, Touched, Listed, Lists, Sees, Sound}
 use Rattle.exchange.specs.declared.types.Exchange.{Exchange}
-use Rattle.http1_model.specs.Unread.{Reading}
+use Rattle.h1_model.specs.Unread.{Reading}
 use Rattle.worker_lines.specs.declared.kept.Kept.{Kept}
 use Rattle.worker_lines.specs.declared.span.Span.{Span}
 use Rattle.worker_model.specs.declared.types.Line.{Line}
@@ -117,7 +117,7 @@ sound_all span wishes seen lines due touched none = record {
 }
 
 -- nothing is due
-pub sound_calm : (old new : Span) (wishes : Wishes) (seen : Option Seen) (lines : List Line) → Sound old wishes seen lines → position moves lines ≡ None → position is_over lines ≡ None → Sound new wishes seen lines
+pub sound_calm : (old new : Span) (wishes : Wishes) (seen : Option Seen) (lines : List Line) → Sound old wishes seen lines → position has_move lines ≡ None → position is_over lines ≡ None → Sound new wishes seen lines
 sound_calm old new wishes seen lines sound first next = record { sees = sound.sees; stirs = stirs_calm new lines first next; fits = sound.fits; lists = sound.lists }
 
 -- they were looked at again
@@ -181,11 +181,11 @@ due_same (Some x) = refl
 
 -- one line more
 module _ (takes : Wish → Bool) (wants : Line → Bool) (same : (line : Line) → takes (wish_of line) ≡ wants line) where
-  pub wished_is : (lines : List Line) → wished takes (map wish_of lines) ≡ map (λ (line : Line). line.number) (filter wants lines)
+  pub wished_is : (lines : List Line) → lines_with takes (map wish_of lines) ≡ map (λ (line : Line). line.number) (filter wants lines)
   wished_is [] = refl
   wished_is (x ∷ xs) = by (wished_is xs) (takes (wish_of x)) (wants x) (same x)
     where
-      by : wished takes (map wish_of xs) ≡ map (λ (line : Line). line.number) (filter wants xs) → (a b : Bool) → a ≡ b
+      by : lines_with takes (map wish_of xs) ≡ map (λ (line : Line). line.number) (filter wants xs) → (a b : Bool) → a ≡ b
           → map (λ (w : Wish). w.number) (cond a (wish_of x ∷ filter takes (map wish_of xs)) (filter takes (map wish_of xs)))
           ≡ map (λ (line : Line). line.number) (cond b (x ∷ filter wants xs) (filter wants xs))
       by rest true true is = ap (λ (ns : List ℕ). x.number ∷ ns) rest
@@ -193,13 +193,13 @@ module _ (takes : Wish → Bool) (wants : Line → Bool) (same : (line : Line) �
       by rest true false is = absurd (cc)
       by rest false true is = absurd (cc)
 
-pub wished_down : (each : List Wish) (waiting : List Sent) (lines : List Line) → waiting ≡ [] → each ≡ map wish_of lines → wished (λ w. w.down) each ≡ wanted_of Down waiting lines
+pub wished_down : (each : List Wish) (waiting : List Sent) (lines : List Line) → waiting ≡ [] → each ≡ map wish_of lines → lines_with (λ w. w.down) each ≡ wanted_of Down waiting lines
 wished_down each waiting lines none is =
-    ap (λ (ws : List Wish). wished (λ w. w.down) ws) is ∙ wished_is (λ w. w.down) (is_wanted Down []) (λ line. refl) lines ∙ sym (ap (λ (w : List Sent). wanted_of Down w lines) none)
+    ap (λ (ws : List Wish). lines_with (λ w. w.down) ws) is ∙ wished_is (λ w. w.down) (is_wanted Down []) (λ line. refl) lines ∙ sym (ap (λ (w : List Sent). wanted_of Down w lines) none)
 
-pub wished_up : (each : List Wish) (waiting : List Sent) (lines : List Line) → waiting ≡ [] → each ≡ map wish_of lines → wished (λ w. w.up) each ≡ wanted_of Up waiting lines
+pub wished_up : (each : List Wish) (waiting : List Sent) (lines : List Line) → waiting ≡ [] → each ≡ map wish_of lines → lines_with (λ w. w.up) each ≡ wanted_of Up waiting lines
 wished_up each waiting lines none is =
-    ap (λ (ws : List Wish). wished (λ w. w.up) ws) is ∙ wished_is (λ w. w.up) (is_wanted Up []) up_same lines ∙ sym (ap (λ (w : List Sent). wanted_of Up w lines) none)
+    ap (λ (ws : List Wish). lines_with (λ w. w.up) ws) is ∙ wished_is (λ w. w.up) (is_wanted Up []) up_same lines ∙ sym (ap (λ (w : List Sent). wanted_of Up w lines) none)
 
 due_in_all : (due : Option ℕ) (lines : List Line) → with_wishes due (map wish_of lines) ≡ with_lines due lines
 due_in_all due [] = refl

@@ -1,7 +1,7 @@
 -- What each line wants where nothing waits for its peers, and what of that is known.
 use Rattle.std.specs.Prelude.{◌≡◌, ◌==◌, position, ℕ, Bool, false, ◌||◌, List, [], ◌∷◌, map, filter, length, nat_lt, Option, None, Some, option_map, slice_get, if◌then◌else◌, ◌⊎◌}
 use Rattle.exchange.specs.declared.types.Exchange.{Exchange}
-use Rattle.http1_model.specs.Unread.{Reading}
+use Rattle.h1_model.specs.Unread.{Reading}
 use Rattle.worker_lines.specs.Stirring.{Covers, StirsWithin}
 use Rattle.worker_lines.specs.declared.kept.Kept.{Kept}
 use Rattle.worker_lines.specs.declared.span.Span.{Span}
@@ -33,8 +33,8 @@ abbrev pub wish_of : Line → Wish
 wish_of line = record { number = line.number; down = takes_more line.requests; up = takes_up line.exchange; due = falls_due line.exchange }
 
 -- the numbers of lines that want something
-abbrev pub wished : (Wish → Bool) → List Wish → List ℕ
-wished takes each = map (λ w. w.number) (filter takes each)
+abbrev pub lines_with : (Wish → Bool) → List Wish → List ℕ
+lines_with takes each = map (λ w. w.number) (filter takes each)
 
 -- the earliest of a moment and of their responses
 abbrev pub with_wishes : Option ℕ → List Wish → Option ℕ
@@ -43,8 +43,8 @@ with_wishes due (w ∷ each) = with_wishes (earlier due w.due) each
 
 -- what is asked of the world by all of them together, but for the moment
 pub record Listed (kept : Kept) : Type 0 where
-  pub down : kept.wants.down ≡ wished (λ w. w.down) kept.each.items
-  pub up : kept.wants.up ≡ wished (λ w. w.up) kept.each.items
+  pub down : kept.wants.down ≡ lines_with (λ w. w.down) kept.each.items
+  pub up : kept.wants.up ≡ lines_with (λ w. w.up) kept.each.items
   pub first : kept.first ≡ with_wishes None kept.each.items
 
 -- it is, unless something was done to all lines

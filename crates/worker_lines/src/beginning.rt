@@ -10,9 +10,9 @@ use exchange::{Exchange, Filter, request_of, response_of};
 use filter_chain::Chain;
 use gate_base::{ContextId, OutOfMemory, VmNo};
 use gate_config::{PluginEntry, RouteEntry};
+use gate_queue::Queue;
 use h1_head::Head;
 use header_maps::Texts;
-use queue::Queue;
 use std::alloc::Global;
 use worker_model::{Bodies, Rules};
 
@@ -52,7 +52,7 @@ fn filter_at_plugin(plugins: &[PluginEntry], plugin: u16) -> Option<Filter>
     }
 }
 
-/// Puts the filter of a plug-in behind others.
+/// Puts the filter of a plug-in after others.
 #[tactic(auto, using(crate::proofs::Places::filters_none, crate::proofs::Places::filters_some))]
 fn push_filter(
     filters: &mut Queue<Filter>,

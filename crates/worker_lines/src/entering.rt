@@ -1,7 +1,7 @@
 // The stages of an exchange are made.
 ghost use Rattle.std.specs.List.{list_any};
 ghost use Rattle.std.specs.Prelude.{◌≡◌, ◌==◌, map, filter, reverse, not, OnOk, IfOk};
-ghost use Rattle.worker_model.specs.Steps.{is_live, new_stage, entered};
+ghost use Rattle.worker_model.specs.Steps.{is_live, new_stage, exchange_with_stages};
 
 use exchange::{Exchange, Filter};
 use filter_chain::{Chain, Held, Stage, Waiting};
@@ -56,7 +56,7 @@ fn stages_of(
 
 /// The stages of an exchange are made.
 pub(crate) fn enter(alloc: Global, dead: &[VmNo], x: &mut Exchange) -> Result<(), OutOfMemory>
-    ensures { OnOk result (x.new ≡ entered dead.now x.old) }
+    ensures { OnOk result (x.new ≡ exchange_with_stages dead.now x.old) }
 {
     if x.has_ended || x.is_answered {
         return Ok(());

@@ -1,7 +1,7 @@
 // What lines want, as it was last looked at, and what is asked of the world by that.
 ghost use Rattle.std.specs.Prelude.{◌≡◌, ◌≤◌, ◌<◌, ℕ, length, true, false, OnOk, Some, slice_get, slice_set};
 ghost use Rattle.std.specs.List.{insert, remove};
-ghost use Rattle.worker_lines.specs.Wishes.{wished, Listed};
+ghost use Rattle.worker_lines.specs.Wishes.{lines_with, Listed};
 
 use crate::wanted::{first_of, wished_on};
 use gate_base::{LineList, LineNo, Members, OutOfMemory};
@@ -34,7 +34,7 @@ impl Kept {
     }
 }
 
-/// A number more, in front of those that stand at a place and behind it.
+/// A number more, in front of those that stand at a place and after it.
 #[tactic(auto, using(crate::proofs::Listing::insert_next, crate::proofs::Listing::insert_end))]
 fn put_in(numbers: &mut LineList, place: usize, number: LineNo) -> Result<(), OutOfMemory>
     requires { place ≤ length numbers.old }
@@ -65,7 +65,7 @@ fn take_out(numbers: &mut LineList, place: usize)
 
 /// Of how many of these lines bytes of the client are taken.
 fn count_down(each: &[Wish]) -> usize
-    ensures { result ≡ length (wished (λ w. w.down) each.now) }
+    ensures { result ≡ length (lines_with (λ w. w.down) each.now) }
 {
     let mut count = 0;
     for wish in each {
@@ -78,7 +78,7 @@ fn count_down(each: &[Wish]) -> usize
 
 /// Of how many of these lines bytes of the server are taken.
 fn count_up(each: &[Wish]) -> usize
-    ensures { result ≡ length (wished (λ w. w.up) each.now) }
+    ensures { result ≡ length (lines_with (λ w. w.up) each.now) }
 {
     let mut count = 0;
     for wish in each {
@@ -101,8 +101,8 @@ fn put_down(
     requires at { at < length each.now }
     requires there { slice_get each.now at ≡ Some was }
     requires number { is.number ≡ was.number }
-    requires listed { numbers.old ≡ wished (λ w. w.down) each.now }
-    ensures { OnOk result (numbers.new ≡ wished (λ w. w.down) (slice_set each.now at is)) }
+    requires listed { numbers.old ≡ lines_with (λ w. w.down) each.now }
+    ensures { OnOk result (numbers.new ≡ lines_with (λ w. w.down) (slice_set each.now at is)) }
 {
     if was.down == is.down {
         return Ok(());
@@ -127,8 +127,8 @@ fn put_up(
     requires at { at < length each.now }
     requires there { slice_get each.now at ≡ Some was }
     requires number { is.number ≡ was.number }
-    requires listed { numbers.old ≡ wished (λ w. w.up) each.now }
-    ensures { OnOk result (numbers.new ≡ wished (λ w. w.up) (slice_set each.now at is)) }
+    requires listed { numbers.old ≡ lines_with (λ w. w.up) each.now }
+    ensures { OnOk result (numbers.new ≡ lines_with (λ w. w.up) (slice_set each.now at is)) }
 {
     if was.up == is.up {
         return Ok(());

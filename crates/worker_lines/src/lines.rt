@@ -1,13 +1,13 @@
 // The open lines, by their numbers.
 ghost use Rattle.std.specs.List.{list_any, position_or_len};
-ghost use Rattle.worker_lines.specs.Wishes.{wish_of, wished, with_wishes, Listed};
+ghost use Rattle.worker_lines.specs.Wishes.{wish_of, lines_with, with_wishes, Listed};
 ghost use Rattle.std.specs.Prelude.{◌≡◌, false, [], ◌∷◌, ◌++◌, ◌==◌, ◌&&◌, OnOk, IfOk, IfSome, length, map, filter, reverse, position, slice_get, option_map, Some, None, insert, nat_lt, not};
-ghost use Rattle.worker_model.specs.Rooms.{moves, is_over, exchange_moves, exchange_ends, has_open, place_in, place_of, marking, in_exchange, in_line, at_some, at_place, all_lines};
-ghost use Rattle.worker_model.specs.Changes.{changed};
-ghost use Rattle.worker_model.specs.Steps.{drops_at, new_line, place_for, is_late, line_in};
+ghost use Rattle.worker_model.specs.Rooms.{has_move, is_over, exchange_moves, exchange_ends, has_open, place_in, place_of, with_marks, in_exchange, in_line, at_some, at_place, all_lines};
+ghost use Rattle.worker_model.specs.Changes.{apply_change};
+ghost use Rattle.worker_model.specs.Steps.{without_place, new_line, place_for, is_late, line_in};
 ghost use Rattle.worker_model.specs.Moves.{count_of, asks_at, asks_line, asks_exchange, asks_response, asks_as, asks_stage, ended_at, ended_line};
 ghost use Rattle.exchange.specs.Maps.{request_map, response_map, request_trailers, response_trailers};
-ghost use Rattle.exchange.specs.Passing.{dies, expires, chain_of, passed_on};
+ghost use Rattle.exchange.specs.Passing.{lose_vm, expire_exchange, chain_of, finish_put};
 
 use crate::kept::{Kept, is_same};
 use crate::span::Span;
@@ -16,12 +16,12 @@ use exchange::{
     Exchange, Filter, Hub, act, answer, close, die, expire, is_due, mark, pair_count, pass_on,
     put_in, refuse, resume,
 };
-use filter_chain::{Ask, AskKind, Asking, Passed, Stage};
+use filter_chain::{Ask, AskKind, Asking, PassOutcome, Stage};
 use gate_base::{ContextId, LineNo, OutOfMemory, VmNo};
 use gate_io::Wants;
+use gate_queue::Queue;
 use h1_head::Kind;
 use h1_stream::MessageReader;
-use queue::Queue;
 use std::alloc::Global;
 use std::marker::Model;
 use worker_model::{Asked, Change, Line, Seen};
@@ -70,7 +70,7 @@ fn has_context(line: &Line, vm: VmNo, context: ContextId) -> bool
 
 /// Whether a stage of a line is to be asked.
 fn is_moving(line: &Line) -> bool
-    ensures { result ≡ moves line.now }
+    ensures { result ≡ has_move line.now }
 {
     match &line.exchange {
         None => false,
@@ -100,7 +100,7 @@ fn is_late(now: u64, line: &Line) -> bool
 
 /// What host calls are told of an exchange goes with it.
 fn tell(x: &Exchange, hub: &mut Hub)
-    ensures { marking (x.now, hub.old) ≡ (x.now, hub.new) }
+    ensures { with_marks (x.now, hub.old) ≡ (x.now, hub.new) }
 {
     mark(
         &mut hub.contexts,
@@ -119,7 +119,7 @@ fn change(
     x: &mut Exchange,
     hub: &mut Hub,
 ) -> Result<(), OutOfMemory>
-    ensures { OnOk result (changed what n x.old hub.old ≡ (x.new, hub.new)) }
+    ensures { OnOk result (apply_change what n x.old hub.old ≡ (x.new, hub.new)) }
 {
     match what {
         Change::Resume {
@@ -153,7 +153,7 @@ fn change_told(
     x: &mut Exchange,
     hub: &mut Hub,
 ) -> Result<(), OutOfMemory>
-    ensures { OnOk result (marking (changed what n x.old hub.old) ≡ (x.new, hub.new)) }
+    ensures { OnOk result (with_marks (apply_change what n x.old hub.old) ≡ (x.new, hub.new)) }
 {
     change(alloc, what, n, x, hub)?;
     tell(x, hub);
@@ -166,7 +166,7 @@ fn change_line(
     line: &mut Line,
     hub: &mut Hub,
 ) -> Result<(), OutOfMemory>
-    ensures done { OnOk result (in_line (changed what) line.old hub.old ≡ (line.new, hub.new)) }
+    ensures done { OnOk result (in_line (apply_change what) line.old hub.old ≡ (line.new, hub.new)) }
     ensures number { line.new.number ≡ line.old.number }
 {
     match &mut line.exchange {
@@ -182,7 +182,7 @@ fn die_told(
     x: &mut Exchange,
     hub: &mut Hub,
 ) -> Result<(), OutOfMemory>
-    ensures { OnOk result (marking (dies vm n x.old hub.old) ≡ (x.new, hub.new)) }
+    ensures { OnOk result (with_marks (lose_vm vm n x.old hub.old) ≡ (x.new, hub.new)) }
 {
     die(alloc, vm, n, x, hub)?;
     tell(x, hub);
@@ -190,7 +190,7 @@ fn die_told(
 }
 
 fn die_line(alloc: Global, vm: VmNo, line: Line, hub: &mut Hub) -> Result<Line, OutOfMemory>
-    ensures { IfOk result (λ l. in_line (dies vm) line hub.old ≡ (l, hub.new)) }
+    ensures { IfOk result (λ l. in_line (lose_vm vm) line hub.old ≡ (l, hub.new)) }
 {
     let mut line = line;
     if let Some(x) = &mut line.exchange {
@@ -206,7 +206,7 @@ fn die_all(
     lines: Vec<Line>,
     hub: &mut Hub,
 ) -> Result<Vec<Line>, OutOfMemory>
-    ensures { IfOk result (λ new. all_lines (dies vm) lines.items hub.old ≡ (new.items, hub.new)) }
+    ensures { IfOk result (λ new. all_lines (lose_vm vm) lines.items hub.old ≡ (new.items, hub.new)) }
 {
     let mut done = Vec::new(alloc);
     let mut rest = Queue::from_vec(lines).drain();
@@ -217,7 +217,7 @@ fn die_all(
 }
 
 fn expire_told(alloc: Global, n: LineNo, x: &mut Exchange, hub: &mut Hub) -> Result<(), OutOfMemory>
-    ensures { OnOk result (marking (expires n x.old hub.old) ≡ (x.new, hub.new)) }
+    ensures { OnOk result (with_marks (expire_exchange n x.old hub.old) ≡ (x.new, hub.new)) }
 {
     expire(alloc, n, x, hub)?;
     tell(x, hub);
@@ -225,7 +225,7 @@ fn expire_told(alloc: Global, n: LineNo, x: &mut Exchange, hub: &mut Hub) -> Res
 }
 
 fn expire_line(alloc: Global, line: Line, hub: &mut Hub) -> Result<Line, OutOfMemory>
-    ensures { IfOk result (λ l. in_line expires line hub.old ≡ (l, hub.new)) }
+    ensures { IfOk result (λ l. in_line expire_exchange line hub.old ≡ (l, hub.new)) }
 {
     let mut line = line;
     if let Some(x) = &mut line.exchange {
@@ -236,7 +236,7 @@ fn expire_line(alloc: Global, line: Line, hub: &mut Hub) -> Result<Line, OutOfMe
 
 #[tactic(auto, using(crate::proofs::Dying::in_front_more))]
 fn expire_each(alloc: Global, lines: Vec<Line>, hub: &mut Hub) -> Result<Vec<Line>, OutOfMemory>
-    ensures { IfOk result (λ new. all_lines expires lines.items hub.old ≡ (new.items, hub.new)) }
+    ensures { IfOk result (λ new. all_lines expire_exchange lines.items hub.old ≡ (new.items, hub.new)) }
 {
     let mut done = Vec::new(alloc);
     let mut rest = Queue::from_vec(lines).drain();
@@ -307,7 +307,7 @@ impl Lines {
 
     /// The lowest line of which a stage is to be asked.
     pub fn moving(&self) -> Option<usize>
-        ensures { result ≡ position moves self.now }
+        ensures { result ≡ position has_move self.now }
     {
         for at in self.due.start()..self.due.end(self.list.len()) {
             if is_moving(&self.list[at]) {
@@ -377,8 +377,8 @@ impl Lines {
 
     /// What the world is asked for where nothing waits and it is to call at a moment at the latest, where that is known.
     pub fn asked(&self, due: Option<u64>) -> Option<&Wants>
-        ensures down { IfSome result (λ wants. wants.now.down ≡ wished (λ w. w.down) (map wish_of self.now)) }
-        ensures up { IfSome result (λ wants. wants.now.up ≡ wished (λ w. w.up) (map wish_of self.now)) }
+        ensures down { IfSome result (λ wants. wants.now.down ≡ lines_with (λ w. w.down) (map wish_of self.now)) }
+        ensures up { IfSome result (λ wants. wants.now.up ≡ lines_with (λ w. w.up) (map wish_of self.now)) }
         ensures due { IfSome result (λ wants. wants.now.due ≡ due) }
     {
         let Some(kept) = self.fresh() else {
@@ -407,7 +407,7 @@ impl Lines {
         place: Option<usize>,
         what: Change,
     ) -> Result<(), OutOfMemory>
-        ensures { OnOk result (at_place (changed what) self.old place hub.old ≡ (self.new, hub.new)) }
+        ensures { OnOk result (at_place (apply_change what) self.old place hub.old ≡ (self.new, hub.new)) }
     {
         let Some(place) = place else {
             return Ok(());
@@ -454,7 +454,7 @@ impl Lines {
     /// A VM died: all lines are answered or let through.
     #[tactic(auto, using(crate::proofs::Wished::sound_all))]
     pub fn die(&mut self, alloc: Global, hub: &mut Hub, vm: VmNo) -> Result<(), OutOfMemory>
-        ensures { OnOk result (all_lines (dies vm) self.old hub.old ≡ (self.new, hub.new)) }
+        ensures { OnOk result (all_lines (lose_vm vm) self.old hub.old ≡ (self.new, hub.new)) }
     {
         self.due = Span::all();
         self.wishes.touch_all();
@@ -467,7 +467,7 @@ impl Lines {
     /// Responses that are due are answered for.
     #[tactic(auto, using(crate::proofs::Wished::sound_all))]
     pub fn expire(&mut self, alloc: Global, hub: &mut Hub) -> Result<(), OutOfMemory>
-        ensures { OnOk result (all_lines expires self.old hub.old ≡ (self.new, hub.new)) }
+        ensures { OnOk result (all_lines expire_exchange self.old hub.old ≡ (self.new, hub.new)) }
     {
         self.due = Span::all();
         self.wishes.touch_all();
@@ -480,7 +480,7 @@ impl Lines {
     /// A line is there no more.
     #[tactic(auto, using(crate::proofs::Wished::sound_all))]
     pub fn remove(&mut self, place: Option<usize>)
-        ensures { self.new ≡ drops_at self.old place }
+        ensures { self.new ≡ without_place self.old place }
     {
         if let Some(place) = place {
             if place < self.list.len() {
@@ -570,9 +570,9 @@ fn pass_over(
     x: &mut Exchange,
     hub: &mut Hub,
 ) -> Result<(), OutOfMemory>
-    ensures { OnOk result (marking (passed_on response n Passed.Over x.old hub.old) ≡ (x.new, hub.new)) }
+    ensures { OnOk result (with_marks (finish_put response n PassOutcome.Over x.old hub.old) ≡ (x.new, hub.new)) }
 {
-    pass_on(alloc, response, n, Passed::Over, x, hub)?;
+    pass_on(alloc, response, n, PassOutcome::Over, x, hub)?;
     tell(x, hub);
     Ok(())
 }

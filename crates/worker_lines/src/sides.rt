@@ -1,15 +1,15 @@
 // The two sides of lines: what is read there, and the exchanges that are open.
 ghost use Rattle.std.specs.Prelude.{◌≡◌, [], ◌∷◌, ◌++◌, ◌==◌, OnOk, IfOk, slice_get, option_copied, Some, None, ℕ};
-ghost use Rattle.http1_model.specs.Unread.{fed, finished};
+ghost use Rattle.h1_model.specs.Unread.{reading_with_bytes, reading_with_end};
 ghost use Rattle.h1_head.specs.Seen.{seen_head};
 ghost use Rattle.worker_lines.specs.Hearing.{HearsExchange, HearsLine, HearsOn};
-ghost use Rattle.worker_model.specs.Rooms.{at_place, at_some, in_line, in_exchange, marking};
-ghost use Rattle.worker_model.specs.Steps.{line_in, in_place, line_reading, exchange_of_line, open_filter, filter_at, entered, entering, with_filter, with_exchange, change_line, on_line, line_at, line_at_place, read_on, noted, is_last, keeps_response, with_reader, lost_exchange, lost, further, with_further, further_on, is_open};
+ghost use Rattle.worker_model.specs.Rooms.{at_place, at_some, in_line, in_exchange, with_marks};
+ghost use Rattle.worker_model.specs.Steps.{line_in, in_place, line_reading, exchange_of_line, open_filter, filter_at, exchange_with_stages, enter_stages, with_filter, with_exchange, change_line, on_line, line_at, line_at_place, read_on, with_read_mark, is_last, with_response_head, with_reader, exchange_without_client, line_without_client, reading_with_more, with_further, side_with_more, is_open};
 
 use crate::entering::enter;
 use crate::lines::Lines;
 use exchange::{Exchange, Filter, Hub, mark, response_of};
-use filter_chain::Item;
+use filter_chain::ChainItem;
 use gate_base::{LineNo, OutOfMemory, VmNo};
 use h1_head::Head;
 use h1_stream::{MessageReader, Step};
@@ -54,7 +54,7 @@ fn enter_told(
     x: &mut Exchange,
     hub: &mut Hub,
 ) -> Result<(), OutOfMemory>
-    ensures { OnOk result (marking (entered dead.now x.old, hub.old) ≡ (x.new, hub.new)) }
+    ensures { OnOk result (with_marks (exchange_with_stages dead.now x.old, hub.old) ≡ (x.new, hub.new)) }
 {
     enter(alloc, dead, x)?;
     mark(
@@ -74,7 +74,7 @@ fn enter_line(
     line: &mut Line,
     hub: &mut Hub,
 ) -> Result<(), OutOfMemory>
-    ensures done { OnOk result (in_line (entering dead.now) line.old hub.old ≡ (line.new, hub.new)) }
+    ensures done { OnOk result (in_line (enter_stages dead.now) line.old hub.old ≡ (line.new, hub.new)) }
     ensures number { line.new.number ≡ line.old.number }
 {
     match &mut line.exchange {
@@ -108,8 +108,8 @@ fn hear_exchange(x: &mut Exchange) -> Result<Option<Step>, OutOfMemory>
 }
 
 /// What an exchange keeps of an item that was read.
-fn note(up: bool, item: &Item, x: &mut Exchange)
-    ensures { x.new ≡ noted up item.now x.old }
+fn note(up: bool, item: &ChainItem, x: &mut Exchange)
+    ensures { x.new ≡ with_read_mark up item.now x.old }
 {
     let last = is_last(item);
     if up {
@@ -120,8 +120,8 @@ fn note(up: bool, item: &Item, x: &mut Exchange)
 }
 
 /// The same of the exchange that is open on a line.
-fn note_line(line: &mut Line, up: bool, item: &Item)
-    ensures done { line.new ≡ change_line (noted up item.now) line.old }
+fn note_line(line: &mut Line, up: bool, item: &ChainItem)
+    ensures done { line.new ≡ change_line (with_read_mark up item.now) line.old }
     ensures number { line.new.number ≡ line.old.number }
 {
     if let Some(x) = &mut line.exchange {
@@ -130,20 +130,20 @@ fn note_line(line: &mut Line, up: bool, item: &Item)
 }
 
 /// Whether an item is the last one of a message.
-pub fn is_last(item: &Item) -> bool
+pub fn is_last(item: &ChainItem) -> bool
     ensures { result ≡ is_last item.now }
 {
     match item {
-        Item::Head { end } => *end,
-        Item::Piece { end, .. } => *end,
-        Item::Trailers => true,
+        ChainItem::Head { end } => *end,
+        ChainItem::Piece { end, .. } => *end,
+        ChainItem::Trailers => true,
     }
 }
 
 /// What an exchange keeps of the head of its response.
 #[tactic(auto, using(crate::proofs::Heads::length_back))]
 fn keep_response(head: &Head, x: &mut Exchange)
-    ensures { x.new ≡ keeps_response (seen_head head.now) x.old }
+    ensures { x.new ≡ with_response_head (seen_head head.now) x.old }
 {
     x.told = response_of(x.is_head_up, head);
     x.is_headed = true;
@@ -151,7 +151,7 @@ fn keep_response(head: &Head, x: &mut Exchange)
 
 /// The same of the exchange that is open on a line.
 fn keep_response_on(line: &mut Line, head: &Head)
-    ensures done { line.new ≡ change_line (keeps_response (seen_head head.now)) line.old }
+    ensures done { line.new ≡ change_line (with_response_head (seen_head head.now)) line.old }
     ensures number { line.new.number ≡ line.old.number }
 {
     if let Some(x) = &mut line.exchange {
@@ -161,7 +161,7 @@ fn keep_response_on(line: &mut Line, head: &Head)
 
 /// The client of an exchange is gone.
 fn lose_exchange(x: &mut Exchange)
-    ensures { x.new ≡ lost_exchange x.old }
+    ensures { x.new ≡ exchange_without_client x.old }
 {
     x.has_ended = true;
     x.stays = false;
@@ -169,7 +169,7 @@ fn lose_exchange(x: &mut Exchange)
 
 /// The client of a line is gone.
 fn lose_line(line: &mut Line)
-    ensures done { line.new ≡ lost line.old }
+    ensures done { line.new ≡ line_without_client line.old }
     ensures number { line.new.number ≡ line.old.number }
 {
     if let Some(x) = &mut line.exchange {
@@ -180,7 +180,7 @@ fn lose_line(line: &mut Line)
 
 /// More comes of a text, or it has ended.
 fn read_further(reader: &mut MessageReader, ends: bool, bytes: &[u8]) -> Result<(), OutOfMemory>
-    ensures { OnOk result (reader.new ≡ further ends bytes.now reader.old) }
+    ensures { OnOk result (reader.new ≡ reading_with_more ends bytes.now reader.old) }
 {
     if reader.has_ended() {
         return Ok(());
@@ -204,7 +204,7 @@ fn answer_further(x: &mut Exchange, ends: bool, bytes: &[u8]) -> Result<(), OutO
 
 /// The same of a side of a line.
 fn line_further(line: &mut Line, up: bool, ends: bool, bytes: &[u8]) -> Result<(), OutOfMemory>
-    ensures done { OnOk result (line.new ≡ further_on up ends bytes.now line.old) }
+    ensures done { OnOk result (line.new ≡ side_with_more up ends bytes.now line.old) }
     ensures number { line.new.number ≡ line.old.number }
 {
     if !up {
@@ -289,7 +289,7 @@ impl Lines {
         place: Option<usize>,
         dead: &[VmNo],
     ) -> Result<(), OutOfMemory>
-        ensures { OnOk result (at_place (entering dead.now) self.old place hub.old ≡ (self.new, hub.new)) }
+        ensures { OnOk result (at_place (enter_stages dead.now) self.old place hub.old ≡ (self.new, hub.new)) }
     {
         let Some(place) = place else {
             return Ok(());
@@ -320,8 +320,8 @@ impl Lines {
 
     /// What is kept of an item that was read.
     #[tactic(auto, using(crate::proofs::Wished::sound_set))]
-    pub fn note(&mut self, number: LineNo, up: bool, item: &Item)
-        ensures { self.new ≡ on_line (change_line (noted up item.now)) number self.old }
+    pub fn note(&mut self, number: LineNo, up: bool, item: &ChainItem)
+        ensures { self.new ≡ on_line (change_line (with_read_mark up item.now)) number self.old }
     {
         let Some(place) = self.place_in(number) else {
             return;
@@ -337,7 +337,7 @@ impl Lines {
     /// What is kept of the head of a response.
     #[tactic(auto, using(crate::proofs::Wished::sound_set))]
     pub fn keep_response(&mut self, number: LineNo, head: &Head)
-        ensures { self.new ≡ on_line (change_line (keeps_response (seen_head head.now))) number self.old }
+        ensures { self.new ≡ on_line (change_line (with_response_head (seen_head head.now))) number self.old }
     {
         let Some(place) = self.place_in(number) else {
             return;
@@ -385,7 +385,7 @@ impl Lines {
     /// The client of a line is gone.
     #[tactic(auto, using(crate::proofs::Wished::sound_set))]
     pub fn lose(&mut self, number: LineNo)
-        ensures { self.new ≡ on_line lost number self.old }
+        ensures { self.new ≡ on_line line_without_client number self.old }
     {
         let Some(place) = self.place_in(number) else {
             return;
@@ -407,7 +407,7 @@ impl Lines {
         ends: bool,
         bytes: &[u8],
     ) -> Result<(), OutOfMemory>
-        ensures { OnOk result (self.new ≡ on_line (further_on up ends bytes.now) number self.old) }
+        ensures { OnOk result (self.new ≡ on_line (side_with_more up ends bytes.now) number self.old) }
     {
         let Some(place) = self.place_in(number) else {
             return Ok(());

@@ -4,14 +4,14 @@ ghost use Rattle.std.specs.Option.{option_map};
 ghost use Rattle.worker_model.specs.Steps.{line_reading};
 ghost use Rattle.gate_io.specs.declared.event.Side.TheVariants.{Down, Up};
 ghost use Rattle.worker_model.specs.Wants.{earlier, has_room, reads_more, is_wanted, wanted_of, due_on, with_lines};
-ghost use Rattle.worker_lines.specs.Wishes.{takes_more, takes_up, falls_due, wish_of, wished, with_wishes};
+ghost use Rattle.worker_lines.specs.Wishes.{takes_more, takes_up, falls_due, wish_of, lines_with, with_wishes};
 
 use crate::lines::Lines;
 use exchange::Exchange;
 use gate_base::{LineList, LineNo, OutOfMemory};
 use gate_io::{Side, Wants};
 use h1_stream::MessageReader;
-use outbox::Outbox;
+use send_queue::Outbox;
 use worker_model::{Line, Wish};
 
 /// So many bytes of a side's text that are unread are enough.
@@ -133,7 +133,7 @@ fn cut(numbers: &mut LineList, count: usize)
     }
 }
 
-/// A number stands at a place of a list, and is not written where it does already. What stands behind it does not count.
+/// A number stands at a place of a list, and is not written where it does already. What stands after it does not count.
 fn put_at(numbers: &mut LineList, at: usize, number: LineNo) -> Result<(), OutOfMemory>
     requires { at ≤ length numbers.old }
     ensures there { OnOk result (take (at + 1) numbers.new ≡ take at numbers.old ++ number ∷ []) }
@@ -152,8 +152,8 @@ pub(crate) fn wished_on(
     each: &[Wish],
     wants: &mut Wants,
 ) -> Result<(), OutOfMemory>
-    ensures down { OnOk result (wants.new.down ≡ wished (λ w. w.down) each.now) }
-    ensures up { OnOk result (wants.new.up ≡ wished (λ w. w.up) each.now) }
+    ensures down { OnOk result (wants.new.down ≡ lines_with (λ w. w.down) each.now) }
+    ensures up { OnOk result (wants.new.up ≡ lines_with (λ w. w.up) each.now) }
     ensures due { OnOk result (wants.new.due ≡ with_wishes due each.now) }
 {
     let mut downs = 0;

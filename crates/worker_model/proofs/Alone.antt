@@ -1,8 +1,8 @@
 -- Over the stores of one thread a course has one end.
 use Rattle.std.proofs.Common.{◌≡◌, ℕ, List, [], ◌∷◌, sym, ◌∙◌, subst}
-use Rattle.course.proofs.Once.{hears_one}
-use Rattle.course.specs.Course.{Course, ends, asks, measures, hears, Met, called, measured, heard, Reaches, calls_in, Goes}
-use Rattle.course.specs.Heard.{Heard}
+use Rattle.filter_host.proofs.Once.{hears_one}
+use Rattle.filter_host.specs.Course.{Course, ends, asks, measures, hears, Met, called, measured, heard, Reaches, calls_in, Goes}
+use Rattle.filter_host.specs.Heard.{Heard}
 use Rattle.store_model.specs.Sequential.{Stores, Performs, reply_at, sum_at, stores_after, measured_after}
 use Rattle.store_model.specs.declared.call.Call.{Call}
 use Rattle.store_model.specs.declared.call.Reply.{Reply}

@@ -1,14 +1,14 @@
 -- MORE STEPS CHANGE NOTHING: where so many steps come to rest, more come to the same, by the same calls.
 use Rattle.std.proofs.Common.{◌≡◌, ℕ, zero, suc, ◌+◌, Bool, true, false, List, [], ◌∷◌, ◌∙◌, sym, refl, subst, arith}
 use Rattle.contexts.specs.declared.parts.Contexts.{Contexts}
-use Rattle.course.specs.Called.{Called}
-use Rattle.course.specs.Course.{Course, ends, asks, measures, hears, then_do, Met, called, measured, heard, Reaches}
-use Rattle.course.specs.declared.host.Callback.{Callback}
+use Rattle.filter_host.specs.Called.{Called}
+use Rattle.filter_host.specs.Course.{Course, ends, asks, measures, hears, then_do, Met, called, measured, heard, Reaches}
+use Rattle.filter_host.specs.declared.host.Callback.{Callback}
 use Rattle.store_model.specs.Program.{Program}
 use Rattle.worker_model.specs.Plan.{Plan}
 use Rattle.worker_model.specs.Rooms.{next_of}
 use Rattle.worker_model.specs.Steps.{Both, step}
-use Rattle.worker_model.specs.Settling.{settling, settling_step, settling_rest, settling_none, rests}
+use Rattle.worker_model.specs.Settling.{settling, settling_step, settling_rest, settling_none, is_rest}
 
 -- what comes behind may be another that comes to the same
 swaps : {A B : Type 0} (ms : List Met) (p : Course A) (f g : A → Course B) (c : B) → ((a : A) (ns : List Met) → Reaches (f a) ns (ends c) → Reaches (g a) ns (ends c))
@@ -29,11 +29,11 @@ swaps (heard h ∷ ms) (hears r k) f g c same reaches = (reaches.0, swaps ms (k 
 
 module _ {H : Type 0} (calling : H → ℕ → Callback → ℕ → ℕ → ℕ → ℕ → Contexts → Program (Called H)) (plan : Plan) where
   -- at rest nothing is done
-  stays : (k : ℕ) (b : Both H) → rests (next_of b.room) ≡ true → settling calling plan k b.host b.room ≡ ends b
+  stays : (k : ℕ) (b : Both H) → is_rest (next_of b.room) ≡ true → settling calling plan k b.host b.room ≡ ends b
   stays zero b is = settling_none calling plan b.host b.room
   stays (suc k) b is = settling_rest calling plan k (next_of b.room) b.host b.room refl is
 
-  pub more_steps : (n k : ℕ) (b c : Both H) (ms : List Met) → Reaches (settling calling plan n b.host b.room) ms (ends c) → rests (next_of c.room) ≡ true
+  pub more_steps : (n k : ℕ) (b c : Both H) (ms : List Met) → Reaches (settling calling plan n b.host b.room) ms (ends c) → is_rest (next_of c.room) ≡ true
       → Reaches (settling calling plan (n + k) b.host b.room) ms (ends c)
   more_steps zero k b c ms reaches at_rest =
       let one : Reaches (ends b) ms (ends c) = subst (λ (x : Course (Both H)). Reaches x ms (ends c)) (settling_none calling plan b.host b.room) reaches in
@@ -43,14 +43,14 @@ module _ {H : Type 0} (calling : H → ℕ → Callback → ℕ → ℕ → ℕ 
       at_none : (ns : List Met) → Reaches (ends b) ns (ends c) → Reaches (settling calling plan k b.host b.room) ns (ends c)
       at_none [] same =
           let one : b ≡ c = (cc) in
-          stays k b (subst (λ (x : Both H). rests (next_of x.room) ≡ true) (sym one) at_rest) ∙ same
+          stays k b (subst (λ (x : Both H). is_rest (next_of x.room) ≡ true) (sym one) at_rest) ∙ same
       at_none (n ∷ ns) same = elim same [ ]
   more_steps (suc n) k b c ms reaches at_rest =
       let e : suc n + k ≡ suc (n + k) = omega arith in
-      subst (λ (m : ℕ). Reaches (settling calling plan m b.host b.room) ms (ends c)) (sym e) (by_rest (λ d ns now. more_steps n k d c ns now at_rest) (rests (next_of b.room)) refl)
+      subst (λ (m : ℕ). Reaches (settling calling plan m b.host b.room) ms (ends c)) (sym e) (by_rest (λ d ns now. more_steps n k d c ns now at_rest) (is_rest (next_of b.room)) refl)
     where
       by_rest : ((d : Both H) (ns : List Met) → Reaches (settling calling plan n d.host d.room) ns (ends c) → Reaches (settling calling plan (n + k) d.host d.room) ns (ends c)) → (r : Bool)
-          → rests (next_of b.room) ≡ r → Reaches (settling calling plan (suc (n + k)) b.host b.room) ms (ends c)
+          → is_rest (next_of b.room) ≡ r → Reaches (settling calling plan (suc (n + k)) b.host b.room) ms (ends c)
       by_rest later true is =
           subst (λ (x : Course (Both H)). Reaches x ms (ends c))
           (settling_rest calling plan n (next_of b.room) b.host b.room refl is ∙ sym (settling_rest calling plan (n + k) (next_of b.room) b.host b.room refl is)) reaches

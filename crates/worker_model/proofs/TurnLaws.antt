@@ -1,5 +1,5 @@
 -- The laws of turns.
-use Rattle.course.proofs.Once.{once}
+use Rattle.filter_host.proofs.Once.{once}
 use Rattle.worker_model.specs.Laws.{TurnsAreFunctions, MoreStepsChangeNothing}
 use Rattle.worker_model.specs.NoCalls.{no_calling}
 use Rattle.worker_model.specs.Turn.{turn}

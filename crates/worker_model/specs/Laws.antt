@@ -1,11 +1,11 @@
 -- What holds of every turn.
 use Rattle.std.specs.Prelude.{◌≡◌, ℕ, ◌+◌, true, List}
-use Rattle.course.specs.Course.{ends, Met, Reaches, calls_in}
-use Rattle.course.specs.Once.{asked_in, replies_in}
+use Rattle.filter_host.specs.Course.{ends, Met, Reaches, calls_in}
+use Rattle.filter_host.specs.Once.{asked_in, replies_in}
 use Rattle.gate_io.specs.declared.event.Event.{Event}
 use Rattle.worker_model.specs.NoCalls.{no_calling}
 use Rattle.worker_model.specs.Rooms.{next_of}
-use Rattle.worker_model.specs.Settling.{settling, rests}
+use Rattle.worker_model.specs.Settling.{settling, is_rest}
 use Rattle.worker_model.specs.Steps.{Both}
 use Rattle.worker_model.specs.Turn.{Outcome, turn}
 use Rattle.worker_model.specs.declared.no_machines.NoMachines.{NoMachines}
@@ -22,4 +22,4 @@ TurnsAreFunctions =
 abbrev pub MoreStepsChangeNothing : Type 0
 MoreStepsChangeNothing =
     (plan : Plan) (n k : ℕ) (b c : Both NoMachines) (ms : List Met) → Reaches (settling no_calling plan n b.host b.room) ms (ends c)
-    → rests (next_of c.room) ≡ true → Reaches (settling no_calling plan (n + k) b.host b.room) ms (ends c)
+    → is_rest (next_of c.room) ≡ true → Reaches (settling no_calling plan (n + k) b.host b.room) ms (ends c)

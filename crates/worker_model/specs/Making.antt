@@ -3,8 +3,8 @@ use Rattle.std.specs.Prelude.{ℕ, zero, suc, ◌==◌, Bool, false, ◌&&◌, L
 use Rattle.std.specs.List.{list_any}
 use Rattle.contexts.specs.declared.parts.Contexts.{Contexts}
 use Rattle.contexts.specs.Making.{no_contexts, with_vm, with_plugin}
-use Rattle.course.specs.declared.host.Callback.{Callback}
-use Rattle.course.specs.declared.host.Callback.TheVariants.{RequestBody, ResponseBody}
+use Rattle.filter_host.specs.declared.host.Callback.{Callback}
+use Rattle.filter_host.specs.declared.host.Callback.TheVariants.{RequestBody, ResponseBody}
 use Rattle.gate_config.specs.declared.config.Config.{Config}
 use Rattle.gate_config.specs.declared.entries.VmEntry.{VmEntry}
 use Rattle.gate_config.specs.declared.entries.PluginEntry.{PluginEntry}

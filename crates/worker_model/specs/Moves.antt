@@ -5,18 +5,18 @@ use Rattle.exchange.specs.declared.types.Exchange.{Exchange}
 use Rattle.exchange.specs.declared.types.Hub.{Hub}
 use Rattle.exchange.specs.Answering.{with_held}
 use Rattle.exchange.specs.Maps.{request_map, response_map, request_trailers, response_trailers}
-use Rattle.exchange.specs.Passing.{chain_of, with_chain, passed_on}
+use Rattle.exchange.specs.Passing.{chain_of, with_chain, finish_put}
 use Rattle.filter_chain.specs.declared.stage.Stage as chain_stage
 use Rattle.filter_chain.specs.declared.item.Ask.{Ask}
 use Rattle.filter_chain.specs.declared.item.AskKind.{AskKind}
 use Rattle.filter_chain.specs.declared.item.AskKind.TheVariants as kinds
 use Rattle.filter_chain.specs.declared.item.Asking.{Asking}
 use Rattle.filter_chain.specs.declared.item.Asking.TheVariants.{Nothing, Over, Asks}
-use Rattle.filter_chain.specs.declared.item.Passed.TheVariants as passed
+use Rattle.filter_chain.specs.declared.item.PassOutcome.TheVariants as passed
 use Rattle.filter_chain.specs.Chains.{asked, ready}
 use Rattle.worker_model.specs.declared.types.Asked.{Asked}
 use Rattle.worker_model.specs.declared.types.Line.{Line}
-use Rattle.worker_model.specs.Rooms.{marking}
+use Rattle.worker_model.specs.Rooms.{with_marks}
 
 -- how many pairs the map has, or how many bytes there are
 abbrev pub count_of : Bool → AskKind → ℕ → ℕ → Hub → ℕ
@@ -37,7 +37,7 @@ with_none (x, hub) = (None, x, hub)
 -- too much is answered for
 abbrev pub asks_as : Bool → ℕ → Asking → Exchange → Hub → Option Asked × Exchange × Hub
 asks_as response n Nothing x hub = (None, x, hub)
-asks_as response n (Over k) x hub = with_none (marking (passed_on response n passed.Over x hub))
+asks_as response n (Over k) x hub = with_none (with_marks (finish_put response n passed.Over x hub))
 asks_as response n (Asks ask) x hub = (asks_stage response n ask (count_of response ask.kind ask.count x.place hub) (option_map (λ (s : chain_stage.Stage). (s.vm, s.context)) (slice_get (chain_of response x) ask.stage)), x, hub)
 
 abbrev pub asks_chain : Bool → ℕ → Exchange → Hub → Asking × List chain_stage.Stage × Contexts → Option Asked × Exchange × Hub

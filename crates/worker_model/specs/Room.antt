@@ -5,7 +5,7 @@ use Rattle.exchange.specs.declared.types.Hub.{Hub}
 use Rattle.worker_model.specs.declared.types.ContextAt.{ContextAt}
 use Rattle.worker_model.specs.declared.types.Job.{Job}
 use Rattle.worker_model.specs.declared.types.Line.{Line}
-use Rattle.worker_model.specs.declared.types.Reads.{Reads}
+use Rattle.worker_model.specs.declared.types.ReadBatch.{ReadBatch}
 use Rattle.worker_model.specs.declared.types.TcpLine.{TcpLine}
 
 -- its open lines by their numbers, and what they have in common; what is being read; what is in hand; the parts of the event that are still to
@@ -14,7 +14,7 @@ use Rattle.worker_model.specs.declared.types.TcpLine.{TcpLine}
 pub record Room : Type 0 where
   pub lines : List Line
   pub hub : Hub
-  pub reading : Option Reads
+  pub reading : Option ReadBatch
   pub jobs : List Job
   pub agenda : List Job
   pub waits : List ContextAt

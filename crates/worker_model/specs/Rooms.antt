@@ -2,35 +2,35 @@
 use Rattle.std.specs.List.{list_any}
 use Rattle.std.specs.Prelude.{ℕ, ◌==◌, Bool, true, false, not, ◌&&◌, ◌||◌, List, [], ◌∷◌, ◌++◌, slice_get, slice_set, nat_lt, Option, None, Some, is_some, position, codes, if◌then◌else◌}
 use Rattle.contexts.specs.declared.parts.Effect.{Effect}
-use Rattle.contexts.specs.declared.parts.What.{What}
-use Rattle.contexts.specs.declared.parts.What.TheVariants as what
+use Rattle.contexts.specs.declared.parts.EffectKind.{EffectKind}
+use Rattle.contexts.specs.declared.parts.EffectKind.TheVariants as what
 use Rattle.contexts.specs.declared.parts.Contexts.{Contexts}
 use Rattle.contexts.specs.Reached.{vm_in, contains}
-use Rattle.course.specs.declared.host.CallEnd.{CallEnd}
-use Rattle.course.specs.declared.host.CallEnd.TheVariants as ends
-use Rattle.course.specs.declared.host.Death.{Death}
-use Rattle.course.specs.declared.host.Death.TheVariants as deaths
+use Rattle.filter_host.specs.declared.host.CallbackEnd.{CallbackEnd}
+use Rattle.filter_host.specs.declared.host.CallbackEnd.TheVariants as ends
+use Rattle.filter_host.specs.declared.host.Death.{Death}
+use Rattle.filter_host.specs.declared.host.Death.TheVariants as deaths
 use Rattle.exchange.specs.declared.types.Exchange.{Exchange}
 use Rattle.exchange.specs.declared.types.Filter.{Filter}
 use Rattle.exchange.specs.declared.types.Hub.{Hub}
-use Rattle.exchange.specs.Leaving.{sends}
+use Rattle.exchange.specs.Leaving.{hub_with_sent}
 use Rattle.exchange.specs.Maps.{mark}
-use Rattle.exchange.specs.Passing.{resumes, closed, dies}
+use Rattle.exchange.specs.Passing.{resume_context, close_exchange, lose_vm}
 use Rattle.filter_chain.specs.Chains.{ready}
 use Rattle.gate_base.specs.declared.cause.Cause.{Cause}
 use Rattle.gate_base.specs.declared.cause.Cause.TheVariants as causes
 use Rattle.gate_base.specs.declared.level.Level.TheVariants.{Critical}
 use Rattle.gate_io.specs.declared.event.Sent.{Sent}
 use Rattle.gate_io.specs.declared.event.Sent.TheVariants.{Log}
-use Rattle.worker_model.specs.Changes.{changed}
+use Rattle.worker_model.specs.Changes.{apply_change}
 use Rattle.worker_model.specs.declared.types.Change.TheVariants as changes
 use Rattle.worker_model.specs.declared.types.ContextAt.{ContextAt}
 use Rattle.worker_model.specs.declared.types.Job.{Job}
 use Rattle.worker_model.specs.declared.types.Line.{Line}
 use Rattle.worker_model.specs.declared.types.Next.{Next}
 use Rattle.worker_model.specs.declared.types.Next.TheVariants as next
-use Rattle.worker_model.specs.declared.types.Own.{Own}
-use Rattle.worker_model.specs.declared.types.Own.TheVariants.{Nobody, Stage}
+use Rattle.worker_model.specs.declared.types.Owner.{Owner}
+use Rattle.worker_model.specs.declared.types.Owner.TheVariants.{Nobody, Stage}
 use Rattle.worker_model.specs.Room.{Room}
 
 -- ---- what is next
@@ -43,8 +43,8 @@ abbrev pub exchange_ends : Option Exchange → Bool
 exchange_ends None = false
 exchange_ends (Some x) = x.has_ended
 
-abbrev pub moves : Line → Bool
-moves line = exchange_moves line.exchange
+abbrev pub has_move : Line → Bool
+has_move line = exchange_moves line.exchange
 
 abbrev pub is_over : Line → Bool
 is_over line = exchange_ends line.exchange
@@ -87,7 +87,7 @@ next_part room =
 abbrev pub next_of : Room → Next
 next_of room =
     if is_some room.reading then next.Read
-    else moves_or (position moves room.lines)
+    else moves_or (position has_move room.lines)
     (if is_any room.jobs then next.Work else next_part room)
 
 -- ---- what is done on a line
@@ -96,15 +96,15 @@ abbrev pub Changes : Type 0
 Changes = ℕ → Exchange → Hub → Exchange × Hub
 
 -- what host calls are told of the exchange goes with it
-abbrev pub marking : Exchange × Hub → Exchange × Hub
-marking (x, hub) = (x, record hub { contexts = mark x.is_answered x.has_ended x.is_head_out x.place hub.contexts })
+abbrev pub with_marks : Exchange × Hub → Exchange × Hub
+with_marks (x, hub) = (x, record hub { contexts = mark x.is_answered x.has_ended x.is_head_out x.place hub.contexts })
 
 abbrev pub with_result : Line → Exchange × Hub → Line × Hub
 with_result line (x, hub) = (record line { exchange = Some x }, hub)
 
 abbrev pub in_exchange : Changes → Line → Option Exchange → Hub → Line × Hub
 in_exchange change line None hub = (line, hub)
-in_exchange change line (Some x) hub = with_result line (marking (change line.number x hub))
+in_exchange change line (Some x) hub = with_result line (with_marks (change line.number x hub))
 
 abbrev pub in_line : Changes → Line → Hub → Line × Hub
 in_line change line hub = in_exchange change line line.exchange hub
@@ -152,8 +152,8 @@ on_context change vm context room = with_lines room (at_place change room.lines 
 abbrev pub with_contexts : Contexts → Room → Room
 with_contexts h room = record room { hub = record room.hub { contexts = h } }
 
-abbrev pub sending : List Sent → Room → Room
-sending more room = record room { hub = sends more room.hub }
+abbrev pub room_with_sent : List Sent → Room → Room
+room_with_sent more room = record room { hub = hub_with_sent more room.hub }
 
 -- ---- the effects of a callback
 
@@ -162,20 +162,20 @@ same true b = b
 same false b = not b
 
 -- the effect is on the stage whose callback it is, of which the returned action decides
-abbrev pub is_own : Own → ℕ → Bool → Bool
+abbrev pub is_own : Owner → ℕ → Bool → Bool
 is_own Nobody context response = false
 is_own (Stage c own) context response = c == context && same own response
 
-abbrev pub does : ℕ → Own → ℕ → What → Room → Room
-does vm own context (what.Continue response) room = if is_own own context response then room else on_context (resumes vm context response) vm context room
-does vm own context what.Close room = on_context closed vm context room
-does vm own context (what.Call request) room = room
-does vm own context (what.Answer status fields body) room = on_context (changed (changes.Answer status fields body)) vm context room
+abbrev pub apply_effect : ℕ → Owner → ℕ → EffectKind → Room → Room
+apply_effect vm own context (what.Continue response) room = if is_own own context response then room else on_context (resume_context vm context response) vm context room
+apply_effect vm own context what.Close room = on_context close_exchange vm context room
+apply_effect vm own context (what.Call request) room = room
+apply_effect vm own context (what.Answer status fields body) room = on_context (apply_change (changes.Answer status fields body)) vm context room
 
 -- in the order of the calls; an effect on an exchange that has ended does nothing
-abbrev pub effects_of : ℕ → Own → List Effect → Room → Room
+abbrev pub effects_of : ℕ → Owner → List Effect → Room → Room
 effects_of vm own [] room = room
-effects_of vm own (e ∷ es) room = effects_of vm own es (does vm own e.context e.what room)
+effects_of vm own (e ∷ es) room = effects_of vm own es (apply_effect vm own e.context e.what room)
 
 abbrev pub without_effects : Room → Room
 without_effects room = with_contexts (record room.hub.contexts { effects = [] }) room
@@ -203,21 +203,21 @@ abbrev pub death_text : List ℕ → Death → List ℕ
 death_text name death = codes "vm " ++ name ++ codes " died: " ++ death_word death
 
 -- It is told in the log, and all lines are answered or let through.
-abbrev pub died : ℕ → Death → Room → Room
-died vm death room =
-    let told : Room = sending (Log Critical (death_text (vm_in room.hub.contexts vm).name death) ∷ []) room in
-    with_lines (record told { dead = room.dead ++ vm ∷ [] }) (all_lines (dies vm) room.lines told.hub)
+abbrev pub lose_vm_in : ℕ → Death → Room → Room
+lose_vm_in vm death room =
+    let told : Room = room_with_sent (Log Critical (death_text (vm_in room.hub.contexts vm).name death) ∷ []) room in
+    with_lines (record told { dead = room.dead ++ vm ∷ [] }) (all_lines (lose_vm vm) room.lines told.hub)
 
 -- BEHIND A CALLBACK: its effects in the order of its calls, or the VM's death
-abbrev pub behind : ℕ → Own → CallEnd → List Effect → Room → Room
-behind vm own (ends.Returned value) effects room = effects_of vm own effects room
-behind vm own (ends.Died death) effects room = died vm death room
+abbrev pub after_callback : ℕ → Owner → CallbackEnd → List Effect → Room → Room
+after_callback vm own (ends.Returned value) effects room = effects_of vm own effects room
+after_callback vm own (ends.Died death) effects room = lose_vm_in vm death room
 
 -- what a callback returned, if it did: a value, if it has one
-abbrev pub valued : CallEnd → Option (Option ℕ)
-valued (ends.Returned value) = Some value
-valued (ends.Died death) = None
+abbrev pub value_of_end : CallbackEnd → Option (Option ℕ)
+value_of_end (ends.Returned value) = Some value
+value_of_end (ends.Died death) = None
 
 -- the log lines of a callback come in front of its effects
-abbrev pub answered_with : ℕ → Own → CallEnd → List Sent → Contexts → Room → Room
-answered_with vm own end lines h room = behind vm own end h.effects (without_effects (sending lines (with_contexts h room)))
+abbrev pub take_callback_end : ℕ → Owner → CallbackEnd → List Sent → Contexts → Room → Room
+take_callback_end vm own end lines h room = after_callback vm own end h.effects (without_effects (room_with_sent lines (with_contexts h room)))

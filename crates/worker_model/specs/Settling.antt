@@ -2,9 +2,9 @@
 use Rattle.std.specs.Prelude.{◌≡◌, Bool, true, false, ℕ, zero, suc, refl}
 use Rattle.std.proofs.Common.{ap, ◌∙◌}
 use Rattle.contexts.specs.declared.parts.Contexts.{Contexts}
-use Rattle.course.specs.Course.{Course, ends, then_do}
-use Rattle.course.specs.Called.{Called}
-use Rattle.course.specs.declared.host.Callback.{Callback}
+use Rattle.filter_host.specs.Course.{Course, ends, then_do}
+use Rattle.filter_host.specs.Called.{Called}
+use Rattle.filter_host.specs.declared.host.Callback.{Callback}
 use Rattle.store_model.specs.Program.{Program}
 use Rattle.worker_model.specs.Room.{Room}
 use Rattle.worker_model.specs.declared.types.Next.{Next}
@@ -13,14 +13,14 @@ use Rattle.worker_model.specs.Plan.{Plan}
 use Rattle.worker_model.specs.Rooms.{next_of}
 use Rattle.worker_model.specs.Steps.{Both, both, step}
 
-abbrev pub rests : Next → Bool
-rests Read = false
-rests (Move place) = false
-rests Work = false
-rests (Free at) = false
-rests (End place) = false
-rests Begin = false
-rests Rest = true
+abbrev pub is_rest : Next → Bool
+is_rest Read = false
+is_rest (Move place) = false
+is_rest Work = false
+is_rest (Free at) = false
+is_rest (End place) = false
+is_rest Begin = false
+is_rest Rest = true
 
 module _ {H : Type 0} (calling : H → ℕ → Callback → ℕ → ℕ → ℕ → ℕ → Contexts → Program (Called H)) (plan : Plan) where
   -- one step, and then what comes later; nothing at rest
@@ -43,11 +43,11 @@ module _ {H : Type 0} (calling : H → ℕ → Callback → ℕ → ℕ → ℕ 
   settling_more n host room = refl
 
   -- one step of a settling that is not at rest
-  pub settling_step : (n : ℕ) (next : Next) (host : H) (room : Room) → next_of room ≡ next → rests next ≡ false
+  pub settling_step : (n : ℕ) (next : Next) (host : H) (room : Room) → next_of room ≡ next → is_rest next ≡ false
       → settling (suc n) host room ≡ then_do (step calling plan next host room) (λ b. settling n b.host b.room)
   settling_step n next host room is goes_on = settling_more n host room ∙ (ap (λ (x : Next). goes x (λ h r. settling n h r) host room) is ∙ opened next goes_on)
     where
-      opened : (next : Next) → rests next ≡ false → goes next (λ h r. settling n h r) host room ≡ then_do (step calling plan next host room) (λ b. settling n b.host b.room)
+      opened : (next : Next) → is_rest next ≡ false → goes next (λ h r. settling n h r) host room ≡ then_do (step calling plan next host room) (λ b. settling n b.host b.room)
       opened Read goes_on = refl
       opened (Move place) goes_on = refl
       opened Work goes_on = refl
@@ -56,10 +56,10 @@ module _ {H : Type 0} (calling : H → ℕ → Callback → ℕ → ℕ → ℕ 
       opened Begin goes_on = refl
       opened Rest goes_on = absurd (cc)
 
-  pub settling_rest : (n : ℕ) (next : Next) (host : H) (room : Room) → next_of room ≡ next → rests next ≡ true → settling (suc n) host room ≡ ends (both host room)
+  pub settling_rest : (n : ℕ) (next : Next) (host : H) (room : Room) → next_of room ≡ next → is_rest next ≡ true → settling (suc n) host room ≡ ends (both host room)
   settling_rest n next host room is at_rest = settling_more n host room ∙ (ap (λ (x : Next). goes x (λ h r. settling n h r) host room) is ∙ closed next at_rest)
     where
-      closed : (next : Next) → rests next ≡ true → goes next (λ h r. settling n h r) host room ≡ ends (both host room)
+      closed : (next : Next) → is_rest next ≡ true → goes next (λ h r. settling n h r) host room ≡ ends (both host room)
       closed Read at_rest = absurd (cc)
       closed (Move place) at_rest = absurd (cc)
       closed Work at_rest = absurd (cc)

@@ -3,26 +3,26 @@ use Rattle.std.specs.List.{list_any, position_or_len}
 use Rattle.std.specs.Prelude.{option_map, ◌≡◌, ℕ, zero, suc, ◌+◌, ◌*◌, ◌-◌, ◌==◌, Bool, true, false, not, ◌&&◌, ◌||◌, List, [], ◌∷◌, ◌++◌, length, map, filter, reverse, slice_get, slice_set, remove, insert, Option, None, Some, is_some, is_none, nat_lt, nat_le, position, if◌then◌else◌}
 use Rattle.contexts.specs.declared.parts.Contexts.{Contexts}
 use Rattle.contexts.specs.declared.parts.Tick.{Tick}
-use Rattle.contexts.specs.Creating.{next_id, plugin_in, root_created, is_root, stream_created, place_or, opened, ended, awaited, deleted}
+use Rattle.contexts.specs.Creating.{next_id, plugin_in, root_created, is_root, stream_created, place_or, open_exchange, end_exchange, await_done_of, delete_id}
 use Rattle.contexts.specs.Reached.{vm_in, tick_in, put, no_changes, contains, seen}
-use Rattle.course.specs.Course.{Course, ends, asks, hears, runs_then, then_do}
-use Rattle.course.specs.Called.{Called}
-use Rattle.course.specs.Heard.{Heard, hands, halts, Hears}
-use Rattle.course.specs.declared.host.Callback.{Callback}
-use Rattle.course.specs.declared.host.Callback.TheVariants as callbacks
-use Rattle.course.specs.declared.host.Death.{Death}
-use Rattle.course.specs.declared.host.Death.TheVariants as deaths
+use Rattle.filter_host.specs.Course.{Course, ends, asks, hears, runs_then, then_do}
+use Rattle.filter_host.specs.Called.{Called}
+use Rattle.filter_host.specs.Heard.{Heard, hands, halts, Hears}
+use Rattle.filter_host.specs.declared.host.Callback.{Callback}
+use Rattle.filter_host.specs.declared.host.Callback.TheVariants as callbacks
+use Rattle.filter_host.specs.declared.host.Death.{Death}
+use Rattle.filter_host.specs.declared.host.Death.TheVariants as deaths
 use Rattle.exchange.specs.declared.types.Exchange.{Exchange}
 use Rattle.exchange.specs.declared.types.Filter.{Filter}
 use Rattle.exchange.specs.declared.types.Hub.{Hub}
 use Rattle.exchange.specs.Answering.{none_held}
 use Rattle.exchange.specs.Heads.{is_bare, request_of, response_of, length_in, path_of, route_in, sent_head, is_final}
-use Rattle.exchange.specs.Leaving.{sending as sending_to, is_due}
+use Rattle.exchange.specs.Leaving.{bytes_sent_to as sending_to, is_due}
 use Rattle.exchange.specs.Maps.{put_response, put_request_trailers, put_response_trailers, with_fields}
-use Rattle.exchange.specs.Passing.{acts, refused, expires, put_in}
+use Rattle.exchange.specs.Passing.{apply_action, refuse_exchange, expire_exchange, put_read_items}
 use Rattle.filter_chain.specs.declared.stage.Stage as chain_stage
-use Rattle.filter_chain.specs.declared.item.Item.{Item}
-use Rattle.filter_chain.specs.declared.item.Item.TheVariants as items
+use Rattle.filter_chain.specs.declared.item.ChainItem.{ChainItem}
+use Rattle.filter_chain.specs.declared.item.ChainItem.TheVariants as items
 use Rattle.filter_chain.specs.declared.item.AskKind.{AskKind}
 use Rattle.filter_chain.specs.declared.item.AskKind.TheVariants as kinds
 use Rattle.filter_chain.specs.declared.item.Held.TheVariants as held
@@ -35,11 +35,11 @@ use Rattle.gate_io.specs.declared.event.What.{What}
 use Rattle.gate_io.specs.declared.event.What.TheVariants as whats
 use Rattle.header_maps.specs.Headers.{Headers}
 use Rattle.header_maps.specs.Operations.{no_headers}
-use Rattle.http1_model.specs.Framing.{no_body, head_wire}
-use Rattle.http1_model.specs.Head.{Head}
-use Rattle.http1_model.specs.LocalReply.{local_reply_of}
-use Rattle.http1_model.specs.Messages.{Stop, rest, over, refusal}
-use Rattle.http1_model.specs.Unread.{Part, head_part, interim_part, piece, trailer_part, Reading, new_reading, fed, finished}
+use Rattle.h1_model.specs.Framing.{no_body, head_wire}
+use Rattle.h1_model.specs.Head.{Head}
+use Rattle.h1_model.specs.LocalReply.{local_reply_of}
+use Rattle.h1_model.specs.Messages.{Stop, rest, over, refusal}
+use Rattle.h1_model.specs.Unread.{Part, head_part, interim_part, piece, trailer_part, Reading, new_reading, reading_with_bytes, reading_with_end}
 use Rattle.store_model.specs.Program.{Program}
 use Rattle.store_model.specs.declared.call.Call.TheVariants as calls
 use Rattle.store_model.specs.declared.call.Reply.{Reply}
@@ -53,13 +53,13 @@ use Rattle.worker_model.specs.declared.types.Line.{Line}
 use Rattle.worker_model.specs.declared.types.Next.{Next}
 use Rattle.worker_model.specs.declared.types.Next.TheVariants as next
 use Rattle.worker_model.specs.declared.types.NewContext.{NewContext}
-use Rattle.worker_model.specs.declared.types.Own.{Own}
-use Rattle.worker_model.specs.declared.types.Own.TheVariants.{Nobody, Stage}
-use Rattle.worker_model.specs.declared.types.Reads.{Reads}
+use Rattle.worker_model.specs.declared.types.Owner.{Owner}
+use Rattle.worker_model.specs.declared.types.Owner.TheVariants.{Nobody, Stage}
+use Rattle.worker_model.specs.declared.types.ReadBatch.{ReadBatch}
 use Rattle.worker_model.specs.Plan.{Plan}
 use Rattle.worker_model.specs.Room.{Room}
 use Rattle.worker_model.specs.Moves.{asks_at, ended_at}
-use Rattle.worker_model.specs.Rooms.{Changes, all_lines, place_in, with_lines, on_number, with_contexts, sending, is_dead, died, answered_with, valued}
+use Rattle.worker_model.specs.Rooms.{Changes, all_lines, place_in, with_lines, on_number, with_contexts, room_with_sent, is_dead, lose_vm_in, take_callback_end, value_of_end}
 
 -- the machines, and the rest
 pub record Both (H : Type 0) : Type 0 where
@@ -76,34 +76,34 @@ pub record Answered (H : Type 0) : Type 0 where
   pub value : Option (Option ℕ)
   pub both : Both H
 
-abbrev pub answered : {H : Type 0} → Option (Option ℕ) → Both H → Answered H
-answered value b = record { value = value; both = b }
+abbrev pub callback_result : {H : Type 0} → Option (Option ℕ) → Both H → Answered H
+callback_result value b = record { value = value; both = b }
 
--- what comes behind it
+-- what comes after it
 abbrev pub Then : Type 0
 Then = Option (Option ℕ) → Room → Room
 
-abbrev pub goes_on_with : {H : Type 0} → Then → Answered H → Both H
-goes_on_with behind a = both a.both.host (behind a.value a.both.room)
+abbrev pub continue_with : {H : Type 0} → Then → Answered H → Both H
+continue_with behind a = both a.both.host (behind a.value a.both.room)
 
 abbrev pub nothing_more : Then
 nothing_more value room = room
 
 module _ {H : Type 0} (calling : H → ℕ → Callback → ℕ → ℕ → ℕ → ℕ → Contexts → Program (Called H)) where
   -- EVERY CALLBACK: it writes into the log; its effects are done then, or its VM is dead
-  abbrev pub called_in : ℕ → Callback → ℕ → ℕ → ℕ → Own → H → Room → Course (Answered H)
+  abbrev pub called_in : ℕ → Callback → ℕ → ℕ → ℕ → Owner → H → Room → Course (Answered H)
   called_in vm name context first second own host room =
       runs_then (calling host vm name context first second room.hub.moment room.hub.contexts)
-      (λ c. ends (answered (valued c.end) (both c.host (answered_with vm own c.end c.lines c.contexts room))))
+      (λ c. ends (callback_result (value_of_end c.end) (both c.host (take_callback_end vm own c.end c.lines c.contexts room))))
 
   -- no callback comes of a VM that died
   abbrev pub called_live : ℕ → Callback → ℕ → ℕ → ℕ → H → Room → Course (Answered H)
   called_live vm name context first second host room =
-      if is_dead vm room then ends (answered None (both host room)) else called_in vm name context first second Nobody host room
+      if is_dead vm room then ends (callback_result None (both host room)) else called_in vm name context first second Nobody host room
 
   abbrev pub calls_live : ℕ → Callback → ℕ → ℕ → ℕ → Then → H → Room → Course (Both H)
   calls_live vm name context first second behind host room =
-      then_do (called_live vm name context first second host room) (λ a. ends (goes_on_with behind a))
+      then_do (called_live vm name context first second host room) (λ a. ends (continue_with behind a))
 
 -- ---- values that callbacks return; a callback that is missing counts as Continue, and as 1
 
@@ -117,40 +117,40 @@ action_of (Some value) = value
 
 -- ---- what comes behind callbacks
 
-abbrev pub in_front : List Job → Room → Room
-in_front more room = record room { jobs = more ++ room.jobs }
+abbrev pub with_jobs_first : List Job → Room → Room
+with_jobs_first more room = record room { jobs = more ++ room.jobs }
 
 -- the VM is dead where it answered 0
 abbrev pub unless_zero : ℕ → Death → Then
 unless_zero vm death None room = room
-unless_zero vm death (Some value) room = if is_zero value then died vm death room else room
+unless_zero vm death (Some value) room = if is_zero value then lose_vm_in vm death room else room
 
 -- a context that is done with gets log and delete; where its `done` answered 0, it waits for `proxy_done` first
 abbrev pub has_vm : ℕ → Contexts → Bool
 has_vm vm h = nat_lt vm (length h.vms)
 
-abbrev pub waits : ContextAt → Room → Room
-waits c room =
+abbrev pub await_done : ContextAt → Room → Room
+await_done c room =
     if has_vm c.vm room.hub.contexts
-    then with_contexts (awaited c.vm c.context room.hub.contexts) (record room { waits = room.waits ++ c ∷ [] })
+    then with_contexts (await_done_of c.vm c.context room.hub.contexts) (record room { waits = room.waits ++ c ∷ [] })
     else room
 
 abbrev pub last_jobs : ContextAt → List Job
 last_jobs c = jobs.Log c ∷ jobs.Delete c ∷ []
 
-abbrev pub done_with : ContextAt → Then
-done_with c None room = in_front (last_jobs c) room
-done_with c (Some value) room = if is_zero value then waits c room else in_front (last_jobs c) room
+abbrev pub finish_context : ContextAt → Then
+finish_context c None room = with_jobs_first (last_jobs c) room
+finish_context c (Some value) room = if is_zero value then await_done c room else with_jobs_first (last_jobs c) room
 
-abbrev pub deletes : ContextAt → Then
-deletes c value room =
+abbrev pub delete_context : ContextAt → Then
+delete_context c value room =
     if has_vm c.vm room.hub.contexts && contains c.context (seen room.hub.contexts c.vm).common.ids
-    then with_contexts (deleted c.vm c.context room.hub.contexts) room else room
+    then with_contexts (delete_id c.vm c.context room.hub.contexts) room else room
 
 -- the action of a callback of a stage is put in force
-abbrev pub acts_on : Asked → Then
-acts_on a None room = room
-acts_on a (Some value) room = on_number (acts a.response a.ask.stage (action_of value)) a.line room
+abbrev pub apply_stage_action : Asked → Then
+apply_stage_action a None room = room
+apply_stage_action a (Some value) room = on_number (apply_action a.response a.ask.stage (action_of value)) a.line room
 
 -- ---- roots and streams
 
@@ -160,7 +160,7 @@ is_drawn_out vm h = (vm_in h vm).last == 4294967295
 abbrev pub may_root : ℕ → ℕ → Contexts → Bool
 may_root vm plugin h = ((has_vm vm h && nat_le plugin 65535) && nat_lt plugin (length h.plugins)) && (plugin_in h plugin).vm == vm
 
--- what comes behind the making of a root: the first one of a VM is where the VM starts
+-- what comes after the making of a root: the first one of a VM is where the VM starts
 abbrev pub root_jobs : ℕ → ℕ → ℕ → Bool → List Job
 root_jobs vm root plugin true = jobs.Start vm root ∷ jobs.Configure vm root plugin ∷ []
 root_jobs vm root plugin false = jobs.Configure vm root plugin ∷ []
@@ -169,13 +169,13 @@ abbrev pub new_one : ℕ → ℕ → ℕ → NewContext
 new_one vm context root = record { vm = vm; context = context; root = root }
 
 -- THE ROOT OF A PLUG-IN is made; where no id is left, the VM is dead
-abbrev pub rooting : ℕ → ℕ → Bool → Room → Option NewContext × Room
-rooting vm plugin first room =
+abbrev pub create_root : ℕ → ℕ → Bool → Room → Option NewContext × Room
+create_root vm plugin first room =
     if is_dead vm room || not (may_root vm plugin room.hub.contexts) then (None, room)
-    else if is_drawn_out vm room.hub.contexts then (None, died vm deaths.Ids room)
+    else if is_drawn_out vm room.hub.contexts then (None, lose_vm_in vm deaths.Ids room)
     else (
       Some (new_one vm (next_id room.hub.contexts vm) 0),
-      in_front (root_jobs vm (next_id room.hub.contexts vm) plugin first) (with_contexts (root_created vm plugin room.hub.contexts) room),
+      with_jobs_first (root_jobs vm (next_id room.hub.contexts vm) plugin first) (with_contexts (root_created vm plugin room.hub.contexts) room),
     )
 
 abbrev pub with_filter : ℕ → Filter → Exchange → Exchange
@@ -224,16 +224,16 @@ with_stream number k f root room = (
   },
 )
 
-abbrev pub streaming : ℕ → ℕ → Filter → Option ℕ → Room → Option NewContext × Room
-streaming number k f None room = (None, room)
-streaming number k f (Some root) room =
+abbrev pub create_stream : ℕ → ℕ → Filter → Option ℕ → Room → Option NewContext × Room
+create_stream number k f None room = (None, room)
+create_stream number k f (Some root) room =
     if is_dead f.vm room || not (may_stream f.vm root room.hub.contexts) then (None, room)
-    else if is_drawn_out f.vm room.hub.contexts then (None, died f.vm deaths.Ids room)
+    else if is_drawn_out f.vm room.hub.contexts then (None, lose_vm_in f.vm deaths.Ids room)
     else with_stream number k f root room
 
-abbrev pub creating_filter : ℕ → ℕ → Option Filter → Room → Option NewContext × Room
-creating_filter number k None room = (None, room)
-creating_filter number k (Some f) room = streaming number k f (plugin_in room.hub.contexts f.plugin).root room
+abbrev pub create_filter : ℕ → ℕ → Option Filter → Room → Option NewContext × Room
+create_filter number k None room = (None, room)
+create_filter number k (Some f) room = create_stream number k f (plugin_in room.hub.contexts f.plugin).root room
 
 abbrev pub open_filter : ℕ → Option Exchange → Option Filter
 open_filter k None = None
@@ -244,8 +244,8 @@ abbrev pub filter_at : ℕ → ℕ → List Line → Option Filter
 filter_at number k lines = open_filter k (exchange_of_line (line_in number lines))
 
 -- THE CONTEXT OF A FILTER is made; where no id is left, the VM is dead
-abbrev pub creating : ℕ → ℕ → Room → Option NewContext × Room
-creating number k room = creating_filter number k (filter_at number k room.lines) room
+abbrev pub create_context : ℕ → ℕ → Room → Option NewContext × Room
+create_context number k room = create_filter number k (filter_at number k room.lines) room
 
 -- ---- the stages of an exchange
 
@@ -256,8 +256,8 @@ abbrev pub new_stage : Bool → Filter → chain_stage.Stage
 new_stage response f = record { vm = f.vm; context = f.context; response = response; waiting = []; held = held.Nothing; passes = false }
 
 -- The request passes its filters in the order of the route, the response in reverse. One whose VM is dead is skipped.
-abbrev pub entered : List ℕ → Exchange → Exchange
-entered dead x =
+abbrev pub exchange_with_stages : List ℕ → Exchange → Exchange
+exchange_with_stages dead x =
     if x.has_ended || x.is_answered then x
     else record x {
       request = map (new_stage false) (filter (is_live dead) x.filters);
@@ -265,8 +265,8 @@ entered dead x =
       is_entered = true;
     }
 
-abbrev pub entering : List ℕ → Changes
-entering dead n x hub = (entered dead x, hub)
+abbrev pub enter_stages : List ℕ → Changes
+enter_stages dead n x hub = (exchange_with_stages dead x, hub)
 
 -- ---- a new exchange
 
@@ -320,7 +320,7 @@ abbrev pub refusal_of : Option ℕ → List ℕ → List Filter → Option ℕ
 refusal_of None dead filters = Some 404
 refusal_of (Some route) dead filters = if list_any (is_blocking dead) filters then Some 503 else None
 
--- milliseconds behind a moment, in nanoseconds and at most 2^64 - 1
+-- milliseconds after a moment, in nanoseconds and at most 2^64 - 1
 abbrev pub at_most_last : ℕ → ℕ
 at_most_last moment = if nat_le moment 18446744073709551615 then moment else 18446744073709551615
 
@@ -365,8 +365,8 @@ abbrev pub free_place : Contexts → ℕ
 free_place h = place_or (length h.exchanges) (position is_none h.exchanges)
 
 -- AN EXCHANGE BEGINS with the head of its request
-abbrev pub begun : Plan → ℕ → Head → Room → Room
-begun plan number h room = record (with_contexts (opened number h.fields room.hub.contexts) room) {
+abbrev pub begin_exchange_on : Plan → ℕ → Head → Room → Room
+begin_exchange_on plan number h room = record (with_contexts (open_exchange number h.fields room.hub.contexts) room) {
   lines = on_line (with_exchange (exchange_for plan (free_place room.hub.contexts) room.hub.moment room.dead h (route_in plan.routes (path_of h.fields)))) number room.lines;
 }
 
@@ -381,7 +381,7 @@ line_reading up None = None
 line_reading false (Some line) = Some line.requests
 line_reading true (Some line) = exchange_reading line.exchange
 
-abbrev pub reading_on : Reads → Room → Option Reading
+abbrev pub reading_on : ReadBatch → Room → Option Reading
 reading_on r room = line_reading r.up (line_in r.line room.lines)
 
 -- the reader is this now
@@ -392,78 +392,78 @@ abbrev pub read_on : Bool → Reading → Line → Line
 read_on false reading line = record line { requests = reading }
 read_on true reading line = change_line (with_reader reading) line
 
-abbrev pub is_last : Item → Bool
+abbrev pub is_last : ChainItem → Bool
 is_last (items.Head end) = end
 is_last (items.Piece bytes end) = end
 is_last items.Trailers = true
 
 -- of what was read, what is kept of it
-abbrev pub noted : Bool → Item → Exchange → Exchange
-noted false item x = record x { asked = record x.asked { whole = is_last item } }
-noted true item x = record x { is_read = is_last item }
+abbrev pub with_read_mark : Bool → ChainItem → Exchange → Exchange
+with_read_mark false item x = record x { asked = record x.asked { whole = is_last item } }
+with_read_mark true item x = record x { is_read = is_last item }
 
 abbrev pub on_lines : (Line → Line) → ℕ → Room → Room
 on_lines change number room = record room { lines = on_line change number room.lines }
 
--- ---- THE READING ENDS. What was read comes to the chain; behind a request's head the contexts are made first, and then the stages, or it is
+-- ---- THE READING ENDS. What was read comes to the chain; after a request's head the contexts are made first, and then the stages, or it is
 -- refused at once. A refusal of what was read comes behind.
 
-abbrev pub creates : ℕ → ℕ → List Job
-creates number zero = []
-creates number (suc k) = creates number k ++ jobs.Create number k ∷ []
+abbrev pub create_jobs : ℕ → ℕ → List Job
+create_jobs number zero = []
+create_jobs number (suc k) = create_jobs number k ++ jobs.Create number k ∷ []
 
-abbrev pub begins_with_head : List Item → Bool
+abbrev pub begins_with_head : List ChainItem → Bool
 begins_with_head [] = false
 begins_with_head (items.Head end ∷ more) = true
 begins_with_head (items.Piece bytes end ∷ more) = false
 begins_with_head (items.Trailers ∷ more) = false
 
-abbrev pub refuses : ℕ → Option ℕ → List Job
-refuses number None = []
-refuses number (Some status) = jobs.Refuse number status ∷ []
+abbrev pub refuse_jobs : ℕ → Option ℕ → List Job
+refuse_jobs number None = []
+refuse_jobs number (Some status) = jobs.Refuse number status ∷ []
 
-abbrev pub puts_items : ℕ → Bool → List Item → List Job
-puts_items number response [] = []
-puts_items number response (item ∷ more) = jobs.Put number response (item ∷ more) ∷ []
+abbrev pub put_jobs : ℕ → Bool → List ChainItem → List Job
+put_jobs number response [] = []
+put_jobs number response (item ∷ more) = jobs.Put number response (item ∷ more) ∷ []
 
-abbrev pub begins_exchange : Reads → Option ℕ → Exchange → Option ℕ → List Job
-begins_exchange r status x (Some number) = jobs.Refuse r.line number ∷ []
-begins_exchange r status x None =
-    creates r.line (length x.filters) ++ (jobs.Enter r.line ∷ (puts_items r.line false r.batch ++ refuses r.line status))
+abbrev pub exchange_jobs : ReadBatch → Option ℕ → Exchange → Option ℕ → List Job
+exchange_jobs r status x (Some number) = jobs.Refuse r.line number ∷ []
+exchange_jobs r status x None =
+    create_jobs r.line (length x.filters) ++ (jobs.Enter r.line ∷ (put_jobs r.line false r.batch ++ refuse_jobs r.line status))
 
-abbrev pub begins_for : Reads → Option ℕ → Option Exchange → List Job
-begins_for r status None = []
-begins_for r status (Some x) = begins_exchange r status x x.refusal
+abbrev pub begin_jobs_for : ReadBatch → Option ℕ → Option Exchange → List Job
+begin_jobs_for r status None = []
+begin_jobs_for r status (Some x) = exchange_jobs r status x x.refusal
 
-abbrev pub jobs_of : Reads → Option ℕ → Room → List Job
+abbrev pub jobs_of : ReadBatch → Option ℕ → Room → List Job
 jobs_of r status room =
-    if begins_with_head r.batch && not r.up then begins_for r status (exchange_on r.line room)
-    else puts_items r.line r.up r.batch ++ refuses r.line status
+    if begins_with_head r.batch && not r.up then begin_jobs_for r status (exchange_on r.line room)
+    else put_jobs r.line r.up r.batch ++ refuse_jobs r.line status
 
-abbrev pub reading_ends : Reads → Option ℕ → Room → Room
-reading_ends r status room = record room { reading = None; jobs = jobs_of r status room ++ room.jobs }
+abbrev pub end_reading : ReadBatch → Option ℕ → Room → Room
+end_reading r status room = record room { reading = None; jobs = jobs_of r status room ++ room.jobs }
 
-abbrev pub with_item : Item → Reads → Reads
+abbrev pub with_item : ChainItem → ReadBatch → ReadBatch
 with_item item r = record r { batch = r.batch ++ item ∷ [] }
 
 -- an item joins what was read; the reading ends with the last one of a message
-abbrev pub joins : Reads → Item → Room → Room
-joins r item room =
-    if is_last item then reading_ends (with_item item r) None room else record room { reading = Some (with_item item r) }
+abbrev pub add_read_item : ReadBatch → ChainItem → Room → Room
+add_read_item r item room =
+    if is_last item then end_reading (with_item item r) None room else record room { reading = Some (with_item item r) }
 
-abbrev pub takes : Reads → Item → Room → Room
-takes r item room = joins r item (on_lines (change_line (noted r.up item)) r.line room)
+abbrev pub take_read_item : ReadBatch → ChainItem → Room → Room
+take_read_item r item room = add_read_item r item (on_lines (change_line (with_read_mark r.up item)) r.line room)
 
 -- ---- what a reader hands on
 
-abbrev pub keeps_response : Head → Exchange → Exchange
-keeps_response h x = record x { told = response_of x.is_head_up h; is_headed = true }
+abbrev pub with_response_head : Head → Exchange → Exchange
+with_response_head h x = record x { told = response_of x.is_head_up h; is_headed = true }
 
 abbrev pub in_contexts : (ℕ → Contexts → Contexts) → Option Exchange → Room → Room
 in_contexts change None room = room
 in_contexts change (Some x) room = with_contexts (change x.place room.hub.contexts) room
 
-abbrev pub head_item : Head → Item
+abbrev pub head_item : Head → ChainItem
 head_item h = items.Head (is_bare (length_in h.length))
 
 -- an interim head goes down at once, but not to a client of HTTP/1.0 (RFC 9110, section 15.2)
@@ -475,68 +475,68 @@ abbrev pub put_trailers : (up : Bool) → Headers → ℕ → Contexts → Conte
 put_trailers false map place h = put_request_trailers map place h
 put_trailers true map place h = put_response_trailers map place h
 
-abbrev pub interim_heard : Reads → Head → Room → Room
-interim_heard r h room = record (sending (sending_to r.line Down (interim_of (exchange_on r.line room) h)) room) { reading = Some r }
+abbrev pub take_interim : ReadBatch → Head → Room → Room
+take_interim r h room = record (room_with_sent (sending_to r.line Down (interim_of (exchange_on r.line room) h)) room) { reading = Some r }
 
-abbrev pub hands_part : Plan → Reads → Part → Room → Room
-hands_part plan r (head_part h) room =
+abbrev pub take_part : Plan → ReadBatch → Part → Room → Room
+take_part plan r (head_part h) room =
     if r.up
-    then takes r (head_item h) (on_lines (change_line (keeps_response h)) r.line (in_contexts (put_response h.fields) (exchange_on r.line room) room))
-    else takes r (head_item h) (begun plan r.line h room)
-hands_part plan r (interim_part h) room = interim_heard r h room
-hands_part plan r (piece bytes last) room = takes r (items.Piece bytes last) room
-hands_part plan r (trailer_part fields) room =
-    takes r items.Trailers (in_contexts (put_trailers r.up (with_fields no_headers fields)) (exchange_on r.line room) room)
+    then take_read_item r (head_item h) (on_lines (change_line (with_response_head h)) r.line (in_contexts (put_response h.fields) (exchange_on r.line room) room))
+    else take_read_item r (head_item h) (begin_exchange_on plan r.line h room)
+take_part plan r (interim_part h) room = take_interim r h room
+take_part plan r (piece bytes last) room = take_read_item r (items.Piece bytes last) room
+take_part plan r (trailer_part fields) room =
+    take_read_item r items.Trailers (in_contexts (put_trailers r.up (with_fields no_headers fields)) (exchange_on r.line room) room)
 
 -- nothing more is handed on: as yet; the text is over, so that the line is closed where no exchange is open; or it is refused
-abbrev pub stops : Reads → Stop → Room → Room
-stops r rest room = reading_ends r None room
-stops r over room =
-    if r.up || is_some (exchange_on r.line room) then reading_ends r None room
-    else in_front (jobs.Close r.line false ∷ []) (reading_ends r None room)
-stops r (refusal status) room = reading_ends r (Some status) room
+abbrev pub end_of_read : ReadBatch → Stop → Room → Room
+end_of_read r rest room = end_reading r None room
+end_of_read r over room =
+    if r.up || is_some (exchange_on r.line room) then end_reading r None room
+    else with_jobs_first (jobs.Close r.line false ∷ []) (end_reading r None room)
+end_of_read r (refusal status) room = end_reading r (Some status) room
 
-abbrev pub after_heard : Plan → Reads → Heard → Room → Room
-after_heard plan r (hands part new) room = hands_part plan r part (on_lines (read_on r.up new) r.line room)
-after_heard plan r (halts why new) room = stops r why (on_lines (read_on r.up new) r.line room)
+abbrev pub after_heard : Plan → ReadBatch → Heard → Room → Room
+after_heard plan r (hands part new) room = take_part plan r part (on_lines (read_on r.up new) r.line room)
+after_heard plan r (halts why new) room = end_of_read r why (on_lines (read_on r.up new) r.line room)
 
 -- ---- lines come and go
 
-abbrev pub drops_at : List Line → Option ℕ → List Line
-drops_at lines None = lines
-drops_at lines (Some place) = remove lines place
+abbrev pub without_place : List Line → Option ℕ → List Line
+without_place lines None = lines
+without_place lines (Some place) = remove lines place
 
 -- a line is there no more
-abbrev pub drops_line : ℕ → Room → Room
-drops_line number room = record room { lines = drops_at room.lines (place_in number room.lines) }
+abbrev pub drop_line : ℕ → Room → Room
+drop_line number room = record room { lines = without_place room.lines (place_in number room.lines) }
 
 -- a line is closed
-abbrev pub closes_line : ℕ → Room → Room
-closes_line number room = sending (to.Close number Down ∷ []) (drops_line number room)
+abbrev pub close_line : ℕ → Room → Room
+close_line number room = room_with_sent (to.Close number Down ∷ []) (drop_line number room)
 
-abbrev pub reads_side : ℕ → Bool → Room → Room
-reads_side number up room = record room { reading = Some (record { line = number; up = up; batch = [] }) }
+abbrev pub read_side : ℕ → Bool → Room → Room
+read_side number up room = record room { reading = Some (record { line = number; up = up; batch = [] }) }
 
--- behind an exchange: its client is gone; the line is closed; or what is unread of it is read
-abbrev pub line_ends : Option Line → ℕ → Bool → Room → Room
-line_ends None number stays room = room
-line_ends (Some line) number stays room =
-    if line.is_gone then drops_line number room else if stays then reads_side number false room else closes_line number room
+-- after an exchange: its client is gone; the line is closed; or what is unread of it is read
+abbrev pub end_line : Option Line → ℕ → Bool → Room → Room
+end_line None number stays room = room
+end_line (Some line) number stays room =
+    if line.is_gone then drop_line number room else if stays then read_side number false room else close_line number room
 
 -- an answer where there is no exchange: what came is no request
 abbrev pub fixed_answer : ℕ → ℕ → List ℕ
 fixed_answer status now = local_reply_of status [] [] false true now
 
 abbrev pub refusal_sent : ℕ → ℕ → Room → Room
-refusal_sent number status room = if is_final status then sending (sending_to number Down (fixed_answer status room.hub.moment)) room else room
+refusal_sent number status room = if is_final status then room_with_sent (sending_to number Down (fixed_answer status room.hub.moment)) room else room
 
-abbrev pub refuses_in : ℕ → ℕ → Option Exchange → Room → Room
-refuses_in number status (Some x) room = on_number (refused status) number room
-refuses_in number status None room = closes_line number (refusal_sent number status room)
+abbrev pub refuse_in : ℕ → ℕ → Option Exchange → Room → Room
+refuse_in number status (Some x) room = on_number (refuse_exchange status) number room
+refuse_in number status None room = close_line number (refusal_sent number status room)
 
-abbrev pub refuses_line : Option Line → ℕ → ℕ → Room → Room
-refuses_line None number status room = room
-refuses_line (Some line) number status room = refuses_in number status line.exchange room
+abbrev pub refuse_line : Option Line → ℕ → ℕ → Room → Room
+refuse_line None number status room = room
+refuse_line (Some line) number status room = refuse_in number status line.exchange room
 
 -- ---- WHAT HAPPENS
 
@@ -547,32 +547,32 @@ most_lines = 128
 abbrev pub new_line : ℕ → Line
 new_line number = record { number = number; requests = new_reading None; is_gone = false; exchange = None }
 
--- the place of a new line: behind those of lower numbers
+-- the place of a new line: after those of lower numbers
 abbrev pub place_for : ℕ → List Line → ℕ
 place_for number lines = position_or_len (λ (line : Line). nat_lt number line.number) lines
 
 -- A connection was opened. Of an open line that changes nothing. Where there is no room for a line, it is closed at once.
-abbrev pub opens : ℕ → Room → Room
-opens number room =
+abbrev pub accept_line : ℕ → Room → Room
+accept_line number room =
     if is_some (place_in number room.lines) then room
     else if nat_lt (length room.lines) most_lines then record room { lines = insert room.lines (place_for number room.lines) (new_line number) }
-    else sending (to.Close number Down ∷ []) room
+    else room_with_sent (to.Close number Down ∷ []) room
 
 -- a text has more, or has ended; of one that has ended nothing comes any more
-abbrev pub further : (stops_now : Bool) → List ℕ → Reading → Reading
-further stops_now bytes reading = if reading.ended then reading else if stops_now then finished reading else fed bytes reading
+abbrev pub reading_with_more : (stops_now : Bool) → List ℕ → Reading → Reading
+reading_with_more stops_now bytes reading = if reading.ended then reading else if stops_now then reading_with_end reading else reading_with_bytes bytes reading
 
-abbrev pub further_back : (stops_now : Bool) → List ℕ → Option Reading → Option Reading
-further_back stops_now bytes None = None
-further_back stops_now bytes (Some reading) = Some (further stops_now bytes reading)
+abbrev pub response_with_more : (stops_now : Bool) → List ℕ → Option Reading → Option Reading
+response_with_more stops_now bytes None = None
+response_with_more stops_now bytes (Some reading) = Some (reading_with_more stops_now bytes reading)
 
 abbrev pub with_further : (stops_now : Bool) → List ℕ → Exchange → Exchange
-with_further stops_now bytes x = record x { reader = further_back stops_now bytes x.reader }
+with_further stops_now bytes x = record x { reader = response_with_more stops_now bytes x.reader }
 
 -- the same of a side of a line
-abbrev pub further_on : (up stops_now : Bool) → List ℕ → Line → Line
-further_on false stops_now bytes line = record line { requests = further stops_now bytes line.requests }
-further_on true stops_now bytes line = change_line (with_further stops_now bytes) line
+abbrev pub side_with_more : (up stops_now : Bool) → List ℕ → Line → Line
+side_with_more false stops_now bytes line = record line { requests = reading_with_more stops_now bytes line.requests }
+side_with_more true stops_now bytes line = change_line (with_further stops_now bytes) line
 
 -- what comes from a client is read where no exchange is open, and of one whose request's end has not been read; what comes from a server is
 -- read unless its exchange was answered
@@ -589,49 +589,49 @@ is_read_in up None = not up
 is_read_in false (Some x) = not x.is_answered && not x.asked.whole
 is_read_in true (Some x) = not x.is_answered
 
-abbrev pub comes_on : (up stops_now : Bool) → List ℕ → ℕ → Option Line → Room → Room
-comes_on up stops_now bytes number line room =
+abbrev pub receive_on : (up stops_now : Bool) → List ℕ → ℕ → Option Line → Room → Room
+receive_on up stops_now bytes number line room =
     if is_open (line_reading up line) && not (up && is_answered_in (exchange_of_line line))
-    then (if is_read_in up (exchange_of_line line) then reads_side number up (on_lines (further_on up stops_now bytes) number room)
-    else on_lines (further_on up stops_now bytes) number room)
+    then (if is_read_in up (exchange_of_line line) then read_side number up (on_lines (side_with_more up stops_now bytes) number room)
+    else on_lines (side_with_more up stops_now bytes) number room)
     else room
 
 -- A SIDE OF A LINE has more, or has ended. What comes of a side that has ended, or from where there is no connection, is not looked at.
-abbrev pub comes : (up stops_now : Bool) → List ℕ → ℕ → Room → Room
-comes up stops_now bytes number room = comes_on up stops_now bytes number (line_in number room.lines) room
+abbrev pub receive : (up stops_now : Bool) → List ℕ → ℕ → Room → Room
+receive up stops_now bytes number room = receive_on up stops_now bytes number (line_in number room.lines) room
 
 -- the client's connection is gone: the exchange ends, and then the line, to which nothing is sent any more
-abbrev pub lost_exchange : Exchange → Exchange
-lost_exchange x = record x { has_ended = true; stays = false }
+abbrev pub exchange_without_client : Exchange → Exchange
+exchange_without_client x = record x { has_ended = true; stays = false }
 
-abbrev pub lost : Line → Line
-lost line = record (change_line lost_exchange line) { is_gone = true }
+abbrev pub line_without_client : Line → Line
+line_without_client line = record (change_line exchange_without_client line) { is_gone = true }
 
-abbrev pub loses_down : ℕ → Option Line → Room → Room
-loses_down number None room = room
-loses_down number (Some line) room = if is_some line.exchange then on_lines lost number room else drops_line number room
+abbrev pub lose_client : ℕ → Option Line → Room → Room
+lose_client number None room = room
+lose_client number (Some line) room = if is_some line.exchange then on_lines line_without_client number room else drop_line number room
 
 abbrev pub is_missed : Option Exchange → Bool
 is_missed None = false
 is_missed (Some x) = is_some x.reader && not (x.is_read || x.is_answered)
 
 -- the server's connection is gone, or was refused: there is no whole response (502), unless it was read
-abbrev pub loses_up : ℕ → Option Exchange → Room → Room
-loses_up number o room = if is_missed o then on_number (refused 502) number room else room
+abbrev pub lose_server : ℕ → Option Exchange → Room → Room
+lose_server number o room = if is_missed o then on_number (refuse_exchange 502) number room else room
 
-abbrev pub happens : What → Room → Room
-happens (whats.Opened number) room = opens number room
-happens (whats.Bytes number Down bytes) room = comes false false bytes number room
-happens (whats.Bytes number Up bytes) room = comes true false bytes number room
-happens (whats.End number Down) room = comes false true [] number room
-happens (whats.End number Up) room = comes true true [] number room
-happens (whats.Gone number Down) room = loses_down number (line_in number room.lines) room
-happens (whats.Gone number Up) room = loses_up number (exchange_on number room) room
-happens (whats.Joined number) room = room
-happens (whats.Refused number) room = loses_up number (exchange_on number room) room
-happens (whats.Room number side) room = room
-happens whats.Clock room = room
-happens whats.Stop room = room
+abbrev pub take_event : What → Room → Room
+take_event (whats.Opened number) room = accept_line number room
+take_event (whats.Bytes number Down bytes) room = receive false false bytes number room
+take_event (whats.Bytes number Up bytes) room = receive true false bytes number room
+take_event (whats.End number Down) room = receive false true [] number room
+take_event (whats.End number Up) room = receive true true [] number room
+take_event (whats.Gone number Down) room = lose_client number (line_in number room.lines) room
+take_event (whats.Gone number Up) room = lose_server number (exchange_on number room) room
+take_event (whats.Joined number) room = room
+take_event (whats.Refused number) room = lose_server number (exchange_on number room) room
+take_event (whats.Room number side) room = room
+take_event whats.Clock room = room
+take_event whats.Stop room = room
 
 -- ---- THE END OF AN EXCHANGE: the connection up is closed; what its stages still hold is dropped; its contexts are done with; and then comes the
 -- line
@@ -644,17 +644,17 @@ abbrev pub close_up : ℕ → Option Reading → List Sent
 close_up number None = []
 close_up number (Some reading) = to.Close number Up ∷ []
 
-abbrev pub ends_exchange : Option (ℕ × Exchange) → Room → Room
-ends_exchange None room = room
-ends_exchange (Some (number, x)) room =
-    in_front (done_jobs x.filters ++ jobs.Close number x.stays ∷ [])
-    (with_contexts (ended x.place (none_held x room.hub).contexts) (sending (close_up number x.reader) room))
+abbrev pub end_exchange_of : Option (ℕ × Exchange) → Room → Room
+end_exchange_of None room = room
+end_exchange_of (Some (number, x)) room =
+    with_jobs_first (done_jobs x.filters ++ jobs.Close number x.stays ∷ [])
+    (with_contexts (end_exchange x.place (none_held x room.hub).contexts) (room_with_sent (close_up number x.reader) room))
 
-abbrev pub ends_with : Room → Option (ℕ × Exchange) × List Line → Room
-ends_with room (x, lines) = ends_exchange x (record room { lines = lines })
+abbrev pub end_with : Room → Option (ℕ × Exchange) × List Line → Room
+end_with room (x, lines) = end_exchange_of x (record room { lines = lines })
 
-abbrev pub ends_at : ℕ → Room → Room
-ends_at place room = ends_with room (ended_at place (slice_get room.lines place) room.lines)
+abbrev pub end_at : ℕ → Room → Room
+end_at place room = end_with room (ended_at place (slice_get room.lines place) room.lines)
 
 -- ---- ticks, deadlines, notices
 
@@ -668,17 +668,17 @@ next_tick now t = record { period = t.period; due = at_most_last (now + t.period
 abbrev pub with_tick : ℕ → ℕ → Tick → Contexts → Contexts
 with_tick vm root t h = put (record no_changes { tick = Some (Some t) }) vm (put (record no_changes { effective = Some root }) vm h)
 
-abbrev pub ticked_at : ℕ → ℕ → Option (Option Tick) → Room → Bool × Room
-ticked_at vm root None room = (false, room)
-ticked_at vm root (Some None) room = (false, room)
-ticked_at vm root (Some (Some t)) room =
+abbrev pub tick_of : ℕ → ℕ → Option (Option Tick) → Room → Bool × Room
+tick_of vm root None room = (false, room)
+tick_of vm root (Some None) room = (false, room)
+tick_of vm root (Some (Some t)) room =
     if is_due_tick room.hub.moment t && has_vm vm room.hub.contexts
     then (true, with_contexts (with_tick vm root (next_tick room.hub.moment t) room.hub.contexts) room)
     else (false, room)
 
 -- whether a root is due, and what becomes of it then
-abbrev pub ticked : ℕ → ℕ → Room → Bool × Room
-ticked vm root room = ticked_at vm root (tick_in (vm_in room.hub.contexts vm).contexts root) room
+abbrev pub tick_root : ℕ → ℕ → Room → Bool × Room
+tick_root vm root room = tick_of vm root (tick_in (vm_in room.hub.contexts vm).contexts root) room
 
 abbrev pub is_late_in : ℕ → Option Exchange → Bool
 is_late_in now None = false
@@ -688,76 +688,76 @@ abbrev pub is_late : ℕ → Line → Bool
 is_late now line = is_late_in now line.exchange
 
 -- responses that are due are answered for, lines rising
-abbrev pub expires_all : Room → Room
-expires_all room =
-    if list_any (is_late room.hub.moment) room.lines then with_lines room (all_lines expires room.lines room.hub) else room
+abbrev pub expire_all : Room → Room
+expire_all room =
+    if list_any (is_late room.hub.moment) room.lines then with_lines room (all_lines expire_exchange room.lines room.hub) else room
 
 -- these come next among the parts of the turn
-abbrev pub behind_rest : List Job → Room → Room
-behind_rest more room = record room { agenda = more ++ room.agenda }
+abbrev pub with_agenda_first : List Job → Room → Room
+with_agenda_first more room = record room { agenda = more ++ room.agenda }
 
 -- A notice was taken: its root is told. Once all that comes of it is at rest, ends among it, the next notice is taken.
-abbrev pub noticed : ℕ → ℕ → Reply → Room → Room
-noticed vm left (replies.Owed root queue) room = in_front (jobs.Ready vm root queue ∷ []) (behind_rest (jobs.Notice vm (left - 1) ∷ []) room)
-noticed vm left replies.Absent room = room
-noticed vm left (replies.Value value number) room = room
-noticed vm left (replies.Done number) room = room
-noticed vm left replies.CasMismatch room = room
-noticed vm left replies.Full room = room
-noticed vm left (replies.Id queue) room = room
-noticed vm left (replies.Item item) room = room
-noticed vm left replies.Empty room = room
-noticed vm left replies.NoneOwed room = room
+abbrev pub take_notice_reply : ℕ → ℕ → Reply → Room → Room
+take_notice_reply vm left (replies.Owed root queue) room = with_jobs_first (jobs.Ready vm root queue ∷ []) (with_agenda_first (jobs.Notice vm (left - 1) ∷ []) room)
+take_notice_reply vm left replies.Absent room = room
+take_notice_reply vm left (replies.Value value number) room = room
+take_notice_reply vm left (replies.Done number) room = room
+take_notice_reply vm left replies.CasMismatch room = room
+take_notice_reply vm left replies.Full room = room
+take_notice_reply vm left (replies.Id queue) room = room
+take_notice_reply vm left (replies.Item item) room = room
+take_notice_reply vm left replies.Empty room = room
+take_notice_reply vm left replies.NoneOwed room = room
 
 -- ---- the steps
 
-abbrev pub first_begun : List Job → Room → Room
-first_begun [] room = room
-first_begun (job ∷ later) room = record room { jobs = job ∷ []; agenda = later }
+abbrev pub begin_first_job : List Job → Room → Room
+begin_first_job [] room = room
+begin_first_job (job ∷ later) room = record room { jobs = job ∷ []; agenda = later }
 
-abbrev pub frees_at : ℕ → Option ContextAt → Room → Room
-frees_at at None room = room
-frees_at at (Some c) room = record room { jobs = last_jobs c ++ room.jobs; waits = remove room.waits at }
+abbrev pub release_at : ℕ → Option ContextAt → Room → Room
+release_at at None room = room
+release_at at (Some c) room = record room { jobs = last_jobs c ++ room.jobs; waits = remove room.waits at }
 
-abbrev pub frees : ℕ → Room → Room
-frees at room = frees_at at (slice_get room.waits at) room
+abbrev pub release : ℕ → Room → Room
+release at room = release_at at (slice_get room.waits at) room
 
 -- the jobs that call nothing
-abbrev pub quietly : Job → Room → Room
-quietly (jobs.Begin vm) room = room
-quietly (jobs.Root vm plugin first) room = room
-quietly (jobs.Start vm root) room = room
-quietly (jobs.Configure vm root plugin) room = room
-quietly (jobs.Tick vm root) room = room
-quietly jobs.Expire room = expires_all room
-quietly (jobs.Happen what) room = happens what room
-quietly (jobs.Create number k) room = room
-quietly (jobs.Enter number) room = on_number (entering room.dead) number room
-quietly (jobs.Put number response items) room = on_number (put_in response items) number room
-quietly (jobs.Refuse number status) room = refuses_line (line_in number room.lines) number status room
-quietly (jobs.Done c) room = room
-quietly (jobs.Log c) room = room
-quietly (jobs.Delete c) room = room
-quietly (jobs.Close number stays) room = line_ends (line_in number room.lines) number stays room
-quietly (jobs.Notice vm left) room = room
-quietly (jobs.Ready vm root queue) room = room
-quietly (jobs.Other step) room = room
+abbrev pub run_silent_job : Job → Room → Room
+run_silent_job (jobs.Begin vm) room = room
+run_silent_job (jobs.Root vm plugin first) room = room
+run_silent_job (jobs.Start vm root) room = room
+run_silent_job (jobs.Configure vm root plugin) room = room
+run_silent_job (jobs.Tick vm root) room = room
+run_silent_job jobs.Expire room = expire_all room
+run_silent_job (jobs.Happen what) room = take_event what room
+run_silent_job (jobs.Create number k) room = room
+run_silent_job (jobs.Enter number) room = on_number (enter_stages room.dead) number room
+run_silent_job (jobs.Put number response items) room = on_number (put_read_items response items) number room
+run_silent_job (jobs.Refuse number status) room = refuse_line (line_in number room.lines) number status room
+run_silent_job (jobs.Done c) room = room
+run_silent_job (jobs.Log c) room = room
+run_silent_job (jobs.Delete c) room = room
+run_silent_job (jobs.Close number stays) room = end_line (line_in number room.lines) number stays room
+run_silent_job (jobs.Notice vm left) room = room
+run_silent_job (jobs.Ready vm root queue) room = room
+run_silent_job (jobs.Other step) room = room
 
 -- ---- what a reading does
 
-abbrev pub ReadSo : Plan → Reads → Option Reading → Room → Room → Type 0
+abbrev pub ReadSo : Plan → ReadBatch → Option Reading → Room → Room → Type 0
 ReadSo plan r None old new = new ≡ record old { reading = None }
 ReadSo plan r (Some reading) old new = (h : Heard) × Hears reading h × (new ≡ after_heard plan r h (record old { reading = None }))
 
-abbrev pub ReadOn : Plan → Option Reads → Room → Room → Type 0
+abbrev pub ReadOn : Plan → Option ReadBatch → Room → Room → Type 0
 ReadOn plan None old new = new ≡ old
 ReadOn plan (Some r) old new = ReadSo plan r (reading_on r old) old new
 
-abbrev pub reads_in : {H : Type 0} → Plan → Reads → Option Reading → H → Room → Course (Both H)
+abbrev pub reads_in : {H : Type 0} → Plan → ReadBatch → Option Reading → H → Room → Course (Both H)
 reads_in plan r None host room = ends (both host (record room { reading = None }))
 reads_in plan r (Some reading) host room = hears reading (λ h. ends (both host (after_heard plan r h (record room { reading = None }))))
 
-abbrev pub reads_next : {H : Type 0} → Plan → Option Reads → H → Room → Course (Both H)
+abbrev pub reads_next : {H : Type 0} → Plan → Option ReadBatch → H → Room → Course (Both H)
 reads_next plan None host room = ends (both host room)
 reads_next plan (Some r) host room = reads_in plan r (reading_on r room) host room
 
@@ -787,7 +787,7 @@ module _ {H : Type 0} (calling : H → ℕ → Callback → ℕ → ℕ → ℕ 
   moved None host room = ends (both host room)
   moved (Some a) host room =
       then_do (called_in calling a.vm (callback_of a.response a.ask.kind) a.context a.count (number_of a.ask.end) (Stage a.context a.response) host room)
-      (λ b. ends (goes_on_with (acts_on a) b))
+      (λ b. ends (continue_with (apply_stage_action a) b))
 
   abbrev pub moved_with : H → Room → Option Asked × List Line × Hub → Course (Both H)
   moved_with host room (a, lines, hub) = moved a host (with_lines room (lines, hub))
@@ -802,15 +802,15 @@ module _ {H : Type 0} (calling : H → ℕ → Callback → ℕ → ℕ → ℕ 
   abbrev pub tells : ℕ → Callback → ℕ → ℕ → H → Room → Course (Both H)
   tells vm name context first host room = calls_live calling vm name context first 0 nothing_more host room
 
-  -- one behind which the VM is dead where it answered 0
+  -- one after which the VM is dead where it answered 0
   abbrev pub starts : ℕ → Callback → ℕ → ℕ → Death → H → Room → Course (Both H)
   starts vm name root size death host room = calls_live calling vm name root size 0 (unless_zero vm death) host room
 
   abbrev pub finishes : ContextAt → H → Room → Course (Both H)
-  finishes c host room = calls_live calling c.vm callbacks.Done c.context 0 0 (done_with c) host room
+  finishes c host room = calls_live calling c.vm callbacks.Done c.context 0 0 (finish_context c) host room
 
   abbrev pub forgets : ContextAt → H → Room → Course (Both H)
-  forgets c host room = calls_live calling c.vm callbacks.Delete c.context 0 0 (deletes c) host room
+  forgets c host room = calls_live calling c.vm callbacks.Delete c.context 0 0 (delete_context c) host room
 
   -- the context that was made is told of its making, and of its root
   abbrev pub made_one : Option NewContext → H → Room → Course (Both H)
@@ -821,16 +821,16 @@ module _ {H : Type 0} (calling : H → ℕ → Callback → ℕ → ℕ → ℕ 
   made_with host (c, room) = made_one c host room
 
   abbrev pub roots : ℕ → ℕ → Bool → H → Room → Course (Both H)
-  roots vm plugin first host room = made_with host (rooting vm plugin first room)
+  roots vm plugin first host room = made_with host (create_root vm plugin first room)
 
   abbrev pub streams : ℕ → ℕ → H → Room → Course (Both H)
-  streams number k host room = made_with host (creating number k room)
+  streams number k host room = made_with host (create_context number k room)
 
   abbrev pub ticks_with : ℕ → ℕ → H → Bool × Room → Course (Both H)
   ticks_with vm root host (due, room) = if due then tells vm callbacks.Tick root 0 host room else ends (both host room)
 
   abbrev pub ticks : ℕ → ℕ → H → Room → Course (Both H)
-  ticks vm root host room = ticks_with vm root host (ticked vm root room)
+  ticks vm root host room = ticks_with vm root host (tick_root vm root room)
 
   -- a root is told of an item in a queue
   abbrev pub tells_ready : ℕ → ℕ → ℕ → H → Room → Course (Both H)
@@ -845,34 +845,34 @@ module _ {H : Type 0} (calling : H → ℕ → Callback → ℕ → ℕ → ℕ 
   works_life (jobs.Done c) host room = finishes c host room
   works_life (jobs.Log c) host room = tells c.vm callbacks.Log c.context 0 host room
   works_life (jobs.Delete c) host room = forgets c host room
-  works_life (jobs.Root vm plugin first) host room = ends (both host (quietly (jobs.Root vm plugin first) room))
-  works_life (jobs.Tick vm root) host room = ends (both host (quietly (jobs.Tick vm root) room))
-  works_life jobs.Expire host room = ends (both host (quietly jobs.Expire room))
-  works_life (jobs.Happen what) host room = ends (both host (quietly (jobs.Happen what) room))
-  works_life (jobs.Create number k) host room = ends (both host (quietly (jobs.Create number k) room))
-  works_life (jobs.Enter number) host room = ends (both host (quietly (jobs.Enter number) room))
-  works_life (jobs.Put number response items) host room = ends (both host (quietly (jobs.Put number response items) room))
-  works_life (jobs.Refuse number status) host room = ends (both host (quietly (jobs.Refuse number status) room))
-  works_life (jobs.Close number stays) host room = ends (both host (quietly (jobs.Close number stays) room))
-  works_life (jobs.Notice vm left) host room = ends (both host (quietly (jobs.Notice vm left) room))
-  works_life (jobs.Ready vm root queue) host room = ends (both host (quietly (jobs.Ready vm root queue) room))
-  works_life (jobs.Other step) host room = ends (both host (quietly (jobs.Other step) room))
+  works_life (jobs.Root vm plugin first) host room = ends (both host (run_silent_job (jobs.Root vm plugin first) room))
+  works_life (jobs.Tick vm root) host room = ends (both host (run_silent_job (jobs.Tick vm root) room))
+  works_life jobs.Expire host room = ends (both host (run_silent_job jobs.Expire room))
+  works_life (jobs.Happen what) host room = ends (both host (run_silent_job (jobs.Happen what) room))
+  works_life (jobs.Create number k) host room = ends (both host (run_silent_job (jobs.Create number k) room))
+  works_life (jobs.Enter number) host room = ends (both host (run_silent_job (jobs.Enter number) room))
+  works_life (jobs.Put number response items) host room = ends (both host (run_silent_job (jobs.Put number response items) room))
+  works_life (jobs.Refuse number status) host room = ends (both host (run_silent_job (jobs.Refuse number status) room))
+  works_life (jobs.Close number stays) host room = ends (both host (run_silent_job (jobs.Close number stays) room))
+  works_life (jobs.Notice vm left) host room = ends (both host (run_silent_job (jobs.Notice vm left) room))
+  works_life (jobs.Ready vm root queue) host room = ends (both host (run_silent_job (jobs.Ready vm root queue) room))
+  works_life (jobs.Other step) host room = ends (both host (run_silent_job (jobs.Other step) room))
 
-abbrev pub takes_notice : {H : Type 0} → ℕ → ℕ → H → Room → Course (Both H)
-takes_notice vm left host room = asks vm calls.Notice (λ reply. ends (both host (noticed vm left reply room)))
+abbrev pub ask_notice : {H : Type 0} → ℕ → ℕ → H → Room → Course (Both H)
+ask_notice vm left host room = asks vm calls.Notice (λ reply. ends (both host (take_notice_reply vm left reply room)))
 
 -- a VM that registered queues, and is live, takes a notice
-abbrev pub notices : {H : Type 0} → Plan → ℕ → ℕ → H → Room → Course (Both H)
-notices plan vm left host room =
+abbrev pub notice_step : {H : Type 0} → Plan → ℕ → ℕ → H → Room → Course (Both H)
+notice_step plan vm left host room =
     if (left == 0 || is_dead vm room) || not (nat_lt vm plan.vms) then ends (both host room)
-    else takes_notice vm left host room
+    else ask_notice vm left host room
 
 module _ {H : Type 0} (calling : H → ℕ → Callback → ℕ → ℕ → ℕ → ℕ → Contexts → Program (Called H)) (plan : Plan) where
   abbrev pub works : Job → H → Room → Course (Both H)
   works (jobs.Root vm plugin first) host room = roots calling vm plugin first host room
   works (jobs.Create number k) host room = streams calling number k host room
   works (jobs.Tick vm root) host room = ticks calling vm root host room
-  works (jobs.Notice vm left) host room = notices plan vm left host room
+  works (jobs.Notice vm left) host room = notice_step plan vm left host room
   works (jobs.Ready vm root queue) host room = tells_ready calling vm root queue host room
   works (jobs.Other step) host room = works_life calling (jobs.Other step) host room
   works (jobs.Begin vm) host room = works_life calling (jobs.Begin vm) host room
@@ -897,7 +897,7 @@ module _ {H : Type 0} (calling : H → ℕ → Callback → ℕ → ℕ → ℕ 
   step next.Read host room = reads_next plan room.reading host room
   step (next.Move place) host room = move_at calling place host room
   step next.Work host room = works_first room.jobs host room
-  step (next.Free at) host room = ends (both host (frees at room))
-  step (next.End place) host room = ends (both host (ends_at place room))
-  step next.Begin host room = ends (both host (first_begun room.agenda room))
+  step (next.Free at) host room = ends (both host (release at room))
+  step (next.End place) host room = ends (both host (end_at place room))
+  step next.Begin host room = ends (both host (begin_first_job room.agenda room))
   step next.Rest host room = ends (both host room)

@@ -9,14 +9,14 @@ use Rattle.contexts.specs.declared.parts.Contexts.{Contexts}
 use Rattle.contexts.specs.declared.parts.Plugin.{Plugin}
 use Rattle.contexts.specs.declared.parts.Tick.{Tick}
 use Rattle.contexts.specs.Reached.{vm_in}
-use Rattle.course.specs.Called.{Called}
-use Rattle.course.specs.Course.{Course, ends, then_do}
-use Rattle.course.specs.declared.host.Callback.{Callback}
+use Rattle.filter_host.specs.Called.{Called}
+use Rattle.filter_host.specs.Course.{Course, ends, then_do}
+use Rattle.filter_host.specs.declared.host.Callback.{Callback}
 use Rattle.gate_io.specs.Events.{is_stop}
 use Rattle.gate_io.specs.declared.event.Event.{Event}
 use Rattle.gate_io.specs.declared.event.Sent.{Sent}
 use Rattle.gate_io.specs.declared.event.What.{What}
-use Rattle.outbox.specs.Joined.{joined}
+use Rattle.send_queue.specs.Joined.{join_neighbours}
 use Rattle.store_model.specs.Program.{Program}
 use Rattle.worker_model.specs.Room.{Room}
 use Rattle.worker_model.specs.declared.types.Job.{Job}
@@ -54,10 +54,10 @@ abbrev pub vms_in : Room → ℕ
 vms_in room = first_vms (length room.hub.contexts.vms)
 
 -- at the first event all of them start
-abbrev pub starts : Room → List Job
-starts room = if room.is_begun then [] else starts_of (vms_in room) room.hub.contexts.plugins
+abbrev pub start_jobs : Room → List Job
+start_jobs room = if room.is_begun then [] else starts_of (vms_in room) room.hub.contexts.plugins
 
--- ---- what comes in front of the event, and behind it
+-- ---- what comes in front of the event, and after it
 
 abbrev pub is_due_now : ℕ → Option Tick → Bool
 is_due_now now None = false
@@ -76,8 +76,8 @@ abbrev pub ticks_due : Room → List Job
 ticks_due room = ticks_of room.hub.moment (vms_in room) room.hub.contexts
 
 -- responses may be due where the configuration says for how long they are waited for
-abbrev pub deadlines : Plan → List Job
-deadlines plan = if plan.deadline == 0 then [] else jobs.Expire ∷ []
+abbrev pub deadline_jobs : Plan → List Job
+deadline_jobs plan = if plan.deadline == 0 then [] else jobs.Expire ∷ []
 
 -- each VM that is told of items, of 16 at most: a plug-in names it, and its module registers queues
 abbrev pub registers_at : Option Bool → Bool
@@ -101,7 +101,7 @@ happening what room = if is_of_call (line_in what) then comes_if (callout_at (li
 
 -- THE PARTS OF A TURN, in order: the start of the VMs, ticks, deadlines, the event, notices
 abbrev pub agenda_of : Plan → What → Room → List Job
-agenda_of plan what room = starts room ++ (ticks_due room ++ (deadlines plan ++ (happening what room ++ notices_of plan (vms_in room))))
+agenda_of plan what room = start_jobs room ++ (ticks_due room ++ (deadline_jobs plan ++ (happening what room ++ notices_of plan (vms_in room))))
 
 abbrev pub at_moment : ℕ → Room → Room
 at_moment now room = record room { hub = record room.hub { moment = now } }
@@ -109,8 +109,8 @@ at_moment now room = record room { hub = record room.hub { moment = now } }
 abbrev pub with_agenda : Plan → What → Room → Room
 with_agenda plan what room = record room { agenda = agenda_of plan what room; is_begun = true }
 
-abbrev pub facing : Plan → Event → Room → Room
-facing plan event room = with_agenda plan event.what (at_moment event.now room)
+abbrev pub room_for_event : Plan → Event → Room → Room
+room_for_event plan event room = with_agenda plan event.what (at_moment event.now room)
 
 -- so many steps a turn takes at most
 abbrev pub most_steps : ℕ
@@ -125,17 +125,17 @@ abbrev pub outcome : {H : Type 0} → Both H → List Sent → Outcome H
 outcome state sent = record { state = state; sent = sent }
 
 -- nothing is left to be sent
-abbrev pub emptied : Room → Room
-emptied room = record room { hub = record room.hub { sent = [] } }
+abbrev pub without_sent : Room → Room
+without_sent room = record room { hub = record room.hub { sent = [] } }
 
 -- what a turn comes to: neighbours that are bytes of one line and side are joined
-abbrev pub comes_to : {H : Type 0} → Both H → Outcome H
-comes_to b = outcome (both b.host (emptied b.room)) (joined b.room.hub.sent)
+abbrev pub outcome_of : {H : Type 0} → Both H → Outcome H
+outcome_of b = outcome (both b.host (without_sent b.room)) (join_neighbours b.room.hub.sent)
 
 module _ {H : Type 0} (calling : H → ℕ → Callback → ℕ → ℕ → ℕ → ℕ → Contexts → Program (Called H)) (plan : Plan) where
   -- WHAT A WORKER DOES AT AN EVENT: what it asks of the shared stores, what it reads, and what it comes to. At Stop it does nothing.
   abbrev pub turned : Both H → Event → Course (Outcome H)
-  turned state event = then_do (settling calling plan most_steps state.host (facing plan event state.room)) (λ b. ends (comes_to b))
+  turned state event = then_do (settling calling plan most_steps state.host (room_for_event plan event state.room)) (λ b. ends (outcome_of b))
 
   abbrev pub turn_by : (stop : Bool) → Both H → Event → Course (Outcome H)
   turn_by true state event = ends (outcome state [])

@@ -2,9 +2,9 @@
 use Rattle.std.specs.Prelude.{◌≡◌, ◌⊎◌, ℕ, Bool, true, false, IsTrue, List, [], ◌∷◌, Option}
 use Rattle.std.proofs.Common.{inl, inr}
 use Rattle.contexts.specs.declared.parts.Contexts.{Contexts}
-use Rattle.course.specs.Called.{Called}
-use Rattle.course.specs.Course.{Course, ends, Goes}
-use Rattle.course.specs.declared.host.Callback.{Callback}
+use Rattle.filter_host.specs.Called.{Called}
+use Rattle.filter_host.specs.Course.{Course, ends, Goes}
+use Rattle.filter_host.specs.declared.host.Callback.{Callback}
 use Rattle.gate_io.specs.Events.{is_stop, Last, given, Follows, Obeys}
 use Rattle.gate_io.specs.Passing.{asked}
 use Rattle.gate_io.specs.Told.{Gains}
@@ -13,12 +13,12 @@ use Rattle.gate_io.specs.declared.event.Sent.{Sent}
 use Rattle.gate_io.specs.declared.passed.Passed.{Passed}
 use Rattle.gate_io.specs.declared.passed.Passed.TheVariants.{Asked, Gave}
 use Rattle.gate_io.specs.declared.passed.Wants.{Wants}
-use Rattle.outbox.specs.Delivery.{Delivered, NeverShort}
-use Rattle.outbox.specs.Turns.{OneTurn, HandsOver, to_go}
+use Rattle.send_queue.specs.Delivery.{Delivered, NeverShort}
+use Rattle.send_queue.specs.Turns.{OneTurn, HandsOver, to_go}
 use Rattle.store_model.specs.Made.{Made}
 use Rattle.store_model.specs.Program.{Program}
 use Rattle.worker_model.specs.Rooms.{next_of}
-use Rattle.worker_model.specs.Settling.{rests}
+use Rattle.worker_model.specs.Settling.{is_rest}
 use Rattle.worker_model.specs.State.{Standing, rules_of}
 use Rattle.worker_model.specs.Turn.{Outcome, outcome, turn}
 use Rattle.worker_model.specs.Wants.{wants_of}
@@ -29,8 +29,8 @@ abbrev pub one_turn : Event → List Sent → OneTurn
 one_turn event sent = record { event = event; sent = sent }
 
 -- what a worker asks its world for
-abbrev pub wanted : {H : Type 0} → Standing H → Wants
-wanted from = wants_of (rules_of from.setting) from.state.room from.waiting
+abbrev pub worker_wants : {H : Type 0} → Standing H → Wants
+worker_wants from = wants_of (rules_of from.setting) from.state.room from.waiting
 
 -- what passed, in which no `send` took less than its piece
 pub record TookWhole (old new : Option (List Passed)) : Type 0 where
@@ -38,7 +38,7 @@ pub record TookWhole (old new : Option (List Passed)) : Type 0 where
   pub told : Gains old steps new
   pub never : NeverShort steps
 
--- THE EVENT of a turn: it may come behind the world's last one, it is of what was asked for where the world keeps to that, and since then it is
+-- THE EVENT of a turn: it may come after the world's last one, it is of what was asked for where the world keeps to that, and since then it is
 -- the world's last, with its moment.
 pub record Heard (keeps : Bool) (wants : Wants) (before after : Last) (event : Event) : Type 0 where
   pub follows : Follows before event
@@ -61,11 +61,11 @@ module _ {H S : Type 0} (calling : H → ℕ → Callback → ℕ → ℕ → �
     pub goes : Goes performs s (turn calling (rules_of from.setting) from.state event) (ends (outcome to.state sent)) t
     pub steps : List Passed
     pub told : Gains old steps new
-    pub asks : asked steps ≡ wanted from ∷ []
+    pub asks : asked steps ≡ worker_wants from ∷ []
     pub hands_over : HandsOver from.waiting (one_turn event sent) steps to.waiting
     pub took : to.took ≡ true
     -- (at Stop nothing is done)
-    pub rest : stop ≡ false → rests (next_of to.state.room) ≡ true
+    pub rest : stop ≡ false → is_rest (next_of to.state.room) ≡ true
 
   -- An event other than Stop was given, and memory ran out before anything was handed over. What was called is a front of what the event's
   -- course calls.
@@ -74,7 +74,7 @@ module _ {H S : Type 0} (calling : H → ℕ → Callback → ℕ → ℕ → �
     pub goes_on : is_stop event.what ≡ false
     pub left : Course (Outcome H)
     pub goes : Goes performs s (turn calling (rules_of from.setting) from.state event) left t
-    pub told : Gains old (Asked (wanted from) ∷ Gave event ∷ []) new
+    pub told : Gains old (Asked (worker_wants from) ∷ Gave event ∷ []) new
     pub took : to.took ≡ true
 
   -- An event other than Stop was given, its course went to its end, and memory ran out as what it sends was handed over: at each place a
@@ -87,24 +87,24 @@ module _ {H S : Type 0} (calling : H → ℕ → Callback → ℕ → ℕ → �
     pub taken : List Passed
     pub rest : List Sent
     pub delivered : Delivered (to_go from.waiting (one_turn event end.sent)) taken rest
-    pub told : Gains old (Asked (wanted from) ∷ Gave event ∷ taken) new
+    pub told : Gains old (Asked (worker_wants from) ∷ Gave event ∷ taken) new
     pub took : to.took ≡ true
 
   -- A TURN, by how it ended
   abbrev pub Turned : S → Option (List Passed) → Standing H → Turn → Standing H → S → Option (List Passed) → Type 0
   Turned s old from Went to t new = Whole false s old from to t new
   Turned s old from Stopped to t new = Whole true s old from to t new
-  Turned s old from WorldFault to t new = NoEvent s old from (Asked (wanted from) ∷ []) to t new
+  Turned s old from WorldFault to t new = NoEvent s old from (Asked (worker_wants from) ∷ []) to t new
   Turned s old from OutOfMemory to t new = NoEvent s old from [] to t new ⊎ (Unanswered s old from to t new ⊎ PartlySent s old from to t new)
 
   -- the event of a turn was heard so; where none was given, the world's last is as it was
   abbrev pub HeardIn : Bool → (before after : Last) (s : S) (old : Option (List Passed)) (from : Standing H) (end : Turn) (to : Standing H) (t : S) (new : Option (List Passed)) → Turned s old from end to t new → Type 0
-  HeardIn keeps before after s old from Went to t new whole = Heard keeps (wanted from) before after whole.event
-  HeardIn keeps before after s old from Stopped to t new whole = Heard keeps (wanted from) before after whole.event
+  HeardIn keeps before after s old from Went to t new whole = Heard keeps (worker_wants from) before after whole.event
+  HeardIn keeps before after s old from Stopped to t new whole = Heard keeps (worker_wants from) before after whole.event
   HeardIn keeps before after s old from WorldFault to t new none = after ≡ before
   HeardIn keeps before after s old from OutOfMemory to t new (inl none) = after ≡ before
-  HeardIn keeps before after s old from OutOfMemory to t new (inr (inl cut)) = Heard keeps (wanted from) before after cut.event
-  HeardIn keeps before after s old from OutOfMemory to t new (inr (inr partly)) = Heard keeps (wanted from) before after partly.event
+  HeardIn keeps before after s old from OutOfMemory to t new (inr (inl cut)) = Heard keeps (worker_wants from) before after cut.event
+  HeardIn keeps before after s old from OutOfMemory to t new (inr (inr partly)) = Heard keeps (worker_wants from) before after partly.event
 
   -- A TURN AND ITS EVENT
   abbrev pub TurnedOn : Bool → (before after : Last) (s : S) (old : Option (List Passed)) (from : Standing H) (end : Turn) (to : Standing H) (t : S) (new : Option (List Passed)) → Type 0

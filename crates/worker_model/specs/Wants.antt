@@ -8,9 +8,9 @@ use Rattle.gate_io.specs.declared.event.Sent.{Sent}
 use Rattle.gate_io.specs.declared.event.Side.{Side}
 use Rattle.gate_io.specs.declared.event.Side.TheVariants.{Down, Up}
 use Rattle.gate_io.specs.declared.passed.Wants.{Wants}
-use Rattle.http1_model.specs.Unread.{Reading}
-use Rattle.outbox.specs.Places.{octets_in, marks_at}
-use Rattle.outbox.specs.declared.place.Place.TheVariants.{Peer}
+use Rattle.h1_model.specs.Unread.{Reading}
+use Rattle.send_queue.specs.Places.{octets_in, marks_at}
+use Rattle.send_queue.specs.declared.place.Destination.TheVariants.{Peer}
 use Rattle.worker_model.specs.Room.{Room}
 use Rattle.worker_model.specs.declared.types.Line.{Line}
 use Rattle.worker_model.specs.Plan.{Plan}

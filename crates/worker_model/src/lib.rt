@@ -8,6 +8,6 @@ mod types;
 pub use laws::{more_steps_change_nothing, turns_are_functions, worked_events};
 pub use no_machines::NoMachines;
 pub use types::{
-    Asked, Bodies, Change, ContextAt, Job, Line, NewContext, Next, OtherStep, Own, Reads, Rules,
-    Seen, TcpLine, TcpStep, Turn, Wish,
+    Asked, Bodies, Change, ContextAt, Job, Line, NewContext, Next, OtherStep, Owner, ReadBatch,
+    Rules, Seen, TcpLine, TcpStep, Turn, Wish,
 };

@@ -3,7 +3,7 @@ ghost use Rattle.std.specs.Prelude.{false};
 ghost use Rattle.worker_model.specs.NoCalls.{no_calling};
 
 use contexts::Contexts;
-use course::{Answer, CallEnd, Callback, Host};
+use filter_host::{Answer, Callback, CallbackEnd, Host};
 use gate_base::{Members, OutOfMemory, VmNo};
 use std::alloc::Global;
 use store_model::Shared;
@@ -45,7 +45,7 @@ impl Host for NoMachines {
         _shared: &mut S,
     ) -> Result<Answer, OutOfMemory> {
         Ok(Answer {
-            end: CallEnd::Returned { value: None },
+            end: CallbackEnd::Returned { value: None },
             lines: Members::new(alloc),
         })
     }

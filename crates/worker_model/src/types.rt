@@ -1,13 +1,13 @@
 // What is said between the parts of a worker.
 use callouts::CallStep;
 use exchange::{Exchange, Filter};
-use filter_chain::{Ask, Chain, Item};
+use filter_chain::{Ask, Chain, ChainItem};
 use gate_base::{ContextId, LineNo, Octets, QueueId, VmNo};
 use gate_config::Config;
 use gate_io::What;
+use gate_queue::Queue;
 use h1_stream::MessageReader;
 use header_maps::HeaderList;
-use queue::Queue;
 
 /// Which bodies a plug-in filters: whether its VM's module exports the callbacks for them.
 #[derive(Clone, Copy)]
@@ -53,11 +53,11 @@ pub struct Wish {
 
 /// A side of a line that is being read, and what was read of it.
 #[derive(Drop)]
-pub struct Reads {
+pub struct ReadBatch {
     pub line: LineNo,
     /// It is the server's.
     pub up: bool,
-    pub batch: Queue<Item>,
+    pub batch: Queue<ChainItem>,
 }
 
 /// A context of a VM.
@@ -161,7 +161,7 @@ pub enum Job {
     Put {
         line: LineNo,
         response: bool,
-        items: Queue<Item>,
+        items: Queue<ChainItem>,
     },
     /// What was read is refused.
     Refuse {
@@ -178,7 +178,7 @@ pub enum Job {
     Delete {
         of: ContextAt,
     },
-    /// Behind an exchange the line stays open, or is closed.
+    /// After an exchange the line stays open, or is closed.
     Close {
         line: LineNo,
         stays: bool,
@@ -214,7 +214,7 @@ pub enum Next {
 
 /// Whose callback it is: of a stage, by its context and direction, or of none.
 #[derive(Clone, Copy)]
-pub enum Own {
+pub enum Owner {
     Nobody,
     Stage { context: ContextId, response: bool },
 }
@@ -243,7 +243,7 @@ pub enum Change {
     },
     Put {
         response: bool,
-        items: Queue<Item>,
+        items: Queue<ChainItem>,
     },
 }
 

@@ -2,7 +2,7 @@
 use Rattle.std.proofs.Common.{◌≡◌, ◌<◌, get_or, zero, ℕ, ◌==◌, suc, List, [], ◌∷◌, length, map, Bool, true, false, refl, ap, ◌∙◌, arith, Some}
 use Rattle.std.specs.Prelude.{◌||◌, cond, IsSome, option_map, Result, Ok, Err, OnOk, is_ok}
 use Rattle.contexts.specs.declared.parts.Context.{Context}
-use Rattle.contexts.specs.Keyed.{found}
+use Rattle.contexts.specs.Keyed.{first_of_number}
 use Rattle.contexts.specs.Reached.{tick_in, contains, context_no}
 
 or_true : (b : Bool) → (b || true) ≡ true
@@ -20,7 +20,7 @@ pub tick_known : (root : ℕ) (cs : List Context) → IsSome (tick_in cs root) �
 tick_known root [] is = absurd (cc)
 tick_known root (c ∷ cs) is = by (tick_known root cs) (c.id == root) is
   where
-    by : (IsSome (tick_in cs root) → contains root (map context_no cs) ≡ true) → (b : Bool) → IsSome (option_map (λ (x : Context). x.tick) (cond b (Some c) (found context_no root cs)))
+    by : (IsSome (tick_in cs root) → contains root (map context_no cs) ≡ true) → (b : Bool) → IsSome (option_map (λ (x : Context). x.tick) (cond b (Some c) (first_of_number context_no root cs)))
         → (b || contains root (map context_no cs)) ≡ true
     by later true is = refl
     by later false is = later is

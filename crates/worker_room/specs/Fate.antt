@@ -1,4 +1,4 @@
--- What becomes of a line behind an exchange, by the code's names.
+-- What becomes of a line after an exchange, by the code's names.
 use Rattle.std.specs.Prelude.{Bool, Option, None, Some, if◌then◌else◌}
 use Rattle.worker_model.specs.declared.types.Line.{Line}
 use Rattle.worker_room.specs.declared.happening.Fate.{Fate}

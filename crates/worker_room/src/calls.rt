@@ -1,14 +1,14 @@
 // Callbacks, and all that comes of them.
 ghost use Rattle.std.specs.Prelude.{◌≡◌, ◌≤◌, Some, None, Option};
-ghost use Rattle.course.specs.Course.{Ends};
-ghost use Rattle.worker_model.specs.Steps.{both, answered, called_in, called_live};
+ghost use Rattle.filter_host.specs.Course.{Ends};
+ghost use Rattle.worker_model.specs.Steps.{both, callback_result, called_in, called_live};
 
 use crate::room::{Room, value_of};
-use course::{Callback, Host};
+use filter_host::{Callback, Host};
 use gate_base::{ContextId, OutOfMemory, VmNo};
 use std::alloc::Global;
 use store_model::Shared;
-use worker_model::Own;
+use worker_model::Owner;
 
 /// A callback: what it wrote into the log is sent, and then its effects are done, or its VM is dead. What it returned, if it did.
 pub fn call_back<H: Host, S: Shared>(
@@ -20,13 +20,13 @@ pub fn call_back<H: Host, S: Shared>(
     context: ContextId,
     first: u32,
     second: u32,
-    own: Own,
+    own: Owner,
     shared: &mut S,
 ) -> Result<Option<Option<u32>>, OutOfMemory>
     requires stores { H.needs host.old ≤ S.stores shared.old }
     ensures needs { H.needs host.new ≡ H.needs host.old }
     ensures stores { S.stores shared.new ≡ S.stores shared.old }
-    ensures run { Ends S.performs shared.old (called_in H.calling vm name context first second own host.old room.old) (λ v. answered v (both host.new room.new)) result shared.new }
+    ensures run { Ends S.performs shared.old (called_in H.calling vm name context first second own host.old room.old) (λ v. callback_result v (both host.new room.new)) result shared.new }
 {
     let moment = room.hub.moment;
     let id = context.get();
@@ -52,7 +52,7 @@ pub fn call_live<H: Host, S: Shared>(
     requires stores { H.needs host.old ≤ S.stores shared.old }
     ensures needs { H.needs host.new ≡ H.needs host.old }
     ensures stores { S.stores shared.new ≡ S.stores shared.old }
-    ensures run { Ends S.performs shared.old (called_live H.calling vm name context first second host.old room.old) (λ v. answered v (both host.new room.new)) result shared.new }
+    ensures run { Ends S.performs shared.old (called_live H.calling vm name context first second host.old room.old) (λ v. callback_result v (both host.new room.new)) result shared.new }
 {
     if room.is_dead(vm) {
         return Ok(None);
@@ -66,7 +66,7 @@ pub fn call_live<H: Host, S: Shared>(
         context,
         first,
         second,
-        Own::Nobody,
+        Owner::Nobody,
         shared,
     )
 }

@@ -2,22 +2,22 @@
 ghost use Rattle.std.specs.Prelude.{◌≡◌, ◌-◌, [], ◌∷◌, ◌++◌, OnOk, IfOk, option_copied, Some, None};
 ghost use Rattle.gate_io.specs.declared.event.Side.TheVariants.{Down};
 ghost use Rattle.worker_model.specs.declared.types.Job.TheVariants as job;
-ghost use Rattle.worker_model.specs.Changes.{changed};
+ghost use Rattle.worker_model.specs.Changes.{apply_change};
 ghost use Rattle.worker_room.specs.Fate.{fate_of};
-ghost use Rattle.worker_model.specs.Rooms.{sending, on_number};
-ghost use Rattle.worker_model.specs.Steps.{drops_line, closes_line, reads_side, line_ends, fixed_answer, refusal_sent, refuses_in, refuses_line, opens, comes, comes_on, is_answered_in, is_read_in, loses_down, is_missed, loses_up, lost, happens, expires_all, line_in, exchange_of_line, exchange_on, noticed, in_front, behind_rest};
+ghost use Rattle.worker_model.specs.Rooms.{room_with_sent, on_number};
+ghost use Rattle.worker_model.specs.Steps.{drop_line, close_line, read_side, end_line, fixed_answer, refusal_sent, refuse_in, refuse_line, accept_line, receive, receive_on, is_answered_in, is_read_in, lose_client, is_missed, lose_server, line_without_client, take_event, expire_all, line_in, exchange_of_line, exchange_on, take_notice_reply, with_jobs_first, with_agenda_first};
 
 use crate::room::Room;
 use exchange::{Exchange, is_final, send};
 use gate_base::{LineNo, OutOfMemory, VmNo};
 use gate_io::{Sent, Side, What};
+use gate_queue::Queue;
 use header_maps::HeaderList;
 use local_reply::local;
-use queue::Queue;
 use std::alloc::Global;
 use store_model::Reply;
 use worker_lines::{exchange_of, is_open};
-use worker_model::{Change, Job, Line, Reads};
+use worker_model::{Change, Job, Line, ReadBatch};
 
 /// So many lines are open at most.
 const MOST_LINES: usize = 128;
@@ -58,7 +58,7 @@ fn is_missed(x: Option<&Exchange>) -> bool
     }
 }
 
-/// What becomes of a line behind an exchange.
+/// What becomes of a line after an exchange.
 #[derive(Clone, Copy)]
 enum Fate {
     Nothing,
@@ -67,7 +67,7 @@ enum Fate {
     Read,
 }
 
-/// What becomes of a line behind an exchange.
+/// What becomes of a line after an exchange.
 fn fate_of(line: Option<&Line>, stays: bool) -> Fate
     ensures { result ≡ fate_of stays (option_copied line.entry) }
 {
@@ -88,7 +88,7 @@ fn fate_of(line: Option<&Line>, stays: bool) -> Fate
 impl Room {
     /// A line is there no more.
     fn drop_line(&mut self, number: LineNo)
-        ensures { self.new ≡ drops_line number self.old }
+        ensures { self.new ≡ drop_line number self.old }
     {
         let place = self.lines.place_in(number);
         self.lines.remove(place);
@@ -96,7 +96,7 @@ impl Room {
 
     /// A line is closed.
     fn close_line(&mut self, number: LineNo) -> Result<(), OutOfMemory>
-        ensures { OnOk result (self.new ≡ closes_line number self.old) }
+        ensures { OnOk result (self.new ≡ close_line number self.old) }
     {
         self.drop_line(number);
         self.send(Sent::Close {
@@ -107,23 +107,23 @@ impl Room {
 
     /// A side of a line is read.
     fn read_side(&mut self, alloc: Global, number: LineNo, up: bool)
-        ensures { self.new ≡ reads_side number up self.old }
+        ensures { self.new ≡ read_side number up self.old }
     {
-        self.reading = Some(Reads {
+        self.reading = Some(ReadBatch {
             line: number,
             up,
             batch: Queue::new(alloc),
         });
     }
 
-    /// Behind an exchange the line stays open, or is closed.
+    /// After an exchange the line stays open, or is closed.
     pub fn end_line(
         &mut self,
         alloc: Global,
         number: LineNo,
         stays: bool,
     ) -> Result<(), OutOfMemory>
-        ensures { OnOk result (self.new ≡ line_ends (line_in number self.old.lines) number stays self.old) }
+        ensures { OnOk result (self.new ≡ end_line (line_in number self.old.lines) number stays self.old) }
     {
         match fate_of(self.lines.line(number), stays) {
             Fate::Nothing => Ok(()),
@@ -159,7 +159,7 @@ impl Room {
 
     /// An answer where there is no exchange; the line is closed.
     fn refuse_text(&mut self, alloc: Global, number: LineNo, status: u16) -> Result<(), OutOfMemory>
-        ensures { OnOk result (self.new ≡ refuses_in number status None self.old) }
+        ensures { OnOk result (self.new ≡ refuse_in number status None self.old) }
     {
         self.send_refusal(alloc, number, status)?;
         self.close_line(number)
@@ -172,7 +172,7 @@ impl Room {
         number: LineNo,
         status: u16,
     ) -> Result<(), OutOfMemory>
-        ensures { OnOk result (self.new ≡ refuses_line (line_in number self.old.lines) number status self.old) }
+        ensures { OnOk result (self.new ≡ refuse_line (line_in number self.old.lines) number status self.old) }
     {
         let Some(line) = self.lines.line(number) else {
             return Ok(());
@@ -185,7 +185,7 @@ impl Room {
 
     /// A connection was opened.
     fn open(&mut self, alloc: Global, number: LineNo) -> Result<(), OutOfMemory>
-        ensures { OnOk result (self.new ≡ opens number self.old) }
+        ensures { OnOk result (self.new ≡ accept_line number self.old) }
     {
         if self.lines.place_in(number).is_some() {
             return Ok(());
@@ -208,7 +208,7 @@ impl Room {
         ends: bool,
         bytes: &[u8],
     ) -> Result<(), OutOfMemory>
-        ensures { OnOk result (self.new ≡ comes up ends bytes.now number self.old) }
+        ensures { OnOk result (self.new ≡ receive up ends bytes.now number self.old) }
     {
         self.lines.see(number);
         let line = self.lines.line(number);
@@ -226,7 +226,7 @@ impl Room {
 
     /// The client's connection is gone.
     fn lose_down(&mut self, number: LineNo)
-        ensures { self.new ≡ loses_down number (line_in number self.old.lines) self.old }
+        ensures { self.new ≡ lose_client number (line_in number self.old.lines) self.old }
     {
         let Some(line) = self.lines.line(number) else {
             return;
@@ -240,7 +240,7 @@ impl Room {
 
     /// The server's connection is gone, or was refused.
     fn lose_up(&mut self, alloc: Global, number: LineNo) -> Result<(), OutOfMemory>
-        ensures { OnOk result (self.new ≡ loses_up number (exchange_on number self.old) self.old) }
+        ensures { OnOk result (self.new ≡ lose_server number (exchange_on number self.old) self.old) }
     {
         if !is_missed(exchange_of(self.lines.line(number))) {
             return Ok(());
@@ -250,7 +250,7 @@ impl Room {
 
     /// What happens.
     pub fn happen(&mut self, alloc: Global, what: &What) -> Result<(), OutOfMemory>
-        ensures { OnOk result (self.new ≡ happens what.now self.old) }
+        ensures { OnOk result (self.new ≡ take_event what.now self.old) }
     {
         match what {
             What::Opened { line } => self.open(alloc, *line),
@@ -293,7 +293,7 @@ impl Room {
 
     /// Responses that are due are answered for.
     pub fn expire(&mut self, alloc: Global) -> Result<(), OutOfMemory>
-        ensures { OnOk result (self.new ≡ expires_all self.old) }
+        ensures { OnOk result (self.new ≡ expire_all self.old) }
     {
         if !self.lines.is_any_late(self.hub.moment) {
             return Ok(());
@@ -303,7 +303,7 @@ impl Room {
 
     /// The next notice is taken once all is at rest.
     fn put_notice(&mut self, alloc: Global, vm: VmNo, left: u8) -> Result<(), OutOfMemory>
-        ensures { OnOk result (self.new ≡ behind_rest (job.Notice vm (left - 1) ∷ []) self.old) }
+        ensures { OnOk result (self.new ≡ with_agenda_first (job.Notice vm (left - 1) ∷ []) self.old) }
     {
         let mut jobs = Queue::new(alloc);
         jobs.push(Job::Notice {
@@ -321,7 +321,7 @@ impl Room {
         left: u8,
         reply: Reply,
     ) -> Result<(), OutOfMemory>
-        ensures { OnOk result (self.new ≡ noticed vm left reply self.old) }
+        ensures { OnOk result (self.new ≡ take_notice_reply vm left reply self.old) }
     {
         match reply {
             Reply::Owed { root, queue } => {

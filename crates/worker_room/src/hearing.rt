@@ -1,48 +1,48 @@
 // What a side of a line spells is read.
 ghost use Rattle.worker_model.specs.Plan.{plan_of};
 ghost use Rattle.std.specs.Prelude.{◌≡◌, [], ◌∷◌, ◌++◌, OnOk, IfOk, option_copied, Some, None};
-ghost use Rattle.exchange.specs.Leaving.{sends};
+ghost use Rattle.exchange.specs.Leaving.{hub_with_sent};
 ghost use Rattle.exchange.specs.Maps.{put_response, put_request_trailers, put_response_trailers, with_fields};
 ghost use Rattle.gate_io.specs.declared.event.Side.TheVariants.{Down};
 ghost use Rattle.h1_head.specs.Seen.{seen_head};
 ghost use Rattle.h1_stream.specs.Seen.{seen_part};
 ghost use Rattle.header_maps.specs.Operations.{no_headers};
-ghost use Rattle.http1_model.specs.Messages.{rest, over, refusal};
-ghost use Rattle.http1_model.specs.Unread.{head_part, interim_part, piece, trailer_part};
+ghost use Rattle.h1_model.specs.Messages.{rest, over, refusal};
+ghost use Rattle.h1_model.specs.Unread.{head_part, interim_part, piece, trailer_part};
 ghost use Rattle.worker_lines.specs.Hearing.{takes_step};
-ghost use Rattle.worker_model.specs.Rooms.{sending, with_contexts};
+ghost use Rattle.worker_model.specs.Rooms.{room_with_sent, with_contexts};
 ghost use Rattle.worker_model.specs.Plan.{Plan};
-ghost use Rattle.worker_model.specs.Steps.{ReadOn, ReadSo, reading_on, interim_heard, hands_part, stops, takes, joins, head_item, interim_of, put_trailers, in_contexts, exchange_on, exchange_of_line, line_in, on_lines, change_line, keeps_response, noted, with_item, is_last, reading_ends, jobs_of, begins_with_head, begins_for, begins_exchange, creates, puts_items, refuses, begun, in_front};
+ghost use Rattle.worker_model.specs.Steps.{ReadOn, ReadSo, reading_on, take_interim, take_part, end_of_read, take_read_item, add_read_item, head_item, interim_of, put_trailers, in_contexts, exchange_on, exchange_of_line, line_in, on_lines, change_line, with_response_head, with_read_mark, with_item, is_last, end_reading, jobs_of, begins_with_head, begin_jobs_for, exchange_jobs, create_jobs, put_jobs, refuse_jobs, begin_exchange_on, with_jobs_first};
 
 use crate::room::Room;
 use exchange::{
     Exchange, fields_map, interim_bytes, is_bare, put_request_trailers, put_response,
     put_response_trailers, send,
 };
-use filter_chain::Item;
+use filter_chain::ChainItem;
 use gate_base::{LineNo, Octets, OutOfMemory};
 use gate_io::Side;
+use gate_queue::Queue;
 use h1_head::{Head, Item as Part};
 use h1_stream::Step;
 use header_maps::HeaderList;
-use queue::Queue;
 use std::alloc::Global;
 use worker_lines::{exchange_of, is_last};
-use worker_model::{Job, Reads, Rules};
+use worker_model::{Job, ReadBatch, Rules};
 
 /// Whether a head is the first of some items.
-fn begins_with_head(items: &[Item]) -> bool
+fn begins_with_head(items: &[ChainItem]) -> bool
     ensures { result ≡ begins_with_head items.now }
 {
     match items.first() {
-        Some(Item::Head { .. }) => true,
+        Some(ChainItem::Head { .. }) => true,
         _ => false,
     }
 }
 
 /// The contexts of so many filters are made.
 fn push_creates(jobs: &mut Queue<Job>, line: LineNo, count: usize) -> Result<(), OutOfMemory>
-    ensures { OnOk result (jobs.new ≡ jobs.old ++ creates line count) }
+    ensures { OnOk result (jobs.new ≡ jobs.old ++ create_jobs line count) }
 {
     for at in 0..count {
         jobs.push(Job::Create { line, at })?;
@@ -55,9 +55,9 @@ fn push_puts(
     jobs: &mut Queue<Job>,
     line: LineNo,
     response: bool,
-    items: Queue<Item>,
+    items: Queue<ChainItem>,
 ) -> Result<(), OutOfMemory>
-    ensures { OnOk result (jobs.new ≡ jobs.old ++ puts_items line response items) }
+    ensures { OnOk result (jobs.new ≡ jobs.old ++ put_jobs line response items) }
 {
     if items.is_empty() {
         return Ok(());
@@ -71,7 +71,7 @@ fn push_puts(
 
 /// What was read is refused, where it is.
 fn push_refusal(jobs: &mut Queue<Job>, line: LineNo, status: Option<u16>) -> Result<(), OutOfMemory>
-    ensures { OnOk result (jobs.new ≡ jobs.old ++ refuses line status) }
+    ensures { OnOk result (jobs.new ≡ jobs.old ++ refuse_jobs line status) }
 {
     match status {
         None => Ok(()),
@@ -79,14 +79,14 @@ fn push_refusal(jobs: &mut Queue<Job>, line: LineNo, status: Option<u16>) -> Res
     }
 }
 
-/// What is done behind a request's head.
+/// What is done after a request's head.
 fn begin_jobs(
     alloc: Global,
-    r: Reads,
+    r: ReadBatch,
     status: Option<u16>,
     x: &Exchange,
 ) -> Result<Queue<Job>, OutOfMemory>
-    ensures { IfOk result (λ jobs. jobs ≡ begins_exchange r status x.now x.now.refusal) }
+    ensures { IfOk result (λ jobs. jobs ≡ exchange_jobs r status x.now x.now.refusal) }
 {
     let mut jobs = Queue::new(alloc);
     if let Some(refusal) = x.refusal {
@@ -104,8 +104,8 @@ fn begin_jobs(
 }
 
 /// What is done behind other items.
-fn put_jobs(alloc: Global, r: Reads, status: Option<u16>) -> Result<Queue<Job>, OutOfMemory>
-    ensures { IfOk result (λ jobs. jobs ≡ puts_items r.line r.up r.batch ++ refuses r.line status) }
+fn put_jobs(alloc: Global, r: ReadBatch, status: Option<u16>) -> Result<Queue<Job>, OutOfMemory>
+    ensures { IfOk result (λ jobs. jobs ≡ put_jobs r.line r.up r.batch ++ refuse_jobs r.line status) }
 {
     let mut jobs = Queue::new(alloc);
     push_puts(&mut jobs, r.line, r.up, r.batch)?;
@@ -114,11 +114,11 @@ fn put_jobs(alloc: Global, r: Reads, status: Option<u16>) -> Result<Queue<Job>, 
 }
 
 impl Room {
-    /// What is done behind what was read.
+    /// What is done after what was read.
     fn jobs_of(
         &self,
         alloc: Global,
-        r: Reads,
+        r: ReadBatch,
         status: Option<u16>,
     ) -> Result<Queue<Job>, OutOfMemory>
         ensures { IfOk result (λ jobs. jobs ≡ jobs_of r status self.now) }
@@ -136,10 +136,10 @@ impl Room {
     fn end_reading(
         &mut self,
         alloc: Global,
-        r: Reads,
+        r: ReadBatch,
         status: Option<u16>,
     ) -> Result<(), OutOfMemory>
-        ensures { OnOk result (self.new ≡ reading_ends r status self.old) }
+        ensures { OnOk result (self.new ≡ end_reading r status self.old) }
     {
         let jobs = self.jobs_of(alloc, r, status)?;
         self.reading = None;
@@ -147,8 +147,8 @@ impl Room {
     }
 
     /// An item joins what was read.
-    fn join(&mut self, alloc: Global, r: Reads, item: Item) -> Result<(), OutOfMemory>
-        ensures { OnOk result (self.new ≡ joins r item self.old) }
+    fn join(&mut self, alloc: Global, r: ReadBatch, item: ChainItem) -> Result<(), OutOfMemory>
+        ensures { OnOk result (self.new ≡ add_read_item r item self.old) }
     {
         let last = is_last(&item);
         let mut r = r;
@@ -161,8 +161,8 @@ impl Room {
     }
 
     /// An item was read.
-    fn take(&mut self, alloc: Global, r: Reads, item: Item) -> Result<(), OutOfMemory>
-        ensures { OnOk result (self.new ≡ takes r item self.old) }
+    fn take(&mut self, alloc: Global, r: ReadBatch, item: ChainItem) -> Result<(), OutOfMemory>
+        ensures { OnOk result (self.new ≡ take_read_item r item self.old) }
     {
         self.lines.note(r.line, r.up, &item);
         self.join(alloc, r, item)
@@ -170,7 +170,7 @@ impl Room {
 
     /// The head of a response was read.
     fn hear_response(&mut self, number: LineNo, head: Head)
-        ensures { self.new ≡ on_lines (change_line (keeps_response (seen_head head))) number (in_contexts (put_response (seen_head head).fields) (exchange_on number self.old) self.old) }
+        ensures { self.new ≡ on_lines (change_line (with_response_head (seen_head head))) number (in_contexts (put_response (seen_head head).fields) (exchange_on number self.old) self.old) }
     {
         let place = match exchange_of(self.lines.line(number)) {
             None => None,
@@ -187,10 +187,10 @@ impl Room {
         &mut self,
         alloc: Global,
         rules: &Rules,
-        r: Reads,
+        r: ReadBatch,
         head: Head,
     ) -> Result<(), OutOfMemory>
-        ensures { OnOk result (self.new ≡ hands_part (plan_of rules.now) r (head_part (seen_head head)) self.old) }
+        ensures { OnOk result (self.new ≡ take_part (plan_of rules.now) r (head_part (seen_head head)) self.old) }
     {
         let end = is_bare(head.length);
         if r.up {
@@ -198,7 +198,7 @@ impl Room {
         } else {
             self.begin_exchange(alloc, rules, r.line, head)?;
         }
-        self.take(alloc, r, Item::Head { end })
+        self.take(alloc, r, ChainItem::Head { end })
     }
 
     /// The bytes of an interim head, if it goes down.
@@ -217,8 +217,8 @@ impl Room {
     }
 
     /// An interim head was read.
-    fn hear_interim(&mut self, alloc: Global, r: Reads, head: Head) -> Result<(), OutOfMemory>
-        ensures { OnOk result (self.new ≡ interim_heard r (seen_head head) self.old) }
+    fn hear_interim(&mut self, alloc: Global, r: ReadBatch, head: Head) -> Result<(), OutOfMemory>
+        ensures { OnOk result (self.new ≡ take_interim r (seen_head head) self.old) }
     {
         let bytes = self.interim_of(alloc, r.line, &head)?;
         send(&mut self.hub, r.line, Side::Down, bytes)?;
@@ -254,25 +254,25 @@ impl Room {
         &mut self,
         alloc: Global,
         rules: &Rules,
-        r: Reads,
+        r: ReadBatch,
         part: Part,
     ) -> Result<(), OutOfMemory>
-        ensures { OnOk result (self.new ≡ hands_part (plan_of rules.now) r (seen_part part) self.old) }
+        ensures { OnOk result (self.new ≡ take_part (plan_of rules.now) r (seen_part part) self.old) }
     {
         match part {
             Part::Head { head, .. } => self.hear_head(alloc, rules, r, head),
             Part::Interim { head } => self.hear_interim(alloc, r, head),
-            Part::Piece { bytes, end } => self.take(alloc, r, Item::Piece { bytes, end }),
+            Part::Piece { bytes, end } => self.take(alloc, r, ChainItem::Piece { bytes, end }),
             Part::Trailers { fields } => {
                 self.keep_trailers(alloc, r.line, r.up, &fields)?;
-                self.take(alloc, r, Item::Trailers)
+                self.take(alloc, r, ChainItem::Trailers)
             }
         }
     }
 
     /// The text is over.
-    fn hear_over(&mut self, alloc: Global, r: Reads) -> Result<(), OutOfMemory>
-        ensures { OnOk result (self.new ≡ stops r over self.old) }
+    fn hear_over(&mut self, alloc: Global, r: ReadBatch) -> Result<(), OutOfMemory>
+        ensures { OnOk result (self.new ≡ end_of_read r over self.old) }
     {
         let line = r.line;
         let closes = !r.up && exchange_of(self.lines.line(line)).is_none();
@@ -290,7 +290,7 @@ impl Room {
         &mut self,
         alloc: Global,
         rules: &Rules,
-        r: Reads,
+        r: ReadBatch,
         step: Step,
     ) -> Result<(), OutOfMemory>
         ensures { OnOk result (self.new ≡ takes_step (plan_of rules.now) r step self.old) }
@@ -314,7 +314,7 @@ impl Room {
     }
 
     /// The same of a reading that is in hand.
-    fn read_on(&mut self, alloc: Global, rules: &Rules, r: Reads) -> Result<(), OutOfMemory>
+    fn read_on(&mut self, alloc: Global, rules: &Rules, r: ReadBatch) -> Result<(), OutOfMemory>
         ensures { OnOk result (ReadSo (plan_of rules.now) r (reading_on r self.old) self.old self.new) }
     {
         self.reading = None;

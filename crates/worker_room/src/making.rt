@@ -5,15 +5,15 @@ ghost use Rattle.contexts.specs.Creating.{plugin_in};
 ghost use Rattle.contexts.specs.Reached.{vm_in, tick_in};
 ghost use Rattle.h1_head.specs.Seen.{seen_head};
 ghost use Rattle.worker_model.specs.Rooms.{on_number};
-ghost use Rattle.worker_model.specs.Steps.{root_jobs, may_root, may_stream, is_drawn_out, rooting, streaming, creating, entering, free_place, begun, ticked, next_tick, with_tick};
+ghost use Rattle.worker_model.specs.Steps.{root_jobs, may_root, may_stream, is_drawn_out, create_root, create_stream, create_context, enter_stages, free_place, begin_exchange_on, tick_root, next_tick, with_tick};
 
 use crate::room::Room;
-use contexts::{Context, Contexts, Exchange as Marked, Tick};
-use course::Death;
+use contexts::{Context, Contexts, ExchangeEntry as Marked, Tick};
 use exchange::{Filter, path_route};
+use filter_host::Death;
 use gate_base::{ContextId, LineNo, OutOfMemory, VmNo};
+use gate_queue::Queue;
 use h1_head::Head;
-use queue::Queue;
 use std::alloc::{AllocError, Global};
 use worker_lines::new_exchange;
 use worker_model::{Job, NewContext, Rules};
@@ -41,7 +41,7 @@ fn may_root(h: &Contexts, vm: VmNo, plugin: usize) -> bool
     }
 }
 
-/// What comes behind the making of a root.
+/// What comes after the making of a root.
 fn root_jobs(
     alloc: Global,
     vm: VmNo,
@@ -144,7 +144,7 @@ impl Room {
         plugin: usize,
         first: bool,
     ) -> Result<Option<NewContext>, OutOfMemory>
-        ensures { IfOk result (λ c. rooting vm plugin first self.old ≡ (c, self.new)) }
+        ensures { IfOk result (λ c. create_root vm plugin first self.old ≡ (c, self.new)) }
     {
         if self.is_dead(vm) || !may_root(&self.hub.contexts, vm, plugin) {
             return Ok(None);
@@ -172,7 +172,7 @@ impl Room {
         f: Filter,
         root: ContextId,
     ) -> Result<Option<NewContext>, OutOfMemory>
-        ensures { IfOk result (λ c. streaming number k f (Some root) self.old ≡ (c, self.new)) }
+        ensures { IfOk result (λ c. create_stream number k f (Some root) self.old ≡ (c, self.new)) }
     {
         let vm = f.vm;
         if self.is_dead(vm) || !may_stream(&self.hub.contexts, vm, root) {
@@ -202,7 +202,7 @@ impl Room {
         number: LineNo,
         k: usize,
     ) -> Result<Option<NewContext>, OutOfMemory>
-        ensures { IfOk result (λ c. creating number k self.old ≡ (c, self.new)) }
+        ensures { IfOk result (λ c. create_context number k self.old ≡ (c, self.new)) }
     {
         let Some(f) = self.lines.filter_at(number, k) else {
             return Ok(None);
@@ -215,7 +215,7 @@ impl Room {
 
     /// The stages of an exchange are made.
     pub fn enter(&mut self, alloc: Global, number: LineNo) -> Result<(), OutOfMemory>
-        ensures { OnOk result (self.new ≡ on_number (entering self.old.dead) number self.old) }
+        ensures { OnOk result (self.new ≡ on_number (enter_stages self.old.dead) number self.old) }
     {
         let place = self.lines.place_in(number);
         self.lines
@@ -230,7 +230,7 @@ impl Room {
         number: LineNo,
         head: Head,
     ) -> Result<(), OutOfMemory>
-        ensures { OnOk result (self.new ≡ begun (plan_of rules.now) number (seen_head head) self.old) }
+        ensures { OnOk result (self.new ≡ begin_exchange_on (plan_of rules.now) number (seen_head head) self.old) }
     {
         let route = path_route(&rules.config, &head.fields);
         let moment = self.hub.moment;
@@ -251,7 +251,7 @@ impl Room {
 
     /// Whether a root is due, which is due again one period from now then.
     pub fn tick(&mut self, vm: VmNo, root: ContextId) -> bool
-        ensures { ticked vm root self.old ≡ (result, self.new) }
+        ensures { tick_root vm root self.old ≡ (result, self.new) }
     {
         let Some(Some(t)) = tick_in(&self.hub.contexts, vm, root) else {
             return false;

@@ -1,26 +1,26 @@
 // What a worker is, but for its machines and its rules.
 ghost use Rattle.std.specs.List.{list_any};
 ghost use Rattle.std.specs.Prelude.{◌≡◌, [], ◌∷◌, ◌++◌, ◌==◌, ◌<◌, length, OnOk, IfOk, position, slice_get, codes, Some, None};
-ghost use Rattle.contexts.specs.Creating.{ended, awaited, deleted};
+ghost use Rattle.contexts.specs.Creating.{end_exchange, await_done_of, delete_id};
 ghost use Rattle.contexts.specs.Reached.{vm_in, contains};
-ghost use Rattle.exchange.specs.Leaving.{sends};
+ghost use Rattle.exchange.specs.Leaving.{hub_with_sent};
 ghost use Rattle.gate_io.specs.declared.event.Side.TheVariants.{Up};
-ghost use Rattle.worker_model.specs.Changes.{changed};
-ghost use Rattle.worker_model.specs.Rooms.{next_of, next_part, is_dead, is_released, on_number, on_context, with_contexts, sending, is_own, does, effects_of, without_effects, trap_word, death_word, death_text, died, behind, valued, answered_with};
-ghost use Rattle.worker_model.specs.Steps.{in_front, unless_zero, is_zero, action_of, has_vm, waits, last_jobs, done_with, deletes, acts_on, done_jobs, close_up, ends_exchange, ends_at, first_begun, frees, frees_at, nothing_more, behind_rest};
+ghost use Rattle.worker_model.specs.Changes.{apply_change};
+ghost use Rattle.worker_model.specs.Rooms.{next_of, next_part, is_dead, is_released, on_number, on_context, with_contexts, room_with_sent, is_own, apply_effect, effects_of, without_effects, trap_word, death_word, death_text, lose_vm_in, after_callback, value_of_end, take_callback_end};
+ghost use Rattle.worker_model.specs.Steps.{with_jobs_first, unless_zero, is_zero, action_of, has_vm, await_done, last_jobs, finish_context, delete_context, apply_stage_action, done_jobs, close_up, end_exchange_of, end_at, begin_first_job, release, release_at, nothing_more, with_agenda_first};
 
 use callouts::Callout;
-use contexts::{Contexts, Effect, What};
-use course::{CallEnd, Death};
+use contexts::{Contexts, Effect, EffectKind};
 use exchange::{Exchange, Filter, Hub, drop_stages};
+use filter_host::{CallbackEnd, Death};
 use gate_base::{Cause, ContextId, Level, LineNo, Members, Octets, OutOfMemory, VmNo};
 use gate_io::{Sent, SentList, Side};
+use gate_queue::{Queue, queued};
 use h1_stream::MessageReader;
-use queue::{Queue, queued};
 use std::alloc::Global;
 use std::marker::Model;
 use worker_lines::Lines;
-use worker_model::{Asked, Change, ContextAt, Job, Next, Own, Reads, TcpLine};
+use worker_model::{Asked, Change, ContextAt, Job, Next, Owner, ReadBatch, TcpLine};
 
 /// A worker within a turn: its lines, what they have in common, and what is still to be done. Clauses see it as the record `Room` of the
 /// definitions, with the list of the lines.
@@ -29,7 +29,7 @@ pub struct Room {
     pub lines: Lines,
     pub hub: Hub,
     /// What is being read.
-    pub reading: Option<Reads>,
+    pub reading: Option<ReadBatch>,
     /// What is in hand.
     pub jobs: Queue<Job>,
     /// The parts of the event that are still to come.
@@ -66,12 +66,12 @@ impl Model for Room {
 }
 
 /// Whether an effect is on the stage whose callback it is.
-fn is_own_stage(own: &Own, context: ContextId, response: bool) -> bool
+fn is_own_stage(own: &Owner, context: ContextId, response: bool) -> bool
     ensures { result ≡ is_own own.now context response }
 {
     match own {
-        Own::Nobody => false,
-        Own::Stage {
+        Owner::Nobody => false,
+        Owner::Stage {
             context: c,
             response: r,
         } => *c == context && *r == response,
@@ -151,12 +151,12 @@ fn is_waiting(h: &Contexts, vm: VmNo, at: usize, context: ContextId) -> bool
 }
 
 /// What a callback returned, if it did.
-pub(crate) fn value_of(end: CallEnd) -> Option<Option<u32>>
-    ensures { result ≡ valued end }
+pub(crate) fn value_of(end: CallbackEnd) -> Option<Option<u32>>
+    ensures { result ≡ value_of_end end }
 {
     match end {
-        CallEnd::Returned { value } => Some(value),
-        CallEnd::Died { .. } => None,
+        CallbackEnd::Returned { value } => Some(value),
+        CallbackEnd::Died { .. } => None,
     }
 }
 
@@ -266,7 +266,7 @@ impl Room {
 
     /// Sends something.
     pub(crate) fn send(&mut self, sent: Sent) -> Result<(), OutOfMemory>
-        ensures { OnOk result (self.new ≡ sending (sent ∷ []) self.old) }
+        ensures { OnOk result (self.new ≡ room_with_sent (sent ∷ []) self.old) }
     {
         self.hub.sent.push(sent)
     }
@@ -278,7 +278,7 @@ impl Room {
         number: LineNo,
         what: Change,
     ) -> Result<(), OutOfMemory>
-        ensures { OnOk result (self.new ≡ on_number (changed what) number self.old) }
+        ensures { OnOk result (self.new ≡ on_number (apply_change what) number self.old) }
     {
         let place = self.lines.place_in(number);
         self.lines.change(alloc, &mut self.hub, place, what)
@@ -292,7 +292,7 @@ impl Room {
         context: ContextId,
         what: Change,
     ) -> Result<(), OutOfMemory>
-        ensures { OnOk result (self.new ≡ on_context (changed what) vm context self.old) }
+        ensures { OnOk result (self.new ≡ on_context (apply_change what) vm context self.old) }
     {
         let place = self.lines.place_of(vm, context);
         self.lines.change(alloc, &mut self.hub, place, what)
@@ -303,14 +303,14 @@ impl Room {
         &mut self,
         alloc: Global,
         vm: VmNo,
-        own: &Own,
+        own: &Owner,
         effect: Effect,
     ) -> Result<(), OutOfMemory>
-        ensures { OnOk result (self.new ≡ does vm own.now effect.context effect.what self.old) }
+        ensures { OnOk result (self.new ≡ apply_effect vm own.now effect.context effect.what self.old) }
     {
         let context = effect.context;
         match effect.what {
-            What::Continue { is_response } => {
+            EffectKind::Continue { is_response } => {
                 if is_own_stage(own, context, is_response) {
                     return Ok(());
                 }
@@ -321,8 +321,8 @@ impl Room {
                 };
                 self.on_context(alloc, vm, context, what)
             }
-            What::Close => self.on_context(alloc, vm, context, Change::Close),
-            What::Answer {
+            EffectKind::Close => self.on_context(alloc, vm, context, Change::Close),
+            EffectKind::Answer {
                 status,
                 fields,
                 body,
@@ -334,7 +334,7 @@ impl Room {
                 };
                 self.on_context(alloc, vm, context, what)
             }
-            What::Call { request } => {
+            EffectKind::Call { request } => {
                 let _ = request;
                 Ok(())
             }
@@ -346,7 +346,7 @@ impl Room {
         &mut self,
         alloc: Global,
         vm: VmNo,
-        own: &Own,
+        own: &Owner,
         effects: Queue<Effect>,
     ) -> Result<(), OutOfMemory>
         ensures { OnOk result (self.new ≡ effects_of vm own.now effects self.old) }
@@ -360,7 +360,7 @@ impl Room {
 
     /// A VM died.
     pub(crate) fn die(&mut self, alloc: Global, vm: VmNo, death: Death) -> Result<(), OutOfMemory>
-        ensures { OnOk result (self.new ≡ died vm death self.old) }
+        ensures { OnOk result (self.new ≡ lose_vm_in vm death self.old) }
     {
         let text = death_of(alloc, &self.hub.contexts, vm, death)?;
         self.send(Sent::Log {
@@ -371,20 +371,20 @@ impl Room {
         self.lines.die(alloc, &mut self.hub, vm)
     }
 
-    /// Behind a callback: its effects, or the VM's death.
+    /// After a callback: its effects, or the VM's death.
     fn go_behind(
         &mut self,
         alloc: Global,
         vm: VmNo,
-        own: &Own,
-        end: CallEnd,
+        own: &Owner,
+        end: CallbackEnd,
         effects: Queue<Effect>,
     ) -> Result<(), OutOfMemory>
-        ensures { OnOk result (self.new ≡ behind vm own.now end effects self.old) }
+        ensures { OnOk result (self.new ≡ after_callback vm own.now end effects self.old) }
     {
         match end {
-            CallEnd::Returned { .. } => self.all_effects(alloc, vm, own, effects),
-            CallEnd::Died { death } => self.die(alloc, vm, death),
+            CallbackEnd::Returned { .. } => self.all_effects(alloc, vm, own, effects),
+            CallbackEnd::Died { death } => self.die(alloc, vm, death),
         }
     }
 
@@ -399,7 +399,7 @@ impl Room {
     /// Sends what a callback wrote into the log.
     #[tactic(auto, using(crate::proofs::Quiet::nothing_sent))]
     fn send_lines(&mut self, alloc: Global, lines: SentList) -> Result<(), OutOfMemory>
-        ensures { OnOk result (self.new ≡ sending lines self.old) }
+        ensures { OnOk result (self.new ≡ room_with_sent lines self.old) }
     {
         if lines.is_empty() {
             return Ok(());
@@ -413,10 +413,10 @@ impl Room {
         &mut self,
         alloc: Global,
         vm: VmNo,
-        own: &Own,
-        end: CallEnd,
+        own: &Owner,
+        end: CallbackEnd,
     ) -> Result<(), OutOfMemory>
-        ensures { OnOk result (self.new ≡ behind vm own.now end self.old.hub.contexts.effects (without_effects self.old)) }
+        ensures { OnOk result (self.new ≡ after_callback vm own.now end self.old.hub.contexts.effects (without_effects self.old)) }
     {
         if self.hub.contexts.effects.is_empty() {
             return self.go_behind(alloc, vm, own, end, Queue::new(alloc));
@@ -430,11 +430,11 @@ impl Room {
         &mut self,
         alloc: Global,
         vm: VmNo,
-        own: &Own,
-        end: CallEnd,
+        own: &Owner,
+        end: CallbackEnd,
         lines: SentList,
     ) -> Result<(), OutOfMemory>
-        ensures { OnOk result (self.new ≡ answered_with vm own.now end lines self.old.hub.contexts self.old) }
+        ensures { OnOk result (self.new ≡ take_callback_end vm own.now end lines self.old.hub.contexts self.old) }
     {
         self.send_lines(alloc, lines)?;
         self.do_effects(alloc, vm, own, end)
@@ -446,7 +446,7 @@ impl Room {
         alloc: Global,
         more: Queue<Job>,
     ) -> Result<(), OutOfMemory>
-        ensures { OnOk result (self.new ≡ in_front more self.old) }
+        ensures { OnOk result (self.new ≡ with_jobs_first more self.old) }
     {
         let mut jobs = more;
         jobs.append(std::mem::replace(&mut self.jobs, Queue::new(alloc)))?;
@@ -460,7 +460,7 @@ impl Room {
         alloc: Global,
         more: Queue<Job>,
     ) -> Result<(), OutOfMemory>
-        ensures { OnOk result (self.new ≡ behind_rest more self.old) }
+        ensures { OnOk result (self.new ≡ with_agenda_first more self.old) }
     {
         let mut agenda = more;
         agenda.append(std::mem::replace(&mut self.agenda, Queue::new(alloc)))?;
@@ -491,7 +491,7 @@ impl Room {
 
     /// A context waits for `proxy_done`.
     fn wait(&mut self, of: ContextAt) -> Result<(), OutOfMemory>
-        ensures { OnOk result (self.new ≡ waits of self.old) }
+        ensures { OnOk result (self.new ≡ await_done of self.old) }
     {
         if of.vm.get() as usize >= self.hub.contexts.vms.len() {
             return Ok(());
@@ -502,7 +502,7 @@ impl Room {
 
     /// The last calls of a context come first: its log, and then its deletion.
     fn call_last(&mut self, of: ContextAt) -> Result<(), OutOfMemory>
-        ensures { OnOk result (self.new ≡ in_front (last_jobs of) self.old) }
+        ensures { OnOk result (self.new ≡ with_jobs_first (last_jobs of) self.old) }
     {
         let again = ContextAt {
             vm: of.vm,
@@ -518,7 +518,7 @@ impl Room {
         of: ContextAt,
         value: Option<Option<u32>>,
     ) -> Result<(), OutOfMemory>
-        ensures { OnOk result (self.new ≡ done_with of value self.old) }
+        ensures { OnOk result (self.new ≡ finish_context of value self.old) }
     {
         match value {
             None => self.call_last(of),
@@ -533,7 +533,7 @@ impl Room {
 
     /// A context is there no more.
     pub fn delete(&mut self, of: ContextAt)
-        ensures { self.new ≡ deletes of None self.old }
+        ensures { self.new ≡ delete_context of None self.old }
     {
         if (of.vm.get() as usize) >= self.hub.contexts.vms.len() {
             return;
@@ -553,7 +553,7 @@ impl Room {
         a: Asked,
         value: Option<Option<u32>>,
     ) -> Result<(), OutOfMemory>
-        ensures { OnOk result (self.new ≡ acts_on a value self.old) }
+        ensures { OnOk result (self.new ≡ apply_stage_action a value self.old) }
     {
         match value {
             None => Ok(()),
@@ -574,7 +574,7 @@ impl Room {
         number: LineNo,
         reader: &Option<MessageReader>,
     ) -> Result<(), OutOfMemory>
-        ensures { OnOk result (self.new ≡ sending (close_up number reader.now) self.old) }
+        ensures { OnOk result (self.new ≡ room_with_sent (close_up number reader.now) self.old) }
     {
         match reader {
             None => Ok(()),
@@ -585,7 +585,7 @@ impl Room {
         }
     }
 
-    /// What is done behind an exchange.
+    /// What is done after an exchange.
     fn jobs_behind(
         &self,
         alloc: Global,
@@ -609,7 +609,7 @@ impl Room {
         number: LineNo,
         x: &mut Exchange,
     ) -> Result<(), OutOfMemory>
-        ensures { OnOk result (self.new ≡ ends_exchange (Some (number, x.old)) self.old) }
+        ensures { OnOk result (self.new ≡ end_exchange_of (Some (number, x.old)) self.old) }
     {
         self.close_up(number, &x.reader)?;
         drop_stages(alloc, x, &mut self.hub);
@@ -620,7 +620,7 @@ impl Room {
 
     /// The exchange of the line at a place ends.
     pub fn end_at(&mut self, alloc: Global, place: usize) -> Result<(), OutOfMemory>
-        ensures { OnOk result (self.new ≡ ends_at place self.old) }
+        ensures { OnOk result (self.new ≡ end_at place self.old) }
     {
         match self.lines.end(place) {
             None => Ok(()),
@@ -634,7 +634,7 @@ impl Room {
 
     /// A context that waits no more gets its last calls.
     pub fn free(&mut self, at: usize) -> Result<(), OutOfMemory>
-        ensures { OnOk result (self.new ≡ frees at self.old) }
+        ensures { OnOk result (self.new ≡ release at self.old) }
     {
         if at >= self.waits.len() {
             return Ok(());
@@ -645,7 +645,7 @@ impl Room {
 
     /// The next part of the event.
     pub fn begin_first(&mut self) -> Result<(), OutOfMemory>
-        ensures { OnOk result (self.new ≡ first_begun self.old.agenda self.old) }
+        ensures { OnOk result (self.new ≡ begin_first_job self.old.agenda self.old) }
     {
         self.lines.calm();
         match self.agenda.pop_first() {

@@ -19,12 +19,12 @@ pub one_more : (n who i : ℕ) → given_of n who (i + 1) ≡ given_of n who i +
 unfolding given_of
 one_more n who i = let e : i + 1 ≡ suc i = omega arith in ap (λ (k : ℕ). given_of n who k) e
 
--- four put behind one another
+-- four put after one another
 pub four : (o p q r s : List Event) (a b c d : Event) → p ≡ o ++ a ∷ [] → q ≡ p ++ b ∷ [] → r ≡ q ++ c ∷ [] → s ≡ r ++ d ∷ [] → s ≡ o ++ (a ∷ b ∷ c ∷ d ∷ [])
 four o p q r s a b c d e f g h =
     h ∙ ap (λ (xs : List Event). xs ++ d ∷ []) (g ∙ ap (λ (xs : List Event). xs ++ c ∷ []) (f ∙ ap (λ (xs : List Event). xs ++ b ∷ []) e)) ∙ simp append_assoc
 
--- a request that is the worker's, put behind others, and one that is not
+-- a request that is the worker's, put after others, and one that is not
 pub put_mine : (n who i line number : ℕ) (old new : List Event) → new ≡ old ++ exchange line number → 1 + i % 4 ≡ who → line ≡ i + 1 → number ≡ i + n → new ≡ old ++ share n who i
 put_mine n who i line number old new put is here there =
     put ∙ (λ k. old ++ exchange (here k) (there k)) ∙ ap (λ (b : Bool). old ++ (if b then exchange (i + 1) (i + n) else [])) (sym (eq-eqb (1 + i % 4) who is))
@@ -32,7 +32,7 @@ put_mine n who i line number old new put is here there =
 pub put_none : (n who i : ℕ) (old : List Event) → (1 + i % 4 ≡ who → ⊥) → old ≡ old ++ share n who i
 put_none n who i old differs = sym (ap (λ (b : Bool). old ++ (if b then exchange (i + 1) (i + n) else [])) (ne_eqb (1 + i % 4) who differs) ∙ append-nil old)
 
--- three texts put behind one another
+-- three texts put after one another
 pub three : (t p q r a b d : List ℕ) → p ≡ t ++ a → q ≡ p ++ b → r ≡ q ++ d → r ≡ t ++ (a ++ (b ++ d))
 three t p q r a b d e f g = g ∙ ap (λ (x : List ℕ). x ++ d) (f ∙ ap (λ (x : List ℕ). x ++ b) e) ∙ simp append_assoc
 

@@ -1,4 +1,4 @@
--- Counts of lists behind one another.
+-- Counts of lists after one another.
 use Rattle.std.proofs.Common.{◌≡◌, ◌∙◌, ℕ, ◌+◌, ◌*◌, ◌/◌, ◌%◌, ◌^◌, ◌<◌, List, [], ◌∷◌, ◌++◌, length, get_or, take, refl, ap, sym, arith}
 use Rattle.std.proofs.Math.Nat.{mod-add-div, mul-add-mod_self_left}
 use Rattle.std.proofs.lemmas.List.{take_more}

@@ -34,7 +34,7 @@ pub fn worked_tallies()
     ensures { TallyExamples }
 {}
 
-/// The counts of two lists behind one another are their sum.
+/// The counts of two lists after one another are their sum.
 pub fn tallies_add_up()
     ensures { (a b : List Sent) → tally_of (a ++ b) ≡ sum_of (tally_of a) (tally_of b) }
 {}

@@ -4,7 +4,7 @@ use Rattle.store_model.specs.Runs.{runs_none}
 use Rattle.contexts.specs.Reached.{seen}
 use Rattle.abi_model.specs.Asking.{asks}
 use Rattle.abi_model.specs.Calls.{CallEnds, finishing, handing}
-use Rattle.abi_model.specs.Rows.{all_inside, taken, places_of}
+use Rattle.abi_model.specs.Rows.{all_inside, input_bytes, places_of}
 use Rattle.abi_model.specs.declared.table.Param.{Param}
 use Rattle.abi_model.specs.declared.opening.Inputs.{Inputs}
 use Rattle.abi_model.specs.declared.ends.Places.{Places}
@@ -24,7 +24,7 @@ returns-in_default-make-clause-ends g c =
     let own = g.C.AskingCall.own c.args.call.now in
     let s = seen c.args.contexts.now c.args.vm in
     let is = subst (λ (r : List Param). all_inside m r 0 c.args.args.now ≡ true) c.parameters-row.ensures.row (sym c.all_inside.ensures ∙ c.if-not-all_inside.false) in
-    let inputs = c.in-Ok.ensures.taken ∙ ap (λ (r : List Param). taken m r c.args.args.now) c.parameters-row.ensures.row in
+    let inputs = c.in-Ok.ensures.taken ∙ ap (λ (r : List Param). input_bytes m r c.args.args.now) c.parameters-row.ensures.row in
     let run = c.in_default-make.ensures.ends in
     cut g.S.Shared.performs row own c.args.vm c.args.args.now at s at c.args.shared.now c.make.new.shared run.0 is
     (subst (λ (i : Inputs). Runs g.S.Shared.performs c.args.shared.now (own c.args.vm c.args.args.now i s) run.0 c.make.new.shared) inputs run.1)
@@ -38,7 +38,7 @@ returns-clause-ends g c =
     let s = seen c.args.contexts.now c.args.vm in
     let o = c.in-Ok-make.outcome in
     let is = subst (λ (r : List Param). all_inside m r 0 c.args.args.now ≡ true) c.parameters-row.ensures.row (sym c.all_inside.ensures ∙ c.if-not-all_inside.false) in
-    let inputs = c.in-Ok.ensures.taken ∙ ap (λ (r : List Param). taken m r c.args.args.now) c.parameters-row.ensures.row in
+    let inputs = c.in-Ok.ensures.taken ∙ ap (λ (r : List Param). input_bytes m r c.args.args.now) c.parameters-row.ensures.row in
     let places = c.places_of.ensures ∙ ap (λ (r : List Param). places_of r c.args.args.now) c.parameters-row.ensures.row in
     asked g.S.Shared.performs row own c.args.vm c.args.args.now at s c.finish.result (g.G.Guest.at c.finish.new.guest) c.args.shared.now c.make.new.shared o is
     (subst (λ (i : Inputs). Runs g.S.Shared.performs c.args.shared.now (own c.args.vm c.args.args.now i s) (done o) c.make.new.shared) inputs c.in-Ok-make.ensures.ends)

@@ -1,9 +1,9 @@
 use Rattle.std.proofs.Common.{Some, Ok, Err, subst, sym}
-use Rattle.check_config.specs.Check.{Reaches as CheckReaches}
-use Rattle.check_config.specs.declared.checking.CheckEnd.{CheckEnd}
-use Rattle.check_config.specs.declared.checking.CheckEnd.TheVariants as checks
-use Rattle.statuses.specs.declared.status.Status.{Status}
-use Rattle.words.specs.Forms.{check}
+use Rattle.config_check.specs.Check.{Reaches as CheckReaches}
+use Rattle.config_check.specs.declared.checking.CheckEnd.{CheckEnd}
+use Rattle.config_check.specs.declared.checking.CheckEnd.TheVariants as checks
+use Rattle.command_statuses.specs.declared.status.Status.{Status}
+use Rattle.command_words.specs.Forms.{check}
 use Rattle.commands.specs.Reading.{ReadsFor}
 use Rattle.commands.proofs.FilesRead.{reads_check}
 use Rattle.commands.proofs.check.check_file.Goals as goal

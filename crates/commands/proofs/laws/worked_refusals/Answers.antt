@@ -1,5 +1,5 @@
 use Rattle.std.proofs.Common.{◌∷◌, List, ℕ, [], None, Ok, Err, ⊎_elim, codes}
-use Rattle.read_config.specs.Whole.{Judged}
+use Rattle.config_reader.specs.Whole.{Judged}
 use Rattle.config_files.specs.Loading.{Told, AllHold, IsOfText, NoneBehindConfig}
 use Rattle.config_files.specs.Plain.{vms_over}
 use Rattle.gate_config.specs.declared.entries.VmEntry.{VmEntry}
@@ -11,7 +11,7 @@ use Rattle.commands.proofs.laws.worked_refusals.Goals as goal
 not_spelled : (m : Module) → Spells [] m → ⊥
 not_spelled m h = let parts = h.parts in cc
 
--- behind a configuration that is missing comes no read
+-- after a configuration that is missing comes no read
 no_more : (files : Told) (path next : List ℕ) (judged : Judged) (reads : List (List ℕ)) → IsOfText None judged → NoneBehindConfig files judged (path ∷ next ∷ reads) → ⊥
 no_more files path next (Ok said) reads is h = is
 no_more files path next (Err refusal) reads is h = cc

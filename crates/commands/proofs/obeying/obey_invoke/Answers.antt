@@ -1,5 +1,5 @@
 use Rattle.std.proofs.Common.{map, string_bytes}
-use Rattle.serving.specs.Serving.{Eyes, Seen}
+use Rattle.command_serve.specs.Serving.{Eyes, Seen}
 use Rattle.commands.proofs.Commands.{obeys_invoke}
 use Rattle.commands.proofs.FilesRead.{reads_invoke}
 use Rattle.commands.proofs.obeying.obey_invoke.Goals as goal

@@ -1,5 +1,5 @@
 use Rattle.std.proofs.Common.{map, string_bytes}
-use Rattle.serving.specs.Serving.{Eyes, Seen}
+use Rattle.command_serve.specs.Serving.{Eyes, Seen}
 use Rattle.commands.proofs.Commands.{obeys_replay}
 use Rattle.commands.proofs.obeying.obey_replay.Goals as goal
 

@@ -1,4 +1,4 @@
-use Rattle.serving.specs.Serving.{Eyes, Seen}
+use Rattle.command_serve.specs.Serving.{Eyes, Seen}
 use Rattle.commands.proofs.Commands.{obeys_report}
 use Rattle.commands.proofs.FilesRead.{reads_report}
 use Rattle.commands.proofs.obeying.obey_report.Goals as goal

@@ -1,12 +1,12 @@
 use Rattle.std.proofs.Common.{inl, inr, subst, sym, Some}
 use Rattle.gate_config.specs.Given.{given}
 use Rattle.gate_io.specs.Told.{gains_nothing}
-use Rattle.statuses.specs.declared.status.Status.{Status}
+use Rattle.command_statuses.specs.declared.status.Status.{Status}
 use Rattle.config_files.specs.Loading.{IsNotLoaded}
 use Rattle.commands.specs.Scripts.{IsUnloaded, Plays}
 use Rattle.commands.proofs.Loaded.{unloaded}
 use Rattle.commands.proofs.FilesRead.{reads_config, reads_config_stopped}
-use Rattle.words.specs.Forms.{replay_config}
+use Rattle.command_words.specs.Forms.{replay_config}
 use Rattle.commands.specs.Reading.{ReadsFor}
 use Rattle.commands.proofs.replay.replay_config.Goals as goal
 

@@ -1,11 +1,11 @@
 use Rattle.std.proofs.Common.{inl, inr, subst, sym, map, string_bytes, Some}
 use Rattle.config_files.specs.Plain.{IsNoPlain}
 use Rattle.gate_io.specs.Told.{gains_nothing}
-use Rattle.statuses.specs.declared.status.Status.{Status}
+use Rattle.command_statuses.specs.declared.status.Status.{Status}
 use Rattle.commands.specs.Scripts.{IsUnloaded, Plays}
 use Rattle.commands.proofs.Loaded.{unloaded}
 use Rattle.commands.proofs.FilesRead.{reads_plain, reads_plain_stopped}
-use Rattle.words.specs.Forms.{replay}
+use Rattle.command_words.specs.Forms.{replay}
 use Rattle.commands.specs.Reading.{ReadsFor}
 use Rattle.commands.proofs.replay.replay_plain.Goals as goal
 

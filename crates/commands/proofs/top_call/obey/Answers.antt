@@ -1,7 +1,7 @@
 use Rattle.std.proofs.Common.{Option, map, string_bytes, subst}
-use Rattle.statuses.specs.declared.status.Status.TheVariants.{Usage}
-use Rattle.words.specs.Forms.{Command, seen}
-use Rattle.serving.specs.Serving.{Eyes, Seen}
+use Rattle.command_statuses.specs.declared.status.Status.TheVariants.{Usage}
+use Rattle.command_words.specs.Forms.{Command, seen}
+use Rattle.command_serve.specs.Serving.{Eyes, Seen}
 use Rattle.commands.specs.Doing.{Obeys}
 use Rattle.commands.specs.Reading.{ReadsFor}
 use Rattle.commands.proofs.Commands.{is_form, no_form_obeys, unread_obeys, err_is_no_ok}

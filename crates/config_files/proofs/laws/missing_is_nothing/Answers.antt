@@ -1,7 +1,7 @@
 use Rattle.std.proofs.Common.{◌≡◌, Ok, Err}
 use Rattle.config_files.specs.Modules.{HasFault, IsModule}
 use Rattle.config_files.proofs.Read.{of_missing}
-use Rattle.read_config.specs.Whole.{config_of}
+use Rattle.config_reader.specs.Whole.{config_of}
 use Rattle.config_files.proofs.laws.missing_is_nothing.Goals as goal
 
 pub returns-clause-loaded : goal.returns-clause-loaded

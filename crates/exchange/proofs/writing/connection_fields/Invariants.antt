@@ -1,5 +1,5 @@
 use Rattle.std.proofs.Common.{◌≡◌, ◌++◌, codes, drop, filter}
-use Rattle.http1_model.specs.Fields.{is_named}
+use Rattle.h1_model.specs.Fields.{is_named}
 use Rattle.exchange.proofs.writing.connection_fields.Given as goal
 
 -- the fields so far, and those of what is left

@@ -1,6 +1,6 @@
 use Rattle.std.proofs.Common.{◌≡◌, ◌∙◌, ap, min, arith, length, take}
 use Rattle.std.proofs.lemmas.List.{take_min}
-use Rattle.http1_model.specs.Trailers.{window_section}
+use Rattle.h1_model.specs.Trailers.{window_section}
 use Rattle.h1_chunks.proofs.lines.section_cut.Goals as goal
 
 pub returns-clause-cut : goal.returns-clause-cut

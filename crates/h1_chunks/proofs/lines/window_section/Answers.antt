@@ -1,6 +1,6 @@
 use Rattle.std.proofs.Common.{[], length, ◌∙◌, sym, arith}
-use Rattle.http1_model.specs.Lines.{whole_lines}
-use Rattle.http1_model.proofs.LineLemmas.{cut_from-first, cut_from-next, cut_from-end, cut_from-none}
+use Rattle.h1_model.specs.Lines.{whole_lines}
+use Rattle.h1_model.proofs.LineLemmas.{cut_from-first, cut_from-next, cut_from-end, cut_from-none}
 use Rattle.h1_chunks.proofs.lines.window_section.Goals as goal
 
 pub loop-len-init : goal.loop-len-init

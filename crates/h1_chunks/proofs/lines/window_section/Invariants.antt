@@ -1,7 +1,7 @@
 use Rattle.std.proofs.Common.{◌≡◌, ◌≤◌, length, drop, ◌-◌}
-use Rattle.http1_model.specs.Lines.{whole_lines}
-use Rattle.http1_model.specs.Trailers.{window_section}
-use Rattle.http1_model.proofs.LineLemmas.{cut_from}
+use Rattle.h1_model.specs.Lines.{whole_lines}
+use Rattle.h1_model.specs.Trailers.{window_section}
+use Rattle.h1_model.proofs.LineLemmas.{cut_from}
 use Rattle.h1_chunks.proofs.lines.window_section.Given as goal
 
 -- what is left gives the cut of the whole

@@ -1,6 +1,6 @@
 use Rattle.std.proofs.Common.{◌≡◌, ℕ, List, length, take, subst, arith}
 use Rattle.std.proofs.lemmas.List.{length-take, take_all}
-use Rattle.http1_model.specs.Chunks.{front_of}
+use Rattle.h1_model.specs.Chunks.{front_of}
 use Rattle.h1_chunks.proofs.Sizes.{front_found, front_all, front_long}
 use Rattle.h1_chunks.proofs.size.front_len.Goals as goal
 

@@ -3,8 +3,8 @@ use Rattle.std.proofs.lemmas.List.{drop_all}
 use Rattle.std.specs.Prelude.{codes}
 use Rattle.httparse.specs.declared.spans.HeaderSpan.{HeaderSpan}
 use Rattle.std.specs.List.{flat_map}
-use Rattle.http1_model.specs.Fields.{Pair, members, values_of, is_named}
-use Rattle.http1_model.proofs.FieldLemmas.{values_of-other}
+use Rattle.h1_model.specs.Fields.{Pair, members, values_of, is_named}
+use Rattle.h1_model.proofs.FieldLemmas.{values_of-other}
 use Rattle.h1_text.specs.Spans.{fields_at}
 use Rattle.h1_head.proofs.Lists.{fields_at-more}
 use Rattle.h1_head.proofs.Measured.{told-line, values_of-some, some_line, told-next, told-none, told-end, agreed-first}

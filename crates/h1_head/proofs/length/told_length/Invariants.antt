@@ -1,8 +1,8 @@
 use Rattle.std.proofs.Common.{◌≡◌, ◌<◌, None, drop, length, IfNone, IfSome}
 use Rattle.std.specs.Prelude.{codes}
 use Rattle.std.specs.List.{flat_map}
-use Rattle.http1_model.specs.Fields.{members, values_of}
-use Rattle.h1_head.specs.Measures.{agreed}
+use Rattle.h1_model.specs.Fields.{members, values_of}
+use Rattle.h1_head.specs.Measures.{agreed_length}
 use Rattle.h1_text.specs.Spans.{fields_at}
 use Rattle.h1_head.proofs.length.told_length.Given as goal
 
@@ -13,7 +13,7 @@ invariant-loop-span l =
     let rest = values_of name (fields_at l.fields.text.now (drop l.span-index l.fields.spans.now)) in
     let all = values_of name (fields_at l.fields.text.now l.fields.spans.now) in
     record {
-      agrees : agreed l.told (flat_map members rest) ≡ agreed None (flat_map members all);
+      agrees : agreed_length l.told (flat_map members rest) ≡ agreed_length None (flat_map members all);
       none : IfNone l.told (rest ≡ all);
       some : IfSome l.told (λ _. 0 < length all);
     }

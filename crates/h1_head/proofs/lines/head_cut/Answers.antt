@@ -1,6 +1,6 @@
 use Rattle.std.proofs.Common.{◌≡◌, ◌∙◌, ap, min, arith, length, take}
 use Rattle.std.proofs.lemmas.List.{take_min}
-use Rattle.http1_model.specs.Lines.{window_cut}
+use Rattle.h1_model.specs.Lines.{window_cut}
 use Rattle.h1_head.proofs.lines.head_cut.Goals as goal
 
 pub returns-clause-cut : goal.returns-clause-cut

@@ -1,5 +1,5 @@
 use Rattle.std.proofs.Common.{◌≡◌, ◌≤◌, length, drop, ◌+◌, ◌-◌}
-use Rattle.http1_model.specs.Lines.{whole_lines, empty_len}
+use Rattle.h1_model.specs.Lines.{whole_lines, empty_len}
 use Rattle.h1_head.proofs.lines.skip_empty_lines.Given as goal
 
 -- the empty lines so far, and those in front of what is left

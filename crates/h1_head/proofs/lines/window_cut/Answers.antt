@@ -1,5 +1,5 @@
 use Rattle.std.proofs.Common.{◌∙◌, sym, arith}
-use Rattle.http1_model.proofs.LineLemmas.{window_cut-none, window_cut-first, cut_from-next, cut_from-end, cut_from-none}
+use Rattle.h1_model.proofs.LineLemmas.{window_cut-none, window_cut-first, cut_from-next, cut_from-end, cut_from-none}
 use Rattle.h1_head.proofs.lines.window_cut.Goals as goal
 
 pub returns-in_default-clause-cut : goal.returns-in_default-clause-cut

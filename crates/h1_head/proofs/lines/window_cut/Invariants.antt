@@ -1,6 +1,6 @@
 use Rattle.std.proofs.Common.{◌≡◌, ◌≤◌, length, drop, ◌-◌}
-use Rattle.http1_model.specs.Lines.{whole_lines, window_cut}
-use Rattle.http1_model.proofs.LineLemmas.{cut_from}
+use Rattle.h1_model.specs.Lines.{whole_lines, window_cut}
+use Rattle.h1_model.proofs.LineLemmas.{cut_from}
 use Rattle.h1_head.proofs.lines.window_cut.Given as goal
 
 -- what is left gives the cut of the whole

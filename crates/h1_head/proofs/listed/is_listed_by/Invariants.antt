@@ -1,7 +1,7 @@
 use Rattle.std.proofs.Common.{◌≡◌, drop}
 use Rattle.std.specs.List.{list_any}
 use Rattle.http_header.specs.Token.{lowercase}
-use Rattle.http1_model.specs.Fields.{lists}
+use Rattle.h1_model.specs.Fields.{lists}
 use Rattle.h1_head.proofs.listed.is_listed_by.Given as goal
 
 -- what is left decides

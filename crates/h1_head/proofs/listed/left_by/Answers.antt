@@ -1,5 +1,5 @@
 use Rattle.std.proofs.Common.{arith}
-use Rattle.http1_model.specs.Fields.{Pair}
+use Rattle.h1_model.specs.Fields.{Pair}
 use Rattle.h1_head.proofs.Unlisted.{left_step}
 use Rattle.h1_head.proofs.listed.left_by.Goals as goal
 

@@ -1,6 +1,6 @@
 use Rattle.std.proofs.Common.{◌≡◌, ◌∷◌, ◌+◌, ◌<◌, List, ℕ, length, drop, slice_index_or, sym, ap, ◌∙◌, arith}
 use Rattle.std.proofs.lemmas.List.{drop_more, drop_all}
-use Rattle.http1_model.specs.Fields.{unlisted}
+use Rattle.h1_model.specs.Fields.{fields_not_listed}
 use Rattle.h1_head.proofs.Unlisted.{unlisted-cons, unlisted-nil}
 use Rattle.h1_head.proofs.listed.without_each.Goals as goal
 
@@ -19,8 +19,8 @@ loop-value-preserved c =
     let here : drop i connection ≡ value ∷ behind =
     drop_more connection i item lt ∙ ap (λ (v : List ℕ). v ∷ behind) (sym value_is) in
     record {
-      left = ap (unlisted behind) c.without_members-fields.ensures.left ∙ unlisted-cons value behind old
-          ∙ ap (λ (vs : List (List ℕ)). unlisted vs old) (sym here) ∙ c.loop-value.invariant.left;
+      left = ap (fields_not_listed behind) c.without_members-fields.ensures.left ∙ unlisted-cons value behind old
+          ∙ ap (λ (vs : List (List ℕ)). fields_not_listed vs old) (sym here) ∙ c.loop-value.invariant.left;
       kept = c.without_members-fields.ensures.fields;
     }
 
@@ -29,5 +29,5 @@ returns c =
     let connection : List (List ℕ) = c.args.connection.now in
     let all : c.as_slice-value-items.result.now ≡ connection = c.as_slice-value-items.ensures in
     let none = drop_all c.loop-value.value-index connection (omega (arith, ap length all, c.loop-value-test.false)) in
-    sym (unlisted-nil c.loop-value.fields.pairs) ∙ ap (λ (vs : List (List ℕ)). unlisted vs c.loop-value.fields.pairs) (sym none)
+    sym (unlisted-nil c.loop-value.fields.pairs) ∙ ap (λ (vs : List (List ℕ)). fields_not_listed vs c.loop-value.fields.pairs) (sym none)
     ∙ c.loop-value.invariant.left

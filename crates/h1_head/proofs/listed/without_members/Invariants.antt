@@ -1,7 +1,7 @@
 use Rattle.std.proofs.Common.{◌≡◌, ◌+◌, length, option_copied, Option, None, Some, List, ℕ, true}
 use Rattle.std.specs.List.{list_all}
 use Rattle.header_maps.specs.Kept.{is_kept_field}
-use Rattle.http1_model.specs.Fields.{members}
+use Rattle.h1_model.specs.Fields.{members}
 use Rattle.h1_text.specs.Members.{rest_members}
 use Rattle.h1_head.specs.Unnamed.{unnamed}
 use Rattle.h1_head.proofs.listed.without_members.Given as goal

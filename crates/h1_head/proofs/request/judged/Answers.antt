@@ -1,8 +1,8 @@
 use Rattle.std.proofs.Common.{ap, ◌∙◌}
 use Rattle.std.specs.Prelude.{codes}
 use Rattle.std.specs.List.{list_all}
-use Rattle.http1_model.specs.Fields.{values_of}
-use Rattle.http1_model.specs.Target.{is_visible}
+use Rattle.h1_model.specs.Fields.{values_of}
+use Rattle.h1_model.specs.Target.{is_visible}
 use Rattle.h1_head.specs.Held.{fields_of}
 use Rattle.h1_head.proofs.Whole.{host_visible}
 use Rattle.h1_head.proofs.request.judged.Goals as goal

@@ -1,6 +1,6 @@
 use Rattle.std.proofs.Common.{codes, Some}
-use Rattle.http1_model.specs.Fields.{values_of}
-use Rattle.http1_model.specs.Length.{request_measure}
+use Rattle.h1_model.specs.Fields.{values_of}
+use Rattle.h1_model.specs.Length.{request_measure}
 use Rattle.h1_head.specs.Held.{fields_of}
 use Rattle.h1_head.specs.Targets.{seen_form}
 use Rattle.h1_head.proofs.Reading.{unlisted}

@@ -1,8 +1,8 @@
 use Rattle.std.proofs.Common.{◌≤◌, length, codes, arith, ap, Some, None, IfSome, Option, List, ℕ, ◌≤◌}
 use Rattle.header_maps.specs.Kept.{byte_limit}
-use Rattle.http1_model.specs.Fields.{values_of}
-use Rattle.http1_model.specs.Head.{host_of}
-use Rattle.http1_model.specs.Listed.{request_list}
+use Rattle.h1_model.specs.Fields.{values_of}
+use Rattle.h1_model.specs.Head.{host_of}
+use Rattle.h1_model.specs.Listed.{request_list}
 use Rattle.h1_head.specs.Held.{fields_of}
 use Rattle.h1_head.specs.Targets.{seen_target}
 use Rattle.h1_head.proofs.Lists.{IfOk-map}

@@ -1,7 +1,7 @@
 use Rattle.std.proofs.Common.{◌≤◌, length, codes, arith, ap, None, Some, refl, sym, subst}
-use Rattle.http1_model.specs.Fields.{values_of}
-use Rattle.http1_model.specs.Head.{host_of}
-use Rattle.http1_model.specs.Listed.{request_list}
+use Rattle.h1_model.specs.Fields.{values_of}
+use Rattle.h1_model.specs.Head.{host_of}
+use Rattle.h1_model.specs.Listed.{request_list}
 use Rattle.h1_head.specs.Held.{fields_of}
 use Rattle.h1_head.specs.Targets.{path_parts}
 use Rattle.h1_head.proofs.Lists.{IfOk-map}

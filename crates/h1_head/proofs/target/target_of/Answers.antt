@@ -1,6 +1,6 @@
 use Rattle.std.proofs.Common.{sym}
 use Rattle.http_uri.specs.Uri.{uri_scheme, uri_authority, uri_data}
-use Rattle.http1_model.proofs.TargetLemmas.{target_given}
+use Rattle.h1_model.proofs.TargetLemmas.{target_given}
 use Rattle.h1_head.specs.Targets.{seen_target_option}
 use Rattle.h1_head.proofs.Lists.{IfOk-map}
 use Rattle.h1_head.proofs.target.target_of.Goals as goal

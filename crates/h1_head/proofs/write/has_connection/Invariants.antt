@@ -1,7 +1,7 @@
 use Rattle.std.proofs.Common.{◌≡◌, drop}
 use Rattle.std.specs.Prelude.{codes}
 use Rattle.std.specs.List.{list_any}
-use Rattle.http1_model.specs.Fields.{is_named}
+use Rattle.h1_model.specs.Fields.{is_named}
 use Rattle.h1_head.proofs.write.has_connection.Given as goal
 
 -- what is left decides

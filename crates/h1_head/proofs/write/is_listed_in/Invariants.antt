@@ -1,6 +1,6 @@
 use Rattle.std.proofs.Common.{◌≡◌, drop}
 use Rattle.http_header.specs.Token.{lowercase}
-use Rattle.http1_model.specs.Fields.{is_listed}
+use Rattle.h1_model.specs.Fields.{is_listed}
 use Rattle.h1_head.proofs.write.is_listed_in.Given as goal
 
 -- what is left decides

@@ -1,7 +1,7 @@
 use Rattle.std.proofs.Common.{◌≡◌, ℕ, ◌+◌, ◌<◌, List, [], ◌∷◌, ◌++◌, length, take, sym, ap, ◌∙◌, subst, arith}
 use Rattle.std.specs.Prelude.{codes}
 use Rattle.std.proofs.lemmas.List.{take_more}
-use Rattle.http1_model.specs.Fields.{Pair, values_of}
+use Rattle.h1_model.specs.Fields.{Pair, values_of}
 use Rattle.h1_text.proofs.Values.{values_named, values_other}
 use Rattle.h1_text.specs.Names.{AreMarked}
 use Rattle.h1_head.proofs.write.note_connection.Goals.{then-is_same_word, else-is_same_word}

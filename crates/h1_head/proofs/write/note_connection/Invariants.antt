@@ -1,6 +1,6 @@
 use Rattle.std.proofs.Common.{[], take}
 use Rattle.std.specs.Prelude.{codes}
-use Rattle.http1_model.specs.Fields.{values_of}
+use Rattle.h1_model.specs.Fields.{values_of}
 use Rattle.h1_text.specs.Names.{AreMarked}
 use Rattle.h1_head.proofs.write.note_connection.Given as goal
 

@@ -1,5 +1,5 @@
 use Rattle.std.proofs.Common.{◌≡◌, ◌++◌, drop, length, take}
-use Rattle.http1_model.specs.Wire.{field_lines, sent_among, sent_fields}
+use Rattle.h1_model.specs.Wire.{field_lines, sent_among, sent_fields}
 use Rattle.h1_head.proofs.write.push_unmarked.Given as goal
 
 -- what is written so far, and the lines of what goes out of what is left; what stood there stands in front

@@ -1,16 +1,16 @@
 use Rattle.std.proofs.Common.{◌≡◌, true, List, ℕ, ◌+◌, ◌-◌, Some, length, take, drop, ap, sym, subst, arith}
 use Rattle.std.proofs.lemmas.List.{take_all, length-drop}
-use Rattle.http1_model.specs.Chunks.{Place}
-use Rattle.http1_model.specs.Trailers.{SpellsChunks, ended, not_yet, refused}
-use Rattle.http1_model.specs.Messages.{Due, body, coded, section_step}
-use Rattle.http1_model.specs.Unread.{piece, part, none, IsNext}
-use Rattle.http1_model.proofs.TrailerLaws.{trailers_are_fields}
+use Rattle.h1_model.specs.Chunks.{Place}
+use Rattle.h1_model.specs.Trailers.{SpellsChunks, ended, not_yet, refused}
+use Rattle.h1_model.specs.Messages.{Due, body, coded, section_step}
+use Rattle.h1_model.specs.Unread.{piece, part, none, IsNext}
+use Rattle.h1_model.proofs.TrailerLaws.{trailers_are_fields}
 use Rattle.h1_chunks.specs.declared.reader.ChunkStep.{ChunkStep}
 use Rattle.h1_chunks.specs.Answers.{seen_step}
 use Rattle.h1_stream.specs.Behind.{StandsBehind}
 use Rattle.h1_stream.specs.Seen.{asked_of, seen_next, seen_stop}
 use Rattle.h1_stream.proofs.Bodies.{alone}
-use Rattle.http1_model.proofs.Carried.{coded_there}
+use Rattle.h1_model.proofs.Carried.{coded_there}
 use Rattle.h1_stream.proofs.Coded.{piece_ends, piece_goes_on}
 use Rattle.h1_stream.proofs.body.coded_next.Goals as goal
 

@@ -1,7 +1,7 @@
 use Rattle.std.proofs.Common.{◌≡◌, ◌-◌, ◌<◌, true, length, sym, subst, arith, rules}
 use Rattle.std.proofs.lemmas.Bool.Decides.{nat_tests}
-use Rattle.http1_model.specs.Messages.{Due, body, counted}
-use Rattle.http1_model.specs.Unread.{piece, part, IsNext}
+use Rattle.h1_model.specs.Messages.{Due, body, counted}
+use Rattle.h1_model.specs.Unread.{piece, part, IsNext}
 use Rattle.h1_stream.specs.Seen.{asked_of, seen_next}
 use Rattle.h1_stream.proofs.Bodies.{counted_whole, counted_part}
 use Rattle.h1_stream.proofs.body.counted_next.Goals as goal

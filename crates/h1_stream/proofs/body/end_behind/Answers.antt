@@ -1,7 +1,7 @@
 use Rattle.std.proofs.Common.{◌≡◌, Bool, true, sym, ◌∙◌, subst}
-use Rattle.http1_model.specs.Chunks.{Place}
-use Rattle.http1_model.specs.Trailers.{SpellsChunks}
-use Rattle.http1_model.proofs.TrailerLaws.{trailers_are_fields}
+use Rattle.h1_model.specs.Chunks.{Place}
+use Rattle.h1_model.specs.Trailers.{SpellsChunks}
+use Rattle.h1_model.proofs.TrailerLaws.{trailers_are_fields}
 use Rattle.h1_chunks.specs.declared.reader.ChunkStep.{ChunkStep}
 use Rattle.h1_chunks.specs.Answers.{seen_step}
 use Rattle.h1_stream.specs.Seen.{asked_of}

@@ -2,7 +2,7 @@ use Rattle.std.proofs.Common.{◌≡◌, Result, Ok, Err, OnOk, IsOk, codes, ap,
 use Rattle.header_maps.specs.Operations.{without}
 use Rattle.http_header.specs.Token.{is_token_byte}
 use Rattle.h1_head.specs.declared.head.Kind.{Kind}
-use Rattle.http1_model.specs.Messages.{trailers_left}
+use Rattle.h1_model.specs.Messages.{trailers_left}
 use Rattle.h1_stream.specs.Seen.{asked_of}
 use Rattle.h1_stream.proofs.body.left_trailers.Goals as goal
 

@@ -1,7 +1,7 @@
 use Rattle.std.proofs.Common.{◌<◌, Bool, true, false, length, sym, subst, arith}
 use Rattle.std.proofs.lemmas.Bool.Decides.{nat_tests}
-use Rattle.http1_model.specs.Messages.{Due, body, unbounded, due_next}
-use Rattle.http1_model.specs.Unread.{piece, part, IsNext}
+use Rattle.h1_model.specs.Messages.{Due, body, unbounded, due_next}
+use Rattle.h1_model.specs.Unread.{piece, part, IsNext}
 use Rattle.h1_stream.specs.Seen.{asked_of, seen_next}
 use Rattle.h1_stream.proofs.Bodies.{unbounded_full, unbounded_whole, unbounded_open}
 use Rattle.h1_stream.proofs.body.unbounded_next.Goals as goal

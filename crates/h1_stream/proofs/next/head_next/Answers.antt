@@ -1,7 +1,7 @@
 use Rattle.std.proofs.Common.{ap, refl, subst, sym, Some}
-use Rattle.http1_model.specs.Head.{found, not_yet, refused}
-use Rattle.http1_model.specs.Messages.{head, refusal}
-use Rattle.http1_model.specs.Unread.{none}
+use Rattle.h1_model.specs.Head.{found, not_yet, refused}
+use Rattle.h1_model.specs.Messages.{head, refusal}
+use Rattle.h1_model.specs.Unread.{none}
 use Rattle.h1_head.specs.declared.head.HeadStep.{HeadStep}
 use Rattle.h1_head.specs.Seen.{Spells, seen_head, seen_step}
 use Rattle.h1_stream.specs.Seen.{seen_next, seen_stop}

@@ -1,5 +1,5 @@
 use Rattle.std.proofs.Common.{arith, add-one}
-use Rattle.http1_model.proofs.LineLemmas.{whole_lines-no_feed, whole_lines-feed}
+use Rattle.h1_model.proofs.LineLemmas.{whole_lines-no_feed, whole_lines-feed}
 use Rattle.h1_text.proofs.lines.line_len.Goals as goal
 
 pub returns-in_err-at-clause-lines : goal.returns-in_err-at-clause-lines

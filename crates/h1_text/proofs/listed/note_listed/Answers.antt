@@ -1,6 +1,6 @@
 use Rattle.std.proofs.Common.{ℕ, List, take, ap, ◌∙◌, subst}
 use Rattle.std.specs.Prelude.{codes}
-use Rattle.http1_model.specs.Fields.{Pair, values_of}
+use Rattle.h1_model.specs.Fields.{Pair, values_of}
 use Rattle.h1_text.specs.Spans.{fields_at}
 use Rattle.h1_text.proofs.Values.{fields_at-next, values_named, values_other}
 use Rattle.h1_text.specs.Names.{AreMarked}

@@ -1,6 +1,6 @@
 use Rattle.std.proofs.Common.{[], take}
 use Rattle.std.specs.Prelude.{codes}
-use Rattle.http1_model.specs.Fields.{values_of}
+use Rattle.h1_model.specs.Fields.{values_of}
 use Rattle.h1_text.specs.Spans.{fields_at}
 use Rattle.h1_text.specs.Names.{AreMarked}
 use Rattle.h1_text.proofs.listed.note_listed.Given as goal

@@ -1,5 +1,5 @@
 use Rattle.std.proofs.Common.{◌∙◌, ◌∷◌, ℕ, List, length, option_copied, Option, Bor, ap}
-use Rattle.http1_model.specs.Fields.{members}
+use Rattle.h1_model.specs.Fields.{members}
 use Rattle.h1_text.specs.Members.{rest_members}
 use Rattle.h1_text.proofs.Splits.{members_some, past_four}
 use Rattle.h1_text.proofs.members.has_many_members.Goals as goal

@@ -1,5 +1,5 @@
 use Rattle.std.proofs.Common.{◌≡◌, ◌+◌, ◌<◌, length}
-use Rattle.http1_model.specs.Fields.{members}
+use Rattle.h1_model.specs.Fields.{members}
 use Rattle.h1_text.proofs.members.has_many_members.Given as goal
 
 -- the members so far, and those that are left

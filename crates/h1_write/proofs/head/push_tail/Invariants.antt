@@ -1,5 +1,5 @@
 use Rattle.std.proofs.Common.{◌≡◌, ◌++◌, drop}
-use Rattle.http1_model.specs.Wire.{field_lines}
+use Rattle.h1_model.specs.Wire.{field_lines}
 use Rattle.h1_write.proofs.head.push_tail.Given as goal
 
 -- what is written so far, and the lines of what is left

@@ -1,6 +1,6 @@
 use Rattle.std.proofs.Common.{◌≡◌, IfOk, ◌∙◌, subst, arith}
 use Rattle.httpdate.specs.Date.{unix_secs}
-use Rattle.http1_model.specs.Moment.{second_of}
+use Rattle.h1_model.specs.Moment.{second_of}
 use Rattle.local_reply.proofs.Moments.{text_of_moment}
 use Rattle.local_reply.proofs.date.moment_text.Goals as goal
 

@@ -1,5 +1,5 @@
 use Rattle.std.proofs.Common.{◌≡◌, drop}
-use Rattle.http1_model.specs.LocalReply.{has_date}
+use Rattle.h1_model.specs.LocalReply.{has_date}
 use Rattle.local_reply.proofs.fields.has_field_date.Given as goal
 
 -- what is left decides

@@ -1,4 +1,4 @@
-use Rattle.course.specs.Runs.{cut_part, goes_part}
+use Rattle.filter_host.specs.Runs.{cut_part, goes_part}
 use Rattle.worker.proofs.Quietly.{room_ends_on}
 use Rattle.worker.proofs.turning.ask.Goals as goal
 

@@ -1,6 +1,6 @@
 use Rattle.std.proofs.Common.{sym}
-use Rattle.course.specs.Course.{ends}
-use Rattle.course.specs.Runs.{cut_part, goes_part, goes_as}
+use Rattle.filter_host.specs.Course.{ends}
+use Rattle.filter_host.specs.Runs.{cut_part, goes_part, goes_as}
 use Rattle.worker_model.specs.Steps.{both}
 use Rattle.worker.proofs.turning.delete.Goals as goal
 

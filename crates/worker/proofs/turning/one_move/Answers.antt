@@ -1,4 +1,4 @@
-use Rattle.course.specs.Runs.{cut_short, goes_still}
+use Rattle.filter_host.specs.Runs.{cut_short, goes_still}
 use Rattle.worker.proofs.turning.one_move.Goals as goal
 
 pub returns-in_err-ask-clause-run : goal.returns-in_err-ask-clause-run

@@ -1,7 +1,7 @@
 use Rattle.std.proofs.Common.{◌≡◌, ◌-◌, suc, ap, sym, ◌∙◌, ℕ, arith}
-use Rattle.course.specs.Runs.{cut_short, goes_as, goes_then, goes_part, then_part}
+use Rattle.filter_host.specs.Runs.{cut_short, goes_as, goes_then, goes_part, then_part}
 use Rattle.worker_model.specs.Plan.{plan_of}
-use Rattle.worker_model.specs.Settling.{settling, settling_step, settling_rest, rests}
+use Rattle.worker_model.specs.Settling.{settling, settling_step, settling_rest, is_rest}
 use Rattle.worker.proofs.turning.settle.Goals as goal
 
 pub returns-then-is_rest-clause-run : goal.returns-then-is_rest-clause-run
@@ -36,7 +36,7 @@ returns-in_err-step-clause-run g c =
     (goes_part (λ b. settling g.H.Host.calling (plan_of c.args.rules.now) (c.loop-left.left - 1) b.host b.room) c.in_err-step.ensures.run.1))
 
 pub returns-then-is_rest-clause-rest : goal.returns-then-is_rest-clause-rest
-returns-then-is_rest-clause-rest g c = ap rests (sym c.next-next.ensures) ∙ (sym c.is_rest.ensures ∙ c.if-is_rest.true)
+returns-then-is_rest-clause-rest g c = ap is_rest (sym c.next-next.ensures) ∙ (sym c.is_rest.ensures ∙ c.if-is_rest.true)
 
 -- all steps are spent: it is cut short
 pub returns-clause-run : goal.returns-clause-run

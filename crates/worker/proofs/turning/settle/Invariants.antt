@@ -1,5 +1,5 @@
 use Rattle.std.proofs.Common.{◌≡◌}
-use Rattle.course.specs.Course.{Goes}
+use Rattle.filter_host.specs.Course.{Goes}
 use Rattle.worker_model.specs.Plan.{plan_of}
 use Rattle.worker_model.specs.Settling.{settling}
 use Rattle.worker.proofs.turning.settle.Given as goal

@@ -1,4 +1,4 @@
-use Rattle.course.specs.Runs.{cut_part, goes_part}
+use Rattle.filter_host.specs.Runs.{cut_part, goes_part}
 use Rattle.worker.proofs.turning.tell.Goals as goal
 
 pub returns-in_err-call_live-clause-run : goal.returns-in_err-call_live-clause-run

@@ -1,12 +1,12 @@
 use Rattle.std.proofs.Common.{◌≡◌, ◌∙◌, sym, ap}
-use Rattle.course.specs.Course.{ends}
-use Rattle.course.specs.Runs.{cut_short, goes_still, goes_from, goes_as}
+use Rattle.filter_host.specs.Course.{ends}
+use Rattle.filter_host.specs.Runs.{cut_short, goes_still, goes_from, goes_as}
 use Rattle.worker_model.specs.Room.{Room}
 use Rattle.worker_model.specs.Plan.{plan_of}
 use Rattle.worker_model.specs.Rooms.{next_of}
-use Rattle.worker_model.specs.Settling.{settling, rests}
+use Rattle.worker_model.specs.Settling.{settling, is_rest}
 use Rattle.worker_model.specs.Steps.{both}
-use Rattle.worker_model.specs.Turn.{facing, most_steps}
+use Rattle.worker_model.specs.Turn.{room_for_event, most_steps}
 use Rattle.worker.proofs.worker.react.Goals as goal
 
 pub returns-in_err-face-clause-run : goal.returns-in_err-face-clause-run
@@ -15,15 +15,15 @@ returns-in_err-face-clause-run g c =
 
 pub returns-in_err-settle-clause-run : goal.returns-in_err-settle-clause-run
 returns-in_err-settle-clause-run g c =
-    let face_is : c.face.new.room ≡ facing (plan_of c.args.rules.now) c.args.event c.args.room.now = c.in_ok-face.ensures in
+    let face_is : c.face.new.room ≡ room_for_event (plan_of c.args.rules.now) c.args.event c.args.room.now = c.in_ok-face.ensures in
     cut_short _ c.from_residual-in_err-settle.result c.from_residual-in_err-settle.ensures.0
     (goes_from (ap (λ (r : Room). settling g.H.Host.calling (plan_of c.args.rules.now) most_steps c.args.host.now r) (sym face_is)) c.in_err-settle.ensures.run.1)
 
 pub returns-clause-run : goal.returns-clause-run
 returns-clause-run g c =
-    let face_is : c.face.new.room ≡ facing (plan_of c.args.rules.now) c.args.event c.args.room.now = c.in_ok-face.ensures in
+    let face_is : c.face.new.room ≡ room_for_event (plan_of c.args.rules.now) c.args.event c.args.room.now = c.in_ok-face.ensures in
     goes_as (goes_from (ap (λ (r : Room). settling g.H.Host.calling (plan_of c.args.rules.now) most_steps c.args.host.now r) (sym face_is)) c.in_ok-settle.ensures.run)
     (λ i. ends (both c.settle.new.host (sym c.take_sent.ensures.room i)))
 
 pub returns-clause-rest : goal.returns-clause-rest
-returns-clause-rest g c = ap (λ (r : Room). rests (next_of r)) c.take_sent.ensures.room ∙ c.in_ok-settle.ensures.rest
+returns-clause-rest g c = ap (λ (r : Room). is_rest (next_of r)) c.take_sent.ensures.room ∙ c.in_ok-settle.ensures.rest

@@ -1,9 +1,9 @@
 use Rattle.std.proofs.Common.{◌≡◌, ◌+◌, drop}
-use Rattle.filter_chain.specs.Chains.{reached}
+use Rattle.filter_chain.specs.Chains.{reach_count}
 use Rattle.filter_chain.proofs.chain.Chain.reached.Given as goal
 
 abbrev pub invariant-loop-stage : goal.invariant-loop-stage
 invariant-loop-stage l = record {
-  rest : reached l.fn.self ≡ l.n + reached (drop l.stage-index l.fn.self);
+  rest : reach_count l.fn.self ≡ l.n + reach_count (drop l.stage-index l.fn.self);
   same : l.n ≡ l.stage-index;
 }

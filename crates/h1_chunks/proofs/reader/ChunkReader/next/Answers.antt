@@ -1,6 +1,6 @@
 use Rattle.std.proofs.Common.{ap, sym, refl, subst}
-use Rattle.http1_model.specs.Chunks.{Place, data_at}
-use Rattle.http1_model.specs.Trailers.{carried}
+use Rattle.h1_model.specs.Chunks.{Place, data_at}
+use Rattle.h1_model.specs.Trailers.{carried}
 use Rattle.h1_chunks.specs.declared.reader.ChunkStep.TheVariants as steps
 use Rattle.h1_chunks.specs.Answers.{Answers}
 use Rattle.h1_chunks.specs.Seen.{seen_place}

@@ -1,7 +1,7 @@
 use Rattle.std.proofs.Common.{◌∷◌, ◌+◌, drop, ap, sym, ◌∙◌, List, inr}
 use Rattle.std.proofs.lemmas.List.{drop_all}
 use Rattle.httparse.specs.declared.spans.HeaderSpan.{HeaderSpan}
-use Rattle.http1_model.specs.Fields.{Pair}
+use Rattle.h1_model.specs.Fields.{Pair}
 use Rattle.h1_text.specs.Spans.{fields_at}
 use Rattle.h1_head.proofs.Lists.{fields_at-more}
 use Rattle.h1_head.proofs.ListedLengths.{line_noted, line_passed, no_line_left}

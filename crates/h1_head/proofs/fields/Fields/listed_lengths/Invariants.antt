@@ -1,5 +1,5 @@
 use Rattle.std.proofs.Common.{◌≡◌, drop, List, ℕ, true}
-use Rattle.http1_model.specs.Fields.{is_listed}
+use Rattle.h1_model.specs.Fields.{is_listed}
 use Rattle.h1_text.specs.Spans.{fields_at}
 use Rattle.h1_head.proofs.ListedLengths.{IsFound}
 use Rattle.h1_head.proofs.fields.Fields.listed_lengths.Given as goal

@@ -1,5 +1,5 @@
 use Rattle.std.proofs.Common.{take}
-use Rattle.http1_model.specs.Fields.{Pair}
+use Rattle.h1_model.specs.Fields.{Pair}
 use Rattle.h1_text.specs.Spans.{fields_at}
 use Rattle.h1_head.proofs.Noting.{noted_next, noted_all}
 use Rattle.h1_head.proofs.fields.Fields.noted.Goals as goal

@@ -1,6 +1,6 @@
 use Rattle.std.proofs.Common.{◌≡◌, drop}
-use Rattle.http1_model.specs.Fields.{passing_among}
-use Rattle.http1_model.specs.Listed.{with_fields}
+use Rattle.h1_model.specs.Fields.{passing_among}
+use Rattle.h1_model.specs.Listed.{with_fields}
 use Rattle.h1_head.specs.Seen.{dropped_from, passing_in}
 use Rattle.h1_text.specs.Spans.{fields_at}
 use Rattle.h1_head.proofs.fields.Fields.passing.Given as goal

@@ -1,6 +1,6 @@
 use Rattle.std.proofs.Common.{◌≡◌, ◌++◌, drop}
 use Rattle.http_header.specs.Token.{lowercase}
-use Rattle.http1_model.specs.Fields.{values_of}
+use Rattle.h1_model.specs.Fields.{values_of}
 use Rattle.h1_text.specs.Spans.{fields_at}
 use Rattle.h1_head.proofs.fields.Fields.values_of.Given as goal
 

@@ -1,6 +1,6 @@
 use Rattle.std.proofs.Common.{◌≡◌, true, refl}
 use Rattle.std.specs.Prelude.{codes}
-use Rattle.http1_model.specs.Fields.{Pair, is_named}
+use Rattle.h1_model.specs.Fields.{Pair, is_named}
 use Rattle.h1_head.proofs.Noting.{noted_named, noted_other, named_alone}
 use Rattle.h1_head.proofs.fields.Noted.note.Goals as goal
 

@@ -1,5 +1,5 @@
 use Rattle.std.proofs.Common.{◌≡◌, ◌+◌, length, option_copied, Option, None, Some, List, ℕ, true}
-use Rattle.http1_model.specs.Fields.{lists}
+use Rattle.h1_model.specs.Fields.{lists}
 use Rattle.h1_head.specs.Lengths.{IsBetween}
 use Rattle.h1_text.specs.Members.{rest_members}
 use Rattle.h1_head.proofs.ListedLengths.{IsSeen}

@@ -1,6 +1,6 @@
 use Rattle.std.proofs.Common.{◌≡◌, refl, sym, ap, ◌∙◌, subst}
-use Rattle.http1_model.specs.Messages.{Due, done, over, stop}
-use Rattle.http1_model.specs.Unread.{Reading, none, IsNext}
+use Rattle.h1_model.specs.Messages.{Due, done, over, stop}
+use Rattle.h1_model.specs.Unread.{Reading, none, IsNext}
 use Rattle.h1_stream.specs.Seen.{seen_due}
 use Rattle.h1_stream.proofs.Bodies.{alone}
 use Rattle.h1_stream.proofs.reader.MessageReader.next.Goals as goal

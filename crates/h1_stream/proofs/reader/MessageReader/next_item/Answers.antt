@@ -1,6 +1,6 @@
 use Rattle.std.proofs.Common.{sym, subst}
-use Rattle.http1_model.specs.Messages.{rest}
-use Rattle.http1_model.specs.Unread.{Reading, Halts}
+use Rattle.h1_model.specs.Messages.{rest}
+use Rattle.h1_model.specs.Unread.{Reading, Halts}
 use Rattle.h1_stream.specs.Seen.{seen_due, asked_of}
 use Rattle.h1_stream.proofs.Quiet.{halts}
 use Rattle.h1_stream.proofs.reader.MessageReader.next_item.Goals as goal

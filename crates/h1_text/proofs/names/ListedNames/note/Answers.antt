@@ -1,9 +1,9 @@
 use Rattle.std.proofs.Common.{◌∙◌, ◌∷◌, ◌++◌, [], ◌||◌, ◌<◌, false, length, option_copied, sym, ap, subst}
 use Rattle.std.specs.Prelude.{slice_index_or}
 use Rattle.http_header.specs.Token.{lowercase}
-use Rattle.http1_model.specs.Fields.{members}
+use Rattle.h1_model.specs.Fields.{members}
 use Rattle.h1_text.specs.Members.{rest_members}
-use Rattle.h1_text.specs.Names.{is_met, is_met_in, is_number, found}
+use Rattle.h1_text.specs.Names.{is_met, is_met_in, is_number, name_in_tree}
 use Rattle.h1_text.proofs.Marked.{met_more}
 use Rattle.h1_text.proofs.Unmarked.{still_wanted, meets, met_further, met_all}
 use Rattle.h1_text.proofs.names.ListedNames.note.Goals as goal
@@ -49,7 +49,7 @@ loop-member-preserved c =
           ∙ met_further listed c.loop-member.wanted inv.wanted k m behind rest b c.in-Some.ensures.members
           (ap (λ t. old || is_met t k rest) inv.tree ∙ inv.marks k low);
       blanks = inv.blanks;
-      wanted = still_wanted listed c.mark.new.self c.loop-member.wanted (λ k. is_number k (found listed.tree (lowercase m)))
+      wanted = still_wanted listed c.mark.new.self c.loop-member.wanted (λ k. is_number k (name_in_tree listed.tree (lowercase m)))
           c.mark.ensures.tree c.mark.ensures.count c.mark.ensures.marks inv.wanted;
     }
 

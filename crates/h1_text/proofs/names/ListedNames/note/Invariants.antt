@@ -1,6 +1,6 @@
 use Rattle.std.proofs.Common.{◌≡◌, ◌<◌, ◌||◌, length, option_copied, ℕ, false}
 use Rattle.std.specs.Prelude.{slice_index_or}
-use Rattle.http1_model.specs.Fields.{members}
+use Rattle.h1_model.specs.Fields.{members}
 use Rattle.h1_text.specs.Members.{rest_members}
 use Rattle.h1_text.specs.Names.{is_met}
 use Rattle.h1_text.specs.Wanted.{AreWanted, HasBlanks, rest_len}

@@ -1,7 +1,7 @@
 use Rattle.std.proofs.Common.{◌≡◌, ◌<◌, ◌+◌, ◌∙◌, ℕ, suc, length, drop, sym, ap, refl, arith}
 use Rattle.std.specs.List.{list_any}
 use Rattle.std.proofs.lemmas.List.{take_rest, length-drop}
-use Rattle.http1_model.specs.Fields.{members}
+use Rattle.h1_model.specs.Fields.{members}
 use Rattle.h1_text.proofs.Skips.{first_lost, run_lost, left-comma, left-no_comma}
 use Rattle.h1_text.proofs.wanted.Wanted.behind_run.Goals as goal
 

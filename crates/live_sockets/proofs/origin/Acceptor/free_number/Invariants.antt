@@ -3,7 +3,7 @@ use Rattle.live_sockets.specs.Numbers.{home_of}
 use Rattle.live_sockets.specs.Places.{most_places}
 use Rattle.live_sockets.proofs.origin.Acceptor.free_number.Given as goal
 
--- the numbers behind the last one up to this are of workers that have no place
+-- the numbers after the last one up to this are of workers that have no place
 abbrev pub invariant-loop : goal.invariant-loop
 invariant-loop l =
     record {

@@ -1,7 +1,7 @@
 use Rattle.std.proofs.Common.{◌≡◌, ◌<◌, ℕ, List, false, length, Option, sym, ap, ◌∙◌, subst, arith}
 use Rattle.std.specs.Prelude.{slice_index_or, slice_set}
 use Rattle.std.proofs.lemmas.Bool.{lt-ltb, le-ltb}
-use Rattle.course.specs.Called.{called_back}
+use Rattle.filter_host.specs.Called.{called_back}
 use Rattle.store_model.specs.Program.{Program, done, Runs}
 use Rattle.store_model.specs.Runs.{runs_as}
 use Rattle.vm_host.specs.declared.slots.Slot.{Slot}

@@ -1,7 +1,7 @@
 use Rattle.std.proofs.Common.{ℕ, Option, None, Some, subst}
 use Rattle.std.proofs.lemmas.Result.{IfOk-weaker}
 use Rattle.store_model.specs.Program.{Program, done, Ends, Runs}
-use Rattle.vm_host.specs.declared.ended.Ended.TheVariants as ended
+use Rattle.vm_host.specs.declared.ended.LastRunEnd.TheVariants as ended
 use Rattle.vm_host.specs.Seeing.{guest_at}
 use Rattle.vm_host.specs.HostStates.{host_state}
 use Rattle.vm_host.specs.Calling.{returned}

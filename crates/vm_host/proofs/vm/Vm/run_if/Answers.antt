@@ -1,7 +1,7 @@
 use Rattle.std.proofs.Common.{ℕ, [], Option, None, Some, sym, subst}
 use Rattle.store_model.specs.Program.{done, Runs}
 use Rattle.store_model.specs.Runs.{runs_none}
-use Rattle.vm_host.specs.declared.ended.Ended.TheVariants as ended
+use Rattle.vm_host.specs.declared.ended.LastRunEnd.TheVariants as ended
 use Rattle.vm_host.specs.HostStates.{host_state}
 use Rattle.vm_host.specs.Vms.{ran, running_if}
 use Rattle.vm_host.proofs.vm.Vm.run_if.Goals as goal

@@ -1,8 +1,0 @@
-use Rattle.asked_laws.proofs.Lines.{directions_ask, requests_go_up}
-use Rattle.asked_laws.proofs.laws.directions_ask.Goals as goal
-
-pub returns-clause-asked : goal.returns-clause-asked
-returns-clause-asked c = directions_ask
-
-pub returns-clause-up : goal.returns-clause-up
-returns-clause-up c = requests_go_up

@@ -1,0 +1,173 @@
+// The names that are there so far, and lists of names.
+ghost use Rattle.std.specs.Prelude.{◌≡◌, ◌<◌, IfSome, length, map, bytes_eq, position};
+ghost use Rattle.std.specs.List.{list_all, list_any};
+ghost use Rattle.toml.specs.Data.{as_array, as_str};
+ghost use Rattle.toml.specs.View.{view};
+ghost use Rattle.gate_config.specs.Given.{given};
+ghost use Rattle.config_reader.specs.Judge.{filters_fault, is_a_name, is_among, names_fault, repeats, text_of};
+ghost use Rattle.config_reader.specs.Names.{has_vm, has_plugin, vm_number, plugin_number};
+
+use crate::values::{name_in, text_in};
+use gate_config::Config;
+use toml::Value;
+
+/// Whether a VM has this name.
+pub(crate) fn has_vm(config: &Config, name: &str) -> bool
+    ensures { result ≡ has_vm (given config.now) name.now }
+{
+    config
+        .vms
+        .as_slice()
+        .iter()
+        .any(|vm| vm.name.as_str() == name)
+}
+
+/// Whether a plug-in has this name.
+pub(crate) fn has_plugin(config: &Config, name: &str) -> bool
+    ensures { result ≡ has_plugin (given config.now) name.now }
+{
+    config
+        .plugins
+        .as_slice()
+        .iter()
+        .any(|plugin| plugin.name.as_str() == name)
+}
+
+/// The place of the VM of this name, and 0 where there is none.
+#[tactic(auto, unfolding(crate::specs::Names::vm_number))]
+pub(crate) fn vm_place(config: &Config, name: &str) -> usize
+    ensures { result ≡ vm_number (given config.now) name.now }
+{
+    match find_vm(config, name) {
+        Some(place) => place,
+        None => 0,
+    }
+}
+
+/// The place of the VM of this name.
+fn find_vm(config: &Config, name: &str) -> Option<usize>
+    ensures { result ≡ position (λ vm. bytes_eq vm.name name.now) config.now.vms }
+{
+    config
+        .vms
+        .as_slice()
+        .iter()
+        .position(|vm| vm.name.as_str() == name)
+}
+
+/// The place of the plug-in of this name, and 0 where there is none.
+#[tactic(auto, unfolding(crate::specs::Names::plugin_number))]
+pub(crate) fn plugin_place(config: &Config, name: &str) -> usize
+    ensures place { result ≡ plugin_number (given config.now) name.now }
+    ensures small { result < 64 }
+{
+    match find_plugin(config, name) {
+        Some(place) => place,
+        None => 0,
+    }
+}
+
+/// The place of the plug-in of this name.
+fn find_plugin(config: &Config, name: &str) -> Option<usize>
+    ensures first { result ≡ position (λ plugin. bytes_eq plugin.name name.now) config.now.plugins }
+    ensures within { IfSome result (λ place. place < length config.now.plugins) }
+{
+    config
+        .plugins
+        .as_slice()
+        .iter()
+        .position(|plugin| plugin.name.as_str() == name)
+}
+
+/// Why a value is no list of filters.
+pub(crate) fn filters_fault(config: &Config, value: &Value) -> Option<u8>
+    ensures { result ≡ filters_fault (given config.now) (as_array (view value.now)) }
+{
+    match value.as_array() {
+        Some(items) => names_fault(config, items.as_slice()),
+        None => Some(4),
+    }
+}
+
+/// Why values are no list of filters: one is no name, they are too many, one comes twice, or one is the name of no plug-in.
+fn names_fault(config: &Config, items: &[Value]) -> Option<u8>
+    ensures { result ≡ names_fault (given config.now) (map view items.now) }
+{
+    if !are_names(items) {
+        return Some(4);
+    }
+    if items.len() > 16 {
+        return Some(7);
+    }
+    if repeats(items) {
+        return Some(8);
+    }
+    if !are_plugins(config, items) {
+        return Some(5);
+    }
+    None
+}
+
+/// Whether all values are names.
+fn are_names(items: &[Value]) -> bool
+    ensures { result ≡ list_all is_a_name (map view items.now) }
+{
+    each_is_a_name(items)
+}
+
+/// The same, said of the values themselves.
+fn each_is_a_name(items: &[Value]) -> bool
+    ensures { result ≡ list_all (λ v. is_a_name (view v)) items.now }
+{
+    items.iter().all(|item| is_a_name(item))
+}
+
+/// Whether a value is a name.
+fn is_a_name(item: &Value) -> bool
+    ensures { result ≡ is_a_name (view item.now) }
+{
+    match name_in(item) {
+        Some(_) => true,
+        None => false,
+    }
+}
+
+/// Whether one of the names comes twice.
+fn repeats(items: &[Value]) -> bool
+    ensures { result ≡ repeats (map view items.now) }
+{
+    for (place, item) in items.iter().enumerate() {
+        if is_among(item, &items[place + 1..]) {
+            return true;
+        }
+    }
+    false
+}
+
+/// Whether a name is among these.
+fn is_among(item: &Value, others: &[Value]) -> bool
+    ensures { result ≡ is_among (view item.now) (map view others.now) }
+{
+    is_one_of(text_in(item), others)
+}
+
+/// The same, said of the values themselves.
+fn is_one_of(name: &str, others: &[Value]) -> bool
+    ensures { result ≡ list_any (λ v. bytes_eq (text_of (view v)) name.now) others.now }
+{
+    others.iter().any(|other| text_in(other) == name)
+}
+
+/// Whether all values are names of plug-ins.
+fn are_plugins(config: &Config, items: &[Value]) -> bool
+    ensures { result ≡ list_all (λ d. has_plugin (given config.now) (text_of d)) (map view items.now) }
+{
+    each_is_a_plugin(config, items)
+}
+
+/// The same, said of the values themselves.
+fn each_is_a_plugin(config: &Config, items: &[Value]) -> bool
+    ensures { result ≡ list_all (λ v. has_plugin (given config.now) (text_of (view v))) items.now }
+{
+    items.iter().all(|item| has_plugin(config, text_in(item)))
+}

@@ -1,5 +1,0 @@
-use Rattle.down_laws.proofs.Turnwise.{connections_go_in_order}
-use Rattle.down_laws.proofs.laws.connections_go_in_order.Goals as goal
-
-pub returns : goal.returns
-returns g c = connections_go_in_order _

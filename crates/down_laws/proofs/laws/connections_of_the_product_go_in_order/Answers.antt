@@ -1,5 +1,0 @@
-use Rattle.down_laws.proofs.Turnwise.{connections_of_the_product}
-use Rattle.down_laws.proofs.laws.connections_of_the_product_go_in_order.Goals as goal
-
-pub returns : goal.returns
-returns g c = connections_of_the_product _ _

@@ -1,5 +1,0 @@
-use Rattle.down_laws.proofs.Turning.{responses_of_the_product}
-use Rattle.down_laws.proofs.laws.responses_of_the_product_go_down.Goals as goal
-
-pub returns : goal.returns
-returns g c = responses_of_the_product _ _

@@ -1,5 +1,0 @@
-use Rattle.exchange_laws.proofs.Lives.{one_request, nothing_else}
-use Rattle.exchange_laws.proofs.laws.one_request_goes_up.Goals as goal
-
-pub returns : goal.returns
-returns c = record { once = one_request; alone = nothing_else }

@@ -1,9 +1,0 @@
-use Rattle.std.proofs.Common.{refl}
-use Rattle.fleet_laws.proofs.Lives.{early_took}
-use Rattle.fleet_laws.proofs.laws.early_lives_took_events.Goals as goal
-
-pub returns-clause-took : goal.returns-clause-took
-returns-clause-took g c = early_took g.H.Host.calling
-
-pub returns-clause-begins : goal.returns-clause-begins
-returns-clause-begins g c = λ config host who seed. refl

@@ -1,0 +1,5 @@
+use Rattle.h1_model.proofs.Listing as laws
+use Rattle.h1_model.proofs.request_listed.Goals as goal
+
+pub returns : goal.returns
+returns c = laws.request_listed

@@ -1,5 +1,0 @@
-use Rattle.http1_model.proofs.Framed as laws
-use Rattle.http1_model.proofs.framed_once.Goals as goal
-
-pub returns : goal.returns
-returns c = laws.framed_once

@@ -1,5 +1,0 @@
-use Rattle.http1_model.proofs.Readings as laws
-use Rattle.http1_model.proofs.one_step.Goals as goal
-
-pub returns : goal.returns
-returns c = laws.one_step

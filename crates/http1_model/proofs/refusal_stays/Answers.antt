@@ -1,5 +1,0 @@
-use Rattle.http1_model.proofs.Readings as laws
-use Rattle.http1_model.proofs.refusal_stays.Goals as goal
-
-pub returns : goal.returns
-returns c = laws.refusal_stays

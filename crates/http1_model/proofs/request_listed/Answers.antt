@@ -1,5 +1,0 @@
-use Rattle.http1_model.proofs.Listing as laws
-use Rattle.http1_model.proofs.request_listed.Goals as goal
-
-pub returns : goal.returns
-returns c = laws.request_listed

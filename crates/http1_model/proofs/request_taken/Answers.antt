@@ -1,5 +1,0 @@
-use Rattle.http1_model.proofs.Taken as laws
-use Rattle.http1_model.proofs.request_taken.Goals as goal
-
-pub returns : goal.returns
-returns c = laws.request_taken

@@ -1,5 +1,0 @@
-use Rattle.http1_model.proofs.TrailerLaws as laws
-use Rattle.http1_model.proofs.trailers_are_fields.Goals as goal
-
-pub returns : goal.returns
-returns c = laws.trailers_are_fields

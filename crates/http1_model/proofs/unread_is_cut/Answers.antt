@@ -1,5 +1,0 @@
-use Rattle.http1_model.proofs.Cuts as laws
-use Rattle.http1_model.proofs.unread_is_cut.Goals as goal
-
-pub returns : goal.returns
-returns c = laws.unread_is_cut

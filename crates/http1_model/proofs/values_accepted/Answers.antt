@@ -1,5 +1,0 @@
-use Rattle.http1_model.proofs.Received as laws
-use Rattle.http1_model.proofs.values_accepted.Goals as goal
-
-pub returns : goal.returns
-returns c = laws.values_accepted

@@ -1,5 +1,0 @@
-use Rattle.http1_model.proofs.Received as laws
-use Rattle.http1_model.proofs.whole_fits.Goals as goal
-
-pub returns : goal.returns
-returns c = laws.whole_fits

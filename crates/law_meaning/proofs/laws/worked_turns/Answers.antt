@@ -1,0 +1,5 @@
+use Rattle.law_meaning.proofs.Worked.{examples}
+use Rattle.law_meaning.proofs.laws.worked_turns.Goals as goal
+
+pub returns : goal.returns
+returns g c = examples _

@@ -1,0 +1,5 @@
+use Rattle.law_read_back.proofs.Staying.{maps_of_workers}
+use Rattle.law_read_back.proofs.laws.maps_of_workers_stay_lists.Goals as goal
+
+pub returns : goal.returns
+returns g c = maps_of_workers _ _ _

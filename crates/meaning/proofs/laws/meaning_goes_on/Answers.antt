@@ -1,5 +1,0 @@
-use Rattle.meaning.proofs.Folding.{goes_on}
-use Rattle.meaning.proofs.laws.meaning_goes_on.Goals as goal
-
-pub returns : goal.returns
-returns g c = goes_on

@@ -1,5 +1,0 @@
-use Rattle.meaning.proofs.Folding.{examples}
-use Rattle.meaning.proofs.laws.worked_meanings.Goals as goal
-
-pub returns : goal.returns
-returns g c = examples _

@@ -1,5 +1,0 @@
-use Rattle.meaning_laws.proofs.Walking.{turns_are_walks}
-use Rattle.meaning_laws.proofs.laws.turns_are_walks.Goals as goal
-
-pub returns : goal.returns
-returns g c = turns_are_walks _

@@ -1,8 +1,0 @@
-use Rattle.metric_laws.proofs.Words.{totals_asked, words_asked}
-use Rattle.metric_laws.proofs.law.words_are_what_was_asked.Goals as goal
-
-pub returns-clause-words : goal.returns-clause-words
-returns-clause-words c = words_asked
-
-pub returns-clause-totals : goal.returns-clause-totals
-returns-clause-totals c = totals_asked

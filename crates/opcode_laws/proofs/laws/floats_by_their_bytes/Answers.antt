@@ -1,5 +1,0 @@
-use Rattle.std.proofs.Common.{refl}
-use Rattle.opcode_laws.proofs.laws.floats_by_their_bytes.Goals as goal
-
-pub returns : goal.returns
-returns c = record { floats = refl }

@@ -1,5 +1,0 @@
-use Rattle.outbox.proofs.Deliveries.{marks_at-cleared, marks_at-cleared_ended}
-use Rattle.outbox.proofs.laws.clearing_drops_one_place.Goals as goal
-
-pub returns : goal.returns
-returns c = record { dropped = marks_at-cleared_ended; kept = marks_at-cleared }

@@ -1,5 +1,0 @@
-use Rattle.outbox.proofs.Sorting.{rank_apart, together}
-use Rattle.outbox.proofs.laws.ranks_keep_places_apart.Goals as goal
-
-pub returns : goal.returns
-returns c = record { apart = rank_apart; together = together }

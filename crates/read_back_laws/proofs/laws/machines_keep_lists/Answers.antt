@@ -1,6 +1,0 @@
-use Rattle.read_back_laws.proofs.Calling.{machines_keep_lists}
-use Rattle.read_back_laws.proofs.Shaping.{heads_have_field_lists}
-use Rattle.read_back_laws.proofs.laws.machines_keep_lists.Goals as goal
-
-pub returns : goal.returns
-returns c = record { callbacks = machines_keep_lists; first = heads_have_field_lists }

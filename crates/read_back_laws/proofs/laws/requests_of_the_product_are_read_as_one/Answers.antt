@@ -1,5 +1,0 @@
-use Rattle.read_back_laws.proofs.Readings.{requests_of_the_product_are_read}
-use Rattle.read_back_laws.proofs.laws.requests_of_the_product_are_read_as_one.Goals as goal
-
-pub returns : goal.returns
-returns g c = requests_of_the_product_are_read _ _

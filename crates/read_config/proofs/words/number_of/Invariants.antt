@@ -1,6 +1,0 @@
-use Rattle.std.proofs.Common.{◌≡◌, ◌≤◌, drop}
-use Rattle.read_config.specs.Words.{number_from}
-use Rattle.read_config.proofs.words.number_of.Given as goal
-
-abbrev pub invariant-loop-b : goal.invariant-loop-b
-invariant-loop-b l = (number_from 0 l.s ≡ number_from l.n (drop l.b-index l.s)) × (l.n ≤ 1000000)

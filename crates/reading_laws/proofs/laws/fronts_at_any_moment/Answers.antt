@@ -1,5 +1,0 @@
-use Rattle.reading_laws.proofs.Cuts.{fronts_at_any_moment}
-use Rattle.reading_laws.proofs.laws.fronts_at_any_moment.Goals as goal
-
-pub returns : goal.returns
-returns c = fronts_at_any_moment

@@ -1,5 +1,0 @@
-use Rattle.reading_laws.proofs.Once.{numbers_read_once}
-use Rattle.reading_laws.proofs.laws.numbers_read_once.Goals as goal
-
-pub returns : goal.returns
-returns g c = numbers_read_once _

@@ -1,5 +1,0 @@
-use Rattle.reading_laws.proofs.Limits.{unread_stays_short}
-use Rattle.reading_laws.proofs.laws.unread_stays_short.Goals as goal
-
-pub returns : goal.returns
-returns g c = unread_stays_short _

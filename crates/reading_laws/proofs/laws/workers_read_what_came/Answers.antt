@@ -1,5 +1,0 @@
-use Rattle.reading_laws.proofs.Wholly.{workers_read}
-use Rattle.reading_laws.proofs.laws.workers_read_what_came.Goals as goal
-
-pub returns : goal.returns
-returns g c = workers_read _ _ _

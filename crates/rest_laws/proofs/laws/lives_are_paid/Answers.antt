@@ -1,5 +1,0 @@
-use Rattle.rest_laws.proofs.Paid.{lives_are_paid}
-use Rattle.rest_laws.proofs.laws.lives_are_paid.Goals as goal
-
-pub returns : goal.returns
-returns g c = lives_are_paid _

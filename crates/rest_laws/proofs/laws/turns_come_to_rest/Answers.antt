@@ -1,5 +1,0 @@
-use Rattle.rest_laws.proofs.Turns.{turns_come_to_rest}
-use Rattle.rest_laws.proofs.laws.turns_come_to_rest.Goals as goal
-
-pub returns : goal.returns
-returns g c = turns_come_to_rest _

@@ -1,5 +1,0 @@
-use Rattle.rest_laws.proofs.Sizes.{whole_turns_come_to_rest}
-use Rattle.rest_laws.proofs.laws.whole_turns_come_to_rest.Goals as goal
-
-pub returns : goal.returns
-returns g c = whole_turns_come_to_rest _ _

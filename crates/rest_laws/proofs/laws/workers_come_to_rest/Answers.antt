@@ -1,5 +1,0 @@
-use Rattle.rest_laws.proofs.Sizes.{workers_come_to_rest}
-use Rattle.rest_laws.proofs.laws.workers_come_to_rest.Goals as goal
-
-pub returns : goal.returns
-returns g c = workers_come_to_rest _

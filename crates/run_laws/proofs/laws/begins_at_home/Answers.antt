@@ -1,5 +1,0 @@
-use Rattle.run_laws.proofs.Homes.{begins_at_home}
-use Rattle.run_laws.proofs.laws.begins_at_home.Goals as goal
-
-pub returns : goal.returns
-returns c = begins_at_home c.made_vms_are_in_place.ensures

@@ -1,5 +1,0 @@
-use Rattle.run_laws.proofs.Fuel.{runs_have_their_fuel, fuel_examples}
-use Rattle.run_laws.proofs.laws.runs_have_their_fuel.Goals as goal
-
-pub returns : goal.returns
-returns c = record { runs = runs_have_their_fuel c.vms_keep_their_bounds.ensures; worked = fuel_examples }

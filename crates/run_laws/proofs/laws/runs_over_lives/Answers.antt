@@ -1,5 +1,0 @@
-use Rattle.run_laws.proofs.Homes.{run_over_lives}
-use Rattle.run_laws.proofs.laws.runs_over_lives.Goals as goal
-
-pub returns : goal.returns
-returns c = run_over_lives c.callbacks_are_apart.ensures c.callbacks_change_their_own.ensures.contexts c.callbacks_change_their_own.ensures.stays c.made_vms_are_in_place.ensures c.lives_keep_places.ensures

@@ -1,5 +1,0 @@
-use Rattle.run_laws.proofs.Runs.{runs_what_is_asked}
-use Rattle.run_laws.proofs.laws.runs_what_is_asked.Goals as goal
-
-pub returns : goal.returns
-returns c = runs_what_is_asked

@@ -1,5 +1,0 @@
-use Rattle.script_play.proofs.Fronts.{all_placed}
-use Rattle.script_play.proofs.laws.each_has_its_worker.Goals as goal
-
-pub returns : goal.returns
-returns c = λ commands. all_placed commands

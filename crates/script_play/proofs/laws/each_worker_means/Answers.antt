@@ -1,5 +1,0 @@
-use Rattle.script_play.proofs.Meant.{each_worker_means}
-use Rattle.script_play.proofs.laws.each_worker_means.Goals as goal
-
-pub returns : goal.returns
-returns g c = each_worker_means _

@@ -1,5 +1,0 @@
-use Rattle.script_play.proofs.Once.{fronts_of_one}
-use Rattle.script_play.proofs.laws.fronts_of_one.Goals as goal
-
-pub returns : goal.returns
-returns g c = fronts_of_one _

@@ -1,6 +1,0 @@
-use Rattle.std.proofs.Common.{◌≡◌, ◌++◌, drop}
-use Rattle.serving.specs.Summary.{all_metric_lines}
-use Rattle.serving.proofs.telling.put_all_metrics.Given as goal
-
-abbrev pub invariant-vms : goal.invariant-vms
-invariant-vms l = l.text ++ all_metric_lines (drop l.n l.fn.vms) (drop l.n l.fn.closed.metrics) ≡ l.fn.text ++ all_metric_lines l.fn.vms l.fn.closed.metrics

@@ -1,6 +1,0 @@
-use Rattle.std.proofs.Common.{◌≡◌, ◌++◌, drop}
-use Rattle.serving.specs.Summary.{store_lines}
-use Rattle.serving.proofs.telling.put_all_stores.Given as goal
-
-abbrev pub invariant-vms : goal.invariant-vms
-invariant-vms l = l.text ++ store_lines (drop l.n l.fn.vms) (drop l.n l.fn.closed.stores) ≡ l.fn.text ++ store_lines l.fn.vms l.fn.closed.stores

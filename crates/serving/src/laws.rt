@@ -1,7 +1,0 @@
-// Worked examples of the definitions. Nothing here does anything when it runs.
-ghost use Rattle.serving.specs.Examples.{two_vms_told};
-
-/// Worked lines of what stores and metrics came to.
-pub fn worked_summary()
-    ensures { two_vms_told }
-{}

@@ -1,5 +1,0 @@
-use Rattle.turn_laws.proofs.General.{more_change_nothing}
-use Rattle.turn_laws.proofs.laws.more_steps_change_nothing_over.Goals as goal
-
-pub returns : goal.returns
-returns g c = more_change_nothing _

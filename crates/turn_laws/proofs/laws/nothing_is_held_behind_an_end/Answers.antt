@@ -1,5 +1,0 @@
-use Rattle.turn_laws.proofs.Ended.{nothing_held}
-use Rattle.turn_laws.proofs.laws.nothing_is_held_behind_an_end.Goals as goal
-
-pub returns : goal.returns
-returns c = nothing_held

@@ -1,8 +1,0 @@
-use Rattle.turn_laws.proofs.Uploads.{recoding_example, unrouted_example}
-use Rattle.turn_laws.proofs.laws.worked_routes.Goals as goal
-
-pub returns : goal.returns
-returns c = record {
-  recoding = recoding_example;
-  unrouted = unrouted_example;
-}

@@ -1,8 +1,0 @@
-use Rattle.turn_laws.proofs.Texts.{request_texts, response_texts}
-use Rattle.turn_laws.proofs.laws.worked_texts.Goals as goal
-
-pub returns : goal.returns
-returns c = record {
-  requests = request_texts;
-  responses = response_texts;
-}

@@ -1,5 +1,0 @@
-use Rattle.turn_laws.proofs.Backlog.{room_examples, text_examples, line_examples}
-use Rattle.turn_laws.proofs.laws.worked_wants.Goals as goal
-
-pub returns : goal.returns
-returns c = record { waiting = room_examples; unread = text_examples; lines = line_examples }

@@ -1,8 +1,0 @@
-use Rattle.vm_laws.proofs.SeesItsOwn.{see_their_own, are_unseen}
-use Rattle.vm_laws.proofs.laws.callbacks_see_their_own.Goals as goal
-
-pub returns-clause-sees : goal.returns-clause-sees
-returns-clause-sees c = see_their_own
-
-pub returns-clause-unseen : goal.returns-clause-unseen
-returns-clause-unseen c = are_unseen

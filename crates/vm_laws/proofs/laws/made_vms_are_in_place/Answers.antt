@@ -1,5 +1,0 @@
-use Rattle.vm_laws.proofs.MadeVms.{in_place}
-use Rattle.vm_laws.proofs.laws.made_vms_are_in_place.Goals as goal
-
-pub returns : goal.returns
-returns c = in_place

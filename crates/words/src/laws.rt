@@ -1,7 +1,0 @@
-// What the definition of the forms says, as a function without a body.
-ghost use Rattle.words.specs.Examples.{WordExamples};
-
-/// Lists of words and what they ask for, worked out by hand.
-pub fn worked_words()
-    ensures { WordExamples }
-{}

@@ -1,5 +1,0 @@
-use Rattle.worked_host_calls.proofs.Buffers.{buffer_reads}
-use Rattle.worked_host_calls.proofs.laws.worked_buffer_reads.Goals as goal
-
-pub returns : goal.returns
-returns c = buffer_reads

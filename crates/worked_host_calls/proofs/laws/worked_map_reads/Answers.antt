@@ -1,5 +1,0 @@
-use Rattle.worked_host_calls.proofs.MapRows.{map_reads}
-use Rattle.worked_host_calls.proofs.laws.worked_map_reads.Goals as goal
-
-pub returns : goal.returns
-returns c = map_reads

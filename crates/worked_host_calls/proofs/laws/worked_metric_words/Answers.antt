@@ -1,5 +1,0 @@
-use Rattle.worked_host_calls.proofs.Metrics.{metric_words}
-use Rattle.worked_host_calls.proofs.laws.worked_metric_words.Goals as goal
-
-pub returns : goal.returns
-returns c = metric_words

@@ -1,5 +1,0 @@
-use Rattle.worked_host_calls.proofs.Wasi.{no_arguments}
-use Rattle.worked_host_calls.proofs.laws.worked_no_arguments.Goals as goal
-
-pub returns : goal.returns
-returns c = no_arguments

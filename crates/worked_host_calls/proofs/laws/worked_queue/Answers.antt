@@ -1,5 +1,0 @@
-use Rattle.worked_host_calls.proofs.Stores.{queue_examples}
-use Rattle.worked_host_calls.proofs.laws.worked_queue.Goals as goal
-
-pub returns : goal.returns
-returns c = queue_examples

@@ -1,5 +1,0 @@
-use Rattle.worked_host_calls.proofs.Wasi.{random_examples}
-use Rattle.worked_host_calls.proofs.laws.worked_random.Goals as goal
-
-pub returns : goal.returns
-returns c = random_examples

@@ -1,5 +1,0 @@
-use Rattle.worked_host_calls.proofs.Streams.{response_examples}
-use Rattle.worked_host_calls.proofs.laws.worked_response.Goals as goal
-
-pub returns : goal.returns
-returns c = response_examples

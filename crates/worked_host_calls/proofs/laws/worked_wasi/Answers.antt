@@ -1,5 +1,0 @@
-use Rattle.worked_host_calls.proofs.Wasi.{wasi_examples}
-use Rattle.worked_host_calls.proofs.laws.worked_wasi.Goals as goal
-
-pub returns : goal.returns
-returns c = wasi_examples
