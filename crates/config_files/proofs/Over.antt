@@ -103,4 +103,5 @@ plain_of_none files config h =
       vms = h.vms;
       plugins = ap (λ (g : Given). g.plugins) is;
       routes = ap (λ (g : Given). g.routes) is;
+      tcp = ap (λ (g : Given). g.tcp) is;
     }

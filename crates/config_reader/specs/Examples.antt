@@ -28,7 +28,7 @@ abbrev pub gives : List ℕ → Judged
 gives text = judge (parse_document text)
 
 pub record ConfigurationExamples : Type 0 where
-  pub empty : gives [] ≡ Ok (record { workers = 1; listen = codes "127.0.0.1:8080"; upstream = codes "127.0.0.1:9000"; deadline_ms = 0; log_level = Info; vms = []; plugins = []; routes = [] })
+  pub empty : gives [] ≡ Ok (record { workers = 1; listen = codes "127.0.0.1:8080"; upstream = codes "127.0.0.1:9000"; deadline_ms = 0; log_level = Info; vms = []; plugins = []; routes = []; tcp = [] })
   pub missing : gives (codes "[[vm]]\nname = \"a\"\n") ≡ Err (2, codes "vm.0.module")
   pub least_unknown : gives (codes "[gateway]\nworkers = 9\nzeta = 1\nbeta = 2\n") ≡ Err (3, codes "gateway.beta")
   pub past_the_bound : gives (codes "[gateway]\nworkers = 9\n") ≡ Err (4, codes "gateway.workers")
@@ -46,4 +46,5 @@ pub record ConfigurationExamples : Type 0 where
         vms = record { name = codes "a"; «module» = codes "m"; configuration = []; fuel = 7; pages = 128; code = None } ∷ [];
         plugins = record { name = codes "p"; vm = 0; configuration = []; fail_open = true } ∷ [];
         routes = record { path = codes "/"; filters = 0 ∷ [] } ∷ [];
+        tcp = [];
       })
