@@ -1,0 +1,11 @@
+mod Histories
+mod Replaying
+mod Alike
+mod Files
+mod Repeating
+mod Upwards
+mod Living
+mod Serving
+mod Completing
+mod Due
+mod Failing

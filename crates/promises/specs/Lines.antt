@@ -1,0 +1,17 @@
+-- What goes up, in the lives that the headline speaks of.
+use Rattle.std.specs.Prelude.{ℕ, List}
+use Rattle.law_exchange.specs.Traffic.{up_traffic}
+use Rattle.gate_config.specs.declared.config.Config.{Config}
+use Rattle.law_lines.specs.Requests.{GoesUpBy}
+use Rattle.send_queue.specs.Turns.{all_sent}
+use Rattle.vm_host.specs.Slots.{calling}
+use Rattle.worker_model.specs.State.{rules_of}
+use Rattle.worker_model.specs.Steps.{exchange_on}
+use Rattle.promises.specs.Headline.{IsWhole, Life}
+use Rattle.promises.specs.Replays.{first_of}
+
+-- REQUESTS GO UP ONE BY ONE in each whole life of each worker that the headline speaks of: so it is of all that its turns send up on a line.
+abbrev pub LivesGoUpOneByOne : Type 0
+LivesGoUpOneByOne =
+    (config : Config) (who : ℕ) (seed : List ℕ) (life : Life) (n : ℕ) → (w : IsWhole calling (first_of config who seed) life)
+    → GoesUpBy (rules_of (first_of config who seed).setting) n w.turns.state.room (exchange_on n w.turns.state.room) (up_traffic n (all_sent w.turns.turns))

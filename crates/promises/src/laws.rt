@@ -1,0 +1,92 @@
+// The promises. The functions call the laws that theirs rest on, and do nothing else: their contracts are the promises.
+ghost use Rattle.promises.specs.Callbacks.{CallbackNames, LinesAreSent};
+ghost use Rattle.promises.specs.Due.{DueComes};
+ghost use Rattle.promises.specs.Failures.{FailuresAreAnswered};
+ghost use Rattle.promises.specs.Lines.{LivesGoUpOneByOne};
+ghost use Rattle.promises.specs.Replays.{OneOutput, ReplayHasItsHeadline, ReplayIsAFunction};
+ghost use Rattle.promises.specs.Serves.{FleetsHaveTheirHeadline, ServeHasItsHeadline};
+ghost use Rattle.promises.specs.Statuses.{StatusesAreComplete};
+
+use command_replay::{each_has_its_worker, one_replay};
+use filter_host::Host;
+use fleet::lives_are_meant;
+use gate_io::World;
+use law_fleet::each_call_of_a_fleet_stands_once;
+use law_lines::{machines_write_logs, requests_go_up_one_by_one};
+use law_meaning::meanings_are_turns;
+use replay_script::one_reading;
+use vm_host::Vms;
+
+/// A replay that ends well did what the events of its script mean, worker by worker, with the replies of one history for each VM, and printed all that its workers sent.
+pub fn replay_has_its_headline<W>()
+    ensures { ReplayHasItsHeadline W }
+{
+    each_has_its_worker();
+}
+
+/// Over one configuration, one script plays to one output.
+pub fn one_output()
+    ensures { OneOutput }
+{
+    one_reading();
+    one_replay::<Vms>();
+}
+
+/// Two replays that end well, of the same words over the same files, print the same.
+pub fn replay_is_a_function<W, V>()
+    ensures { ReplayIsAFunction W V }
+{
+    one_reading();
+    one_replay::<Vms>();
+}
+
+/// However a fleet ended, each of its workers did what the events of its lives mean, and the calls of all workers stand in one legal history for each VM.
+pub fn fleets_have_their_headline<H: Host, W: World>()
+    ensures { FleetsHaveTheirHeadline W.trace W.nature W.faults H.calling }
+{
+    each_call_of_a_fleet_stands_once::<H, W>();
+    lives_are_meant::<H>();
+}
+
+/// What `serve` came to, by its status: wherever its workers began, each did what the events of its lives mean, and the summary counts their one history for each VM.
+pub fn serve_has_its_headline<W: World>()
+    ensures { ServeHasItsHeadline (record { trace = W.trace; last = W.last; nature = W.nature; faults = W.faults }) }
+{
+    each_call_of_a_fleet_stands_once::<Vms, W>();
+    lives_are_meant::<Vms>();
+}
+
+/// Each status but that of success and that of want of memory has its cause. (`F`, `P` and `Q` stand for what the files, the site and the output show of a fault.)
+pub fn statuses_are_complete<W, F, P, Q>()
+    ensures { StatusesAreComplete W F P Q }
+{}
+
+/// In each whole life of each worker that the headline speaks of, what goes up on a line goes up request by request.
+pub fn lines_of_the_headline()
+    ensures { LivesGoUpOneByOne }
+{
+    meanings_are_turns::<Vms>();
+    requests_go_up_one_by_one::<Vms>();
+    machines_write_logs();
+}
+
+/// The callback that is called for an item is the one that is named for it: for the head, a piece of the body or the trailers, of a request or of a response.
+pub fn callbacks_have_their_names()
+    ensures { CallbackNames }
+{}
+
+/// Each line that a callback logs is sent, after what was sent before; then the callback's effects are done, or its VM dies.
+pub fn logged_lines_are_sent()
+    ensures { LinesAreSent }
+{}
+
+/// Each tick that is due at the moment of a turn's event is a part of the turn, and so are the notices of each VM whose module registers queues.
+pub fn what_is_due_comes()
+    ensures { DueComes }
+{}
+
+/// Where a VM dies of which a filter of a running exchange fails closed, the exchange is answered with 503 at once, or cut off after a head of its response, on
+/// whichever line it is; and where its server is gone or was not reached before the response was read, it is answered with 502.
+pub fn failures_are_answered()
+    ensures { FailuresAreAnswered }
+{}
