@@ -114,17 +114,19 @@ walked steps = walked_on two steps
 abbrev pub new : Step
 new = comes (whats.Opened 7)
 
--- bytes of the client, and of the server
+-- bytes of the client come
 abbrev pub client : List ℕ → Step
 client bytes = comes (whats.Bytes 7 Down bytes)
 
+-- bytes of the server come
 abbrev pub server : List ℕ → Step
 server bytes = comes (whats.Bytes 7 Up bytes)
 
--- the end of each
+-- the end of the client's bytes comes
 abbrev pub client_ends : Step
 client_ends = comes (whats.End 7 Down)
 
+-- the end of the server's bytes comes
 abbrev pub server_ends : Step
 server_ends = comes (whats.End 7 Up)
 
@@ -140,10 +142,11 @@ entered = new ∷ passes
 abbrev pub asks : Bool → ℕ → AskKind → ℕ → Bool → Question
 asks response stage kind count end = record { response = response; stage = stage; kind = kind; count = count; end = end }
 
--- bytes that are sent to the server, and to the client
+-- bytes that are sent to the server
 abbrev pub up : List ℕ → Sent
 up bytes = to.Bytes 7 Up bytes
 
+-- bytes that are sent to the client
 abbrev pub down : List ℕ → Sent
 down bytes = to.Bytes 7 Down bytes
 
@@ -171,6 +174,7 @@ both_ways = entered ++ server (codes "xyz") ∷ client (codes "ab") ∷ passes +
 abbrev pub whole : List Step
 whole = entered ++ server (codes "x") ∷ passes ++ server_ends ∷ passes
 
+-- WHAT PASSES A LINE
 pub record LineExamples : Type 0 where
   -- without filters: the connection is opened, and bytes pass as they come
   pub none_sent : (walked_on none (new ∷ client (codes "ab") ∷ server (codes "c") ∷ [])).sent ≡ to.Connect 7 ∷ up (codes "ab") ∷ down (codes "c") ∷ []

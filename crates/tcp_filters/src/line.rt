@@ -250,7 +250,7 @@ impl TcpLine {
         contexts: &mut Contexts,
         event: &Event,
     ) -> Result<TcpOutcome, OutOfMemory>
-        ensures { IfOk result (λ outcome. take_event event.now.what contexts.old self.old ≡ (outcome, self.new, contexts.new)) }
+        ensures { IfOk result (λ outcome. take_event event.entry.now.what contexts.old self.old ≡ (outcome, self.new, contexts.new)) }
     {
         self.take(alloc, contexts, &event.what)
     }
