@@ -29,11 +29,7 @@ fn send(
 }
 
 /// An item leaves towards the server.
-fn leave_up(
-    item: ChainItem,
-    line: &mut TcpLine,
-    sent: &mut Queue<Sent>,
-) -> Result<(), OutOfMemory>
+fn leave_up(item: ChainItem, line: &mut TcpLine, sent: &mut Queue<Sent>) -> Result<(), OutOfMemory>
     ensures { OnOk result (send_up item (line.old, sent.old) ≡ (line.new, sent.new)) }
 {
     match item {
