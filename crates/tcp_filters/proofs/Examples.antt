@@ -50,10 +50,9 @@ pub limit_examples : LimitExamples
 limit_examples = record {
   behind_new = λ bytes many. rw many refl;
   past_new = λ bytes b many. rw many refl;
-  past_new_line = λ bytes b many. rw many refl;
-  end_behind_new = λ bytes many. rw many refl;
-  held = λ bytes many. rw many refl;
+  end_behind_new = λ bytes. refl;
+  asked_about = λ bytes many. rw many refl;
   past_held = λ bytes b many. rw many refl;
-  next_held = λ bytes many. rw many refl;
+  room_for_one = λ bytes b many. rw many refl;
   past_next = λ bytes b many. rw many refl;
 }

@@ -4,8 +4,10 @@ use Rattle.gate_base.specs.declared.level.Level.TheVariants as levels
 use Rattle.contexts.specs.declared.parts.Contexts.{Contexts}
 use Rattle.contexts.specs.Creating.{root_created, stream_created}
 use Rattle.contexts.specs.Making.{no_contexts, with_vm, with_plugin}
-use Rattle.contexts.specs.Stages.{held_at}
+use Rattle.contexts.specs.Stages.{held_at, with_buffered, with_callback_answered}
 use Rattle.filter_chain.specs.declared.stage.Stage.{Stage}
+use Rattle.filter_chain.specs.declared.item.ChainItem.{ChainItem}
+use Rattle.filter_chain.specs.declared.item.ChainItem.TheVariants.{Head, Piece}
 use Rattle.filter_chain.specs.declared.item.Held.TheVariants as held
 use Rattle.filter_chain.specs.declared.item.AskKind.{AskKind}
 use Rattle.filter_chain.specs.declared.item.AskKind.TheVariants as kinds
@@ -220,11 +222,14 @@ pub record LineExamples : Type 0 where
   pub end_left : (walked whole).line.has_ended ≡ true
   pub end_told : (walked whole).line.up_ended ≡ true
   -- from then on nothing is asked, nothing goes on, and nothing that comes is taken
-  pub over_asks : (walked (whole ++ client (codes "ab") ∷ answers Continue ∷ [])).asks ≡ (walked whole).asks
+  pub over_asks : (walked (whole ++ client (codes "ab") ∷ answers Continue ∷ [])).asks
+      ≡ asks false 0 kinds.Head 0 false ∷ asks false 1 kinds.Head 0 false ∷ asks true 0 kinds.Piece 1 false ∷ asks true 1 kinds.Piece 1 false
+      ∷ asks true 0 kinds.Piece 0 true ∷ asks true 1 kinds.Piece 0 true ∷ []
   pub over_sent : (walked (entered ++ client (codes "ab") ∷ answers Pause ∷ server_ends ∷ passes ++ goes_on false 0 ∷ [])).sent ≡ to.Connect 7 ∷ []
   -- nothing comes of bytes before New, of the server's before there is a connection to it, of bytes after their end, and of another line
   pub early : (walked_on none (client (codes "ab") ∷ [])).sent ≡ []
-  pub no_server : (walked (new ∷ server (codes "x") ∷ server_ends ∷ comes (whats.Gone 7 Up) ∷ comes (whats.Refused 7) ∷ [])).line ≡ (walked (new ∷ [])).line
+  pub no_server : (walked (new ∷ server (codes "x") ∷ server_ends ∷ comes (whats.Gone 7 Up) ∷ comes (whats.Refused 7) ∷ [])).line
+      ≡ record two { is_entered = true; down = record (idle false 2) { waiting = Head false ∷ [] } ∷ idle false 3 ∷ [] }
   pub late : (walked_on none (new ∷ client_ends ∷ client (codes "ab") ∷ [])).sent ≡ to.Connect 7 ∷ []
   pub elsewhere : (walked_on none (comes (whats.Opened 8) ∷ [])).sent ≡ []
   pub once : (walked_on none (new ∷ new ∷ [])).sent ≡ to.Connect 7 ∷ []
@@ -238,19 +243,53 @@ pub record LineExamples : Type 0 where
   pub closed_holds : held_at (walked (entered ++ client (codes "ab") ∷ answers Pause ∷ closes ∷ [])).contexts 0 2 false ≡ []
   pub closed_stages : (walked (entered ++ closes ∷ [])).line.down ≡ []
 
--- 1,048,576 BYTES and no more may be with a stage, those that it holds and those that wait
+-- ---- lines by their stages
+
+-- line 7 after New came, with these two stages towards the server; whether New has left
+abbrev pub staged : Bool → Stage → Stage → TcpLine
+staged is_up s t = record (new_line 7 (s ∷ t ∷ []) (idle true 3 ∷ idle true 2 ∷ [])) { is_entered = true; is_up = is_up }
+
+-- the stage of a context towards the server, where these wait
+abbrev pub waits : ℕ → List ChainItem → Stage
+waits context items = record (idle false context) { waiting = items }
+
+-- the same where it holds New
+abbrev pub holds_new : ℕ → List ChainItem → Stage
+holds_new context items = record (waits context items) { held = held.Head false }
+
+-- the same where it holds the bytes of its buffer
+abbrev pub holds_bytes : ℕ → List ChainItem → Stage
+holds_bytes context items = record (waits context items) { held = held.Body false }
+
+-- these are in the buffer of a context, whose callback has returned
+abbrev pub buffered : ℕ → List ℕ → Contexts → Contexts
+buffered context bytes h = with_callback_answered (with_buffered h 0 context false bytes false) 0 context false
+
+-- bytes of the client
+abbrev pub from_client : List ℕ → What
+from_client bytes = whats.Bytes 7 Down bytes
+
+-- 1,048,576 BYTES and no more may be with a stage, those that it holds and those that wait. What is too much leaves all as it was.
 pub record LimitExamples : Type 0 where
-  -- So many wait behind a New that is held, whatever they are; one more is too much, and then the line is as before.
-  pub behind_new : (bytes : List ℕ) → length bytes ≡ 1048576 → (walked (new ∷ answers Pause ∷ client bytes ∷ [])).is_over ≡ false
-  pub past_new : (bytes : List ℕ) (b : ℕ) → length bytes ≡ 1048576 → (walked (new ∷ answers Pause ∷ client bytes ∷ client (b ∷ []) ∷ [])).is_over ≡ true
-  pub past_new_line : (bytes : List ℕ) (b : ℕ) → length bytes ≡ 1048576
-      → (walked (new ∷ answers Pause ∷ client bytes ∷ client (b ∷ []) ∷ [])).line ≡ (walked (new ∷ answers Pause ∷ client bytes ∷ [])).line
-  -- The end may follow them, since it has no bytes.
-  pub end_behind_new : (bytes : List ℕ) → length bytes ≡ 1048576 → (walked (new ∷ answers Pause ∷ client bytes ∷ client_ends ∷ [])).is_over ≡ false
-  -- So many are held by a stage that was asked about them; one more is too much.
-  pub held : (bytes : List ℕ) → length bytes ≡ 1048576 → (walked (entered ++ client bytes ∷ answers Pause ∷ [])).is_over ≡ false
-  pub past_held : (bytes : List ℕ) (b : ℕ) → length bytes ≡ 1048576 → (walked (entered ++ client bytes ∷ answers Pause ∷ client (b ∷ []) ∷ [])).is_over ≡ true
-  -- A stage after another has as much room of its own, and what the one ahead lets go on is too much for it in the same way.
-  pub next_held : (bytes : List ℕ) → length bytes ≡ 1048576 → (walked (entered ++ client bytes ∷ answers Continue ∷ answers Pause ∷ [])).is_over ≡ false
+  -- so many wait behind a New that is held, whatever they are; one more is too much
+  pub behind_new : (bytes : List ℕ) → length bytes ≡ 1048576
+      → take_event (from_client bytes) host (staged false (holds_new 2 []) (idle false 3)) ≡ (outcome.Sends [], staged false (holds_new 2 (Piece bytes false ∷ [])) (idle false 3), host)
+  pub past_new : (bytes : List ℕ) (b : ℕ) → length bytes ≡ 1048576
+      → take_event (from_client (b ∷ [])) host (staged false (holds_new 2 (Piece bytes false ∷ [])) (idle false 3)) ≡ (outcome.Over, staged false (holds_new 2 (Piece bytes false ∷ [])) (idle false 3), host)
+  -- the end may follow them, since it has no bytes
+  pub end_behind_new : (bytes : List ℕ)
+      → take_event (whats.End 7 Down) host (staged false (holds_new 2 (Piece bytes false ∷ [])) (idle false 3))
+      ≡ (outcome.Sends [], record (staged false (holds_new 2 (Piece bytes false ∷ Piece [] true ∷ [])) (idle false 3)) { down_ended = true }, host)
+  -- a stage is asked about so many at once
+  pub asked_about : (bytes : List ℕ) → length bytes ≡ 1048576
+      → (ask_line (staged true (waits 2 (Piece bytes false ∷ [])) (idle false 3)) host).0 ≡ record { response = false; asking = Asks (record { stage = 0; kind = kinds.Piece; count = 1048576; end = false }) }
+  -- beside as many that it holds, one more is too much, and one less leaves room for one
+  pub past_held : (bytes : List ℕ) (b : ℕ) → length bytes ≡ 1048576
+      → take_event (from_client (b ∷ [])) (buffered 2 bytes host) (staged true (holds_bytes 2 []) (idle false 3)) ≡ (outcome.Over, staged true (holds_bytes 2 []) (idle false 3), buffered 2 bytes host)
+  pub room_for_one : (bytes : List ℕ) (b : ℕ) → length bytes ≡ 1048575
+      → take_event (from_client (b ∷ [])) (buffered 2 bytes host) (staged true (holds_bytes 2 []) (idle false 3))
+      ≡ (outcome.Sends [], staged true (holds_bytes 2 (Piece (b ∷ []) false ∷ [])) (idle false 3), buffered 2 bytes host)
+  -- a stage after it has as much room of its own: what goes on to it may be too much there
   pub past_next : (bytes : List ℕ) (b : ℕ) → length bytes ≡ 1048576
-      → (walked (entered ++ client bytes ∷ answers Continue ∷ answers Pause ∷ client (b ∷ []) ∷ answers Continue ∷ [])).is_over ≡ true
+      → resume_at false 0 (staged true (holds_bytes 2 []) (holds_bytes 3 [])) (buffered 2 (b ∷ []) (buffered 3 bytes host))
+      ≡ (outcome.Over, staged true (holds_bytes 2 []) (holds_bytes 3 []), buffered 2 (b ∷ []) (buffered 3 bytes host))

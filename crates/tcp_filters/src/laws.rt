@@ -1,5 +1,11 @@
-// What holds of every line of bytes. The function has nothing to do: its contract is the law.
+// What holds of every line of bytes. The functions have nothing to do: their contracts are the laws.
 ghost use Rattle.tcp_filters.specs.Examples.{LineExamples, LimitExamples};
+ghost use Rattle.tcp_filters.specs.Laws.{WhatLeavesIsSent};
+
+/// What leaves the stages is sent: its bytes in order, to their side alone. A connection is opened where New leaves, and no end closes one.
+pub fn what_leaves_is_sent()
+    ensures { WhatLeavesIsSent }
+{}
 
 /// Lines of two filters, worked: New paused and continued, bytes that wait behind it, ends, both directions, and the most that a stage may hold.
 pub fn worked_lines()
