@@ -58,10 +58,10 @@ to_closes n side (b ∷ bytes) = refl
 -- ---- one item, of a line whose connection has not come to its end
 
 item_up : (item : ChainItem) (l : TcpLine) (sent : List Sent) → l.has_ended ≡ false → send_item false item (l, sent) ≡ send_up item (l, sent)
-item_up item l sent open = rw open
+item_up item l sent runs = rw runs
 
 item_down : (item : ChainItem) (l : TcpLine) (sent : List Sent) → l.has_ended ≡ false → send_item true item (l, sent) ≡ send_down item (l, sent)
-item_down item l sent open = rw open
+item_down item l sent runs = rw runs
 
 -- nothing leaves once it has
 ended_stays : (response : Bool) (items : List ChainItem) (l : TcpLine) (sent : List Sent) → l.has_ended ≡ true → (send_items response items (l, sent)).1 ≡ sent
@@ -88,37 +88,37 @@ module _ (M : Type 0) (none : M) (join : M → M → M) (of_sent : List Sent →
   -- towards the server: what was sent before, and all items
   goes_up : ((item : ChainItem) (l : TcpLine) (sent : List Sent) → of_sent (send_up item (l, sent)).1 ≡ join (of_sent sent) (of_item item))
       → (items : List ChainItem) (l : TcpLine) (sent : List Sent) → l.has_ended ≡ false → of_sent (send_items false items (l, sent)).1 ≡ join (of_sent sent) (of_items items)
-  goes_up each [] l sent open = nothing_more (of_sent sent)
-  goes_up each (Head end ∷ items) l sent open =
-      ap (λ (ls : TcpLine × List Sent). of_sent (send_items false items ls).1) (item_up (Head end) l sent open)
-      ∙ (goes_up each items (record l { is_up = true }) (sent ++ to.Connect l.number ∷ []) open
+  goes_up each [] l sent runs = nothing_more (of_sent sent)
+  goes_up each (Head end ∷ items) l sent runs =
+      ap (λ (ls : TcpLine × List Sent). of_sent (send_items false items ls).1) (item_up (Head end) l sent runs)
+      ∙ (goes_up each items (record l { is_up = true }) (sent ++ to.Connect l.number ∷ []) runs
       ∙ then_more (Head end) items (of_sent sent) (of_sent (sent ++ to.Connect l.number ∷ [])) (each (Head end) l sent))
-  goes_up each (Piece bytes end ∷ items) l sent open =
-      ap (λ (ls : TcpLine × List Sent). of_sent (send_items false items ls).1) (item_up (Piece bytes end) l sent open)
-      ∙ (goes_up each items l (sent ++ bytes_to l.number Up bytes) open
+  goes_up each (Piece bytes end ∷ items) l sent runs =
+      ap (λ (ls : TcpLine × List Sent). of_sent (send_items false items ls).1) (item_up (Piece bytes end) l sent runs)
+      ∙ (goes_up each items l (sent ++ bytes_to l.number Up bytes) runs
       ∙ then_more (Piece bytes end) items (of_sent sent) (of_sent (sent ++ bytes_to l.number Up bytes)) (each (Piece bytes end) l sent))
-  goes_up each (Trailers ∷ items) l sent open =
-      ap (λ (ls : TcpLine × List Sent). of_sent (send_items false items ls).1) (item_up Trailers l sent open)
-      ∙ (goes_up each items l sent open ∙ then_more Trailers items (of_sent sent) (of_sent sent) (each Trailers l sent))
+  goes_up each (Trailers ∷ items) l sent runs =
+      ap (λ (ls : TcpLine × List Sent). of_sent (send_items false items ls).1) (item_up Trailers l sent runs)
+      ∙ (goes_up each items l sent runs ∙ then_more Trailers items (of_sent sent) (of_sent sent) (each Trailers l sent))
 
   -- towards the client: what was sent before, and the items up to the first end
   goes_down : ((item : ChainItem) (l : TcpLine) (sent : List Sent) → of_sent (send_down item (l, sent)).1 ≡ join (of_sent sent) (of_item item))
       → (items : List ChainItem) (l : TcpLine) (sent : List Sent) → l.has_ended ≡ false → of_sent (send_items true items (l, sent)).1 ≡ join (of_sent sent) (of_items (until_end items))
-  goes_down each [] l sent open = nothing_more (of_sent sent)
-  goes_down each (Head end ∷ items) l sent open =
-      ap (λ (ls : TcpLine × List Sent). of_sent (send_items true items ls).1) (item_down (Head end) l sent open)
-      ∙ (goes_down each items l sent open ∙ then_more (Head end) (until_end items) (of_sent sent) (of_sent sent) (each (Head end) l sent))
-  goes_down each (Piece bytes true ∷ items) l sent open =
-      ap (λ (ls : TcpLine × List Sent). of_sent (send_items true items ls).1) (item_down (Piece bytes true) l sent open)
+  goes_down each [] l sent runs = nothing_more (of_sent sent)
+  goes_down each (Head end ∷ items) l sent runs =
+      ap (λ (ls : TcpLine × List Sent). of_sent (send_items true items ls).1) (item_down (Head end) l sent runs)
+      ∙ (goes_down each items l sent runs ∙ then_more (Head end) (until_end items) (of_sent sent) (of_sent sent) (each (Head end) l sent))
+  goes_down each (Piece bytes true ∷ items) l sent runs =
+      ap (λ (ls : TcpLine × List Sent). of_sent (send_items true items ls).1) (item_down (Piece bytes true) l sent runs)
       ∙ (ap of_sent (ended_stays true items (record l { has_ended = true }) (sent ++ bytes_to l.number Down bytes) refl)
       ∙ then_none (Piece bytes true) (of_sent sent) (of_sent (sent ++ bytes_to l.number Down bytes)) (each (Piece bytes true) l sent))
-  goes_down each (Piece bytes false ∷ items) l sent open =
-      ap (λ (ls : TcpLine × List Sent). of_sent (send_items true items ls).1) (item_down (Piece bytes false) l sent open)
+  goes_down each (Piece bytes false ∷ items) l sent runs =
+      ap (λ (ls : TcpLine × List Sent). of_sent (send_items true items ls).1) (item_down (Piece bytes false) l sent runs)
       ∙ (goes_down each items (record l { has_ended = false }) (sent ++ bytes_to l.number Down bytes) refl
       ∙ then_more (Piece bytes false) (until_end items) (of_sent sent) (of_sent (sent ++ bytes_to l.number Down bytes)) (each (Piece bytes false) l sent))
-  goes_down each (Trailers ∷ items) l sent open =
-      ap (λ (ls : TcpLine × List Sent). of_sent (send_items true items ls).1) (item_down Trailers l sent open)
-      ∙ (goes_down each items l sent open ∙ then_more Trailers (until_end items) (of_sent sent) (of_sent sent) (each Trailers l sent))
+  goes_down each (Trailers ∷ items) l sent runs =
+      ap (λ (ls : TcpLine × List Sent). of_sent (send_items true items ls).1) (item_down Trailers l sent runs)
+      ∙ (goes_down each items l sent runs ∙ then_more Trailers (until_end items) (of_sent sent) (of_sent sent) (each Trailers l sent))
 
 -- ---- the measures of one item
 
@@ -181,13 +181,13 @@ none_of items = 0
 
 pub what_leaves_is_sent : WhatLeavesIsSent
 what_leaves_is_sent = record {
-  up = λ items l open. goes_up (List ℕ) [] both (bytes_for Up) bytes_in item_bytes append_none append_assoc refl (λ item more. refl) up_one items l [] open;
-  up_alone = λ items l open. goes_up (List ℕ) [] both (bytes_for Down) (λ item. []) no_bytes append_none append_assoc refl (λ item more. refl) up_alone_one items l [] open;
-  up_opens = λ items l open. goes_up ℕ 0 (λ x y. x + y) connects_in new_of news_in plus_none plus_assoc refl (λ item more. refl) up_opens_one items l [] open;
-  up_closes = λ items l open. goes_up ℕ 0 (λ x y. x + y) closes_in (λ item. 0) none_of plus_none plus_assoc refl (λ item more. refl) up_closes_one items l [] open;
-  down = λ items l open. goes_down (List ℕ) [] both (bytes_for Down) bytes_in item_bytes append_none append_assoc refl (λ item more. refl) down_one items l [] open;
-  down_alone = λ items l open. goes_down (List ℕ) [] both (bytes_for Up) (λ item. []) no_bytes append_none append_assoc refl (λ item more. refl) down_alone_one items l [] open;
-  down_opens = λ items l open. goes_down ℕ 0 (λ x y. x + y) connects_in (λ item. 0) none_of plus_none plus_assoc refl (λ item more. refl) down_opens_one items l [] open;
-  down_closes = λ items l open. goes_down ℕ 0 (λ x y. x + y) closes_in (λ item. 0) none_of plus_none plus_assoc refl (λ item more. refl) down_closes_one items l [] open;
+  up = λ items l runs. goes_up (List ℕ) [] both (bytes_for Up) bytes_in item_bytes append_none append_assoc refl (λ item more. refl) up_one items l [] runs;
+  up_alone = λ items l runs. goes_up (List ℕ) [] both (bytes_for Down) (λ item. []) no_bytes append_none append_assoc refl (λ item more. refl) up_alone_one items l [] runs;
+  up_opens = λ items l runs. goes_up ℕ 0 (λ x y. x + y) connects_in new_of news_in plus_none plus_assoc refl (λ item more. refl) up_opens_one items l [] runs;
+  up_closes = λ items l runs. goes_up ℕ 0 (λ x y. x + y) closes_in (λ item. 0) none_of plus_none plus_assoc refl (λ item more. refl) up_closes_one items l [] runs;
+  down = λ items l runs. goes_down (List ℕ) [] both (bytes_for Down) bytes_in item_bytes append_none append_assoc refl (λ item more. refl) down_one items l [] runs;
+  down_alone = λ items l runs. goes_down (List ℕ) [] both (bytes_for Up) (λ item. []) no_bytes append_none append_assoc refl (λ item more. refl) down_alone_one items l [] runs;
+  down_opens = λ items l runs. goes_down ℕ 0 (λ x y. x + y) connects_in (λ item. 0) none_of plus_none plus_assoc refl (λ item more. refl) down_opens_one items l [] runs;
+  down_closes = λ items l runs. goes_down ℕ 0 (λ x y. x + y) closes_in (λ item. 0) none_of plus_none plus_assoc refl (λ item more. refl) down_closes_one items l [] runs;
   after_the_end = λ response items l over. ended_stays response items l [] over;
 }

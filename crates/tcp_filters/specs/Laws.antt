@@ -76,6 +76,7 @@ until_end (Trailers ∷ items) = Trailers ∷ until_end items
 abbrev pub sent_of : Bool → List ChainItem → TcpLine → List Sent
 sent_of response items l = (send_items response items (l, [])).1
 
+-- THE LAW, of both directions
 pub record WhatLeavesIsSent : Type 0 where
   -- towards the server all bytes are sent, and an end sends nothing
   pub up : (items : List ChainItem) (l : TcpLine) → l.has_ended ≡ false → bytes_for Up (sent_of false items l) ≡ item_bytes items
