@@ -10,7 +10,7 @@ use Rattle.gate_io.specs.declared.event.Side.{Side}
 use Rattle.gate_io.specs.declared.event.Side.TheVariants.{Down, Up}
 use Rattle.tcp_filters.specs.declared.line.TcpLine.{TcpLine}
 use Rattle.tcp_filters.specs.Lines.{bytes_to, send_up, send_down, send_item, send_items}
-use Rattle.tcp_filters.specs.Laws.{bytes_of, bytes_for, connects_of, connects_in, closes_of, closes_in, new_of, news_in, until_end, WhatLeavesIsSent}
+use Rattle.tcp_filters.specs.Laws.{bytes_of, bytes_for, connects_in, closes_in, new_of, news_in, until_end, WhatLeavesIsSent}
 
 append_none : (xs : List ℕ) → xs ++ [] ≡ xs
 append_none [] = refl
@@ -171,6 +171,9 @@ down_closes_one (Head end) l sent = sym (plus_none (closes_in sent))
 down_closes_one (Piece bytes end) l sent = closes_more sent (bytes_to l.number Down bytes) ∙ ap (λ (x : ℕ). closes_in sent + x) (to_closes l.number Down bytes)
 down_closes_one Trailers l sent = sym (plus_none (closes_in sent))
 
+zero_plus : (x : ℕ) → 0 + x ≡ x
+zero_plus x = omega arith
+
 -- ---- the law
 
 abbrev no_bytes : List ChainItem → List ℕ
@@ -183,7 +186,7 @@ pub what_leaves_is_sent : WhatLeavesIsSent
 what_leaves_is_sent = record {
   up = λ items l runs. goes_up (List ℕ) [] both (bytes_for Up) bytes_in item_bytes append_none append_assoc refl (λ item more. refl) up_one items l [] runs;
   up_alone = λ items l runs. goes_up (List ℕ) [] both (bytes_for Down) (λ item. []) no_bytes append_none append_assoc refl (λ item more. refl) up_alone_one items l [] runs;
-  up_opens = λ items l runs. goes_up ℕ 0 (λ x y. x + y) connects_in new_of news_in plus_none plus_assoc refl (λ item more. refl) up_opens_one items l [] runs;
+  up_opens = λ items l runs. goes_up ℕ 0 (λ x y. x + y) connects_in new_of news_in plus_none plus_assoc refl (λ item more. refl) up_opens_one items l [] runs ∙ zero_plus (news_in items);
   up_closes = λ items l runs. goes_up ℕ 0 (λ x y. x + y) closes_in (λ item. 0) none_of plus_none plus_assoc refl (λ item more. refl) up_closes_one items l [] runs;
   down = λ items l runs. goes_down (List ℕ) [] both (bytes_for Down) bytes_in item_bytes append_none append_assoc refl (λ item more. refl) down_one items l [] runs;
   down_alone = λ items l runs. goes_down (List ℕ) [] both (bytes_for Up) (λ item. []) no_bytes append_none append_assoc refl (λ item more. refl) down_alone_one items l [] runs;
