@@ -1,5 +1,7 @@
--- WHAT LEAVES A LINE IS SENT: its bytes, in order, to their side alone; a connection is opened where New leaves, and none is closed.
+-- WHAT HOLDS OF EVERY LINE. What leaves it is sent: its bytes, in order, to their side alone; a connection is opened where New leaves, and none is
+-- closed. And what is too much changes nothing.
 use Rattle.std.specs.Prelude.{◌≡◌, ℕ, ◌+◌, Bool, true, false, List, [], ◌∷◌, ◌++◌}
+use Rattle.contexts.specs.declared.parts.Contexts.{Contexts}
 use Rattle.filter_chain.specs.declared.item.ChainItem.{ChainItem}
 use Rattle.filter_chain.specs.declared.item.ChainItem.TheVariants.{Head, Piece, Trailers}
 use Rattle.filter_chain.specs.Items.{item_bytes}
@@ -7,8 +9,11 @@ use Rattle.gate_io.specs.declared.event.Sent.{Sent}
 use Rattle.gate_io.specs.declared.event.Sent.TheVariants as to
 use Rattle.gate_io.specs.declared.event.Side.{Side}
 use Rattle.gate_io.specs.declared.event.Side.TheVariants.{Down, Up}
+use Rattle.gate_io.specs.declared.event.What.{What}
 use Rattle.tcp_filters.specs.declared.line.TcpLine.{TcpLine}
-use Rattle.tcp_filters.specs.Lines.{send_items}
+use Rattle.tcp_filters.specs.declared.types.Action.{Action}
+use Rattle.tcp_filters.specs.declared.types.TcpOutcome.TheVariants.{Over, Sends}
+use Rattle.tcp_filters.specs.Lines.{Outcome, send_items, take_event, resume_at, let_through_at, answer_at, pause_at}
 
 -- these bytes, where the sides are the same
 abbrev pub where_same : Side → Side → List ℕ → List ℕ
@@ -90,3 +95,15 @@ pub record WhatLeavesIsSent : Type 0 where
   pub down_closes : (items : List ChainItem) (l : TcpLine) → l.has_ended ≡ false → closes_in (sent_of true items l) ≡ 0
   -- nothing is sent once the connection has come to its end
   pub after_the_end : (response : Bool) (items : List ChainItem) (l : TcpLine) → l.has_ended ≡ true → sent_of response items l ≡ []
+
+-- where it was too much, the line and the contexts are these
+abbrev pub StaysIfOver : TcpLine → Contexts → Outcome → Type 0
+StaysIfOver l h (Sends sent, after, held) = Unit {0}
+StaysIfOver l h (Over, after, held) = (after ≡ l) × (held ≡ h)
+
+-- WHAT IS TOO MUCH CHANGES NOTHING, but that a callback which was answered has returned
+pub record OverChangesNothing : Type 0 where
+  pub at_event : (what : What) (h : Contexts) (l : TcpLine) → StaysIfOver l h (take_event what h l)
+  pub at_resume : (response : Bool) (k : ℕ) (l : TcpLine) (h : Contexts) → StaysIfOver l h (resume_at response k l h)
+  pub at_let_through : (response : Bool) (k : ℕ) (l : TcpLine) (h : Contexts) → StaysIfOver l h (let_through_at response k l h)
+  pub at_answer : (action : Action) (response : Bool) (k : ℕ) (l : TcpLine) (h : Contexts) → StaysIfOver l (pause_at response k l h) (answer_at action response k l h)
