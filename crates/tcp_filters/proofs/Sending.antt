@@ -12,7 +12,7 @@ use Rattle.tcp_filters.specs.declared.line.TcpLine.{TcpLine}
 use Rattle.tcp_filters.specs.Lines.{bytes_to, send_up, send_down, send_item, send_items}
 use Rattle.tcp_filters.specs.Laws.{bytes_of, bytes_for, connects_in, closes_in, new_of, news_in, until_end, WhatLeavesIsSent}
 
-append_none : (xs : List ℕ) → xs ++ [] ≡ xs
+pub append_none : (xs : List ℕ) → xs ++ [] ≡ xs
 append_none [] = refl
 append_none (x ∷ xs) = ap (λ (l : List ℕ). x ∷ l) (append_none xs)
 

@@ -6,6 +6,6 @@ mod line;
 mod passing;
 mod types;
 
-pub use laws::{over_changes_nothing, what_leaves_is_sent, worked_lines};
+pub use laws::{over_changes_nothing, streams_pass, what_leaves_is_sent, worked_lines};
 pub use line::TcpLine;
 pub use types::{Action, TcpAsking, TcpOutcome};
