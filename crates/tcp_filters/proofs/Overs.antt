@@ -1,6 +1,6 @@
 -- What is too much changes nothing: proofs.
 use Rattle.std.proofs.Common.{◌≡◌, ℕ, ◌+◌, Bool, true, false, List, [], ◌∷◌, ◌++◌, length, refl}
-use Rattle.std.specs.Prelude.{not, ◌||◌, Option, None, Some, slice_get, slice_set}
+use Rattle.std.specs.Prelude.{not, ◌||◌, Option, None, Some, slice_get, slice_set, if◌then◌else◌}
 use Rattle.contexts.specs.declared.parts.Contexts.{Contexts}
 use Rattle.filter_chain.specs.declared.stage.Stage.{Stage}
 use Rattle.filter_chain.specs.declared.item.ChainItem.{ChainItem}
@@ -8,7 +8,7 @@ use Rattle.filter_chain.specs.declared.item.ChainItem.TheVariants.{Head, Piece}
 use Rattle.filter_chain.specs.declared.item.PassOutcome.{PassOutcome}
 use Rattle.filter_chain.specs.declared.item.PassOutcome.TheVariants as passed
 use Rattle.filter_chain.specs.Items.{size, held_items}
-use Rattle.filter_chain.specs.Chains.{target, accepts, hand_over_to, unless_over, bytes_held, without_held, without_hold, bypassed_stage, continued_at, let_through_at as chain_let_through_at}
+use Rattle.filter_chain.specs.Chains.{target, accepts, hand_over_to, unless_over, bytes_held, without_held, without_hold, bypassed_stage, continued, continued_at, let_through, let_through_at as chain_let_through_at}
 use Rattle.gate_io.specs.declared.event.Side.{Side}
 use Rattle.gate_io.specs.declared.event.Side.TheVariants.{Down, Up}
 use Rattle.gate_io.specs.declared.event.What.{What}
@@ -16,7 +16,7 @@ use Rattle.gate_io.specs.declared.event.What.TheVariants as whats
 use Rattle.tcp_filters.specs.declared.line.TcpLine.{TcpLine}
 use Rattle.tcp_filters.specs.declared.types.Action.{Action}
 use Rattle.tcp_filters.specs.declared.types.Action.TheVariants.{Continue, Pause}
-use Rattle.tcp_filters.specs.Lines.{chain_of, take_put, take_move, put_item, is_response, fits_from, with_end, take_new, take_bytes, take_end, take_loss, take_own, take_event, is_of_line, resume_at, let_through_at, answer_at, pause_at}
+use Rattle.tcp_filters.specs.Lines.{Outcome, no_change, ends_with, close_line, chain_of, take_put, take_move, put_item, is_response, fits_from, with_end, take_new, take_bytes, take_end, take_loss, take_own, take_event, is_of_line, resume_at, let_through_at, answer_at, pause_at}
 use Rattle.tcp_filters.specs.Laws.{StaysIfOver, OverChangesNothing}
 
 -- ---- an item comes
@@ -55,34 +55,24 @@ puts_end response h l m = none_over response (Piece [] true) (target 0 (chain_of
 
 -- ---- events
 
+-- either of two, which both leave it as it is
+either : (l : TcpLine) (h : Contexts) (b : Bool) (x y : Outcome) → StaysIfOver l h x → StaysIfOver l h y → StaysIfOver l h (if b then x else y)
+either l h true x y p q = p
+either l h false x y p q = q
+
 new_over : (h : Contexts) (l : TcpLine) → StaysIfOver l h (take_new h l)
-new_over h l = by_entered l.is_entered refl
-  where
-    by_entered : (b : Bool) → l.is_entered ≡ b → StaysIfOver l h (take_new h l)
-    by_entered true is = rw is tt
-    by_entered false is = rw is (puts_head h (record l { is_entered = true }) l)
+new_over h l = either l h l.is_entered (no_change l h) (put_item false (Head false) h (record l { is_entered = true })) tt (puts_head h (record l { is_entered = true }) l)
 
 bytes_over : (side : Side) (bytes : List ℕ) (h : Contexts) (l : TcpLine) → StaysIfOver l h (take_bytes side bytes h l)
-bytes_over side bytes h l = by_fit (fits_from side l) refl
-  where
-    by_fit : (b : Bool) → fits_from side l ≡ b → StaysIfOver l h (take_bytes side bytes h l)
-    by_fit true is = rw is (puts (is_response side) bytes h l)
-    by_fit false is = rw is tt
+bytes_over side bytes h l = either l h (fits_from side l) (put_item (is_response side) (Piece bytes false) h l) (no_change l h) (puts (is_response side) bytes h l) tt
 
 end_over : (side : Side) (h : Contexts) (l : TcpLine) → StaysIfOver l h (take_end side h l)
-end_over side h l = by_fit (fits_from side l) refl
-  where
-    by_fit : (b : Bool) → fits_from side l ≡ b → StaysIfOver l h (take_end side h l)
-    by_fit true is = rw is (puts_end (is_response side) h (with_end side l) l)
-    by_fit false is = rw is tt
+end_over side h l =
+    either l h (fits_from side l) (put_item (is_response side) (Piece [] true) h (with_end side l)) (no_change l h) (puts_end (is_response side) h (with_end side l) l) tt
 
 loss_over : (side : Side) (h : Contexts) (l : TcpLine) → StaysIfOver l h (take_loss side h l)
 loss_over Down h l = tt
-loss_over Up h l = by_up l.is_up refl
-  where
-    by_up : (b : Bool) → l.is_up ≡ b → StaysIfOver l h (take_loss Up h l)
-    by_up true is = rw is tt
-    by_up false is = rw is tt
+loss_over Up h l = either l h l.is_up (ends_with (close_line (record l { up_ended = true }) h)) (no_change l h) tt tt
 
 own_over : (what : What) (h : Contexts) (l : TcpLine) → StaysIfOver l h (take_own what h l)
 own_over (whats.Opened n) h l = new_over h l
@@ -96,11 +86,7 @@ own_over whats.Clock h l = tt
 own_over whats.Stop h l = tt
 
 event_over : (what : What) (h : Contexts) (l : TcpLine) → StaysIfOver l h (take_event what h l)
-event_over what h l = by_line (l.has_ended || not (is_of_line l.number what)) refl
-  where
-    by_line : (b : Bool) → (l.has_ended || not (is_of_line l.number what)) ≡ b → StaysIfOver l h (take_event what h l)
-    by_line true is = rw is tt
-    by_line false is = rw is (own_over what h l)
+event_over what h l = either l h (l.has_ended || not (is_of_line l.number what)) (no_change l h) (take_own what h l) tt (own_over what h l)
 
 -- ---- what a stage holds goes on
 
@@ -133,18 +119,12 @@ lets_over response k l h (Some s) =
     (slice_set (chain_of response l) k (bypassed_stage s)) h (without_held h s) l (slice_get (chain_of response l) (target (k + 1) (chain_of response l)))
 
 resume_over : (response : Bool) (k : ℕ) (l : TcpLine) (h : Contexts) → StaysIfOver l h (resume_at response k l h)
-resume_over response k l h = by_end l.has_ended refl
-  where
-    by_end : (b : Bool) → l.has_ended ≡ b → StaysIfOver l h (resume_at response k l h)
-    by_end true is = rw is tt
-    by_end false is = rw is (goes_over response k l h (slice_get (chain_of response l) k))
+resume_over response k l h =
+    either l h l.has_ended (no_change l h) (take_move response l (continued h k (chain_of response l))) tt (goes_over response k l h (slice_get (chain_of response l) k))
 
 let_through_over : (response : Bool) (k : ℕ) (l : TcpLine) (h : Contexts) → StaysIfOver l h (let_through_at response k l h)
-let_through_over response k l h = by_end l.has_ended refl
-  where
-    by_end : (b : Bool) → l.has_ended ≡ b → StaysIfOver l h (let_through_at response k l h)
-    by_end true is = rw is tt
-    by_end false is = rw is (lets_over response k l h (slice_get (chain_of response l) k))
+let_through_over response k l h =
+    either l h l.has_ended (no_change l h) (take_move response l (let_through h k (chain_of response l))) tt (lets_over response k l h (slice_get (chain_of response l) k))
 
 answer_over : (action : Action) (response : Bool) (k : ℕ) (l : TcpLine) (h : Contexts) → StaysIfOver l (pause_at response k l h) (answer_at action response k l h)
 answer_over Continue response k l h = resume_over response k l (pause_at response k l h)

@@ -1,5 +1,6 @@
 -- What leaves a line is sent: proofs. Each is proved behind what was sent before, item by item.
 use Rattle.std.proofs.Common.{◌≡◌, ℕ, ◌+◌, Bool, true, false, List, [], ◌∷◌, ◌++◌, ap, sym, ◌∙◌, refl, arith}
+use Rattle.std.specs.Prelude.{if◌then◌else◌}
 use Rattle.std.proofs.lemmas.List.{append_assoc}
 use Rattle.filter_chain.specs.declared.item.ChainItem.{ChainItem}
 use Rattle.filter_chain.specs.declared.item.ChainItem.TheVariants.{Head, Piece, Trailers}
@@ -23,11 +24,11 @@ bytes_more side [] b = refl
 bytes_more side (one ∷ a) b = ap (λ (x : List ℕ). bytes_of side one ++ x) (bytes_more side a b) ∙ sym (append_assoc (bytes_of side one) (bytes_for side a) (bytes_for side b))
 
 connects_more : (a b : List Sent) → connects_in (a ++ b) ≡ connects_in a + connects_in b
-connects_more [] b = refl
+connects_more [] b = omega arith
 connects_more (one ∷ a) b = let e = connects_more a b in omega arith
 
 closes_more : (a b : List Sent) → closes_in (a ++ b) ≡ closes_in a + closes_in b
-closes_more [] b = refl
+closes_more [] b = omega arith
 closes_more (one ∷ a) b = let e = closes_more a b in omega arith
 
 -- bytes for a side are those, and none for the other
@@ -57,17 +58,27 @@ to_closes n side (b ∷ bytes) = refl
 
 -- ---- one item, of a line whose connection has not come to its end
 
+first_of : {A : Type 0} (b : Bool) (x y : A) → b ≡ true → (if b then x else y) ≡ x
+first_of true x y is = refl
+first_of false x y is = cc
+
+second_of : {A : Type 0} (b : Bool) (x y : A) → b ≡ false → (if b then x else y) ≡ y
+second_of true x y is = cc
+second_of false x y is = refl
+
 item_up : (item : ChainItem) (l : TcpLine) (sent : List Sent) → l.has_ended ≡ false → send_item false item (l, sent) ≡ send_up item (l, sent)
-item_up item l sent runs = rw runs
+item_up item l sent runs = second_of l.has_ended (l, sent) (send_up item (l, sent)) runs
 
 item_down : (item : ChainItem) (l : TcpLine) (sent : List Sent) → l.has_ended ≡ false → send_item true item (l, sent) ≡ send_down item (l, sent)
-item_down item l sent runs = rw runs
+item_down item l sent runs = second_of l.has_ended (l, sent) (send_down item (l, sent)) runs
 
 -- nothing leaves once it has
 ended_stays : (response : Bool) (items : List ChainItem) (l : TcpLine) (sent : List Sent) → l.has_ended ≡ true → (send_items response items (l, sent)).1 ≡ sent
 ended_stays response [] l sent over = refl
-ended_stays false (item ∷ items) l sent over = rw over (ended_stays false items l sent over)
-ended_stays true (item ∷ items) l sent over = rw over (ended_stays true items l sent over)
+ended_stays false (item ∷ items) l sent over =
+    ap (λ (ls : TcpLine × List Sent). (send_items false items ls).1) (first_of l.has_ended (l, sent) (send_up item (l, sent)) over) ∙ ended_stays false items l sent over
+ended_stays true (item ∷ items) l sent over =
+    ap (λ (ls : TcpLine × List Sent). (send_items true items ls).1) (first_of l.has_ended (l, sent) (send_down item (l, sent)) over) ∙ ended_stays true items l sent over
 
 -- ---- a measure of what is sent, item by item
 
