@@ -1,5 +1,5 @@
 -- The worked examples, by computation.
-use Rattle.std.proofs.Common.{◌≡◌, ℕ, List, length, refl}
+use Rattle.std.proofs.Common.{refl}
 use Rattle.tcp_filters.specs.Examples.{LineExamples, LimitExamples}
 
 pub line_examples : LineExamples

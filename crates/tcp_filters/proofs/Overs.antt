@@ -5,8 +5,6 @@ use Rattle.contexts.specs.declared.parts.Contexts.{Contexts}
 use Rattle.filter_chain.specs.declared.stage.Stage.{Stage}
 use Rattle.filter_chain.specs.declared.item.ChainItem.{ChainItem}
 use Rattle.filter_chain.specs.declared.item.ChainItem.TheVariants.{Head, Piece}
-use Rattle.filter_chain.specs.declared.item.PassOutcome.{PassOutcome}
-use Rattle.filter_chain.specs.declared.item.PassOutcome.TheVariants as passed
 use Rattle.filter_chain.specs.Items.{size, held_items}
 use Rattle.filter_chain.specs.Chains.{target, accepts, hand_over_to, unless_over, bytes_held, without_held, without_hold, bypassed_stage, continued, continued_at, let_through, let_through_at as chain_let_through_at}
 use Rattle.gate_io.specs.declared.event.Side.{Side}

@@ -1,5 +1,5 @@
 -- One direction of a line passes its bytes: proofs, over those of a chain.
-use Rattle.std.proofs.Common.{◌≡◌, ℕ, Bool, true, false, List, [], ◌∷◌, ◌++◌, ap, sym, ◌∙◌, refl}
+use Rattle.std.proofs.Common.{◌≡◌, ℕ, List, [], ◌∷◌, ◌++◌, ap, sym, ◌∙◌, refl}
 use Rattle.std.proofs.lemmas.List.{append_assoc}
 use Rattle.contexts.specs.declared.parts.Contexts.{Contexts}
 use Rattle.filter_chain.specs.declared.stage.Stage.{Stage}
@@ -7,8 +7,6 @@ use Rattle.filter_chain.specs.declared.item.ChainItem.{ChainItem}
 use Rattle.filter_chain.specs.Items.{bytes_in, item_bytes}
 use Rattle.filter_chain.specs.Flow.{flow, Act, puts, asks, pauses, continues, Does, items_put}
 use Rattle.filter_chain.proofs.Flows.{all_keep}
-use Rattle.tcp_filters.specs.declared.line.TcpLine.{TcpLine}
-use Rattle.tcp_filters.specs.Laws.{until_end}
 use Rattle.tcp_filters.specs.Passing.{SameBuffers, DoesAmong, StreamsPass}
 use Rattle.tcp_filters.proofs.Sending.{append_none, what_leaves_is_sent}
 

@@ -15,7 +15,6 @@ use Rattle.filter_chain.specs.declared.item.Asking.{Asking}
 use Rattle.filter_chain.specs.declared.item.Asking.TheVariants.{Nothing, Over, Asks}
 use Rattle.gate_io.specs.declared.event.Sent.{Sent}
 use Rattle.gate_io.specs.declared.event.Sent.TheVariants as to
-use Rattle.gate_io.specs.declared.event.Side.{Side}
 use Rattle.gate_io.specs.declared.event.Side.TheVariants.{Down, Up}
 use Rattle.gate_io.specs.declared.event.What.{What}
 use Rattle.gate_io.specs.declared.event.What.TheVariants as whats
@@ -23,7 +22,6 @@ use Rattle.tcp_filters.specs.declared.line.TcpLine.{TcpLine}
 use Rattle.tcp_filters.specs.declared.types.Action.{Action}
 use Rattle.tcp_filters.specs.declared.types.Action.TheVariants.{Continue, Pause}
 use Rattle.tcp_filters.specs.declared.types.TcpAsking.{TcpAsking}
-use Rattle.tcp_filters.specs.declared.types.TcpOutcome.{TcpOutcome}
 use Rattle.tcp_filters.specs.declared.types.TcpOutcome.TheVariants as outcome
 use Rattle.tcp_filters.specs.Lines.{Outcome, new_line, take_event, ask_line, answer_at, resume_at, let_through_at, close_line}
 

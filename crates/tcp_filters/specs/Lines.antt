@@ -1,6 +1,6 @@
 -- A LINE WHOSE CONNECTIONS ARE STREAMS OF BYTES: what comes to it, what its stages let go on, and what is sent then. New, with which a
 -- connection to the server is opened, is a head without an end; the end of a side's bytes is an empty piece with the end flag.
-use Rattle.std.specs.Prelude.{ℕ, Bool, true, false, not, ◌&&◌, ◌||◌, ◌==◌, List, [], ◌∷◌, ◌++◌, nat_lt, Option, None, Some, position, if◌then◌else◌}
+use Rattle.std.specs.Prelude.{ℕ, Bool, true, false, not, ◌&&◌, ◌||◌, ◌==◌, List, [], ◌∷◌, ◌++◌, nat_lt, Option, position, if◌then◌else◌}
 use Rattle.contexts.specs.declared.parts.Contexts.{Contexts}
 use Rattle.filter_chain.specs.declared.stage.Stage.{Stage}
 use Rattle.filter_chain.specs.declared.item.ChainItem.{ChainItem}

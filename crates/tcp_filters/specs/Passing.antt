@@ -1,6 +1,6 @@
 -- ONE DIRECTION OF A LINE PASSES ITS BYTES: what is sent, and what is with its stages, is what was with them and what came, in order, where no
 -- callback changes a buffer.
-use Rattle.std.specs.Prelude.{◌≡◌, ℕ, Bool, true, false, List, [], ◌∷◌, ◌++◌}
+use Rattle.std.specs.Prelude.{◌≡◌, true, false, List, [], ◌∷◌, ◌++◌}
 use Rattle.contexts.specs.declared.parts.Contexts.{Contexts}
 use Rattle.filter_chain.specs.declared.stage.Stage.{Stage}
 use Rattle.filter_chain.specs.declared.item.ChainItem.{ChainItem}
