@@ -1,0 +1,3 @@
+pub mod Living
+mod Passing
+mod Stepwise
