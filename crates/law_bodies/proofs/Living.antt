@@ -20,10 +20,10 @@ use Rattle.h1_model.specs.Framing.{Framing, no_body, OutItem, head_wire, item_wi
 use Rattle.h1_model.specs.Framing as out
 use Rattle.law_exchange.specs.Ends.{IsOwn, StaysEnded}
 use Rattle.law_exchange.specs.Lives.{Deed, comes, responds, acts, resumes, closes, answers, dies, refuses, expires, turns, done_by}
-use Rattle.law_exchange.specs.Responses.{down_of, down_bytes, IsBody, IsFairDown, IsMessage, IsNew, IsReply, IsResponse, LivesDown, response_in, responses_in}
+use Rattle.law_exchange.specs.Responses.{down_of, down_bytes, IsBody, IsFairDown, IsMessage, IsReply, IsResponse, LivesDown, response_in, responses_in}
 use Rattle.law_exchange.proofs.Ends.{nothing_follows_end}
-use Rattle.law_exchange.proofs.Responses.{AfterIt, After, IsOpen, Kept, any_after, replies, runs_on, stops}
-use Rattle.law_bodies.specs.Lives.{AreAs, GoesAsItCame, GoesDown, IsAs, ResponsesGoDownAsTheyCame, sends_answer, sends_nothing, sends_response}
+use Rattle.law_exchange.proofs.Responses.{AfterIt, IsOpen, Kept, any_after, replies, runs_on, stops}
+use Rattle.law_bodies.specs.Lives.{AreAs, GoesDown, IsAs, ResponsesGoDownAsTheyCame, sends_answer, sends_nothing, sends_response}
 
 -- ---- what goes down among what is sent
 

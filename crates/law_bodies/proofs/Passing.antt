@@ -1,5 +1,5 @@
 -- Bodies go on as they came.
-use Rattle.std.proofs.Common.{◌≡◌, ℕ, ◌==◌, Bool, true, false, ◌||◌, ◌&&◌, List, [], ◌∷◌, ◌++◌, map, refl, ap, ◌∙◌, sym, subst, eq-eqb}
+use Rattle.std.proofs.Common.{◌≡◌, ℕ, ◌==◌, Bool, true, false, ◌||◌, ◌&&◌, List, [], ◌∷◌, ◌++◌, refl, ap, ◌∙◌, sym, eq-eqb}
 use Rattle.std.proofs.lemmas.Grind.{flat_map-append}
 use Rattle.std.proofs.lemmas.List.{append-nil, append_assoc}
 use Rattle.std.specs.Prelude.{if◌then◌else◌}
@@ -8,18 +8,18 @@ use Rattle.exchange.specs.declared.types.Hub.{Hub}
 use Rattle.exchange.specs.Heads.{with_connection}
 use Rattle.exchange.specs.Leaving.{bytes_sent_to, request_framing, written_framing, send_request_item, send_response_item}
 use Rattle.exchange.specs.Maps.{request_trailers, response_trailers}
-use Rattle.exchange.specs.Passing.{put_all_to_chain, put_to_chain, take_put, takes_nothing}
+use Rattle.exchange.specs.Passing.{put_all_to_chain, put_to_chain, take_put}
 use Rattle.filter_chain.specs.declared.item.ChainItem.{ChainItem}
-use Rattle.filter_chain.specs.declared.item.ChainItem.TheVariants.{Piece, Trailers}
+use Rattle.filter_chain.specs.declared.item.ChainItem.TheVariants.{Piece}
 use Rattle.filter_chain.specs.declared.stage.Stage.{Stage}
 use Rattle.filter_chain.specs.Chains.{put}
 use Rattle.gate_io.specs.declared.event.Sent.{Sent}
 use Rattle.gate_io.specs.declared.event.Side.{Side}
 use Rattle.gate_io.specs.declared.event.Side.TheVariants.{Down, Up}
 use Rattle.h1_model.specs.Fields.{Pair}
-use Rattle.h1_model.specs.Framing.{Framing, OutItem, item_wire, items_wire, piece_wire, trailer_wire}
-use Rattle.h1_write.specs.Round.{Ending, last_bytes, last_trailers, ending_item, body_items, BodyReadBack}
-use Rattle.law_bodies.specs.Bodies.{is_same_side, bytes_of, bytes_over, last_of, items_of, HasTrailers, GoesOutAs, BodiesGoOnAsTheyCame}
+use Rattle.h1_model.specs.Framing.{Framing, items_wire, piece_wire, trailer_wire}
+use Rattle.h1_write.specs.Round.{Ending, last_bytes, last_trailers, body_items, BodyReadBack}
+use Rattle.law_bodies.specs.Bodies.{is_same_side, bytes_of, bytes_over, last_of, items_of, HasTrailers, BodiesGoOnAsTheyCame}
 
 -- ---- what is sent
 

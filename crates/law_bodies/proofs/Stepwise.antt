@@ -7,23 +7,19 @@ use Rattle.std.proofs.lemmas.Bool.{eqb-true}
 use Rattle.std.specs.Prelude.{All, filter, slice_get, Option, None, Some, option_map, if◌then◌else◌}
 use Rattle.contexts.specs.Creating.{await_done_of}
 use Rattle.contexts.specs.declared.parts.Contexts.{Contexts}
-use Rattle.contexts.specs.declared.parts.EffectKind.TheVariants as what
 use Rattle.exchange.specs.declared.types.Exchange.{Exchange}
 use Rattle.exchange.specs.declared.types.Filter.{Filter}
 use Rattle.exchange.specs.declared.types.Hub.{Hub}
 use Rattle.exchange.specs.Heads.{sent_head}
 use Rattle.exchange.specs.Leaving.{bytes_sent_to}
-use Rattle.exchange.specs.Passing.{apply_action, pause_held, resume_context, resume_held}
+use Rattle.exchange.specs.Passing.{pause_held, resume_context, resume_held}
 use Rattle.exchange.specs.Maps.{with_fields}
 use Rattle.filter_chain.specs.declared.item.ChainItem.{ChainItem}
 use Rattle.filter_chain.specs.declared.item.ChainItem.TheVariants as items
-use Rattle.filter_chain.specs.declared.stage.Stage.{Stage}
 use Rattle.gate_config.specs.declared.entries.PluginEntry.{PluginEntry}
-use Rattle.gate_io.specs.declared.event.Sent.{Sent}
 use Rattle.gate_io.specs.declared.event.Side.TheVariants.{Down, Up}
 use Rattle.gate_io.specs.declared.event.What.TheVariants as whats
-use Rattle.h1_model.specs.Framing.{no_body, head_wire, items_wire}
-use Rattle.h1_model.specs.Framing as out
+use Rattle.h1_model.specs.Framing.{no_body, head_wire}
 use Rattle.h1_model.specs.Head.{Head}
 use Rattle.header_maps.specs.Operations.{no_headers}
 use Rattle.h1_model.specs.Unread.{Reading, interim_part}
@@ -31,13 +27,12 @@ use Rattle.store_model.specs.Keys.{Keys, accepts, has_room_for, held_at, number_
 use Rattle.store_model.specs.declared.call.Reply.TheVariants.{CasMismatch, Done, Full}
 use Rattle.worker_model.specs.Plan.{Plan}
 use Rattle.worker_model.specs.Room.{Room}
-use Rattle.worker_model.specs.Rooms.{apply_effect, on_context, same, with_contexts}
-use Rattle.worker_model.specs.Steps.{await_done, begin_jobs_for, begins_with_head, change_line, end_reading, in_contexts, jobs_of, on_lines, put_jobs, put_trailers, refuse_jobs, with_item, with_read_mark, exchange_reading, is_answered_in, is_open, is_read_in, line_in, read_side, receive_on, side_with_more, take_event, exchange_on, exchange_with_stages, filter_at_plugin, filter_of, filters_by, filters_of, finish_context, has_vm, interim_of, is_live, new_stage, with_jobs_first, last_jobs, take_part}
+use Rattle.worker_model.specs.Rooms.{on_context, same, with_contexts}
+use Rattle.worker_model.specs.Steps.{await_done, begin_jobs_for, begins_with_head, change_line, end_reading, in_contexts, jobs_of, on_lines, put_jobs, put_trailers, refuse_jobs, with_item, with_read_mark, exchange_reading, is_answered_in, is_open, is_read_in, line_in, read_side, receive_on, side_with_more, take_event, exchange_on, exchange_with_stages, filter_at_plugin, filter_of, filters_by, filters_of, interim_of, is_live, new_stage, with_jobs_first, last_jobs, take_part}
 use Rattle.worker_model.specs.declared.types.ContextAt.{ContextAt}
 use Rattle.worker_model.specs.declared.types.Job.{Job}
 use Rattle.worker_model.specs.declared.types.Job.TheVariants as jobs
 use Rattle.worker_model.specs.declared.types.Line.{Line}
-use Rattle.worker_model.specs.declared.types.Owner.TheVariants as owners
 use Rattle.worker_model.specs.declared.types.ReadBatch.{ReadBatch}
 use Rattle.law_bodies.specs.Steps.{asks_of, context_of, FiltersStandInOrder, WhatIsPausedIsHeld, InterimHeadsGoDown, ContextsHaveTheirLastWords, StaleSetsAreRefused, WhatIsReadComesOn}
 

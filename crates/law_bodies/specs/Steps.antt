@@ -1,5 +1,5 @@
 -- Single steps: the order of filters, what is paused, interim heads, the last words of contexts, and stale Sets.
-use Rattle.std.specs.Prelude.{◌≡◌, ◌<◌, ℕ, Bool, true, false, All, List, [], ◌∷◌, ◌++◌, filter, length, map, reverse, Option, None, Some}
+use Rattle.std.specs.Prelude.{◌≡◌, ◌<◌, ℕ, Bool, true, false, All, List, [], ◌∷◌, ◌++◌, filter, length, map, reverse, None, Some}
 use Rattle.contexts.specs.declared.parts.EffectKind.TheVariants as what
 use Rattle.exchange.specs.declared.types.Exchange.{Exchange}
 use Rattle.exchange.specs.declared.types.Filter.{Filter}
