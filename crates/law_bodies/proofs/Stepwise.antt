@@ -38,7 +38,7 @@ use Rattle.law_bodies.specs.Steps.{asks_of, context_of, FiltersStandInOrder, Wha
 
 -- ---- tests
 
-is_not : (a b : ℕ) → (a ≡ b → ⊥) → (a == b) ≡ false
+pub is_not : (a b : ℕ) → (a ≡ b → ⊥) → (a == b) ≡ false
 is_not a b other = by_test (a == b) refl
   where
     by_test : (c : Bool) → (a == b) ≡ c → (a == b) ≡ false

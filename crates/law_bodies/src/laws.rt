@@ -1,5 +1,6 @@
 // What goes on through an exchange, of single steps. The functions have nothing to do: their contracts are the laws.
 ghost use Rattle.law_bodies.specs.Bodies.{BodiesGoOnAsTheyCame};
+ghost use Rattle.law_bodies.specs.Bounds.{ContextsBeginAndEnd, LinesAreTakenAndStay, StagesHoldAMegabyte, TimesAreKept};
 ghost use Rattle.law_bodies.specs.Lives.{ResponsesGoDownAsTheyCame};
 ghost use Rattle.law_bodies.specs.Steps.{ContextsHaveTheirLastWords, FiltersStandInOrder, InterimHeadsGoDown, StaleSetsAreRefused, WhatIsPausedIsHeld, WhatIsReadComesOn};
 
@@ -44,4 +45,24 @@ pub fn contexts_have_their_last_words()
 /// A Set with a number other than 0 that is not the key's is refused, and changes no key.
 pub fn stale_sets_are_refused()
     ensures { StaleSetsAreRefused }
+{}
+
+/// Bytes that come to a stage are not too many where they are at most 1,048,576 with those that it has.
+pub fn stages_hold_a_megabyte()
+    ensures { StagesHoldAMegabyte }
+{}
+
+/// A connection of a client is taken while fewer than 128 lines are open. After its exchange a line stays where that said so, and else is closed.
+pub fn lines_are_taken_and_stay()
+    ensures { LinesAreTakenAndStay }
+{}
+
+/// A response is due so many milliseconds after its request as are configured, and a tick one period after the one before.
+pub fn times_are_kept()
+    ensures { TimesAreKept }
+{}
+
+/// Each root is configured once it is made, and each context that was made for a filter is done with once its exchange ends.
+pub fn contexts_begin_and_end()
+    ensures { ContextsBeginAndEnd }
 {}
