@@ -1,10 +1,9 @@
 -- Bounds and times.
-use Rattle.std.proofs.Common.{◌≡◌, ◌≤◌, ◌<◌, ℕ, zero, suc, ◌+◌, ◌*◌, ◌==◌, Bool, true, false, ◌||◌, List, [], ◌∷◌, ◌++◌, length, refl, ap, ◌∙◌, sym, subst, le-leb, lt-ltb}
+use Rattle.std.proofs.Common.{◌≡◌, ◌≤◌, ℕ, zero, suc, ◌+◌, ◌*◌, ◌==◌, Bool, true, false, ◌||◌, List, [], ◌∷◌, length, refl, ap, ◌∙◌, sym, subst, le-leb, lt-ltb}
 use Rattle.std.proofs.lemmas.List.Elements.{Contains-append_left, Contains-append_right, Contains-push}
 use Rattle.std.specs.Prelude.{Contains, Option, None, Some, insert, is_some, nat_lt, slice_get, if◌then◌else◌}
-use Rattle.contexts.specs.declared.parts.Tick.{Tick}
 use Rattle.exchange.specs.declared.types.Filter.{Filter}
-use Rattle.filter_chain.specs.Chains.{bytes_at, limit}
+use Rattle.filter_chain.specs.Chains.{bytes_at}
 use Rattle.filter_chain.specs.Items.{size}
 use Rattle.gate_io.specs.declared.event.Side.TheVariants.{Down}
 use Rattle.gate_io.specs.declared.event.Sent.TheVariants as to
@@ -13,7 +12,6 @@ use Rattle.worker_model.specs.Rooms.{room_with_sent}
 use Rattle.worker_model.specs.Steps.{at_most_last, close_line, done_jobs, drop_line, most_lines, new_line, place_for, read_side, root_jobs}
 use Rattle.worker_model.specs.declared.types.Job.{Job}
 use Rattle.worker_model.specs.declared.types.Job.TheVariants as jobs
-use Rattle.worker_model.specs.declared.types.Line.{Line}
 use Rattle.law_bodies.specs.Bounds.{ContextsBeginAndEnd, LinesAreTakenAndStay, StagesHoldAMegabyte, TimesAreKept}
 use Rattle.law_bodies.proofs.Stepwise.{is_not}
 
