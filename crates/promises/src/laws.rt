@@ -1,4 +1,7 @@
 // The promises. The functions call the laws that theirs rest on, and do nothing else: their contracts are the promises.
+ghost use Rattle.law_bodies.specs.Bodies.{BodiesGoOnAsTheyCame};
+ghost use Rattle.law_bodies.specs.Lives.{ResponsesGoDownAsTheyCame};
+ghost use Rattle.law_bodies.specs.Steps.{FiltersStandInOrder, InterimHeadsGoDown, WhatIsPausedIsHeld, WhatIsReadComesOn};
 ghost use Rattle.promises.specs.Callbacks.{CallbackNames, LinesAreSent};
 ghost use Rattle.promises.specs.Due.{DueComes};
 ghost use Rattle.promises.specs.Failures.{FailuresAreAnswered};
@@ -11,6 +14,10 @@ use command_replay::{each_has_its_worker, one_replay};
 use filter_host::Host;
 use fleet::lives_are_meant;
 use gate_io::World;
+use law_bodies::{
+    bodies_go_on_as_they_came, filters_stand_in_order, interim_heads_go_down,
+    responses_go_down_as_they_came, what_is_paused_is_held, what_is_read_comes_on,
+};
 use law_fleet::each_call_of_a_fleet_stands_once;
 use law_lines::{machines_write_logs, requests_go_up_one_by_one};
 use law_meaning::meanings_are_turns;
@@ -90,3 +97,26 @@ pub fn what_is_due_comes()
 pub fn failures_are_answered()
     ensures { FailuresAreAnswered }
 {}
+
+/// What goes down is what came up, and what goes up is what came, where no filter stands: what goes out of a body is read as that body; over the life of an exchange
+/// without filters its response goes down as it came; what a reader hands on comes to the chain, in order; and interim heads go down, but not to HTTP/1.0.
+pub fn what_goes_on_is_what_came()
+    ensures bodies { BodiesGoOnAsTheyCame }
+    ensures responses { ResponsesGoDownAsTheyCame }
+    ensures read { WhatIsReadComesOn }
+    ensures interims { InterimHeadsGoDown }
+{
+    bodies_go_on_as_they_came();
+    responses_go_down_as_they_came();
+    what_is_read_comes_on();
+    interim_heads_go_down();
+}
+
+/// Filters stand in the order of the route for a request, and in reverse for its response; and what one of them pauses is held.
+pub fn filters_keep_their_order()
+    ensures order { FiltersStandInOrder }
+    ensures held { WhatIsPausedIsHeld }
+{
+    filters_stand_in_order();
+    what_is_paused_is_held();
+}

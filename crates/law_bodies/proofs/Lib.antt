@@ -1,0 +1,4 @@
+pub mod Living
+mod Passing
+mod Stepwise
+mod Bounding

@@ -1,0 +1,4 @@
+pub mod Bodies
+pub mod Bounds
+pub mod Lives
+pub mod Steps
