@@ -73,7 +73,7 @@ fn seed_of<R: RandomSource>(rt: &R) -> Result<[u8; 32], SiteEnd> {
 struct Ground<R> {
     rt: R,
     seed: [u8; 32],
-    buffers: Buffers,
+    buffers: Buffers<Peer>,
 }
 
 /// What a world has beside its poll and its origin, with a handle of the runtime of its own.
@@ -86,7 +86,6 @@ fn ground_of<R: RandomSource + Clone + Drop>(alloc: Global, rt: &R) -> Result<Gr
 
 /// A world over a poll, whose lines come from an origin that it watches.
 fn world_of<R: Drop>(
-    alloc: Global,
     ground: Ground<R>,
     poll: Poll,
     origin: Origin,
@@ -96,11 +95,7 @@ fn world_of<R: Drop>(
     ensures origin { result.sockets.origin ≡ origin }
 {
     let Ground { rt, seed, buffers } = ground;
-    LiveWorld::new(
-        rt,
-        seed,
-        Sockets::new(alloc, poll, origin, upstream, buffers),
-    )
+    LiveWorld::new(rt, seed, Sockets::new(poll, origin, upstream, buffers))
 }
 
 /// A poll.
@@ -162,7 +157,7 @@ fn other_world<R: Net + RandomSource + Clone + Drop>(
 {
     let ground = ground_of(alloc, rt)?;
     let (poll, neighbor, mailbox) = waking_poll(alloc, rt, stage)?;
-    let world = world_of(alloc, ground, poll, Origin::Mailbox(mailbox), upstream);
+    let world = world_of(ground, poll, Origin::Mailbox(mailbox), upstream);
     Ok((neighbor, world))
 }
 
@@ -233,7 +228,7 @@ fn first_world<R: Net + RandomSource + Clone + Drop>(
     let (ground, poll, listener) = listening(alloc, rt, settings)?;
     let most = settings.stop_after.unwrap_or(u32::MAX);
     let origin = Origin::Listener(Acceptor::new(listener, most, others, stage));
-    Ok(world_of(alloc, ground, poll, origin, upstream))
+    Ok(world_of(ground, poll, origin, upstream))
 }
 
 /// Puts a world for each worker among others, the first in front of them.

@@ -1,5 +1,5 @@
 // The sockets of one worker.
-ghost use Rattle.std.specs.Prelude.{◌≡◌, ◌==◌, ◌+◌, ◌<◌, ◌≤◌, ◌⊎◌, false, IsTrue, IsSomeAnd, None, length, vec_len, HoldsAt, remove, slice_get, IfOk, IfSome, IfNone};
+ghost use Rattle.std.specs.Prelude.{◌≡◌, ◌==◌, ◌+◌, ◌<◌, ◌≤◌, ◌⊎◌, false, IsTrue, IsSomeAnd, None, length, vec_len, HoldsAt, remove, slice_get, IfOk, IfSome, IfNone, OnOk, OnErr};
 ghost use Rattle.std.specs.List.{position};
 ghost use Rattle.live_lines.specs.Allowed.{IsAllowed};
 ghost use Rattle.live_sockets.specs.Keeping.{AreKept};
@@ -7,6 +7,7 @@ ghost use Rattle.live_lines.specs.Lines.{most_lines, IsHeardAt, HeardIn, HeardNe
 ghost use Rattle.live_lines.specs.Told.{LiesIn};
 ghost use Rattle.live_lines.specs.Turns.{LineIsStill};
 
+use crate::buffers::Buffers;
 use crate::looks::Looks;
 use crate::moments::Moments;
 use crate::notices::{KINDS, Notice, Notices};
@@ -20,7 +21,8 @@ use live_lines::{
 use mio::event::Event as Readiness;
 use mio::net::TcpStream;
 use mio::{Events, Poll, Registry, Token};
-use std::alloc::Global;
+use std::alloc::{AllocError, Global};
+use std::io;
 use std::net::{Net, SocketAddr};
 use std::sync::Wait;
 use std::time::{Clock, Duration};
@@ -33,7 +35,7 @@ const CLOSED: usize = 1_099_511_627_776;
 
 /// So many lines are kept: twice as many as a worker has open, so that as many more may wait to be closed after what their clients have not
 /// read. A further one is closed at once, or else a client that opens lines and reads nothing would take descriptors and memory without end.
-const MOST_LINES: usize = 256;
+pub const MOST_LINES: usize = 256;
 
 /// So many nanoseconds pass at most until an operator is told of what happened.
 const NOTICES: u64 = 1_000_000_000;
@@ -65,22 +67,6 @@ pub struct Sockets<P> {
     pub moments: Moments,
     /// What an operator is to be told of.
     pub notices: Notices,
-}
-
-/// What is read into: the events of the system, and the bytes of connections.
-#[derive(Drop)]
-pub struct Buffers {
-    events: Events,
-    room: ReadBuffer,
-}
-
-impl Buffers {
-    /// Buffers with nothing in them.
-    pub fn new(alloc: Global) -> Result<Buffers, OutOfMemory> {
-        let events = Events::with_capacity(alloc, 256)?;
-        let room = ReadBuffer::new(alloc)?;
-        Ok(Buffers { events, room })
-    }
 }
 
 /// The token of a side of a line.
@@ -177,31 +163,30 @@ fn note_at<P: Duplex>(lines: &mut Vec<SocketPair<P>>, at: usize, side: Side, eve
 
 impl<P: Duplex> Sockets<P> {
     ghost use Rattle.std.specs.Prelude.{[], All, MatchOption};
-    ghost use Rattle.live_sockets.specs.Keeping.{Arrives, Begins, Heard, WasHeard};
+    ghost use Rattle.live_sockets.specs.Keeping.{Arrives, Begins, Comes, Heard, WasHeard};
     ghost use Rattle.live_sockets.specs.Looks.{AsksFirst, JustAsked, MayHear};
     ghost use Rattle.live_sockets.specs.Origins.{HasEnded};
     ghost use Rattle.live_sockets.specs.Spent.{IsDue, IsOfLine, IsSpent};
 
     /// The sockets over a poll, with lines from an origin that it watches, which send to this upstream server.
-    pub fn new(
-        alloc: Global,
-        poll: Poll,
-        origin: Origin,
-        upstream: SocketAddr,
-        buffers: Buffers,
-    ) -> Sockets<P>
+    pub fn new(poll: Poll, origin: Origin, upstream: SocketAddr, buffers: Buffers<P>) -> Sockets<P>
         ensures origin { result.origin ≡ origin }
         ensures upstream { result.upstream ≡ upstream }
         ensures lines { result.lines.items ≡ [] }
     {
-        let Buffers { events, room } = buffers;
+        let Buffers {
+            events,
+            room,
+            lines,
+            lingering,
+        } = buffers;
         Sockets {
             poll,
             events,
             origin,
             upstream,
-            lines: Vec::new(alloc),
-            lingering: Vec::new(alloc),
+            lines,
+            lingering,
             room,
             next: 0,
             behind: 0,
@@ -402,7 +387,7 @@ impl<P: Duplex> Sockets<P> {
         ensures heard { IfOk result (λ told. Heard P.gave P.took self.old.lines.items told self.new.lines.items) }
         ensures looks { self.new.looks ≡ self.old.looks }
     {
-        if let Some(line) = self.arrive(rt) {
+        if let Some(line) = self.arrive(rt)? {
             return Ok(Some(What::Opened { line }));
         }
         let count = self.lines.len();
@@ -466,36 +451,43 @@ impl<P: Duplex> Sockets<P> {
     }
 
     /// The number of a line that comes. One that can't be kept is closed.
-    fn arrive<R: Wait>(&mut self, rt: &R) -> Option<LineNo>
-        ensures line { Arrives self.old.lines.items result self.new.lines.items }
+    fn arrive<R: Wait>(&mut self, rt: &R) -> Result<Option<LineNo>, OutOfMemory>
+        ensures line { IfOk result (λ line. Arrives self.old.lines.items line self.new.lines.items) }
         ensures few { vec_len self.old.lines ≤ most_lines → vec_len self.new.lines ≤ most_lines }
         ensures looks { self.new.looks ≡ self.old.looks }
     {
         for _ in 0..u32::MAX {
-            let AcceptedLine { number, stream } = self
-                .origin
-                .next(rt, self.lines.len(), self.looks.seen)?;
-            if self.begin(number, stream) {
-                return Some(number);
+            let Some(guest) = self.origin.next(rt, self.lines.len(), self.looks.seen) else {
+                return Ok(None);
+            };
+            let AcceptedLine { number, stream } = guest;
+            if self.begin(number, stream)? {
+                return Ok(Some(number));
             }
         }
-        None
+        Ok(None)
     }
 
-    /// Keeps a line of a number that no other has. False says that it was closed: enough are kept, or the system or the memory refuses one more.
-    fn begin(&mut self, number: LineNo, stream: TcpStream) -> bool
-        ensures line { Begins self.old.lines.items number result self.new.lines.items }
+    /// Keeps a line of a number that no other has. False says that it was closed: enough are kept, or the system refuses one more, which is told. Where memory
+    /// refuses it no line is kept.
+    fn begin(&mut self, number: LineNo, stream: TcpStream) -> Result<bool, OutOfMemory>
+        ensures line { IfOk result (λ kept. Begins self.old.lines.items number kept self.new.lines.items) }
         ensures few { vec_len self.old.lines ≤ most_lines → vec_len self.new.lines ≤ most_lines }
         ensures looks { self.new.looks ≡ self.old.looks }
     {
         if !self.may_keep(number) {
-            return false;
+            return Ok(false);
         }
         let token = token_of(number, Side::Down);
         match P::over(stream, self.poll.registry(), token, false) {
-            Ok(down) => self.keep(number, down),
-            Err(_) => false,
+            Ok(down) => self.keep(number, down)?,
+            Err(e) if e.kind() == io::ErrorKind::OutOfMemory => return Err(AllocError),
+            Err(_) => {
+                self.notices.note(Notice::NotAccepted);
+                return Ok(false);
+            }
         }
+        Ok(true)
     }
 
     /// Whether one line more may be kept, of this number, which no other has.
@@ -512,11 +504,12 @@ impl<P: Duplex> Sockets<P> {
         true
     }
 
-    /// Keeps a line of a number that no other has, with this connection to its client. False says that memory does not suffice.
-    fn keep(&mut self, number: LineNo, down: P) -> bool
+    /// Keeps a line of a number that no other has, with this connection to its client.
+    fn keep(&mut self, number: LineNo, down: P) -> Result<(), OutOfMemory>
         requires fresh { position (λ line. line.number == number) self.old.lines.items ≡ None }
         requires few { vec_len self.old.lines < most_lines }
-        ensures line { Begins self.old.lines.items number result self.new.lines.items }
+        ensures line { OnOk result (Comes self.old.lines.items number self.new.lines.items) }
+        ensures err { OnErr result (self.new.lines.items ≡ self.old.lines.items) }
         ensures few { vec_len self.new.lines ≤ most_lines }
         ensures looks { self.new.looks ≡ self.old.looks }
     {
@@ -528,10 +521,8 @@ impl<P: Duplex> Sockets<P> {
             server_first: false,
             fault: None,
         };
-        if self.lines.push(line).is_err() {
-            return false;
-        }
-        true
+        self.lines.push(line)?;
+        Ok(())
     }
 
     /// Begins the upstream connection of a line.
@@ -708,6 +699,7 @@ impl<P: Duplex> Sockets<P> {
         let mut closed = closed;
         if closed.goes_on(&mut self.room, now) {
             self.drop_first();
+            // There is room for as many as linger at most.
             let _ = self.lingering.push(closed);
         }
     }
