@@ -1,5 +1,5 @@
 // A worker's outside over sockets.
-ghost use Rattle.std.specs.Prelude.{◌≡◌, ◌≤◌, ◌⊎◌, IfOk, IfSome, IfNone, IsSomeAnd, OnErr};
+ghost use Rattle.std.specs.Prelude.{◌≡◌, ◌≤◌, ◌⊎◌, IfOk, IfSome, IfNone, IsSomeAnd, OnOk, OnErr};
 ghost use Rattle.gate_io.specs.Events.{Follows, Obeys, is_stop};
 ghost use Rattle.live_sockets.specs.Spent.{IsBefore, IsEarly, IsOfLine, is_clock};
 
@@ -129,14 +129,13 @@ impl<R: Net + Clock + Wait + Eprint, P: Duplex> World for LiveWorld<R, P> {
     }
 
     fn connect(&mut self, alloc: Global, line: LineNo) -> Result<(), OutOfMemory>
-        ensures connected { Connects self.old line self.new }
-        ensures begun { Begins P.gave P.took self.old line self.new }
+        ensures connected { OnOk result (Connects self.old line self.new) }
+        ensures begun { OnOk result (Begins P.gave P.took self.old line self.new) }
         ensures last { last_in self.new ≡ last_in self.old }
         ensures nature { nature_of self.new ≡ nature_of self.old }
         ensures faults { self.new.faults ≡ self.old.faults }
     {
-        self.sockets.connect(alloc, &self.rt, line);
-        Ok(())
+        self.sockets.connect(alloc, &self.rt, line)
     }
 
     fn close(&mut self, alloc: Global, line: LineNo, side: Side) -> Result<(), OutOfMemory>

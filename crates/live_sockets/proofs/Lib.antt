@@ -1,5 +1,6 @@
 pub mod Asking
 pub mod Begun
+pub mod CallLines
 pub mod Due
 pub mod Homes
 pub mod Kept

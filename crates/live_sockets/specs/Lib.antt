@@ -1,3 +1,4 @@
+pub mod Calls
 pub mod Homes
 pub mod Keeping
 pub mod Looks

@@ -1,7 +1,7 @@
 // What the sockets of a worker are read into, and kept in.
 ghost use Rattle.std.specs.Prelude.{◌≡◌, []};
 
-use crate::sockets::MOST_LINES;
+use crate::calls::ALL_LINES;
 use gate_base::OutOfMemory;
 use live_lines::{Duplex, Lingering, MOST_LINGERING, ReadBuffer, SocketPair};
 use mio::Events;
@@ -23,7 +23,7 @@ impl<P: Duplex> Buffers<P> {
     pub fn new(alloc: Global) -> Result<Buffers<P>, OutOfMemory> {
         let events = Events::with_capacity(alloc, 256)?;
         let room = ReadBuffer::new(alloc)?;
-        let lines = Vec::with_capacity(alloc, MOST_LINES)?;
+        let lines = Vec::with_capacity(alloc, ALL_LINES)?;
         let lingering = Vec::with_capacity(alloc, MOST_LINGERING)?;
         Ok(Buffers {
             events,

@@ -2,6 +2,7 @@
 #![tactic(auto)]
 
 mod buffers;
+mod calls;
 mod desk;
 mod laws;
 mod looks;

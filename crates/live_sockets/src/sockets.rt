@@ -2,12 +2,14 @@
 ghost use Rattle.std.specs.Prelude.{◌≡◌, ◌==◌, ◌+◌, ◌<◌, ◌≤◌, ◌⊎◌, false, IsTrue, IsSomeAnd, None, length, vec_len, HoldsAt, remove, slice_get, IfOk, IfSome, IfNone, OnOk, OnErr};
 ghost use Rattle.std.specs.List.{position};
 ghost use Rattle.live_lines.specs.Allowed.{IsAllowed};
-ghost use Rattle.live_sockets.specs.Keeping.{AreKept};
-ghost use Rattle.live_lines.specs.Lines.{most_lines, IsHeardAt, HeardIn, HeardNext, Forgets, SentTo, SentIn, ConnectedAt, ConnectedIn, BegunAt, BegunIn, IsUnused, ClosedIn, ClosedUp, next_place, place_after};
+ghost use Rattle.live_sockets.specs.Calls.{BeginsIn, ConnectsIn, calls_in, first_call, is_call, most_calls};
+ghost use Rattle.live_sockets.specs.Keeping.{AreFew, AreKept};
+ghost use Rattle.live_lines.specs.Lines.{most_lines, IsHeardAt, HeardIn, HeardNext, Forgets, SentTo, SentIn, BegunAt, IsUnused, ClosedIn, ClosedUp, next_place, place_after};
 ghost use Rattle.live_lines.specs.Told.{LiesIn};
 ghost use Rattle.live_lines.specs.Turns.{LineIsStill};
 
 use crate::buffers::Buffers;
+use crate::calls::{clients_in, has_room, is_call, line_of_call, may_call};
 use crate::looks::Looks;
 use crate::moments::Moments;
 use crate::notices::{KINDS, Notice, Notices};
@@ -32,10 +34,6 @@ pub const ORIGIN: Token = Token(0);
 
 /// The tokens of closed connections to servers begin here, above those of all lines.
 const CLOSED: usize = 1_099_511_627_776;
-
-/// So many lines are kept: twice as many as a worker has open, so that as many more may wait to be closed after what their clients have not
-/// read. A further one is closed at once, or else a client that opens lines and reads nothing would take descriptors and memory without end.
-pub const MOST_LINES: usize = 256;
 
 /// So many nanoseconds pass at most until an operator is told of what happened.
 const NOTICES: u64 = 1_000_000_000;
@@ -453,11 +451,12 @@ impl<P: Duplex> Sockets<P> {
     /// The number of a line that comes. One that can't be kept is closed.
     fn arrive<R: Wait>(&mut self, rt: &R) -> Result<Option<LineNo>, OutOfMemory>
         ensures line { IfOk result (λ line. Arrives self.old.lines.items line self.new.lines.items) }
-        ensures few { vec_len self.old.lines ≤ most_lines → vec_len self.new.lines ≤ most_lines }
+        ensures few { AreFew self.old.lines.items → AreFew self.new.lines.items }
         ensures looks { self.new.looks ≡ self.old.looks }
     {
         for _ in 0..u32::MAX {
-            let Some(guest) = self.origin.next(rt, self.lines.len(), self.looks.seen) else {
+            let kept = clients_in(&self.lines);
+            let Some(guest) = self.origin.next(rt, kept, self.looks.seen) else {
                 return Ok(None);
             };
             let AcceptedLine { number, stream } = guest;
@@ -472,7 +471,7 @@ impl<P: Duplex> Sockets<P> {
     /// refuses it no line is kept.
     fn begin(&mut self, number: LineNo, stream: TcpStream) -> Result<bool, OutOfMemory>
         ensures line { IfOk result (λ kept. Begins self.old.lines.items number kept self.new.lines.items) }
-        ensures few { vec_len self.old.lines ≤ most_lines → vec_len self.new.lines ≤ most_lines }
+        ensures few { AreFew self.old.lines.items → AreFew self.new.lines.items }
         ensures looks { self.new.looks ≡ self.old.looks }
     {
         if !self.may_keep(number) {
@@ -490,12 +489,13 @@ impl<P: Duplex> Sockets<P> {
         Ok(true)
     }
 
-    /// Whether one line more may be kept, of this number, which no other has.
+    /// Whether one client's line more may be kept, of this number, which no other has.
     fn may_keep(&self, number: LineNo) -> bool
+        ensures client { IsTrue result → number < first_call }
         ensures fresh { IsTrue result → position (λ line. line.number == number) self.now.lines.items ≡ None }
-        ensures few { IsTrue result → vec_len self.now.lines < most_lines }
+        ensures few { IsTrue result → length self.now.lines.items < most_lines + calls_in self.now.lines.items }
     {
-        if self.lines.len() >= MOST_LINES {
+        if is_call(number) || !has_room(&self.lines) {
             return false;
         }
         let None = place_of(&self.lines, number) else {
@@ -504,13 +504,15 @@ impl<P: Duplex> Sockets<P> {
         true
     }
 
-    /// Keeps a line of a number that no other has, with this connection to its client.
+    /// Keeps a client's line of a number that no other has, with this connection to its client, in front of those of callouts.
+    #[tactic(auto, using(crate::proofs::CallLines::few_more, crate::proofs::CallLines::comes))]
     fn keep(&mut self, number: LineNo, down: P) -> Result<(), OutOfMemory>
+        requires client { number < first_call }
         requires fresh { position (λ line. line.number == number) self.old.lines.items ≡ None }
-        requires few { vec_len self.old.lines < most_lines }
+        requires few { length self.old.lines.items < most_lines + calls_in self.old.lines.items }
         ensures line { OnOk result (Comes self.old.lines.items number self.new.lines.items) }
         ensures err { OnErr result (self.new.lines.items ≡ self.old.lines.items) }
-        ensures few { vec_len self.new.lines ≤ most_lines }
+        ensures few { AreFew self.new.lines.items }
         ensures looks { self.new.looks ≡ self.old.looks }
     {
         let line = SocketPair {
@@ -521,22 +523,83 @@ impl<P: Duplex> Sockets<P> {
             server_first: false,
             fault: None,
         };
-        self.lines.push(line)?;
+        let at = clients_in(&self.lines);
+        self.lines.insert(at, line)?;
+        self.step_on(at);
         Ok(())
     }
 
-    /// Begins the upstream connection of a line.
-    pub fn connect<R: Net>(&mut self, alloc: Global, rt: &R, number: LineNo)
-        ensures connected { ConnectedIn self.old.lines.items number self.new.lines.items }
-        ensures begun { BegunIn P.gave P.took self.old.lines.items number self.new.lines.items }
+    /// A line was put at a place: where the one that is heard next comes after it, it stays the next.
+    fn step_on(&mut self, at: usize)
+        ensures { self.new ≡ record self.old { next = self.new.next } }
+    {
+        if at < self.next {
+            self.next = self.next.saturating_add(1);
+        }
+    }
+
+    /// Begins the upstream connection of a line. Where no line has the number, and it is a callout's, its line begins.
+    pub fn connect<R: Net>(
+        &mut self,
+        alloc: Global,
+        rt: &R,
+        number: LineNo,
+    ) -> Result<(), OutOfMemory>
+        ensures connected { OnOk result (ConnectsIn self.old.lines.items number self.new.lines.items) }
+        ensures begun { OnOk result (BeginsIn P.gave P.took self.old.lines.items number self.new.lines.items) }
+        ensures err { OnErr result (self.new.lines.items ≡ self.old.lines.items) }
     {
         let Some(at) = find(&self.lines, number) else {
-            return;
+            return self.begin_call(alloc, rt, number);
         };
         let peer = connected(rt, self.poll.registry(), self.upstream, number);
         self.notices
             .add(Notice::Undialled, u32::from(peer.is_none()));
         self.join_at(alloc, at, peer);
+        Ok(())
+    }
+
+    /// Begins the line of a callout, where no line has its number. Any other number is left out, and one more than there may be.
+    #[tactic(auto, using(crate::proofs::CallLines::left_out, crate::proofs::CallLines::left_out_anew))]
+    fn begin_call<R: Net>(
+        &mut self,
+        alloc: Global,
+        rt: &R,
+        number: LineNo,
+    ) -> Result<(), OutOfMemory>
+        requires none { position (λ line. line.number == number) self.old.lines.items ≡ None }
+        ensures connected { OnOk result (ConnectsIn self.old.lines.items number self.new.lines.items) }
+        ensures begun { OnOk result (BeginsIn P.gave P.took self.old.lines.items number self.new.lines.items) }
+        ensures err { OnErr result (self.new.lines.items ≡ self.old.lines.items) }
+    {
+        if !may_call(&self.lines, number) {
+            return Ok(());
+        }
+        let peer = connected(rt, self.poll.registry(), self.upstream, number);
+        self.notices
+            .add(Notice::Undialled, u32::from(peer.is_none()));
+        self.add_call(alloc, number, peer)
+    }
+
+    /// Puts the line of a callout after the others, with this connection to the server, or with none.
+    #[tactic(auto, using(crate::proofs::CallLines::called, crate::proofs::CallLines::called_anew))]
+    fn add_call(
+        &mut self,
+        alloc: Global,
+        number: LineNo,
+        peer: Option<P>,
+    ) -> Result<(), OutOfMemory>
+        requires call { IsTrue (is_call number) }
+        requires none { position (λ line. line.number == number) self.old.lines.items ≡ None }
+        requires few { calls_in self.old.lines.items < most_calls }
+        requires unused { IfSome peer (IsUnused P.gave P.took) }
+        ensures connected { OnOk result (ConnectsIn self.old.lines.items number self.new.lines.items) }
+        ensures begun { OnOk result (BeginsIn P.gave P.took self.old.lines.items number self.new.lines.items) }
+        ensures err { OnErr result (self.new.lines.items ≡ self.old.lines.items) }
+    {
+        let line = line_of_call(alloc, number, peer);
+        self.lines.push(line)?;
+        Ok(())
     }
 
     /// Goes on with this connection to the server of the line at a place, or with none.
