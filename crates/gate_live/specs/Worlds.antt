@@ -1,5 +1,5 @@
 -- What a world over sockets gives, and what goes to its lines.
-use Rattle.std.specs.Prelude.{ℕ, true, false, List, Option, None}
+use Rattle.std.specs.Prelude.{◌≡◌, ◌⊎◌, ℕ, ◌+◌, ◌-◌, ◌^◌, min, true, false, List, Option, None}
 use Rattle.gate_io.specs.declared.event.Side.{Side}
 use Rattle.gate_io.specs.declared.event.What.{What}
 use Rattle.gate_io.specs.Events.{Last}
@@ -48,3 +48,7 @@ Closes old line side new = ClosedIn old.sockets.lines.items line side new.socket
 -- a world whose worker accepts accepts no line any more
 abbrev pub AcceptsNone : {R P : Type 0} → LiveWorld R P → Type 0
 AcceptsNone w = HasEnded w.sockets.origin
+
+-- A line of the log was written on the handle of the system. Or it was dropped, which is counted, up to 2^32 - 1.
+abbrev pub IsLogged : {R P : Type 0} → (R → List ℕ → Type 0) → LiveWorld R P → List ℕ → LiveWorld R P → Type 0
+IsLogged writes old line new = writes old.rt line ⊎ (new.dropped ≡ min (old.dropped + 1) (2 ^ 32 - 1))

@@ -4,3 +4,4 @@ pub mod CallLines
 pub mod Due
 pub mod Homes
 pub mod Kept
+pub mod Readings

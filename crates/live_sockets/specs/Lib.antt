@@ -7,3 +7,4 @@ pub mod Numbers
 pub mod Origins
 pub mod Places
 pub mod Spent
+pub mod Times

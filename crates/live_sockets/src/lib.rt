@@ -10,6 +10,7 @@ mod moments;
 mod notices;
 mod origin;
 mod sockets;
+mod times;
 
 pub use buffers::Buffers;
 pub use desk::AcceptState;
@@ -19,3 +20,4 @@ pub use moments::Moments;
 pub use notices::{KINDS, LEVEL, Notice, Notices, TEXTS};
 pub use origin::{AcceptedLine, Acceptor, Mailbox, Neighbor, Origin, join_queue};
 pub use sockets::{ORIGIN, Sockets};
+pub use times::{Reading, TimeSource};

@@ -14,6 +14,7 @@ use crate::looks::Looks;
 use crate::moments::Moments;
 use crate::notices::{KINDS, Notice, Notices};
 use crate::origin::{AcceptedLine, Origin};
+use crate::times::TimeSource;
 use gate_base::{LineNo, OutOfMemory};
 use gate_io::{Side, Wants, What, WorldEnd};
 use live_lines::{
@@ -27,7 +28,7 @@ use std::alloc::{AllocError, Global};
 use std::io;
 use std::net::{Net, SocketAddr};
 use std::sync::Wait;
-use std::time::{Clock, Duration};
+use std::time::Duration;
 
 /// The token of what lines come from. Those of lines begin at 2.
 pub const ORIGIN: Token = Token(0);
@@ -165,6 +166,7 @@ impl<P: Duplex> Sockets<P> {
     ghost use Rattle.live_sockets.specs.Looks.{AsksFirst, JustAsked, MayHear};
     ghost use Rattle.live_sockets.specs.Origins.{HasEnded};
     ghost use Rattle.live_sockets.specs.Spent.{IsDue, IsOfLine, IsSpent};
+    ghost use Rattle.live_sockets.specs.Times.{IsTold};
 
     /// The sockets over a poll, with lines from an origin that it watches, which send to this upstream server.
     pub fn new(poll: Poll, origin: Origin, upstream: SocketAddr, buffers: Buffers<P>) -> Sockets<P>
@@ -197,8 +199,8 @@ impl<P: Duplex> Sockets<P> {
 
     /// Waits until something happens that the worker wants or has to know. The system is asked first where enough was heard since it was asked last, or
     /// enough time went: however long the worker takes for an event, it is asked what else there is before the next one.
-    #[tactic(auto, using(crate::proofs::Due::due_of_line, crate::proofs::Kept::kept_same, crate::proofs::Kept::kept_more, crate::proofs::Kept::was_heard, crate::proofs::Asking::asks_first))]
-    pub fn wait<R: Clock + Wait>(
+    #[tactic(auto, using(crate::proofs::Due::due_of_line, crate::proofs::Kept::kept_same, crate::proofs::Kept::kept_more, crate::proofs::Kept::was_heard, crate::proofs::Asking::asks_first, crate::proofs::Readings::told_same))]
+    pub fn wait<R: TimeSource + Wait>(
         &mut self,
         alloc: Global,
         rt: &R,
@@ -209,6 +211,7 @@ impl<P: Duplex> Sockets<P> {
         ensures due { IfOk result (λ what. IsDue what wants.now.due self.new.looks.seen self.new) }
         ensures heard { IfOk result (λ what. WasHeard P.gave P.took self.old.lines.items what self.new.lines.items) }
         ensures asked { IfOk result (λ what. AsksFirst what self.old.looks self.new.looks) }
+        ensures told { IfOk result (λ what. IsTold (R.tells rt.now) self.new.looks.seen) }
     {
         self.origin.ask();
         self.look_first(rt)?;
@@ -231,10 +234,11 @@ impl<P: Duplex> Sockets<P> {
     }
 
     /// Asks the system what else is ready, where it is time to.
-    #[tactic(auto, using(crate::proofs::Kept::kept_same, crate::proofs::Asking::may_hear))]
-    fn look_first<R: Clock>(&mut self, rt: &R) -> Result<(), WorldEnd>
+    #[tactic(auto, using(crate::proofs::Kept::kept_same, crate::proofs::Asking::may_hear, crate::proofs::Readings::told_now))]
+    fn look_first<R: TimeSource>(&mut self, rt: &R) -> Result<(), WorldEnd>
         ensures kept { AreKept P.gave P.took self.old.lines.items self.new.lines.items }
         ensures asked { IfOk result (λ _. MayHear self.old.looks self.new.looks) }
+        ensures told { IfOk result (λ _. IsTold (R.tells rt.now) self.new.looks.seen) }
     {
         let now = self.moments.now(rt)?;
         self.looks.see(now);
@@ -252,11 +256,12 @@ impl<P: Duplex> Sockets<P> {
     }
 
     /// Waits for the system, at most until this moment. True where it has come.
-    #[tactic(auto, using(crate::proofs::Kept::kept_same))]
-    fn look_until<R: Clock>(&mut self, rt: &R, due: Option<u64>) -> Result<bool, WorldEnd>
+    #[tactic(auto, using(crate::proofs::Kept::kept_same, crate::proofs::Readings::told_same))]
+    fn look_until<R: TimeSource>(&mut self, rt: &R, due: Option<u64>) -> Result<bool, WorldEnd>
         ensures due { IfOk result (λ came. IsTrue came → IsSomeAnd due (λ moment. moment ≤ self.new.looks.seen)) }
         ensures kept { AreKept P.gave P.took self.old.lines.items self.new.lines.items }
         ensures asked { IfOk result (λ came. came ≡ false → JustAsked self.new.looks.seen self.new.looks) }
+        ensures told { IfOk result (λ _. IsTold (R.tells rt.now) self.new.looks.seen) }
     {
         match first_of(due, self.first_over()) {
             Some(first) => self.look_before(rt, due, first),
@@ -275,8 +280,8 @@ impl<P: Duplex> Sockets<P> {
     }
 
     /// Waits for the system, at most until the second moment. True where the first has come.
-    #[tactic(auto, using(crate::proofs::Kept::kept_same))]
-    fn look_before<R: Clock>(
+    #[tactic(auto, using(crate::proofs::Kept::kept_same, crate::proofs::Readings::told_now))]
+    fn look_before<R: TimeSource>(
         &mut self,
         rt: &R,
         due: Option<u64>,
@@ -285,6 +290,7 @@ impl<P: Duplex> Sockets<P> {
         ensures due { IfOk result (λ came. IsTrue came → IsSomeAnd due (λ moment. moment ≤ self.new.looks.seen)) }
         ensures kept { AreKept P.gave P.took self.old.lines.items self.new.lines.items }
         ensures asked { IfOk result (λ came. came ≡ false → JustAsked self.new.looks.seen self.new.looks) }
+        ensures told { IfOk result (λ _. IsTold (R.tells rt.now) self.new.looks.seen) }
     {
         let now = self.moments.now(rt)?;
         self.looks.see(now);
@@ -328,10 +334,11 @@ impl<P: Duplex> Sockets<P> {
     }
 
     /// Asks the system what is ready. A line that it refused is asked for again after that.
-    #[tactic(auto, using(crate::proofs::Kept::kept_same))]
-    fn look<R: Clock>(&mut self, rt: &R, timeout: Option<Duration>) -> Result<(), WorldEnd>
+    #[tactic(auto, using(crate::proofs::Kept::kept_same, crate::proofs::Readings::told_now))]
+    fn look<R: TimeSource>(&mut self, rt: &R, timeout: Option<Duration>) -> Result<(), WorldEnd>
         ensures kept { AreKept P.gave P.took self.old.lines.items self.new.lines.items }
         ensures asked { IfOk result (λ _. JustAsked self.new.looks.seen self.new.looks) }
+        ensures told { IfOk result (λ _. IsTold (R.tells rt.now) self.new.looks.seen) }
         ensures over { IfOk result (λ _. All (λ closed. self.new.looks.seen < closed.until) self.new.lingering.items) }
     {
         let timeout = self.timeout(timeout);
@@ -661,7 +668,7 @@ impl<P: Duplex> Sockets<P> {
     }
 
     /// Closes a connection, of which nothing more is told. What waits for it is sent on.
-    pub fn close<R: Clock>(&mut self, alloc: Global, rt: &R, number: LineNo, side: Side)
+    pub fn close<R: TimeSource>(&mut self, alloc: Global, rt: &R, number: LineNo, side: Side)
         ensures { ClosedIn self.old.lines.items number side self.new.lines.items }
     {
         let Some(at) = place_of(&self.lines, number) else {
@@ -674,7 +681,7 @@ impl<P: Duplex> Sockets<P> {
     }
 
     /// Closes the connection to the client of the line at a place, and forgets the line. Where the server broke off in mid-answer the client is told so.
-    fn close_down<R: Clock>(&mut self, alloc: Global, rt: &R, at: usize)
+    fn close_down<R: TimeSource>(&mut self, alloc: Global, rt: &R, at: usize)
         requires { at < vec_len self.old.lines }
         ensures { self.new.lines.items ≡ remove self.old.lines.items at }
     {
@@ -692,7 +699,7 @@ impl<P: Duplex> Sockets<P> {
     }
 
     /// Tells the client of a line that nothing more comes, and lets its connection linger. One that is over is dropped.
-    fn finish<R: Clock>(&mut self, alloc: Global, rt: &R, number: LineNo, peer: P)
+    fn finish<R: TimeSource>(&mut self, alloc: Global, rt: &R, number: LineNo, peer: P)
         ensures { self.new.lines ≡ self.old.lines }
     {
         if !peer.is_ended() && !peer.is_broken() {
@@ -703,7 +710,7 @@ impl<P: Duplex> Sockets<P> {
     }
 
     /// Closes the connection to the server of the line at a place.
-    fn close_up<R: Clock>(&mut self, rt: &R, at: usize)
+    fn close_up<R: TimeSource>(&mut self, rt: &R, at: usize)
         requires { at < vec_len self.old.lines }
         ensures { ClosedUp self.old.lines.items at self.new.lines.items }
     {
@@ -716,7 +723,7 @@ impl<P: Duplex> Sockets<P> {
     }
 
     /// Sends on what waits for a server whose connection is closed, where something does, and not too much.
-    fn leave<R: Clock>(&mut self, rt: &R, up: Upstream<P>)
+    fn leave<R: TimeSource>(&mut self, rt: &R, up: Upstream<P>)
         ensures { self.new.lines ≡ self.old.lines }
     {
         let Upstream { peer, waiting } = up;
@@ -726,7 +733,7 @@ impl<P: Duplex> Sockets<P> {
     }
 
     /// Sends on what waits for a server whose connection is closed, under a token of its own.
-    fn send_on<R: Clock>(&mut self, rt: &R, peer: P, waiting: UnsentBytes)
+    fn send_on<R: TimeSource>(&mut self, rt: &R, peer: P, waiting: UnsentBytes)
         ensures { self.new.lines ≡ self.old.lines }
     {
         let token = Token(CLOSED + self.closed as usize);
@@ -738,7 +745,14 @@ impl<P: Duplex> Sockets<P> {
     }
 
     /// Lets a connection linger until nothing came of it for a second, for so long at most. Where too many do, the first of them is dropped.
-    fn linger<R: Clock>(&mut self, rt: &R, token: Token, peer: P, waiting: UnsentBytes, most: u64)
+    fn linger<R: TimeSource>(
+        &mut self,
+        rt: &R,
+        token: Token,
+        peer: P,
+        waiting: UnsentBytes,
+        most: u64,
+    )
         ensures { self.new.lines ≡ self.old.lines }
     {
         if let Ok(now) = self.moments.now(rt) {
