@@ -34,6 +34,8 @@ SHOUT = os.path.join(HERE, "..", "..", "examples", "filters", "shout.wasm")
 TELLER = os.path.join(HERE, "teller.wasm")
 # A filter that takes long for each piece of a request's body: busy.c.
 BUSY = os.path.join(HERE, "busy.wasm")
+# A filter that answers each request with what the server answers to a callout for the same path: caller.c.
+CALLER = os.path.join(HERE, "caller.wasm")
 # Filters of an operator: a line of the log for each exchange, an answer of a route's own, and counts of responses.
 OPERATORS = [os.path.join(HERE, "..", "..", "examples", "filters", name + ".wasm") for name in ("exchange_log", "healthz", "metrics")]
 # Filters of the cases of `tests/run`: one holds a request until a notice comes, and one puts the request's path into the first one's queue.
@@ -1585,6 +1587,95 @@ TOLD = b"store teller calls 0 keys 0 items 0\n"
 
 
 
+WITH_A_CALLER = (
+    '[[vm]]\nname = "caller"\nmodule = "caller.wasm"\n'
+    '[[plugin]]\nname = "caller"\nvm = "caller"\n'
+    '[[route]]\npath = "/call/{*rest}"\nfilters = ["caller"]\n'
+)
+
+
+def calls_out(gateway, path, wanted, status="200"):
+    """A request that is answered by what came of its callout."""
+    with gateway.connect() as s:
+        s.sendall(request("/call" + path))
+        reader = Reader(s)
+        first, fields = reader.head()
+        expect((status_of(first), reader.body(fields)), (status, wanted))
+
+
+def called_out(gateway, upstream):
+    """Callouts are answered, by the server's answer to each: a short one, a long one, one that comes byte by byte, one that ends with its connection, and
+    one that came whole before a reset. The server gets what the callout says, and its own line for each."""
+    base = gateway.descriptors()
+    calls_out(gateway, "/called", b"/called")
+    expect(upstream.seen["/called"][1]["host"], "a")
+    calls_out(gateway, "/big/200000", b"0123456789" * 20000)
+    calls_out(gateway, "/slow", b"slow answer")
+    calls_out(gateway, "/to-end", b"until the end" * 1000)
+    calls_out(gateway, "/answer-reset", b"whole")
+    gateway.frees(base)
+
+
+def not_answered(gateway, upstream):
+    """Callouts fail whose server resets, ends in mid-answer, or says nothing until their time is over; and one whose answer is too long."""
+    base = gateway.descriptors()
+    for path in ("/reset", "/part-reset", "/part-close", "/silent", "/big/2000000"):
+        calls_out(gateway, path, b"failed", "503")
+    gateway.frees(base)
+
+
+def calls_at_once(gateway, upstream):
+    """Several callouts of one worker at once, each answered by its own answer."""
+    at_once(60, lambda n: calls_out(gateway, "/at-once/%d" % n, b"/at-once/%d" % n))
+
+
+def too_many_calls(gateway, upstream):
+    """64 callouts are under way at most: a further one is refused. Once these failed there may be others."""
+    base = gateway.descriptors()
+    lines = []
+    for _ in range(64):
+        s = gateway.connect()
+        s.sendall(request("/call/silent"))
+        lines.append(s)
+        time.sleep(0.002)
+    calls_out(gateway, "/one-more", b"full", "429")
+    for s in lines:
+        first, fields = Reader(s).head()
+        expect(status_of(first), "503")
+        s.close()
+    calls_out(gateway, "/later", b"/later")
+    gateway.frees(base)
+
+
+def gone_meanwhile(gateway, upstream):
+    """Clients go while their callouts are under way: these end all the same, and leave no descriptor."""
+    base = gateway.descriptors()
+    for n in range(10):
+        s = gateway.connect()
+        s.sendall(request("/call/late" if n % 2 else "/call/silent"))
+        time.sleep(0.01)
+        reset(s)
+    gateway.frees(base)
+    calls_out(gateway, "/behind", b"/behind")
+
+
+def no_server_for_calls(gateway, upstream):
+    """Callouts fail at once where nobody listens."""
+    for n in range(3):
+        calls_out(gateway, "/%d" % n, b"failed", "503")
+
+
+def has_callouts(program, folder, upstream):
+    """Whether the program has callouts."""
+    gateway = Gateway(program, folder, upstream.address, (upstream.address, upstream.port), 1, 1, WITH_A_CALLER)
+    try:
+        with gateway.connect() as s:
+            s.sendall(request("/call/first"))
+            return status_of(Reader(s).head()[0]) != "501"
+    finally:
+        gateway.kill()
+
+
 def tells(text):
     """Whether standard error has lines of this notice, once or several times, and nothing else."""
     return lambda err: re.fullmatch(rb"(warn %s: [1-9][0-9]*\n)+" % re.escape(text.encode()), err) is not None
@@ -1684,6 +1775,14 @@ GROUPS = [
     ("lines that are not read", 1, "", b"", [(unread, 363)]),
 ]
 
+# Those that need callouts, which are tried where the program has them.
+CALLED = b"store caller calls 0 keys 0 items 0\n"
+CALLING = [
+    ("callouts", 1, WITH_A_CALLER, CALLED, [(called_out, 5), (not_answered, 5), (calls_at_once, 60), (too_many_calls, 66), (gone_meanwhile, 11)]),
+    ("callouts of two workers", 2, WITH_A_CALLER, CALLED, [(called_out, 5), (calls_at_once, 60)]),
+    ("no server for callouts", 1, WITH_A_CALLER, CALLED, [(no_server_for_calls, 3)], tells("upstream refused")),
+]
+
 
 def run_group(program, folder, upstream, group):
     name, workers, more, wanted, cases = group[:5]
@@ -1694,7 +1793,7 @@ def run_group(program, folder, upstream, group):
         address, upstream = "127.0.0.3", Upstream("127.0.0.2")
     if name == "a slow server":
         upstream = Upstream(sips=True)
-    port = closed_port() if name == "no server" else upstream.port
+    port = closed_port() if name.startswith("no server") else upstream.port
     memory = resource.RLIM_INFINITY
     if name == "some memory":
         without = Gateway(program, folder, address, (upstream.address, port), 2, workers)
@@ -1735,11 +1834,14 @@ def main():
         for module, text in (("marked", MARKED), ("large", LARGE)):
             with open(os.path.join(folder, module + ".wasm"), "wb") as f:
                 f.write(text)
-        for module in (METER, SHOUT, TELLER, BUSY, WAITS, ENQUEUES, *OPERATORS):
+        for module in (METER, SHOUT, TELLER, BUSY, CALLER, WAITS, ENQUEUES, *OPERATORS):
             shutil.copy(module, folder)
-        for group in GROUPS:
-            if os.environ.get("ONLY", "") not in group[0]:
-                continue
+        only = os.environ.get("ONLY", "")
+        calling = [group for group in CALLING if only in group[0]]
+        if calling and not has_callouts(program, folder, upstream):
+            print("live: the program has no callouts, so their groups are not tried: %d" % len(calling))
+            calling = []
+        for group in [group for group in GROUPS if only in group[0]] + calling:
             p, f = run_group(program, folder, upstream, group)
             passed += p
             failed += f

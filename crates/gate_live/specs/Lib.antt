@@ -1,3 +1,4 @@
 pub mod LogLine
 pub mod Sites
+pub mod Timed
 pub mod Worlds

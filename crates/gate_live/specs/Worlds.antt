@@ -1,12 +1,13 @@
 -- What a world over sockets gives, and what goes to its lines.
-use Rattle.std.specs.Prelude.{ℕ, true, false, List, Option, None}
+use Rattle.std.specs.Prelude.{◌≡◌, ◌⊎◌, ℕ, ◌+◌, ◌-◌, ◌^◌, min, true, false, List, Option, None}
 use Rattle.gate_io.specs.declared.event.Side.{Side}
 use Rattle.gate_io.specs.declared.event.What.{What}
 use Rattle.gate_io.specs.Events.{Last}
 use Rattle.gate_io.specs.Nature.{Nature}
 use Rattle.live_sockets.specs.Keeping.{WasHeard}
 use Rattle.live_sockets.specs.Looks.{AsksFirst}
-use Rattle.live_lines.specs.Lines.{SentIn, ConnectedIn, BegunIn, ClosedIn}
+use Rattle.live_sockets.specs.Calls.{BeginsIn, ConnectsIn}
+use Rattle.live_lines.specs.Lines.{SentIn, ClosedIn}
 use Rattle.live_sockets.specs.Origins.{HasEnded}
 use Rattle.live_lines.specs.Told.{LiesIn}
 use Rattle.gate_live.specs.declared.live_world.LiveWorld.{LiveWorld}
@@ -32,13 +33,13 @@ Asks old what new = AsksFirst what old.sockets.looks new.sockets.looks
 abbrev pub Sends : {R P : Type 0} → (P → Option (List ℕ)) → (P → Option (List ℕ)) → LiveWorld R P → ℕ → Side → List ℕ → ℕ → LiveWorld R P → Type 0
 Sends gave took old line side bytes n new = SentIn gave took old.sockets.lines.items line side bytes n new.sockets.lines.items
 
--- the line of this number is connected anew, and nothing else of the lines of a world changes
+-- the line of this number is connected anew, or begins where it is a callout's, and nothing else of the lines of a world changes
 abbrev pub Connects : {R P : Type 0} → LiveWorld R P → ℕ → LiveWorld R P → Type 0
-Connects old line new = ConnectedIn old.sockets.lines.items line new.sockets.lines.items
+Connects old line new = ConnectsIn old.sockets.lines.items line new.sockets.lines.items
 
 -- and by a connection that gave and took nothing so far, or by none
 abbrev pub Begins : {R P : Type 0} → (P → Option (List ℕ)) → (P → Option (List ℕ)) → LiveWorld R P → ℕ → LiveWorld R P → Type 0
-Begins gave took old line new = BegunIn gave took old.sockets.lines.items line new.sockets.lines.items
+Begins gave took old line new = BeginsIn gave took old.sockets.lines.items line new.sockets.lines.items
 
 -- a connection of the line of this number is closed, and nothing else of the lines of a world changes
 abbrev pub Closes : {R P : Type 0} → LiveWorld R P → ℕ → Side → LiveWorld R P → Type 0
@@ -47,3 +48,7 @@ Closes old line side new = ClosedIn old.sockets.lines.items line side new.socket
 -- a world whose worker accepts accepts no line any more
 abbrev pub AcceptsNone : {R P : Type 0} → LiveWorld R P → Type 0
 AcceptsNone w = HasEnded w.sockets.origin
+
+-- A line of the log was written on the handle of the system. Or it was dropped, which is counted, up to 2^32 - 1.
+abbrev pub IsLogged : {R P : Type 0} → (R → List ℕ → Type 0) → LiveWorld R P → List ℕ → LiveWorld R P → Type 0
+IsLogged writes old line new = writes old.rt line ⊎ (new.dropped ≡ min (old.dropped + 1) (2 ^ 32 - 1))

@@ -3,22 +3,23 @@ ghost use Rattle.std.specs.Prelude.{◌≡◌, ◌≤◌, ◌+◌, [], length, u
 ghost use Rattle.std.specs.Net.Grammar.{IsSocketText};
 ghost use Rattle.live_sockets.specs.Homes.{AreHome, AreUnused};
 ghost use Rattle.live_sockets.specs.Origins.{Accepts};
-ghost use Rattle.gate_live.specs.Sites.{AreNew, AreUntouched, FirstAccepts, IsUntouched};
+ghost use Rattle.gate_live.specs.Sites.{AreNew, AreReady, FirstAccepts, IsReady};
 
 use crate::LiveWorld;
+use crate::seeds::SeedSource;
+use crate::stderr::LogStream;
 use gate_io::{Settings, Site, SiteEnd};
 use live_lines::{Peer, probe};
 use live_sockets::{
-    AcceptState, Acceptor, Buffers, Mailbox, Neighbor, ORIGIN, Origin, Sockets, join_queue,
+    AcceptState, Acceptor, Buffers, Mailbox, Neighbor, ORIGIN, Origin, Sockets, TimeSource,
+    join_queue,
 };
 use mio::net::TcpListener;
 use mio::{Interest, Poll, Waker};
 use std::alloc::Global;
 use std::io;
 use std::net::{Net, SocketAddr};
-use std::random::RandomSource;
 use std::sync::{Arc, Wait};
-use std::time::Clock;
 
 /// The outside over sockets. It tells nothing of content, but keeps the worlds that it was given back.
 #[derive(Drop)]
@@ -59,48 +60,38 @@ fn address_of(text: &str) -> Result<SocketAddr, SiteEnd>
     }
 }
 
-/// The seed of a world, from the system's random bytes.
-fn seed_of<R: RandomSource>(rt: &R) -> Result<[u8; 32], SiteEnd> {
-    let mut seed = [0; 32];
-    match rt.fill_bytes(&mut seed) {
-        Ok(()) => Ok(seed),
-        Err(_) => Err(SiteEnd::Failed),
-    }
-}
-
 /// What a world has beside its poll and its origin.
 #[derive(Drop)]
 struct Ground<R> {
     rt: R,
     seed: [u8; 32],
-    buffers: Buffers,
+    buffers: Buffers<Peer>,
 }
 
-/// What a world has beside its poll and its origin, with a handle of the runtime of its own.
-fn ground_of<R: RandomSource + Clone + Drop>(alloc: Global, rt: &R) -> Result<Ground<R>, SiteEnd> {
-    let seed = seed_of(rt)?;
+/// What a world has beside its poll and its origin, with a handle of the runtime of its own, of which its seed is drawn.
+fn ground_of<R: SeedSource + Clone + Drop>(alloc: Global, rt: &R) -> Result<Ground<R>, SiteEnd>
+    ensures drawn { IfOk result (λ ground. R.draws ground.rt ground.seed) }
+{
     let rt = rt.clone()?;
+    let seed = rt.draw_seed()?;
     let buffers = Buffers::new(alloc)?;
     Ok(Ground { rt, seed, buffers })
 }
 
 /// A world over a poll, whose lines come from an origin that it watches.
-fn world_of<R: Drop>(
-    alloc: Global,
+#[tactic(auto, using(crate::proofs::Worlds::ready))]
+fn world_of<R: SeedSource + Drop>(
     ground: Ground<R>,
     poll: Poll,
     origin: Origin,
     upstream: SocketAddr,
 ) -> LiveWorld<R, Peer>
-    ensures untouched { IsUntouched upstream result }
+    requires { R.draws ground.rt ground.seed }
+    ensures untouched { IsReady R.draws upstream result }
     ensures origin { result.sockets.origin ≡ origin }
 {
     let Ground { rt, seed, buffers } = ground;
-    LiveWorld::new(
-        rt,
-        seed,
-        Sockets::new(alloc, poll, origin, upstream, buffers),
-    )
+    LiveWorld::new(rt, seed, Sockets::new(poll, origin, upstream, buffers))
 }
 
 /// A poll.
@@ -151,23 +142,23 @@ fn waking_poll<R: Net>(
 }
 
 /// A world to which lines are handed over, and the queue to it.
-fn other_world<R: Net + RandomSource + Clone + Drop>(
+fn other_world<R: Net + SeedSource + Clone + Drop>(
     alloc: Global,
     rt: &R,
     upstream: SocketAddr,
     stage: &Arc<AcceptState>,
 ) -> Result<(Neighbor, LiveWorld<R, Peer>), SiteEnd>
-    ensures untouched { IfOk result (λ w. IsUntouched upstream w.1) }
+    ensures untouched { IfOk result (λ w. IsReady R.draws upstream w.1) }
     ensures offered { IfOk result (λ w. w.0.giver.lines ≡ []) }
 {
     let ground = ground_of(alloc, rt)?;
     let (poll, neighbor, mailbox) = waking_poll(alloc, rt, stage)?;
-    let world = world_of(alloc, ground, poll, Origin::Mailbox(mailbox), upstream);
+    let world = world_of(ground, poll, Origin::Mailbox(mailbox), upstream);
     Ok((neighbor, world))
 }
 
 /// Puts a world to which lines are handed over after others, and the queue to it behind theirs.
-fn add_world<R: Net + RandomSource + Clone + Drop>(
+fn add_world<R: Net + SeedSource + Clone + Drop>(
     alloc: Global,
     rt: &R,
     upstream: SocketAddr,
@@ -175,7 +166,7 @@ fn add_world<R: Net + RandomSource + Clone + Drop>(
     others: &mut Vec<Neighbor>,
     worlds: &mut Vec<LiveWorld<R, Peer>>,
 ) -> Result<(), SiteEnd>
-    ensures untouched { AreUntouched upstream worlds.old.items → IfOk result (λ _. AreUntouched upstream worlds.new.items) }
+    ensures untouched { AreReady R.draws upstream worlds.old.items → IfOk result (λ _. AreReady R.draws upstream worlds.new.items) }
     ensures count { IfOk result (λ _. length worlds.new.items ≡ length worlds.old.items + 1) }
     ensures offered { AreUnused others.old.items → IfOk result (λ _. AreUnused others.new.items) }
 {
@@ -186,7 +177,7 @@ fn add_world<R: Net + RandomSource + Clone + Drop>(
 }
 
 /// Puts the worlds of workers 2 and up, to which lines are handed over, after others, and the queues to them behind theirs.
-fn other_worlds<R: Net + RandomSource + Clone + Drop>(
+fn other_worlds<R: Net + SeedSource + Clone + Drop>(
     alloc: Global,
     rt: &R,
     count: u8,
@@ -195,7 +186,7 @@ fn other_worlds<R: Net + RandomSource + Clone + Drop>(
     others: &mut Vec<Neighbor>,
     worlds: &mut Vec<LiveWorld<R, Peer>>,
 ) -> Result<(), SiteEnd>
-    ensures untouched { AreUntouched upstream worlds.old.items → IfOk result (λ _. AreUntouched upstream worlds.new.items) }
+    ensures untouched { AreReady R.draws upstream worlds.old.items → IfOk result (λ _. AreReady R.draws upstream worlds.new.items) }
     ensures count { IfOk result (λ _. length worlds.new.items ≡ length worlds.old.items + count) }
     ensures offered { AreUnused others.old.items → IfOk result (λ _. AreUnused others.new.items) }
 {
@@ -206,11 +197,13 @@ fn other_worlds<R: Net + RandomSource + Clone + Drop>(
 }
 
 /// What the world of worker 1 has, with a poll that watches a listener at the settings' address.
-fn listening<R: Net + RandomSource + Clone + Drop>(
+fn listening<R: Net + SeedSource + Clone + Drop>(
     alloc: Global,
     rt: &R,
     settings: &Settings,
-) -> Result<(Ground<R>, Poll, TcpListener), SiteEnd> {
+) -> Result<(Ground<R>, Poll, TcpListener), SiteEnd>
+    ensures drawn { IfOk result (λ it. R.draws it.0.rt it.0.seed) }
+{
     let listen = address_of(settings.listen.as_str())?;
     let ground = ground_of(alloc, rt)?;
     let (poll, listener) = listening_poll(rt, listen)?;
@@ -218,7 +211,7 @@ fn listening<R: Net + RandomSource + Clone + Drop>(
 }
 
 /// The world of worker 1, which listens, and hands lines over to the others.
-fn first_world<R: Net + RandomSource + Clone + Drop>(
+fn first_world<R: Net + SeedSource + Clone + Drop>(
     alloc: Global,
     rt: &R,
     settings: &Settings,
@@ -227,18 +220,18 @@ fn first_world<R: Net + RandomSource + Clone + Drop>(
     stage: Arc<AcceptState>,
 ) -> Result<LiveWorld<R, Peer>, SiteEnd>
     requires { AreHome 0 others.items }
-    ensures untouched { IfOk result (λ w. IsUntouched upstream w) }
+    ensures untouched { IfOk result (λ w. IsReady R.draws upstream w) }
     ensures accepts { IfOk result (λ w. Accepts (unwrap_or settings.now.stop_after 4294967295) w.sockets.origin) }
 {
     let (ground, poll, listener) = listening(alloc, rt, settings)?;
     let most = settings.stop_after.unwrap_or(u32::MAX);
     let origin = Origin::Listener(Acceptor::new(listener, most, others, stage));
-    Ok(world_of(alloc, ground, poll, origin, upstream))
+    Ok(world_of(ground, poll, origin, upstream))
 }
 
 /// Puts a world for each worker among others, the first in front of them.
 #[tactic(auto, using(crate::proofs::Worlds::home))]
-fn fill<R: Net + RandomSource + Clone + Drop>(
+fn fill<R: Net + SeedSource + Clone + Drop>(
     alloc: Global,
     rt: &R,
     settings: &Settings,
@@ -246,7 +239,7 @@ fn fill<R: Net + RandomSource + Clone + Drop>(
     worlds: &mut Vec<LiveWorld<R, Peer>>,
 ) -> Result<(), SiteEnd>
     requires { 1 ≤ settings.now.workers }
-    ensures untouched { AreUntouched upstream worlds.old.items → IfOk result (λ _. AreUntouched upstream worlds.new.items) }
+    ensures untouched { AreReady R.draws upstream worlds.old.items → IfOk result (λ _. AreReady R.draws upstream worlds.new.items) }
     ensures count { IfOk result (λ _. length worlds.new.items ≡ length worlds.old.items + settings.now.workers) }
     ensures accepts { IfOk result (λ _. FirstAccepts (unwrap_or settings.now.stop_after 4294967295) worlds.new.items) }
 {
@@ -260,12 +253,12 @@ fn fill<R: Net + RandomSource + Clone + Drop>(
 }
 
 /// Listens, and makes a world for each worker.
-fn worlds_of<R: Net + RandomSource + Clone + Drop>(
+fn worlds_of<R: Net + SeedSource + Clone + Drop>(
     alloc: Global,
     rt: &R,
     settings: &Settings,
 ) -> Result<Vec<LiveWorld<R, Peer>>, SiteEnd>
-    ensures untouched { IfOk result (λ worlds. AreNew settings.now.upstream worlds.items) }
+    ensures untouched { IfOk result (λ worlds. AreNew R.draws settings.now.upstream worlds.items) }
     ensures count { IfOk result (λ worlds. length worlds.items ≡ settings.now.workers) }
     ensures accepts { IfOk result (λ worlds. FirstAccepts (unwrap_or settings.now.stop_after 4294967295) worlds.items) }
 {
@@ -278,7 +271,8 @@ fn worlds_of<R: Net + RandomSource + Clone + Drop>(
     Ok(worlds)
 }
 
-impl<R: Net + Clock + Wait + RandomSource + Eprint + Clone + Send + Drop> Site for LiveSite<R> {
+impl<R: Net + TimeSource + Wait + SeedSource + LogStream + Clone + Send + Drop> Site
+    for LiveSite<R> {
     type W = LiveWorld<R, Peer>;
 
     ghost use Rattle.std.specs.Prelude.{◌≡◌, ◌≤◌, None, length, unwrap_or, All, IfOk, OnErr};
@@ -302,7 +296,7 @@ impl<R: Net + Clock + Wait + RandomSource + Eprint + Clone + Send + Drop> Site f
         settings: &Settings,
     ) -> Result<Vec<LiveWorld<R, Peer>>, SiteEnd>
         ensures count { IfOk result (λ worlds. length worlds.items ≡ settings.now.workers) }
-        ensures untouched { IfOk result (λ worlds. AreNew settings.now.upstream worlds.items) }
+        ensures untouched { IfOk result (λ worlds. AreNew R.draws settings.now.upstream worlds.items) }
         ensures accepts { IfOk result (λ worlds. FirstAccepts (unwrap_or settings.now.stop_after 4294967295) worlds.items) }
         ensures fresh { IfOk result (λ worlds. All (λ w. IsFresh None (record { now = w.now; stopped = w.stopped }) w.faults) worlds.items) }
         ensures out { IfOk result (λ worlds. self.new.out ≡ length worlds.items) }

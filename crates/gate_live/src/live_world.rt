@@ -1,18 +1,21 @@
 // A worker's outside over sockets.
-ghost use Rattle.std.specs.Prelude.{◌≡◌, ◌≤◌, ◌⊎◌, IfOk, IfSome, IfNone, IsSomeAnd, OnErr};
+ghost use Rattle.std.specs.Prelude.{◌≡◌, ◌≤◌, ◌⊎◌, IfOk, IfSome, IfNone, IsSomeAnd, OnOk, OnErr};
 ghost use Rattle.gate_io.specs.Events.{Follows, Obeys, is_stop};
 ghost use Rattle.live_sockets.specs.Spent.{IsBefore, IsEarly, IsOfLine, is_clock};
+ghost use Rattle.live_sockets.specs.Times.{IsTold};
+ghost use Rattle.gate_live.specs.LogLine.{line_of};
+ghost use Rattle.gate_io.specs.declared.event.What.TheVariants as whats;
+ghost use Rattle.gate_live.specs.Timed.{IsMoment, IsTimed};
 
 use crate::log_line::log_line;
-use crate::stderr::put_line;
+use crate::stderr::LogStream;
 use gate_base::{Level, LineNo, OutOfMemory};
 use gate_io::{Event, Side, Wants, What, World, WorldEnd};
 use live_lines::Duplex;
-use live_sockets::{LEVEL, Moments, Notice, Sockets, TEXTS};
+use live_sockets::{LEVEL, Moments, Notice, Sockets, TEXTS, TimeSource};
 use std::alloc::Global;
 use std::net::Net;
 use std::sync::Wait;
-use std::time::Clock;
 
 /// The outside of one worker over sockets, which writes the log to standard error. As a world it tells nothing of content: what its calls add to the
 /// clauses of the trait is of its lines, over any connections.
@@ -41,6 +44,7 @@ impl<R, P> LiveWorld<R, P> {
         ensures untouched { sockets.lines.items ≡ [] → IsUntouched sockets.upstream result }
         ensures sockets { result.sockets ≡ sockets }
         ensures seed { result.seed ≡ seed }
+        ensures rt { result.rt ≡ rt }
     {
         LiveWorld {
             rt,
@@ -70,12 +74,12 @@ impl<R, P> LiveWorld<R, P> {
     }
 }
 
-impl<R: Net + Clock + Wait + Eprint, P: Duplex> World for LiveWorld<R, P> {
-    ghost use Rattle.std.specs.Prelude.{None, length};
+impl<R: Net + TimeSource + Wait + LogStream, P: Duplex> World for LiveWorld<R, P> {
+    ghost use Rattle.std.specs.Prelude.{None, false, length};
     ghost use Rattle.gate_io.specs.Events.{after_next};
     ghost use Rattle.gate_io.specs.Told.{Rose};
     ghost use Rattle.live_lines.specs.Allowed.{no_promise};
-    ghost use Rattle.gate_live.specs.Worlds.{last_in, nature_of, AcceptsNone, Asks, Gives, Sends, Connects, Begins, Closes};
+    ghost use Rattle.gate_live.specs.Worlds.{last_in, nature_of, AcceptsNone, Asks, Gives, Sends, Connects, Begins, Closes, IsLogged};
 
     ghost trace = { λ _. None };
 
@@ -95,6 +99,7 @@ impl<R: Net + Clock + Wait + Eprint, P: Duplex> World for LiveWorld<R, P> {
     fn next(&mut self, alloc: Global, wants: &Wants) -> Result<Event, WorldEnd>
         ensures heard { IfOk result (λ event. Gives P.gave P.took self.old event.what self.new) }
         ensures asked { IfOk result (λ event. Asks self.old event.what self.new) }
+        ensures timed { self.old.stopped ≡ false → IfOk result (IsTimed (IsTold (R.tells self.old.rt)) self.old.now wants.now.due) }
         ensures event { IfOk result (Follows (last_in self.old)) }
         ensures last { last_in self.new ≡ after_next (last_in self.old) result }
         ensures obeys { IfOk result (λ event. Obeys wants.now event.what) }
@@ -129,14 +134,13 @@ impl<R: Net + Clock + Wait + Eprint, P: Duplex> World for LiveWorld<R, P> {
     }
 
     fn connect(&mut self, alloc: Global, line: LineNo) -> Result<(), OutOfMemory>
-        ensures connected { Connects self.old line self.new }
-        ensures begun { Begins P.gave P.took self.old line self.new }
+        ensures connected { OnOk result (Connects self.old line self.new) }
+        ensures begun { OnOk result (Begins P.gave P.took self.old line self.new) }
         ensures last { last_in self.new ≡ last_in self.old }
         ensures nature { nature_of self.new ≡ nature_of self.old }
         ensures faults { self.new.faults ≡ self.old.faults }
     {
-        self.sockets.connect(alloc, &self.rt, line);
-        Ok(())
+        self.sockets.connect(alloc, &self.rt, line)
     }
 
     fn close(&mut self, alloc: Global, line: LineNo, side: Side) -> Result<(), OutOfMemory>
@@ -150,6 +154,7 @@ impl<R: Net + Clock + Wait + Eprint, P: Duplex> World for LiveWorld<R, P> {
     }
 
     fn log(&mut self, alloc: Global, level: Level, text: &[u8]) -> Result<(), OutOfMemory>
+        ensures written { OnOk result (IsLogged R.writes self.old (line_of level text.now) self.new) }
         ensures sockets { self.new.sockets ≡ self.old.sockets }
         ensures last { last_in self.new ≡ last_in self.old }
         ensures nature { nature_of self.new ≡ nature_of self.old }
@@ -167,14 +172,16 @@ impl<R: Net + Clock + Wait + Eprint, P: Duplex> World for LiveWorld<R, P> {
     }
 }
 
-impl<R: Eprint, P: Duplex> LiveWorld<R, P> {
+impl<R: LogStream, P: Duplex> LiveWorld<R, P> {
     ghost use Rattle.std.specs.Prelude.{◌≡◌};
+    ghost use Rattle.gate_live.specs.Worlds.{IsLogged};
 
     /// Writes a line of the log. One that standard error does not take is dropped, and counted.
     fn show(&mut self, line: &[u8])
-        ensures { self.new ≡ record self.old { is_cut = self.new.is_cut; dropped = self.new.dropped } }
+        ensures written { IsLogged R.writes self.old line.now self.new }
+        ensures rest { self.new ≡ record self.old { is_cut = self.new.is_cut; dropped = self.new.dropped } }
     {
-        if !put_line(&self.rt, line, &mut self.is_cut) {
+        if !self.rt.put_line(line, &mut self.is_cut) {
             self.dropped = self.dropped.saturating_add(1);
         }
     }
@@ -224,7 +231,7 @@ fn notice_line(alloc: Global, text: &str, count: u32) -> Result<Vec<u8>, OutOfMe
     log_line(alloc, LEVEL, told.as_bytes())
 }
 
-impl<R: Net + Clock + Wait, P: Duplex> LiveWorld<R, P> {
+impl<R: Net + TimeSource + Wait, P: Duplex> LiveWorld<R, P> {
     ghost use Rattle.std.specs.Prelude.{false};
     ghost use Rattle.live_sockets.specs.Spent.{IsDue, IsEarly};
     ghost use Rattle.gate_live.specs.Worlds.{Asks, Gives};
@@ -242,6 +249,7 @@ impl<R: Net + Clock + Wait, P: Duplex> LiveWorld<R, P> {
         ensures faults { self.new.faults ≡ self.old.faults }
         ensures due { self.old.stopped ≡ false → IfOk result (λ event. IsDue event.what wants.now.due event.now self.new.sockets) }
         ensures early { self.old.stopped ≡ false → IfOk result (λ event. IsEarly event.what wants.now.due event.now) }
+        ensures timed { self.old.stopped ≡ false → IfOk result (IsTimed (IsTold (R.tells self.old.rt)) self.old.now wants.now.due) }
         ensures heard { IfOk result (λ event. Gives P.gave P.took self.old event.what self.new) }
         ensures asked { IfOk result (λ event. Asks self.old event.what self.new) }
     {
@@ -265,6 +273,7 @@ impl<R: Net + Clock + Wait, P: Duplex> LiveWorld<R, P> {
     }
 
     /// The next event where the last one was not Stop, and at it nothing that the worker asked for was due.
+    #[tactic(auto, using(crate::proofs::Timed::timed_by))]
     fn happening(&mut self, alloc: Global, wants: &Wants) -> Result<Event, WorldEnd>
         requires goes_on { self.old.stopped ≡ false }
         requires before { IsBefore wants.now.due self.old.now }
@@ -276,6 +285,7 @@ impl<R: Net + Clock + Wait, P: Duplex> LiveWorld<R, P> {
         ensures faults { self.new.faults ≡ self.old.faults }
         ensures due { IfOk result (λ event. IsDue event.what wants.now.due event.now self.new.sockets) }
         ensures early { IfOk result (λ event. IsEarly event.what wants.now.due event.now) }
+        ensures timed { IfOk result (IsTimed (IsTold (R.tells self.old.rt)) self.old.now wants.now.due) }
         ensures heard { IfOk result (λ event. Gives P.gave P.took self.old event.what self.new) }
         ensures asked { IfOk result (λ event. Asks self.old event.what self.new) }
     {
@@ -291,7 +301,8 @@ impl<R: Net + Clock + Wait, P: Duplex> LiveWorld<R, P> {
 
 /// The moment of a Clock that comes now: something is due, and the last event, at this moment, was no Clock. Where none comes, nothing was due at the
 /// last event.
-fn fallen_due<R: Clock>(
+#[tactic(auto, using(crate::proofs::Timed::timed_at_once, crate::proofs::Timed::timed_later))]
+fn fallen_due<R: TimeSource>(
     rt: &R,
     moments: &mut Moments,
     due: Option<u64>,
@@ -301,6 +312,7 @@ fn fallen_due<R: Clock>(
     ensures rises { IfOk result (λ clock. IfSome clock (λ now. last ≤ now)) }
     ensures due { IfOk result (λ clock. IfSome clock (λ now. IsSomeAnd due (λ moment. moment ≤ now))) }
     ensures none { IfOk result (λ clock. IfNone clock (IsBefore due last)) }
+    ensures told { IfOk result (λ clock. IfSome clock (IsMoment (IsTold (R.tells rt.now)) last due whats.Clock)) }
 {
     let Some(due) = due else {
         return Ok(None);
@@ -311,7 +323,7 @@ fn fallen_due<R: Clock>(
     if told {
         return Ok(None);
     }
-    let now = moments.now(rt)?.max(last);
+    let now = last.max(moments.now(rt)?);
     if due <= now { Ok(Some(now)) } else { Ok(None) }
 }
 
@@ -322,6 +334,7 @@ fn moment_of(what: &What, due: Option<u64>, last: u64, now: u64) -> u64
     ensures early { IsEarly what.now due result }
     ensures rises { last ≤ result }
     ensures timed { IsOfLine what.now ⊎ (result ≡ now) }
+    ensures low { result ≤ now }
 {
     if is_clock(what) || is_stop(what) {
         return now;

@@ -1,5 +1,7 @@
 pub mod Asking
 pub mod Begun
+pub mod CallLines
 pub mod Due
 pub mod Homes
 pub mod Kept
+pub mod Readings

@@ -1,9 +1,10 @@
 -- What is heard of the lines of a worker in turn.
-use Rattle.std.specs.Prelude.{◌≡◌, ◌==◌, ◌⊎◌, ℕ, Bool, true, false, List, [], ◌∷◌, ◌++◌, Option, None, Some, IsTrue, slice_get}
+use Rattle.std.specs.Prelude.{◌≡◌, ◌==◌, ◌⊎◌, ℕ, ◌+◌, ◌<◌, ◌≤◌, Bool, true, false, List, insert, length, Option, None, Some, IsTrue, slice_get}
 use Rattle.std.specs.List.{position}
 use Rattle.gate_io.specs.declared.event.What.{What}
 use Rattle.gate_io.specs.declared.event.What.TheVariants.{Opened, Bytes, End, Gone, Joined, Refused, Room, Clock, Stop}
-use Rattle.live_lines.specs.Lines.{IsHeardAt, HeardIn, is_over}
+use Rattle.live_sockets.specs.Calls.{calls_in, first_call}
+use Rattle.live_lines.specs.Lines.{IsHeardAt, HeardIn, is_over, most_lines}
 use Rattle.live_lines.specs.Passing.{HeardOn}
 use Rattle.live_lines.specs.declared.line.SocketPair.{SocketPair}
 
@@ -29,12 +30,19 @@ pub record AreKept {P : Type 0} (gave took : P → Option (List ℕ)) (old new :
   pub each : (i : ℕ) (now : SocketPair P) → slice_get new i ≡ Some now → Stood gave took old now
   pub all : (i : ℕ) (line : SocketPair P) → slice_get old i ≡ Some line → Remains gave took line new
 
--- A line of a number that no other has comes after the others.
+-- A client's line comes, of a number that no other has. The others are as before, in their order.
 pub record Comes {P : Type 0} (old : List (SocketPair P)) (number : ℕ) (new : List (SocketPair P)) : Type 0 where
   pub line : SocketPair P
   pub number_is : line.number ≡ number
+  pub client : number < first_call
   pub fresh : position (λ (other : SocketPair P). other.number == number) old ≡ None
-  pub lines : new ≡ old ++ line ∷ []
+  pub at : ℕ
+  pub within : at ≤ length old
+  pub lines : new ≡ insert old at line
+
+-- the lines but those of callouts are as many as may be kept, or fewer
+abbrev pub AreFew : {P : Type 0} → List (SocketPair P) → Type 0
+AreFew lines = length lines ≤ most_lines + calls_in lines
 
 -- a line comes, or all are as before
 abbrev pub Arrives : {P : Type 0} → List (SocketPair P) → Option ℕ → List (SocketPair P) → Type 0

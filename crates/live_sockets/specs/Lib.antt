@@ -1,3 +1,4 @@
+pub mod Calls
 pub mod Homes
 pub mod Keeping
 pub mod Looks
@@ -6,3 +7,4 @@ pub mod Numbers
 pub mod Origins
 pub mod Places
 pub mod Spent
+pub mod Times

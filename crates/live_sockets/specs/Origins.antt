@@ -1,5 +1,6 @@
 -- Where a worker's lines come from.
 use Rattle.std.specs.Prelude.{◌≡◌, ◌⊎◌, ℕ, ◌+◌, ◌<◌, ◌≤◌, Bool, ◌||◌, nat_le, IsTrue, Option, IfSome, IsSomeAnd, vec_len}
+use Rattle.live_sockets.specs.Calls.{first_call}
 use Rattle.live_sockets.specs.Homes.{AreHome}
 use Rattle.live_sockets.specs.Numbers.{home_of}
 use Rattle.live_sockets.specs.Places.{HasWaited, most_places}
@@ -8,9 +9,9 @@ use Rattle.live_sockets.specs.declared.origin.AcceptedLine.{AcceptedLine}
 use Rattle.live_sockets.specs.declared.origin.Origin.{Origin}
 use Rattle.live_sockets.specs.declared.origin.Origin.TheVariants.{Listener, Mailbox}
 
--- no line comes any more: all were accepted that may be, or the last number was given, or all were taken that are ever handed over
+-- no line comes any more: all were accepted that may be, or the last number of a client's line was given, or all were taken that are ever handed over
 abbrev pub is_done : Origin → Bool
-is_done (Listener acceptor) = nat_le acceptor.most acceptor.accepted || nat_le 4294967295 acceptor.number
+is_done (Listener acceptor) = nat_le acceptor.most acceptor.accepted || nat_le 2147483647 acceptor.number
 is_done (Mailbox mailbox) = mailbox.empty
 
 -- lines are accepted, so many at most, of which none was so far, and no other worker was offered one
@@ -31,6 +32,7 @@ pub record Accepted (kept now : ℕ) (old : Acceptor) (guest : Option AcceptedLi
   pub within : old.accepted ≤ old.most → new.accepted ≤ new.most
   pub few : new.accepted + new.left ≤ old.accepted + old.left
   pub number : IfSome guest (λ guest. (old.number < guest.number) × (guest.number ≡ new.number))
+  pub client : IfSome guest (λ guest. guest.number < first_call)
   pub home : IfSome guest (λ guest. home_of guest.number (vec_len new.others) ≡ 0)
   pub all : (k : ℕ) → old.number < k → k ≤ new.number → home_of k (vec_len new.others) ≡ 0 → IsSomeAnd guest (λ guest. guest.number ≡ k) ⊎ (most_places ≤ kept)
   pub place : IfSome guest (λ guest. (kept < most_places) ⊎ HasWaited new.waits now)

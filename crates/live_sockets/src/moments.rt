@@ -1,10 +1,10 @@
 // The moments of events.
 ghost use Rattle.std.specs.Prelude.{◌≡◌, ◌≤◌, IfOk};
 ghost use Rattle.live_sockets.specs.Moments.{GoesOn};
+ghost use Rattle.live_sockets.specs.Times.{Reads};
 
+use crate::times::TimeSource;
 use gate_io::WorldEnd;
-use std::io;
-use std::time::{Clock, Duration};
 
 /// Nanoseconds of an hour.
 const HOUR: u64 = 3_600_000_000_000;
@@ -17,14 +17,6 @@ pub struct Moments {
     pub last: u64,
     /// How much time the system had counted then, in nanoseconds.
     passed: u64,
-}
-
-/// So many nanoseconds, or the most that there can be.
-fn nanos(time: io::Result<Duration>) -> Result<u64, WorldEnd> {
-    match time {
-        Ok(time) => Ok(u64::try_from(time.as_nanos()).unwrap_or(u64::MAX)),
-        Err(_) => Err(WorldEnd::Failed),
-    }
 }
 
 /// The moment after the last one, where so much time has passed and the system's clock tells this.
@@ -46,15 +38,17 @@ impl Moments {
         Moments { last: 0, passed: 0 }
     }
 
-    /// The moment, in nanoseconds since 1970. It never falls. Failed where the system tells no time.
-    pub fn now<R: Clock>(&mut self, rt: &R) -> Result<u64, WorldEnd>
+    /// The moment, in nanoseconds since 1970: the clocks are read, and it goes on by what they tell. It never falls. Failed where they tell no time.
+    #[tactic(auto, using(crate::proofs::Readings::reads_on))]
+    pub fn now<R: TimeSource>(&mut self, rt: &R) -> Result<u64, WorldEnd>
         ensures rises { IfOk result (λ now. self.old.last ≤ now) }
         ensures last { IfOk result (λ now. now ≡ self.new.last) }
+        ensures told { IfOk result (λ now. Reads (R.tells rt.now) self.old now self.new) }
     {
-        let since = nanos(rt.since_1970())?;
-        let passed = nanos(rt.monotonic())?;
-        self.last = next_moment(self.last, passed.saturating_sub(self.passed), since);
-        self.passed = passed;
+        let reading = rt.read_time()?;
+        let went = reading.passed.saturating_sub(self.passed);
+        self.last = next_moment(self.last, went, reading.since);
+        self.passed = reading.passed;
         Ok(self.last)
     }
 }

@@ -1,6 +1,7 @@
 // Where a worker's lines come from.
 ghost use Rattle.std.specs.Prelude.{◌≡◌, ℕ, ◌+◌, ◌<◌, ◌≤◌, ◌⊎◌, ◌||◌, [], ◌∷◌, ◌++◌, length, nat_le, vec_len, IsTrue, IfOk, IfSome, IfNone, IsSome, IsSomeAnd};
 ghost use Rattle.std.specs.Arc.{arc_value};
+ghost use Rattle.live_sockets.specs.Calls.{first_call};
 ghost use Rattle.live_sockets.specs.Numbers.{MayGain, home_of};
 ghost use Rattle.live_sockets.specs.Places.{HasWaited, most_places};
 
@@ -20,6 +21,9 @@ const ARRIVALS: u32 = 32;
 
 /// So many lines a worker has open at most. Where it keeps as many, with those that wait to be closed, it has no place for a further one.
 const PLACES: u64 = 128;
+
+/// The last number of a client's line: those after it are of callouts.
+const LAST: u32 = 2_147_483_647;
 
 /// So many nanoseconds pass until a line that the system refused is asked for again.
 const REFUSED: u64 = 100_000_000;
@@ -258,6 +262,17 @@ fn home_of(number: LineNo, others: usize) -> usize
     (number.get() as usize - 1) % (others.saturating_add(1))
 }
 
+/// A number of a client's line.
+fn client_number(number: u32) -> Option<LineNo>
+    ensures client { IfSome result (λ line. line < first_call) }
+    ensures same { IfSome result (λ line. line ≡ number) }
+{
+    if number > LAST {
+        return None;
+    }
+    LineNo::new(number)
+}
+
 impl Acceptor {
     ghost use Rattle.live_sockets.specs.Homes.{AreHome};
 
@@ -291,9 +306,9 @@ impl Acceptor {
 
     /// Whether all lines were accepted, or all numbers given.
     fn is_done(&self) -> bool
-        ensures { result ≡ (nat_le self.now.most self.now.accepted || nat_le 4294967295 self.now.number) }
+        ensures { result ≡ (nat_le self.now.most self.now.accepted || nat_le 2147483647 self.now.number) }
     {
-        self.accepted >= self.most || self.number >= u32::MAX
+        self.accepted >= self.most || self.number >= LAST
     }
 
     /// Tells the other workers that no line comes any more.
@@ -320,6 +335,7 @@ impl Acceptor {
         ensures within { self.old.accepted ≤ self.old.most → self.new.accepted ≤ self.new.most }
         ensures few { self.new.accepted + self.new.left ≤ self.old.accepted + self.old.left }
         ensures number { IfSome result (λ guest. (self.old.number < guest.number) × (guest.number ≡ self.new.number)) }
+        ensures client { IfSome result (λ guest. guest.number < first_call) }
         ensures home { IfSome result (λ guest. home_of guest.number (vec_len self.new.others) ≡ 0) }
         ensures all { (k : ℕ) → self.old.number < k → k ≤ self.new.number → home_of k (vec_len self.new.others) ≡ 0 → IsSomeAnd result (λ guest. guest.number ≡ k) ⊎ (most_places ≤ kept) }
         ensures place { IfSome result (λ _. (kept < most_places) ⊎ HasWaited self.new.waits now) }
@@ -352,6 +368,7 @@ impl Acceptor {
     /// The number of the next line, where this worker keeps so many: the next one whose worker has a place for it. Where none has one, the line waits for a
     /// second, and then has the next number all the same: so long none comes.
     fn choose(&mut self, kept: usize, now: u64) -> Option<LineNo>
+        ensures client { IfSome result (λ number. number < first_call) }
         ensures rest { self.new ≡ record self.old { waits = self.new.waits; forced = self.new.forced } }
         ensures next { IfSome result (λ number. self.old.number < number) }
         ensures passed { IfSome result (λ number. (k : ℕ) → self.old.number < k → k < number → home_of k (vec_len self.old.others) ≡ 0 → most_places ≤ kept) }
@@ -367,11 +384,12 @@ impl Acceptor {
             return None;
         }
         self.forced = self.forced.saturating_add(1);
-        LineNo::new(self.number.checked_add(1)?)
+        client_number(self.number.checked_add(1)?)
     }
 
     /// The next number of a worker that has a place, where this worker keeps so many lines.
     fn free_number(&self, kept: usize) -> Option<LineNo>
+        ensures client { IfSome result (λ number. number < first_call) }
         ensures next { IfSome result (λ number. self.now.number < number) }
         ensures passed { IfSome result (λ number. (k : ℕ) → self.now.number < k → k < number → home_of k (vec_len self.now.others) ≡ 0 → most_places ≤ kept) }
         ensures place { IfSome result (λ number. home_of number (vec_len self.now.others) ≡ 0 → kept < most_places) }
@@ -379,7 +397,7 @@ impl Acceptor {
         let mut number = self.number;
         for _ in 0..=self.others.len() {
             number = number.checked_add(1)?;
-            let next = LineNo::new(number)?;
+            let next = client_number(number)?;
             if self.has_place(next, kept) {
                 return Some(next);
             }

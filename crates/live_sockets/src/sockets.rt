@@ -1,16 +1,20 @@
 // The sockets of one worker.
-ghost use Rattle.std.specs.Prelude.{◌≡◌, ◌==◌, ◌+◌, ◌<◌, ◌≤◌, ◌⊎◌, false, IsTrue, IsSomeAnd, None, length, vec_len, HoldsAt, remove, slice_get, IfOk, IfSome, IfNone};
+ghost use Rattle.std.specs.Prelude.{◌≡◌, ◌==◌, ◌+◌, ◌<◌, ◌≤◌, ◌⊎◌, false, IsTrue, IsSomeAnd, None, length, vec_len, HoldsAt, remove, slice_get, IfOk, IfSome, IfNone, OnOk, OnErr};
 ghost use Rattle.std.specs.List.{position};
 ghost use Rattle.live_lines.specs.Allowed.{IsAllowed};
-ghost use Rattle.live_sockets.specs.Keeping.{AreKept};
-ghost use Rattle.live_lines.specs.Lines.{most_lines, IsHeardAt, HeardIn, HeardNext, Forgets, SentTo, SentIn, ConnectedAt, ConnectedIn, BegunAt, BegunIn, IsUnused, ClosedIn, ClosedUp, next_place, place_after};
+ghost use Rattle.live_sockets.specs.Calls.{BeginsIn, ConnectsIn, calls_in, first_call, is_call, most_calls};
+ghost use Rattle.live_sockets.specs.Keeping.{AreFew, AreKept};
+ghost use Rattle.live_lines.specs.Lines.{most_lines, IsHeardAt, HeardIn, HeardNext, Forgets, SentTo, SentIn, BegunAt, IsUnused, ClosedIn, ClosedUp, next_place, place_after};
 ghost use Rattle.live_lines.specs.Told.{LiesIn};
 ghost use Rattle.live_lines.specs.Turns.{LineIsStill};
 
+use crate::buffers::Buffers;
+use crate::calls::{clients_in, has_room, is_call, line_of_call, may_call};
 use crate::looks::Looks;
 use crate::moments::Moments;
 use crate::notices::{KINDS, Notice, Notices};
 use crate::origin::{AcceptedLine, Origin};
+use crate::times::TimeSource;
 use gate_base::{LineNo, OutOfMemory};
 use gate_io::{Side, Wants, What, WorldEnd};
 use live_lines::{
@@ -20,20 +24,17 @@ use live_lines::{
 use mio::event::Event as Readiness;
 use mio::net::TcpStream;
 use mio::{Events, Poll, Registry, Token};
-use std::alloc::Global;
+use std::alloc::{AllocError, Global};
+use std::io;
 use std::net::{Net, SocketAddr};
 use std::sync::Wait;
-use std::time::{Clock, Duration};
+use std::time::Duration;
 
 /// The token of what lines come from. Those of lines begin at 2.
 pub const ORIGIN: Token = Token(0);
 
 /// The tokens of closed connections to servers begin here, above those of all lines.
 const CLOSED: usize = 1_099_511_627_776;
-
-/// So many lines are kept: twice as many as a worker has open, so that as many more may wait to be closed after what their clients have not
-/// read. A further one is closed at once, or else a client that opens lines and reads nothing would take descriptors and memory without end.
-const MOST_LINES: usize = 256;
 
 /// So many nanoseconds pass at most until an operator is told of what happened.
 const NOTICES: u64 = 1_000_000_000;
@@ -65,22 +66,6 @@ pub struct Sockets<P> {
     pub moments: Moments,
     /// What an operator is to be told of.
     pub notices: Notices,
-}
-
-/// What is read into: the events of the system, and the bytes of connections.
-#[derive(Drop)]
-pub struct Buffers {
-    events: Events,
-    room: ReadBuffer,
-}
-
-impl Buffers {
-    /// Buffers with nothing in them.
-    pub fn new(alloc: Global) -> Result<Buffers, OutOfMemory> {
-        let events = Events::with_capacity(alloc, 256)?;
-        let room = ReadBuffer::new(alloc)?;
-        Ok(Buffers { events, room })
-    }
 }
 
 /// The token of a side of a line.
@@ -177,31 +162,31 @@ fn note_at<P: Duplex>(lines: &mut Vec<SocketPair<P>>, at: usize, side: Side, eve
 
 impl<P: Duplex> Sockets<P> {
     ghost use Rattle.std.specs.Prelude.{[], All, MatchOption};
-    ghost use Rattle.live_sockets.specs.Keeping.{Arrives, Begins, Heard, WasHeard};
+    ghost use Rattle.live_sockets.specs.Keeping.{Arrives, Begins, Comes, Heard, WasHeard};
     ghost use Rattle.live_sockets.specs.Looks.{AsksFirst, JustAsked, MayHear};
     ghost use Rattle.live_sockets.specs.Origins.{HasEnded};
     ghost use Rattle.live_sockets.specs.Spent.{IsDue, IsOfLine, IsSpent};
+    ghost use Rattle.live_sockets.specs.Times.{IsTold};
 
     /// The sockets over a poll, with lines from an origin that it watches, which send to this upstream server.
-    pub fn new(
-        alloc: Global,
-        poll: Poll,
-        origin: Origin,
-        upstream: SocketAddr,
-        buffers: Buffers,
-    ) -> Sockets<P>
+    pub fn new(poll: Poll, origin: Origin, upstream: SocketAddr, buffers: Buffers<P>) -> Sockets<P>
         ensures origin { result.origin ≡ origin }
         ensures upstream { result.upstream ≡ upstream }
         ensures lines { result.lines.items ≡ [] }
     {
-        let Buffers { events, room } = buffers;
+        let Buffers {
+            events,
+            room,
+            lines,
+            lingering,
+        } = buffers;
         Sockets {
             poll,
             events,
             origin,
             upstream,
-            lines: Vec::new(alloc),
-            lingering: Vec::new(alloc),
+            lines,
+            lingering,
             room,
             next: 0,
             behind: 0,
@@ -214,8 +199,8 @@ impl<P: Duplex> Sockets<P> {
 
     /// Waits until something happens that the worker wants or has to know. The system is asked first where enough was heard since it was asked last, or
     /// enough time went: however long the worker takes for an event, it is asked what else there is before the next one.
-    #[tactic(auto, using(crate::proofs::Due::due_of_line, crate::proofs::Kept::kept_same, crate::proofs::Kept::kept_more, crate::proofs::Kept::was_heard, crate::proofs::Asking::asks_first))]
-    pub fn wait<R: Clock + Wait>(
+    #[tactic(auto, using(crate::proofs::Due::due_of_line, crate::proofs::Kept::kept_same, crate::proofs::Kept::kept_more, crate::proofs::Kept::was_heard, crate::proofs::Asking::asks_first, crate::proofs::Readings::told_same))]
+    pub fn wait<R: TimeSource + Wait>(
         &mut self,
         alloc: Global,
         rt: &R,
@@ -226,6 +211,7 @@ impl<P: Duplex> Sockets<P> {
         ensures due { IfOk result (λ what. IsDue what wants.now.due self.new.looks.seen self.new) }
         ensures heard { IfOk result (λ what. WasHeard P.gave P.took self.old.lines.items what self.new.lines.items) }
         ensures asked { IfOk result (λ what. AsksFirst what self.old.looks self.new.looks) }
+        ensures told { IfOk result (λ what. IsTold (R.tells rt.now) self.new.looks.seen) }
     {
         self.origin.ask();
         self.look_first(rt)?;
@@ -248,10 +234,11 @@ impl<P: Duplex> Sockets<P> {
     }
 
     /// Asks the system what else is ready, where it is time to.
-    #[tactic(auto, using(crate::proofs::Kept::kept_same, crate::proofs::Asking::may_hear))]
-    fn look_first<R: Clock>(&mut self, rt: &R) -> Result<(), WorldEnd>
+    #[tactic(auto, using(crate::proofs::Kept::kept_same, crate::proofs::Asking::may_hear, crate::proofs::Readings::told_now))]
+    fn look_first<R: TimeSource>(&mut self, rt: &R) -> Result<(), WorldEnd>
         ensures kept { AreKept P.gave P.took self.old.lines.items self.new.lines.items }
         ensures asked { IfOk result (λ _. MayHear self.old.looks self.new.looks) }
+        ensures told { IfOk result (λ _. IsTold (R.tells rt.now) self.new.looks.seen) }
     {
         let now = self.moments.now(rt)?;
         self.looks.see(now);
@@ -269,11 +256,12 @@ impl<P: Duplex> Sockets<P> {
     }
 
     /// Waits for the system, at most until this moment. True where it has come.
-    #[tactic(auto, using(crate::proofs::Kept::kept_same))]
-    fn look_until<R: Clock>(&mut self, rt: &R, due: Option<u64>) -> Result<bool, WorldEnd>
+    #[tactic(auto, using(crate::proofs::Kept::kept_same, crate::proofs::Readings::told_same))]
+    fn look_until<R: TimeSource>(&mut self, rt: &R, due: Option<u64>) -> Result<bool, WorldEnd>
         ensures due { IfOk result (λ came. IsTrue came → IsSomeAnd due (λ moment. moment ≤ self.new.looks.seen)) }
         ensures kept { AreKept P.gave P.took self.old.lines.items self.new.lines.items }
         ensures asked { IfOk result (λ came. came ≡ false → JustAsked self.new.looks.seen self.new.looks) }
+        ensures told { IfOk result (λ _. IsTold (R.tells rt.now) self.new.looks.seen) }
     {
         match first_of(due, self.first_over()) {
             Some(first) => self.look_before(rt, due, first),
@@ -292,8 +280,8 @@ impl<P: Duplex> Sockets<P> {
     }
 
     /// Waits for the system, at most until the second moment. True where the first has come.
-    #[tactic(auto, using(crate::proofs::Kept::kept_same))]
-    fn look_before<R: Clock>(
+    #[tactic(auto, using(crate::proofs::Kept::kept_same, crate::proofs::Readings::told_now))]
+    fn look_before<R: TimeSource>(
         &mut self,
         rt: &R,
         due: Option<u64>,
@@ -302,6 +290,7 @@ impl<P: Duplex> Sockets<P> {
         ensures due { IfOk result (λ came. IsTrue came → IsSomeAnd due (λ moment. moment ≤ self.new.looks.seen)) }
         ensures kept { AreKept P.gave P.took self.old.lines.items self.new.lines.items }
         ensures asked { IfOk result (λ came. came ≡ false → JustAsked self.new.looks.seen self.new.looks) }
+        ensures told { IfOk result (λ _. IsTold (R.tells rt.now) self.new.looks.seen) }
     {
         let now = self.moments.now(rt)?;
         self.looks.see(now);
@@ -345,10 +334,11 @@ impl<P: Duplex> Sockets<P> {
     }
 
     /// Asks the system what is ready. A line that it refused is asked for again after that.
-    #[tactic(auto, using(crate::proofs::Kept::kept_same))]
-    fn look<R: Clock>(&mut self, rt: &R, timeout: Option<Duration>) -> Result<(), WorldEnd>
+    #[tactic(auto, using(crate::proofs::Kept::kept_same, crate::proofs::Readings::told_now))]
+    fn look<R: TimeSource>(&mut self, rt: &R, timeout: Option<Duration>) -> Result<(), WorldEnd>
         ensures kept { AreKept P.gave P.took self.old.lines.items self.new.lines.items }
         ensures asked { IfOk result (λ _. JustAsked self.new.looks.seen self.new.looks) }
+        ensures told { IfOk result (λ _. IsTold (R.tells rt.now) self.new.looks.seen) }
         ensures over { IfOk result (λ _. All (λ closed. self.new.looks.seen < closed.until) self.new.lingering.items) }
     {
         let timeout = self.timeout(timeout);
@@ -402,7 +392,7 @@ impl<P: Duplex> Sockets<P> {
         ensures heard { IfOk result (λ told. Heard P.gave P.took self.old.lines.items told self.new.lines.items) }
         ensures looks { self.new.looks ≡ self.old.looks }
     {
-        if let Some(line) = self.arrive(rt) {
+        if let Some(line) = self.arrive(rt)? {
             return Ok(Some(What::Opened { line }));
         }
         let count = self.lines.len();
@@ -466,44 +456,53 @@ impl<P: Duplex> Sockets<P> {
     }
 
     /// The number of a line that comes. One that can't be kept is closed.
-    fn arrive<R: Wait>(&mut self, rt: &R) -> Option<LineNo>
-        ensures line { Arrives self.old.lines.items result self.new.lines.items }
-        ensures few { vec_len self.old.lines ≤ most_lines → vec_len self.new.lines ≤ most_lines }
+    fn arrive<R: Wait>(&mut self, rt: &R) -> Result<Option<LineNo>, OutOfMemory>
+        ensures line { IfOk result (λ line. Arrives self.old.lines.items line self.new.lines.items) }
+        ensures few { AreFew self.old.lines.items → AreFew self.new.lines.items }
         ensures looks { self.new.looks ≡ self.old.looks }
     {
         for _ in 0..u32::MAX {
-            let AcceptedLine { number, stream } = self
-                .origin
-                .next(rt, self.lines.len(), self.looks.seen)?;
-            if self.begin(number, stream) {
-                return Some(number);
+            let kept = clients_in(&self.lines);
+            let Some(guest) = self.origin.next(rt, kept, self.looks.seen) else {
+                return Ok(None);
+            };
+            let AcceptedLine { number, stream } = guest;
+            if self.begin(number, stream)? {
+                return Ok(Some(number));
             }
         }
-        None
+        Ok(None)
     }
 
-    /// Keeps a line of a number that no other has. False says that it was closed: enough are kept, or the system or the memory refuses one more.
-    fn begin(&mut self, number: LineNo, stream: TcpStream) -> bool
-        ensures line { Begins self.old.lines.items number result self.new.lines.items }
-        ensures few { vec_len self.old.lines ≤ most_lines → vec_len self.new.lines ≤ most_lines }
+    /// Keeps a line of a number that no other has. False says that it was closed: enough are kept, or the system refuses one more, which is told. Where memory
+    /// refuses it no line is kept.
+    fn begin(&mut self, number: LineNo, stream: TcpStream) -> Result<bool, OutOfMemory>
+        ensures line { IfOk result (λ kept. Begins self.old.lines.items number kept self.new.lines.items) }
+        ensures few { AreFew self.old.lines.items → AreFew self.new.lines.items }
         ensures looks { self.new.looks ≡ self.old.looks }
     {
         if !self.may_keep(number) {
-            return false;
+            return Ok(false);
         }
         let token = token_of(number, Side::Down);
         match P::over(stream, self.poll.registry(), token, false) {
-            Ok(down) => self.keep(number, down),
-            Err(_) => false,
+            Ok(down) => self.keep(number, down)?,
+            Err(e) if e.kind() == io::ErrorKind::OutOfMemory => return Err(AllocError),
+            Err(_) => {
+                self.notices.note(Notice::NotAccepted);
+                return Ok(false);
+            }
         }
+        Ok(true)
     }
 
-    /// Whether one line more may be kept, of this number, which no other has.
+    /// Whether one client's line more may be kept, of this number, which no other has.
     fn may_keep(&self, number: LineNo) -> bool
+        ensures client { IsTrue result → number < first_call }
         ensures fresh { IsTrue result → position (λ line. line.number == number) self.now.lines.items ≡ None }
-        ensures few { IsTrue result → vec_len self.now.lines < most_lines }
+        ensures few { IsTrue result → length self.now.lines.items < most_lines + calls_in self.now.lines.items }
     {
-        if self.lines.len() >= MOST_LINES {
+        if is_call(number) || !has_room(&self.lines) {
             return false;
         }
         let None = place_of(&self.lines, number) else {
@@ -512,12 +511,15 @@ impl<P: Duplex> Sockets<P> {
         true
     }
 
-    /// Keeps a line of a number that no other has, with this connection to its client. False says that memory does not suffice.
-    fn keep(&mut self, number: LineNo, down: P) -> bool
+    /// Keeps a client's line of a number that no other has, with this connection to its client, in front of those of callouts.
+    #[tactic(auto, using(crate::proofs::CallLines::few_more, crate::proofs::CallLines::comes))]
+    fn keep(&mut self, number: LineNo, down: P) -> Result<(), OutOfMemory>
+        requires client { number < first_call }
         requires fresh { position (λ line. line.number == number) self.old.lines.items ≡ None }
-        requires few { vec_len self.old.lines < most_lines }
-        ensures line { Begins self.old.lines.items number result self.new.lines.items }
-        ensures few { vec_len self.new.lines ≤ most_lines }
+        requires few { length self.old.lines.items < most_lines + calls_in self.old.lines.items }
+        ensures line { OnOk result (Comes self.old.lines.items number self.new.lines.items) }
+        ensures err { OnErr result (self.new.lines.items ≡ self.old.lines.items) }
+        ensures few { AreFew self.new.lines.items }
         ensures looks { self.new.looks ≡ self.old.looks }
     {
         let line = SocketPair {
@@ -528,24 +530,83 @@ impl<P: Duplex> Sockets<P> {
             server_first: false,
             fault: None,
         };
-        if self.lines.push(line).is_err() {
-            return false;
-        }
-        true
+        let at = clients_in(&self.lines);
+        self.lines.insert(at, line)?;
+        self.step_on(at);
+        Ok(())
     }
 
-    /// Begins the upstream connection of a line.
-    pub fn connect<R: Net>(&mut self, alloc: Global, rt: &R, number: LineNo)
-        ensures connected { ConnectedIn self.old.lines.items number self.new.lines.items }
-        ensures begun { BegunIn P.gave P.took self.old.lines.items number self.new.lines.items }
+    /// A line was put at a place: where the one that is heard next comes after it, it stays the next.
+    fn step_on(&mut self, at: usize)
+        ensures { self.new ≡ record self.old { next = self.new.next } }
+    {
+        if at < self.next {
+            self.next = self.next.saturating_add(1);
+        }
+    }
+
+    /// Begins the upstream connection of a line. Where no line has the number, and it is a callout's, its line begins.
+    pub fn connect<R: Net>(
+        &mut self,
+        alloc: Global,
+        rt: &R,
+        number: LineNo,
+    ) -> Result<(), OutOfMemory>
+        ensures connected { OnOk result (ConnectsIn self.old.lines.items number self.new.lines.items) }
+        ensures begun { OnOk result (BeginsIn P.gave P.took self.old.lines.items number self.new.lines.items) }
+        ensures err { OnErr result (self.new.lines.items ≡ self.old.lines.items) }
     {
         let Some(at) = find(&self.lines, number) else {
-            return;
+            return self.begin_call(alloc, rt, number);
         };
         let peer = connected(rt, self.poll.registry(), self.upstream, number);
         self.notices
             .add(Notice::Undialled, u32::from(peer.is_none()));
         self.join_at(alloc, at, peer);
+        Ok(())
+    }
+
+    /// Begins the line of a callout, where no line has its number. Any other number is left out, and one more than there may be.
+    #[tactic(auto, using(crate::proofs::CallLines::left_out, crate::proofs::CallLines::left_out_anew))]
+    fn begin_call<R: Net>(
+        &mut self,
+        alloc: Global,
+        rt: &R,
+        number: LineNo,
+    ) -> Result<(), OutOfMemory>
+        requires none { position (λ line. line.number == number) self.old.lines.items ≡ None }
+        ensures connected { OnOk result (ConnectsIn self.old.lines.items number self.new.lines.items) }
+        ensures begun { OnOk result (BeginsIn P.gave P.took self.old.lines.items number self.new.lines.items) }
+        ensures err { OnErr result (self.new.lines.items ≡ self.old.lines.items) }
+    {
+        if !may_call(&self.lines, number) {
+            return Ok(());
+        }
+        let peer = connected(rt, self.poll.registry(), self.upstream, number);
+        self.notices
+            .add(Notice::Undialled, u32::from(peer.is_none()));
+        self.add_call(alloc, number, peer)
+    }
+
+    /// Puts the line of a callout after the others, with this connection to the server, or with none.
+    #[tactic(auto, using(crate::proofs::CallLines::called, crate::proofs::CallLines::called_anew))]
+    fn add_call(
+        &mut self,
+        alloc: Global,
+        number: LineNo,
+        peer: Option<P>,
+    ) -> Result<(), OutOfMemory>
+        requires call { IsTrue (is_call number) }
+        requires none { position (λ line. line.number == number) self.old.lines.items ≡ None }
+        requires few { calls_in self.old.lines.items < most_calls }
+        requires unused { IfSome peer (IsUnused P.gave P.took) }
+        ensures connected { OnOk result (ConnectsIn self.old.lines.items number self.new.lines.items) }
+        ensures begun { OnOk result (BeginsIn P.gave P.took self.old.lines.items number self.new.lines.items) }
+        ensures err { OnErr result (self.new.lines.items ≡ self.old.lines.items) }
+    {
+        let line = line_of_call(alloc, number, peer);
+        self.lines.push(line)?;
+        Ok(())
     }
 
     /// Goes on with this connection to the server of the line at a place, or with none.
@@ -607,7 +668,7 @@ impl<P: Duplex> Sockets<P> {
     }
 
     /// Closes a connection, of which nothing more is told. What waits for it is sent on.
-    pub fn close<R: Clock>(&mut self, alloc: Global, rt: &R, number: LineNo, side: Side)
+    pub fn close<R: TimeSource>(&mut self, alloc: Global, rt: &R, number: LineNo, side: Side)
         ensures { ClosedIn self.old.lines.items number side self.new.lines.items }
     {
         let Some(at) = place_of(&self.lines, number) else {
@@ -620,7 +681,7 @@ impl<P: Duplex> Sockets<P> {
     }
 
     /// Closes the connection to the client of the line at a place, and forgets the line. Where the server broke off in mid-answer the client is told so.
-    fn close_down<R: Clock>(&mut self, alloc: Global, rt: &R, at: usize)
+    fn close_down<R: TimeSource>(&mut self, alloc: Global, rt: &R, at: usize)
         requires { at < vec_len self.old.lines }
         ensures { self.new.lines.items ≡ remove self.old.lines.items at }
     {
@@ -638,7 +699,7 @@ impl<P: Duplex> Sockets<P> {
     }
 
     /// Tells the client of a line that nothing more comes, and lets its connection linger. One that is over is dropped.
-    fn finish<R: Clock>(&mut self, alloc: Global, rt: &R, number: LineNo, peer: P)
+    fn finish<R: TimeSource>(&mut self, alloc: Global, rt: &R, number: LineNo, peer: P)
         ensures { self.new.lines ≡ self.old.lines }
     {
         if !peer.is_ended() && !peer.is_broken() {
@@ -649,7 +710,7 @@ impl<P: Duplex> Sockets<P> {
     }
 
     /// Closes the connection to the server of the line at a place.
-    fn close_up<R: Clock>(&mut self, rt: &R, at: usize)
+    fn close_up<R: TimeSource>(&mut self, rt: &R, at: usize)
         requires { at < vec_len self.old.lines }
         ensures { ClosedUp self.old.lines.items at self.new.lines.items }
     {
@@ -662,7 +723,7 @@ impl<P: Duplex> Sockets<P> {
     }
 
     /// Sends on what waits for a server whose connection is closed, where something does, and not too much.
-    fn leave<R: Clock>(&mut self, rt: &R, up: Upstream<P>)
+    fn leave<R: TimeSource>(&mut self, rt: &R, up: Upstream<P>)
         ensures { self.new.lines ≡ self.old.lines }
     {
         let Upstream { peer, waiting } = up;
@@ -672,7 +733,7 @@ impl<P: Duplex> Sockets<P> {
     }
 
     /// Sends on what waits for a server whose connection is closed, under a token of its own.
-    fn send_on<R: Clock>(&mut self, rt: &R, peer: P, waiting: UnsentBytes)
+    fn send_on<R: TimeSource>(&mut self, rt: &R, peer: P, waiting: UnsentBytes)
         ensures { self.new.lines ≡ self.old.lines }
     {
         let token = Token(CLOSED + self.closed as usize);
@@ -684,7 +745,14 @@ impl<P: Duplex> Sockets<P> {
     }
 
     /// Lets a connection linger until nothing came of it for a second, for so long at most. Where too many do, the first of them is dropped.
-    fn linger<R: Clock>(&mut self, rt: &R, token: Token, peer: P, waiting: UnsentBytes, most: u64)
+    fn linger<R: TimeSource>(
+        &mut self,
+        rt: &R,
+        token: Token,
+        peer: P,
+        waiting: UnsentBytes,
+        most: u64,
+    )
         ensures { self.new.lines ≡ self.old.lines }
     {
         if let Ok(now) = self.moments.now(rt) {
@@ -708,6 +776,7 @@ impl<P: Duplex> Sockets<P> {
         let mut closed = closed;
         if closed.goes_on(&mut self.room, now) {
             self.drop_first();
+            // There is room for as many as linger at most.
             let _ = self.lingering.push(closed);
         }
     }
