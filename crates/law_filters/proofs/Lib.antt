@@ -1,0 +1,14 @@
+mod Begun
+mod Chains
+mod Doing
+mod Entering
+mod Good
+mod Ids
+mod Kept
+mod Made
+mod Rooms
+mod Same
+mod Sound
+mod Steps
+mod Waiting
+mod Walks
