@@ -1,5 +1,5 @@
 -- What is known of a worker as it is made.
-use Rattle.std.proofs.Common.{◌≡◌, ◌⊎◌, inl, inr, refl, ℕ, zero, suc, ◌+◌, ◌<◌, ◌≤◌, ◌==◌, Bool, true, false, ◌&&◌, List, [], ◌∷◌, ◌++◌, length, map, ap, ◌∙◌, sym, subst, arith, eq-eqb, append_assoc, append-nil}
+use Rattle.std.proofs.Common.{◌≡◌, inr, refl, ℕ, zero, suc, ◌+◌, ◌<◌, ◌≤◌, ◌==◌, Bool, true, ◌&&◌, List, [], ◌∷◌, ◌++◌, length, map, ap, ◌∙◌, sym, subst, arith, eq-eqb, append_assoc, append-nil}
 use Rattle.std.proofs.lemmas.Bool.{lt-ltb, le-leb}
 use Rattle.std.proofs.lemmas.List.{length-append}
 use Rattle.std.specs.Prelude.{All, slice_get, slice_index_or, nat_lt, nat_le, Option, None, Some}
@@ -10,13 +10,12 @@ use Rattle.contexts.specs.declared.parts.Context.{Context}
 use Rattle.contexts.specs.declared.parts.Contexts.{Contexts}
 use Rattle.contexts.specs.declared.parts.Plugin.{Plugin}
 use Rattle.contexts.specs.declared.parts.VmContexts.{VmContexts}
-use Rattle.gate_config.specs.Kept.{IsKept, IsPlugin}
+use Rattle.gate_config.specs.Kept.{IsPlugin}
 use Rattle.gate_config.specs.declared.config.Config.{Config}
 use Rattle.gate_config.specs.declared.entries.PluginEntry.{PluginEntry}
 use Rattle.gate_config.specs.declared.entries.VmEntry.{VmEntry}
 use Rattle.worker_model.specs.Making.{with_vms, with_plugins, contexts_of, first_room}
 use Rattle.worker_model.specs.Plan.{Plan}
-use Rattle.worker_model.specs.Steps.{may_root}
 use Rattle.law_vms.specs.OwnChanges.{outline}
 use Rattle.law_filters.proofs.Ids.{AreDrawn, AreLow, and_true, some_same}
 use Rattle.law_filters.proofs.Same.{same_itself}

@@ -1,6 +1,6 @@
 -- The head of a request is past no stage that was not asked, whatever is done to its chain.
-use Rattle.std.proofs.Common.{◌≡◌, ◌⊎◌, inl, inr, refl, ℕ, zero, suc, Bool, true, false, not, ◌&&◌, List, [], ◌∷◌, ◌++◌, Option, None, Some, ap, ◌∙◌, sym, subst}
-use Rattle.std.specs.Prelude.{slice_get, slice_set, if◌then◌else◌}
+use Rattle.std.proofs.Common.{◌≡◌, ◌⊎◌, inl, inr, refl, ℕ, zero, suc, Bool, true, false, ◌&&◌, List, [], ◌∷◌, ◌++◌, Some, ap, ◌∙◌, sym, subst}
+use Rattle.std.specs.Prelude.{slice_get, slice_set}
 use Rattle.filter_chain.specs.Chains.{has_head, is_head, is_any, may_be_picked, with_more, without_hold, bypassed_stage}
 use Rattle.filter_chain.specs.Items.{held_items, is_free}
 use Rattle.filter_chain.specs.declared.item.ChainItem.{ChainItem}

@@ -1,12 +1,10 @@
 -- What stays true of an exchange and of what all lines have in common, whatever a worker does to it.
-use Rattle.std.proofs.Common.{◌≡◌, ◌⊎◌, inl, inr, refl, ℕ, zero, suc, ◌==◌, Bool, true, false, not, ◌||◌, ◌&&◌, List, [], ◌∷◌, ◌++◌, length}
-use Rattle.std.specs.Prelude.{if◌then◌else◌, Option, None, Some, slice_get, nat_lt}
+use Rattle.std.proofs.Common.{◌≡◌, ◌⊎◌, inl, inr, refl, ℕ, zero, suc, ◌==◌, Bool, true, false, not, ◌||◌, List, [], ◌∷◌, length}
+use Rattle.std.specs.Prelude.{if◌then◌else◌, Option, None, Some, slice_get}
 use Rattle.contexts.specs.Reached.{view_at}
 use Rattle.contexts.specs.declared.parts.Contexts.{Contexts}
 use Rattle.exchange.specs.declared.types.Exchange.{Exchange}
-use Rattle.exchange.specs.declared.types.Filter.{Filter}
 use Rattle.exchange.specs.declared.types.Hub.{Hub}
-use Rattle.exchange.specs.declared.types.Request.{Request}
 use Rattle.exchange.specs.Answering.{none_held, cut_off, answer_directly, with_held, finish_response_put, take_response_put, put_response_item, exchange_with_answer, with_answer, put_answer, answer_through_stages, with_closes, is_direct, answer_open, answer, stays_open}
 use Rattle.exchange.specs.Heads.{is_bare, is_final, passes_filters, closes_line, status_in, sent_head, down_tail, with_connection}
 use Rattle.exchange.specs.Leaving.{bytes_sent_to, hub_with_sent, out_framing, written_framing, stays_behind, send_response_head, send_response_item, send_item, send_items, is_due, with_out}
@@ -31,7 +29,7 @@ use Rattle.h1_model.specs.LocalReply.{local_reply_of}
 use Rattle.worker_model.specs.Moves.{asks_as, asks_chain, asks_exchange, asks_response, with_none}
 use Rattle.worker_model.specs.Rooms.{Changes, with_marks}
 use Rattle.worker_model.specs.declared.types.Asked.{Asked}
-use Rattle.law_filters.proofs.Same.{pick, SameIds, SameThird, same_itself, same_then, same_view, same_changed, same_cleared, same_continued, same_let_through, same_paused, same_asked}
+use Rattle.law_filters.proofs.Same.{pick, SameIds, SameThird, same_then, same_view, same_cleared, same_continued, same_let_through, same_paused, same_asked}
 
 -- no connection to a server is opened
 abbrev pub NoConnects : List Sent → Type 0

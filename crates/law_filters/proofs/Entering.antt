@@ -1,13 +1,12 @@
 -- The stages of an exchange as they are made.
-use Rattle.std.proofs.Common.{◌≡◌, ◌⊎◌, inl, inr, refl, ℕ, zero, suc, Bool, true, false, cond, not, ◌||◌, List, [], ◌∷◌, map, Option, None, Some, ap, ◌∙◌, sym, subst}
+use Rattle.std.proofs.Common.{◌≡◌, inr, refl, ℕ, zero, suc, Bool, true, false, cond, ◌||◌, List, [], ◌∷◌, map, Some, ap, ◌∙◌, sym, subst}
 use Rattle.std.specs.List.{filter}
-use Rattle.std.specs.Prelude.{slice_get, if◌then◌else◌, reverse}
-use Rattle.exchange.specs.declared.types.Exchange.{Exchange}
+use Rattle.std.specs.Prelude.{slice_get, reverse}
 use Rattle.exchange.specs.declared.types.Filter.{Filter}
 use Rattle.filter_chain.specs.declared.stage.Stage.{Stage}
-use Rattle.worker_model.specs.Steps.{exchange_with_stages, is_live, new_stage}
-use Rattle.law_filters.proofs.Doing.{by_ended, never}
-use Rattle.law_filters.specs.Heads.{AreIdle, Awaits, IsIdle, IsStageOf, StagesAwait, WaitsYet}
+use Rattle.worker_model.specs.Steps.{is_live, new_stage}
+use Rattle.law_filters.proofs.Doing.{by_ended}
+use Rattle.law_filters.specs.Heads.{AreIdle, Awaits, StagesAwait, WaitsYet}
 
 abbrev stages : List Filter → List Stage
 stages fs = map (new_stage false) fs

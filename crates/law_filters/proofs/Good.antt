@@ -1,28 +1,20 @@
 -- What is known of roots stays where jobs come and go, and where lines change.
-use Rattle.std.proofs.Common.{◌≡◌, ◌⊎◌, inl, inr, refl, ℕ, zero, suc, ◌+◌, ◌-◌, ◌<◌, ◌≤◌, ◌==◌, Bool, true, false, not, cond, ◌||◌, ◌&&◌, List, [], ◌∷◌, ◌++◌, length, map, ap, ◌∙◌, sym, subst, ⊎_elim, arith, append_assoc}
-use Rattle.std.proofs.lemmas.Bool.{ltb-true, eqb-true, cases_eq, cases_Bool}
-use Rattle.std.proofs.lemmas.List.{length-set}
-use Rattle.std.specs.List.{list_any, filter}
+use Rattle.std.proofs.Common.{◌≡◌, ◌⊎◌, inl, inr, refl, ℕ, zero, suc, Bool, true, false, not, cond, ◌||◌, ◌&&◌, List, [], ◌∷◌, ◌++◌, length, ap, ◌∙◌, sym, subst, append_assoc}
+use Rattle.std.specs.List.{filter}
 use Rattle.std.specs.Option.{option_map}
-use Rattle.std.specs.Prelude.{slice_set, slice_get, nat_lt, if◌then◌else◌, Option, None, Some, is_some, remove, insert, position}
-use Rattle.contexts.specs.Creating.{plugin_in, next_id, root_created, stream_created, open_exchange, await_done_of, delete_id, end_exchange, freed, is_referred, has_ended, ended_one}
-use Rattle.contexts.specs.Reached.{vm_in, exchange_at, view_at, contains, seen}
+use Rattle.std.specs.Prelude.{slice_get, nat_lt, if◌then◌else◌, Option, None, Some, is_some, remove, insert}
+use Rattle.contexts.specs.Creating.{open_exchange}
+use Rattle.contexts.specs.Reached.{view_at}
 use Rattle.contexts.specs.declared.parts.Contexts.{Contexts}
-use Rattle.contexts.specs.declared.parts.ExchangeView.{ExchangeView}
-use Rattle.contexts.specs.declared.parts.VmContexts.{VmContexts}
 use Rattle.exchange.specs.declared.types.Exchange.{Exchange}
 use Rattle.exchange.specs.declared.types.Filter.{Filter}
-use Rattle.exchange.specs.declared.types.Hub.{Hub}
-use Rattle.exchange.specs.Answering.{none_held}
 use Rattle.exchange.specs.Heads.{path_of, route_in}
-use Rattle.exchange.specs.Leaving.{bytes_sent_to as sending_to, hub_with_sent}
+use Rattle.exchange.specs.Leaving.{bytes_sent_to as sending_to}
 use Rattle.exchange.specs.Maps.{put_response, with_fields}
 use Rattle.exchange.specs.Passing as passing
-use Rattle.filter_chain.specs.Chains.{without_buffers}
 use Rattle.filter_chain.specs.declared.item.ChainItem.{ChainItem}
 use Rattle.filter_chain.specs.declared.item.ChainItem.TheVariants as items
-use Rattle.filter_host.specs.Heard.{Heard, Hears, hands, halts}
-use Rattle.filter_host.specs.declared.host.Death.TheVariants as deaths
+use Rattle.filter_host.specs.Heard.{Heard, hands, halts}
 use Rattle.gate_config.specs.declared.entries.PluginEntry.{PluginEntry}
 use Rattle.gate_io.specs.declared.event.Sent.{Sent}
 use Rattle.gate_io.specs.declared.event.Sent.TheVariants as to
@@ -37,21 +29,16 @@ use Rattle.header_maps.specs.Operations.{no_headers}
 use Rattle.law_roots.specs.Roots.{RootStands}
 use Rattle.worker_model.specs.Plan.{Plan}
 use Rattle.worker_model.specs.Room.{Room}
-use Rattle.worker_model.specs.Rooms.{Changes, is_dead, with_lines, with_contexts, room_with_sent, on_number, at_place, place_in, lose_vm_in, has_move}
-use Rattle.worker_model.specs.Moves.{asks_at, asks_in, asks_line, asks_with, asks_back, asks_exchange, ended_at, ended_in, ended_line, ended_back}
-use Rattle.worker_model.specs.Steps.{with_jobs_first, is_zero, has_vm, await_done, last_jobs, finish_context, delete_context, is_drawn_out, may_root, may_stream, root_jobs, new_one, create_root, with_filter, change_exchange, change_line, line_at, line_at_place, on_line, line_in, in_place, exchange_of_line, exchange_on, with_stream, create_stream, create_filter, open_filter, filter_at, create_context, exchange_with_stages, enter_stages, filter_of, filter_at_plugin, filters_by, filters_of, plugins_at, is_gone, exchange_for, with_exchange, free_place, begin_exchange_on, exchange_reading, line_reading, reading_on, with_reader, read_on, is_last, with_read_mark, on_lines, create_jobs, begins_with_head, refuse_jobs, put_jobs, exchange_jobs, begin_jobs_for, jobs_of, end_reading, with_item, add_read_item, take_read_item, with_response_head, in_contexts, head_item, interim_of, put_trailers, take_interim, take_part, end_of_read, after_heard, without_place, drop_line, close_line, read_side, end_line, fixed_answer, refusal_sent, refuse_in, refuse_line, most_lines, new_line, place_for, accept_line, response_with_more, with_further, side_with_more, reading_with_more, is_open, is_answered_in, is_read_in, receive_on, receive, exchange_without_client, line_without_client, lose_client, is_missed, lose_server, take_event, done_jobs, close_up, end_exchange_of, end_with, end_at, with_agenda_first}
-use Rattle.worker_model.specs.declared.types.Asked.{Asked}
-use Rattle.worker_model.specs.declared.types.ContextAt.{ContextAt}
+use Rattle.worker_model.specs.Rooms.{Changes, is_dead, with_contexts, room_with_sent, on_number, place_in}
+use Rattle.worker_model.specs.Steps.{with_jobs_first, change_exchange, change_line, line_at, line_at_place, on_line, line_in, exchange_of_line, exchange_on, filter_of, filters_by, filters_of, plugins_at, is_gone, exchange_for, with_exchange, free_place, begin_exchange_on, line_reading, with_reader, read_on, is_last, with_read_mark, on_lines, create_jobs, begins_with_head, refuse_jobs, put_jobs, exchange_jobs, begin_jobs_for, jobs_of, end_reading, with_item, take_read_item, with_response_head, in_contexts, head_item, interim_of, put_trailers, take_part, end_of_read, after_heard, without_place, drop_line, close_line, read_side, end_line, fixed_answer, refusal_sent, refuse_in, refuse_line, most_lines, new_line, place_for, accept_line, with_further, side_with_more, reading_with_more, is_open, is_answered_in, is_read_in, receive_on, exchange_without_client, line_without_client, lose_client, is_missed, lose_server, take_event}
 use Rattle.worker_model.specs.declared.types.Job.{Job}
 use Rattle.worker_model.specs.declared.types.Job.TheVariants as jobs
 use Rattle.worker_model.specs.declared.types.Line.{Line}
-use Rattle.worker_model.specs.declared.types.NewContext.{NewContext}
 use Rattle.worker_model.specs.declared.types.ReadBatch.{ReadBatch}
-use Rattle.law_filters.proofs.Doing.{NoConnects, InThird, in_asks, bytes_connect_none, by_ended, never}
-use Rattle.law_filters.proofs.Ids.{IsItem, AreDrawn, Grows, both_true, some_same, item_same, item_grows, stream_drawn, stream_item, stream_root, new_grows, new_stream, root_drawn, root_item, root_made, root_kept, delete_drawn, delete_item, delete_root}
-use Rattle.law_filters.proofs.Rooms.{OfExchange, OfLine, OfEach, Joint, Holds, Op, op_refuses, IsCalm, numbers, numbers_set, each_at, each_set, LinesBoth, on_place, holding, apart_closed}
-use Rattle.law_filters.proofs.Same.{pick, set_vm, SameIds, same_itself, same_then, same_view, same_cleared}
-use Rattle.law_filters.proofs.Sound.{IsSound, OfFilters, Filtered, OfJob, OfJobs, OfWaits, HasRoot, NoRoots, Ordered, IsOther, AreOther, no_root, root_later, root_other, none_later, ordered_later, ordered_other, ordered_front, ordered_among, root_front, root_behind, root_among, root_not_among, of_front, of_among, todo, Sounds, SameHub, SoundBut, Nobody, Moves, filters_move, each_moves, jobs_move, waits_move, rebased, now_dead, Any, sound_moved, puts_up, sound_calm}
+use Rattle.law_filters.proofs.Doing.{NoConnects, bytes_connect_none}
+use Rattle.law_filters.proofs.Rooms.{OfExchange, OfLine, OfEach, Op, op_refuses, IsCalm, numbers, numbers_set, each_at, each_set, holding}
+use Rattle.law_filters.proofs.Same.{pick, SameIds, same_view}
+use Rattle.law_filters.proofs.Sound.{IsSound, OfFilters, Filtered, OfJob, OfJobs, OfWaits, HasRoot, NoRoots, Ordered, IsOther, AreOther, no_root, root_later, root_other, ordered_later, ordered_front, root_front, root_behind, of_front, todo, Sounds, SoundBut, Nobody, sound_calm}
 
 module _ (plan : Plan) where
   abbrev pub Known : Room → Type 0

@@ -1,11 +1,10 @@
 -- Ids of contexts, and the roots of plug-ins, where contexts are made and taken away.
-use Rattle.std.proofs.Common.{◌≡◌, ◌⊎◌, inl, inr, refl, ℕ, zero, suc, ◌+◌, ◌<◌, ◌≤◌, ◌==◌, Bool, true, false, not, cond, ◌||◌, ◌&&◌, List, [], ◌∷◌, ◌++◌, length, map, ap, ◌∙◌, sym, subst, ⊎_elim, arith, eq-eqb}
-use Rattle.std.proofs.lemmas.Bool.{ltb-true, cases_eq, eqb-true, ne_eqb}
-use Rattle.std.proofs.lemmas.List.{length-set, get_or-set_same, get_or-set_other}
+use Rattle.std.proofs.Common.{◌≡◌, ◌⊎◌, inl, inr, refl, ℕ, zero, suc, ◌+◌, ◌<◌, ◌≤◌, ◌==◌, Bool, true, false, not, cond, ◌&&◌, List, [], ◌∷◌, ◌++◌, length, map, ap, ◌∙◌, sym, subst, ⊎_elim, arith, eq-eqb}
+use Rattle.std.proofs.lemmas.Bool.{ltb-true, eqb-true, ne_eqb}
+use Rattle.std.proofs.lemmas.List.{length-set, get_or-set_same}
 use Rattle.std.proofs.lemmas.List.Folds.{find-append}
-use Rattle.std.specs.List.{find}
-use Rattle.std.specs.Option.{option_map, option_or}
-use Rattle.std.specs.Prelude.{is_none, slice_set, slice_get, slice_index_or, nat_lt, nat_le, if◌then◌else◌, Option, None, Some}
+use Rattle.std.specs.Option.{option_or}
+use Rattle.std.specs.Prelude.{is_none, slice_set, slice_get, slice_index_or, nat_lt, nat_le, Option, None, Some}
 use Rattle.contexts.specs.Creating.{is_root, is_root_at, next_id, no_plugin, plugin_in, plugin_at, open_place, root_context, stream_context, root_created, stream_created, with_context, with_root, without_id, without_context, delete_id, freed, freed_of, is_referred, has_ended}
 use Rattle.contexts.specs.Keyed.{first_of_number, without_first}
 use Rattle.contexts.specs.Reached.{context_in, context_no, no_vm, vm_in, exchange_at, exchange_of}

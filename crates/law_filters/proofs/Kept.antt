@@ -1,6 +1,6 @@
 -- Each step keeps what is known of roots.
-use Rattle.std.proofs.Common.{◌≡◌, ◌⊎◌, inl, inr, refl, ℕ, zero, suc, ◌-◌, Bool, true, false, not, List, [], ◌∷◌, ◌++◌, ap, ◌∙◌, sym, subst, append_assoc}
-use Rattle.std.specs.Prelude.{◌||◌, slice_set, slice_get, Option, None, Some, remove, position}
+use Rattle.std.proofs.Common.{◌≡◌, ◌⊎◌, inl, inr, refl, ℕ, zero, suc, ◌-◌, Bool, true, false, List, [], ◌∷◌, ◌++◌, ap, ◌∙◌, sym, subst}
+use Rattle.std.specs.Prelude.{◌||◌, slice_set, slice_get, Option, None, Some, remove}
 use Rattle.contexts.specs.Creating.{end_exchange, ended_one}
 use Rattle.contexts.specs.Reached.{exchange_at}
 use Rattle.std.specs.Option.{option_map}
@@ -12,16 +12,15 @@ use Rattle.exchange.specs.Answering.{none_held}
 use Rattle.exchange.specs.Passing as passing
 use Rattle.filter_chain.specs.Chains.{without_buffers}
 use Rattle.filter_chain.specs.declared.item.ChainItem.{ChainItem}
-use Rattle.filter_host.specs.Heard.{Heard, Hears}
+use Rattle.filter_host.specs.Heard.{Heard}
 use Rattle.gate_config.specs.declared.entries.PluginEntry.{PluginEntry}
 use Rattle.h1_model.specs.Unread.{Reading}
 use Rattle.worker_model.specs.Moves.{asks_at, asks_in, asks_back, asks_exchange, ended_at, ended_in, ended_back}
 use Rattle.worker_model.specs.Plan.{Plan}
 use Rattle.worker_model.specs.Room.{Room}
 use Rattle.law_roots.specs.Roots.{RootStands}
-use Rattle.worker_model.specs.Rooms.{is_dead, has_move, on_number, at_place, place_in, with_contexts, room_with_sent}
-use Rattle.worker_model.specs.Steps.{with_jobs_first, with_agenda_first, last_jobs, after_heard, reading_on, line_reading, line_in, done_jobs, close_up, end_exchange_of, end_with, end_at, exchange_with_stages, enter_stages}
-use Rattle.worker_model.specs.declared.types.Asked.{Asked}
+use Rattle.worker_model.specs.Rooms.{is_dead, on_number, at_place, place_in}
+use Rattle.worker_model.specs.Steps.{with_jobs_first, with_agenda_first, last_jobs, after_heard, reading_on, line_reading, line_in, done_jobs, close_up, end_with, enter_stages}
 use Rattle.worker_model.specs.declared.types.ContextAt.{ContextAt}
 use Rattle.worker_model.specs.declared.types.Job.{Job}
 use Rattle.worker_model.specs.declared.types.Job.TheVariants as jobs
@@ -31,9 +30,9 @@ use Rattle.law_filters.proofs.Doing.{InThird, in_asks, InBoth, in_marking, by_en
 use Rattle.law_filters.proofs.Good as good
 use Rattle.law_filters.proofs.Ids.{IsItem, freed_same}
 use Rattle.law_filters.proofs.Made as made
-use Rattle.law_filters.proofs.Rooms.{OfExchange, OfLine, OfEach, Joint, IsRest, IsCalm, numbers, numbers_set, each_at, each_set, on_place, holding, apart_closed, asked_lines, with_asked, holds_lines}
-use Rattle.law_filters.proofs.Same.{pick, SameIds, same_itself, same_then, same_cleared}
-use Rattle.law_filters.proofs.Sound.{IsSound, OfFilters, Filtered, OfJobs, OfWaits, HasRoot, Ordered, IsOther, AreOther, ordered_among, root_among, root_not_among, of_among, todo, Sounds, SameHub, SoundBut, Nobody, Any, sound_rest, sound_apart, sound_moved, sound_calm, puts_up}
+use Rattle.law_filters.proofs.Rooms.{OfExchange, Joint, numbers, numbers_set, each_at, each_set, on_place, apart_closed, asked_lines, with_asked, holds_lines}
+use Rattle.law_filters.proofs.Same.{pick, SameIds, same_then, same_cleared}
+use Rattle.law_filters.proofs.Sound.{IsSound, OfFilters, Filtered, OfJobs, OfWaits, HasRoot, Ordered, IsOther, AreOther, ordered_among, root_among, root_not_among, of_among, todo, Sounds, SameHub, SoundBut, Nobody, Any, sound_rest, sound_apart, sound_moved, puts_up}
 use Rattle.law_filters.proofs.Steps.{IsStepped, IsSilent}
 
 module _ (plan : Plan) where

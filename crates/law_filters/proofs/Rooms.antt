@@ -1,6 +1,6 @@
 -- What stays true of a room, whatever callbacks do to it.
-use Rattle.std.proofs.Common.{◌≡◌, ◌⊎◌, inl, inr, refl, ℕ, zero, suc, Bool, true, false, List, [], ◌∷◌, ◌++◌, ◌∙◌, sym, subst, ap}
-use Rattle.std.specs.Prelude.{if◌then◌else◌, map, Option, None, Some, slice_get, slice_set}
+use Rattle.std.proofs.Common.{◌≡◌, refl, ℕ, zero, suc, Bool, true, false, List, [], ◌∷◌, ◌++◌, ◌∙◌, sym, subst, ap}
+use Rattle.std.specs.Prelude.{map, Option, None, Some, slice_get, slice_set}
 use Rattle.contexts.specs.Reached.{vm_in}
 use Rattle.contexts.specs.declared.parts.Contexts.{Contexts}
 use Rattle.contexts.specs.declared.parts.Effect.{Effect}
@@ -19,7 +19,6 @@ use Rattle.gate_base.specs.declared.level.Level.TheVariants.{Critical}
 use Rattle.gate_io.specs.declared.event.Sent.{Sent}
 use Rattle.gate_io.specs.declared.event.Sent.TheVariants as to
 use Rattle.h1_model.specs.Fields.{Pair}
-use Rattle.header_maps.specs.Headers.{Headers}
 use Rattle.law_lines.specs.Logs.{AreLogs}
 use Rattle.law_vms.specs.OwnChanges.{ChangesItsOwn}
 use Rattle.worker_model.specs.Changes.{apply_change}
@@ -32,7 +31,7 @@ use Rattle.worker_model.specs.declared.types.Job.{Job}
 use Rattle.worker_model.specs.declared.types.Line.{Line}
 use Rattle.worker_model.specs.declared.types.Owner.{Owner}
 use Rattle.law_filters.proofs.Doing.{NoConnects, IsAside, IsShut, IsClosed, IsMoved, Keeping, InBoth, marked_keeps, responses_keep, resumes_keep, closes_keep, acts_keep, dies_keep, refuses_keep, expires_keep, answer_keeps}
-use Rattle.law_filters.proofs.Same.{pick, SameIds, same_own, same_then}
+use Rattle.law_filters.proofs.Same.{pick, SameIds, same_own}
 
 -- what callbacks, and the jobs that follow from them, do to an exchange
 pub data Op : Changes → Type 0 where

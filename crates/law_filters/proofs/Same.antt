@@ -1,19 +1,16 @@
 -- What is done to exchanges leaves the ids of contexts as they are.
-use Rattle.std.proofs.Common.{◌≡◌, refl, ℕ, zero, suc, ◌+◌, ◌<◌, ◌==◌, Bool, true, false, not, ◌||◌, ◌&&◌, List, [], ◌∷◌, ◌++◌, length, map, ap, ◌∙◌, sym, subst, ⊎_elim, inl, inr}
-use Rattle.std.proofs.lemmas.Bool.{ltb-true, cases_eq, cases_Bool}
-use Rattle.std.proofs.lemmas.List.{length-set, get_or-set_same, get_or-set_other}
-use Rattle.std.specs.Option.{option_map}
-use Rattle.std.specs.Prelude.{slice_set, slice_get, slice_index_or, nat_lt, nat_le, if◌then◌else◌, Option, None, Some}
+use Rattle.std.proofs.Common.{◌≡◌, refl, ℕ, zero, suc, ◌+◌, Bool, true, false, List, [], ◌∷◌, length, map, ap, ◌∙◌, sym, subst, ⊎_elim}
+use Rattle.std.proofs.lemmas.Bool.{cases_eq}
+use Rattle.std.proofs.lemmas.List.{length-set}
+use Rattle.std.specs.Prelude.{slice_set, slice_get, slice_index_or, nat_le, if◌then◌else◌, Option, None, Some}
 use Rattle.contexts.proofs.Keyed.{kept}
-use Rattle.contexts.specs.Creating.{plugin_in}
 use Rattle.contexts.specs.Lending.{stage_in, with_stage}
-use Rattle.contexts.specs.Reached.{Changes, no_changes, vm_in, no_vm, context_in, context_no, view_at, put_of, vm_after, contexts_after, changed_by, with_own, with_tick}
+use Rattle.contexts.specs.Reached.{Changes, no_changes, vm_in, no_vm, context_in, context_no, put_of, vm_after, contexts_after, changed_by, with_own, with_tick}
 use Rattle.contexts.specs.Stages.{own_at, stage_after, stage_changed, without_buffer, let_go, returned, with_bytes}
 use Rattle.contexts.specs.declared.parts.Context.{Context}
 use Rattle.contexts.specs.declared.parts.Contexts.{Contexts}
 use Rattle.contexts.specs.declared.parts.ExchangeView.{ExchangeView}
 use Rattle.contexts.specs.declared.parts.Own.{Own}
-use Rattle.contexts.specs.declared.parts.Plugin.{Plugin}
 use Rattle.contexts.specs.declared.parts.StageBuffer as parts
 use Rattle.contexts.specs.declared.parts.VmContexts.{VmContexts}
 use Rattle.exchange.specs.Maps.{in_view}

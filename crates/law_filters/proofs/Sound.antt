@@ -1,21 +1,19 @@
 -- What is known of a worker's room between two steps: its roots stand, and what is to be deleted is no root.
-use Rattle.std.proofs.Common.{◌≡◌, ◌⊎◌, inl, inr, refl, ℕ, zero, suc, ◌+◌, ◌-◌, ◌<◌, ◌≤◌, ◌==◌, Bool, true, false, not, cond, ◌||◌, ◌&&◌, List, [], ◌∷◌, ◌++◌, length, map, ap, ◌∙◌, sym, subst, ⊎_elim, arith, append_assoc}
-use Rattle.std.proofs.lemmas.Bool.{ltb-true, cases_eq, cases_Bool, or_left, or_right, eq-eqb}
+use Rattle.std.proofs.Common.{◌≡◌, ◌⊎◌, inl, inr, refl, ℕ, ◌==◌, true, false, List, [], ◌∷◌, ◌++◌, ◌∙◌, sym, subst}
+use Rattle.std.proofs.lemmas.Bool.{or_left, or_right, eq-eqb}
 use Rattle.std.proofs.lemmas.List.Folds.{list_any-append}
-use Rattle.std.specs.List.{list_any, filter}
-use Rattle.std.specs.Prelude.{slice_set, slice_get, nat_lt, if◌then◌else◌, Option, None, Some, is_some, remove, insert, position}
-use Rattle.contexts.specs.Creating.{plugin_in, next_id, root_created, stream_created, open_exchange, await_done_of, delete_id, end_exchange, freed, is_referred, has_ended, ended_one}
-use Rattle.contexts.specs.Reached.{vm_in, exchange_at, view_at, contains, seen}
+use Rattle.std.specs.List.{list_any}
+use Rattle.std.specs.Prelude.{slice_get, Option, None, Some}
+use Rattle.contexts.specs.Reached.{view_at}
 use Rattle.contexts.specs.declared.parts.Contexts.{Contexts}
 use Rattle.exchange.specs.declared.types.Exchange.{Exchange}
 use Rattle.exchange.specs.declared.types.Filter.{Filter}
 use Rattle.exchange.specs.declared.types.Hub.{Hub}
-use Rattle.exchange.specs.Answering.{none_held, with_held, answer}
-use Rattle.exchange.specs.Leaving.{hub_with_sent, send_item, send_items, send_request_item}
+use Rattle.exchange.specs.Answering.{with_held}
+use Rattle.exchange.specs.Leaving.{send_item, send_items, send_request_item}
 use Rattle.exchange.specs.Maps.{mark, marked}
-use Rattle.exchange.specs.Passing as passing
-use Rattle.exchange.specs.Passing.{chain_of, with_chain, finish_put, take_move, take_put, takes_nothing, put_to_chain, put_all_to_chain, put_read_items, bypass_vm, fails_closed}
-use Rattle.filter_chain.specs.Chains.{put as put_item, continued, let_through, asked, ready, without_buffers}
+use Rattle.exchange.specs.Passing.{finish_put, take_move, take_put, takes_nothing, put_to_chain, put_all_to_chain, put_read_items}
+use Rattle.filter_chain.specs.Chains.{put as put_item, continued, let_through, asked, ready}
 use Rattle.filter_chain.specs.declared.item.Asking.{Asking}
 use Rattle.filter_chain.specs.declared.item.Asking.TheVariants.{Nothing, Over, Asks}
 use Rattle.filter_chain.specs.declared.item.ChainItem.{ChainItem}
@@ -24,20 +22,19 @@ use Rattle.filter_chain.specs.declared.item.PassOutcome.{PassOutcome}
 use Rattle.filter_chain.specs.declared.item.PassOutcome.TheVariants as passed
 use Rattle.filter_chain.specs.declared.stage.Stage.{Stage}
 use Rattle.gate_config.specs.declared.entries.PluginEntry.{PluginEntry}
-use Rattle.gate_io.specs.declared.event.Sent.{Sent}
 use Rattle.law_roots.specs.Roots.{RootStands}
 use Rattle.worker_model.specs.Moves.{asks_as, asks_chain, with_none}
 use Rattle.worker_model.specs.Plan.{Plan}
 use Rattle.worker_model.specs.Room.{Room}
-use Rattle.worker_model.specs.Rooms.{is_dead, with_marks, with_contexts, lose_vm_in}
+use Rattle.worker_model.specs.Rooms.{is_dead, with_marks}
 use Rattle.worker_model.specs.declared.types.Asked.{Asked}
 use Rattle.worker_model.specs.declared.types.ContextAt.{ContextAt}
 use Rattle.worker_model.specs.declared.types.Job.{Job}
 use Rattle.worker_model.specs.declared.types.Job.TheVariants as jobs
 use Rattle.worker_model.specs.declared.types.Line.{Line}
-use Rattle.law_filters.proofs.Doing.{NoConnects, IsAside, IsShut, IsClosed, IsMoved, InBoth, InThird, Lets, lets_vm, lets_response, in_answer, in_marking, never, by_ended}
-use Rattle.law_filters.proofs.Ids.{IsItem, AreDrawn, Grows, item_same, drawn_same, root_same}
-use Rattle.law_filters.proofs.Rooms.{OfExchange, OfLine, OfEach, Joint, IsRest, IsApart, IsCalm, Holds, numbers, apart_closed, holds_calm}
+use Rattle.law_filters.proofs.Doing.{IsClosed, IsMoved, InBoth, InThird, lets_vm, lets_response, in_answer, in_marking}
+use Rattle.law_filters.proofs.Ids.{IsItem, AreDrawn, item_same, drawn_same, root_same}
+use Rattle.law_filters.proofs.Rooms.{OfExchange, OfEach, Joint, IsRest, IsApart, IsCalm, Holds, numbers, apart_closed, holds_calm}
 use Rattle.law_filters.proofs.Same.{pick, SameIds, SameThird, same_itself, same_then, same_view, same_continued, same_let_through, same_asked}
 
 -- ---- contexts that may be deleted

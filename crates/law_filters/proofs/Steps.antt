@@ -1,5 +1,5 @@
 -- What stays true of a room, step by step.
-use Rattle.std.proofs.Common.{◌≡◌, ◌⊎◌, inl, inr, refl, ℕ, ◌-◌, ◌==◌, Bool, true, false, not, ◌||◌, List, [], ◌∷◌, ◌++◌, ◌∙◌, sym, subst}
+use Rattle.std.proofs.Common.{◌≡◌, refl, ℕ, ◌-◌, ◌==◌, Bool, true, false, not, ◌||◌, List, [], ◌∷◌, ◌++◌, sym, subst}
 use Rattle.std.specs.List.{list_any}
 use Rattle.std.specs.Prelude.{◌&&◌, if◌then◌else◌, Option, None, Some, is_some, slice_get, nat_lt, remove, position}
 use Rattle.contexts.specs.Reached.{vm_in, tick_in, no_changes, put, effective_of, Changes as Kept}
@@ -10,7 +10,7 @@ use Rattle.exchange.specs.Passing as passing
 use Rattle.filter_chain.specs.declared.item.ChainItem.{ChainItem}
 use Rattle.filter_host.proofs.Holds.{AllEnds, all_then}
 use Rattle.filter_host.specs.Called.{Called}
-use Rattle.filter_host.specs.Course.{Course, ends, asks, measures, hears, runs_then, then_do}
+use Rattle.filter_host.specs.Course.{Course, ends, asks, measures, hears, runs_then}
 use Rattle.filter_host.specs.Heard.{Heard, Hears}
 use Rattle.filter_host.specs.declared.host.Callback.{Callback}
 use Rattle.filter_host.specs.declared.host.Callback.TheVariants as callbacks
@@ -26,24 +26,22 @@ use Rattle.law_vms.specs.Apart as programs
 use Rattle.law_vms.specs.OwnChanges.{ArePlaced, ChangesItsOwn, CallbacksChangeTheirOwn, PlacesStay}
 use Rattle.vm_host.specs.Slots.{calling}
 use Rattle.vm_host.specs.declared.slots.Vms.{Vms}
-use Rattle.worker_model.specs.Moves.{asks_at}
 use Rattle.worker_model.specs.Plan.{Plan}
 use Rattle.worker_model.specs.Room.{Room}
 use Rattle.worker_model.specs.Rooms.{next_of, next_part, moves_or, frees_or, ends_or, begins_or_rests, has_move, is_any, is_over, is_released, is_dead, with_lines, with_contexts, on_number, all_lines, take_callback_end, value_of_end, lose_vm_in}
-use Rattle.worker_model.specs.Steps.{Both, both, Answered, callback_result, Then, continue_with, nothing_more, called_in, called_live, calls_live, is_zero, action_of, with_jobs_first, unless_zero, last_jobs, finish_context, delete_context, apply_stage_action, create_root, create_context, enter_stages, line_in, after_heard, refuse_line, end_line, take_event, end_at, is_late, with_tick, next_tick, is_due_tick, has_vm, tick_of, tick_root, expire_all, with_agenda_first, take_notice_reply, begin_first_job, release_at, run_silent_job, reading_on, reads_in, reads_next, callback_of, number_of, vm_length, plugin_length, may_stream, moved, moved_with, tells, made_one, made_with, ticks_with, tells_ready, ask_notice, notice_step, works, works_first, step}
+use Rattle.worker_model.specs.Steps.{Both, both, Answered, callback_result, Then, continue_with, nothing_more, called_in, called_live, calls_live, is_zero, action_of, with_jobs_first, unless_zero, last_jobs, finish_context, delete_context, apply_stage_action, create_root, create_context, enter_stages, line_in, after_heard, refuse_line, end_line, take_event, end_at, is_late, with_tick, next_tick, is_due_tick, has_vm, tick_of, expire_all, with_agenda_first, take_notice_reply, begin_first_job, release_at, reading_on, reads_in, reads_next, callback_of, number_of, vm_length, plugin_length, may_stream, moved, moved_with, tells, made_with, ticks_with, ask_notice, notice_step, works, works_first, step}
 use Rattle.worker_model.specs.declared.types.Asked.{Asked}
 use Rattle.worker_model.specs.declared.types.ContextAt.{ContextAt}
 use Rattle.worker_model.specs.declared.types.Job.{Job}
 use Rattle.worker_model.specs.declared.types.Job.TheVariants as jobs
 use Rattle.worker_model.specs.declared.types.Line.{Line}
 use Rattle.worker_model.specs.declared.types.NewContext.{NewContext}
-use Rattle.worker_model.specs.declared.types.Next.{Next}
 use Rattle.worker_model.specs.declared.types.Next.TheVariants as next
 use Rattle.worker_model.specs.declared.types.Owner.{Owner}
 use Rattle.worker_model.specs.declared.types.Owner.TheVariants as owns
 use Rattle.worker_model.specs.declared.types.ReadBatch.{ReadBatch}
-use Rattle.law_filters.proofs.Rooms.{IsCalm, Op, op_acts, op_expires, op_responds, to_called, holding, held_calm, asked_lines, with_asked}
-use Rattle.law_filters.proofs.Same.{pick, SameIds, same_put, same_then}
+use Rattle.law_filters.proofs.Rooms.{IsCalm, op_acts, op_expires, op_responds, to_called, holding, held_calm, asked_lines, with_asked}
+use Rattle.law_filters.proofs.Same.{pick, same_put, same_then}
 
 -- a job that goes without a trace, once its callback is called
 abbrev pub IsSilent : Job → Type 0

@@ -1,19 +1,16 @@
 -- The head of a request waits for each stage, whatever is done to its exchange.
-use Rattle.std.proofs.Common.{◌≡◌, ◌⊎◌, inl, inr, refl, ℕ, zero, suc, ◌+◌, ◌==◌, Bool, true, false, not, ◌||◌, ◌&&◌, List, [], ◌∷◌, ◌++◌, length, Option, None, Some, ap, ◌∙◌, sym, subst, append_assoc, append-nil}
+use Rattle.std.proofs.Common.{◌≡◌, ◌⊎◌, inl, inr, refl, ℕ, zero, suc, ◌+◌, Bool, true, false, not, ◌||◌, ◌&&◌, List, [], ◌∷◌, ◌++◌, length, Option, None, Some, ap, ◌∙◌, sym, subst, append_assoc, append-nil}
 use Rattle.std.proofs.lemmas.Bool.{eqb-true}
 use Rattle.std.specs.Option.{option_map}
 use Rattle.std.specs.Prelude.{slice_get, slice_set, nat_le, if◌then◌else◌}
-use Rattle.contexts.specs.Reached.{view_at}
 use Rattle.contexts.specs.Stages.{with_buffered}
 use Rattle.contexts.specs.declared.parts.Contexts.{Contexts}
 use Rattle.exchange.specs.declared.types.Exchange.{Exchange}
 use Rattle.exchange.specs.declared.types.Hub.{Hub}
-use Rattle.exchange.specs.Answering.{answer, with_held}
-use Rattle.exchange.specs.Maps.{mark, marked}
-use Rattle.exchange.specs.Passing as passing
-use Rattle.exchange.specs.Passing.{chain_of, finish_put, take_move, take_put, takes_nothing, put_to_chain, put_all_to_chain, put_read_items, lose_vm}
+use Rattle.exchange.specs.Answering.{with_held}
+use Rattle.exchange.specs.Passing.{chain_of, finish_put, take_move, take_put, takes_nothing, put_to_chain, put_all_to_chain, put_read_items}
 use Rattle.filter_chain.proofs.Picks.{ready_picks}
-use Rattle.filter_chain.specs.Chains.{accepts, append_to, ask_item, ask_of, ask_stage, asked, asked_at, bypassed_stage, bytes_at, bytes_held, continued, continued_at, has_head, is_any, is_head, let_through, let_through_at, limit, may_be_picked, put as put_item, ready, target, unless_over, without_held, without_hold}
+use Rattle.filter_chain.specs.Chains.{accepts, append_to, ask_item, ask_of, ask_stage, asked, asked_at, bypassed_stage, bytes_at, bytes_held, continued, continued_at, has_head, is_any, let_through, let_through_at, limit, may_be_picked, put as put_item, ready, target, unless_over, without_held, without_hold}
 use Rattle.filter_chain.specs.Items.{held_items, holds_bytes, is_free, size}
 use Rattle.filter_chain.specs.declared.item.Ask.{Ask}
 use Rattle.filter_chain.specs.declared.item.AskKind.TheVariants as kinds
@@ -21,23 +18,21 @@ use Rattle.filter_chain.specs.declared.item.Asking.{Asking}
 use Rattle.filter_chain.specs.declared.item.Asking.TheVariants.{Nothing, Over, Asks}
 use Rattle.filter_chain.specs.declared.item.ChainItem.{ChainItem}
 use Rattle.filter_chain.specs.declared.item.ChainItem.TheVariants.{Head, Piece, Trailers}
-use Rattle.filter_chain.specs.declared.item.Held.{Held}
 use Rattle.filter_chain.specs.declared.item.Held.TheVariants as held
 use Rattle.filter_chain.specs.declared.item.PassOutcome.{PassOutcome}
 use Rattle.filter_chain.specs.declared.item.PassOutcome.TheVariants as passed
 use Rattle.filter_chain.specs.declared.stage.Stage.{Stage}
 use Rattle.gate_io.specs.declared.event.Sent.{Sent}
 use Rattle.gate_io.specs.declared.event.Sent.TheVariants as to
-use Rattle.h1_model.specs.Fields.{Pair}
-use Rattle.law_chain.proofs.Targets.{comes_in, comes_is, goes_in, goes_is}
-use Rattle.worker_model.specs.Moves.{asks_as, asks_chain, asks_exchange, asks_response, asks_stage, count_of, with_none}
+use Rattle.law_chain.proofs.Targets.{comes_in, comes_is, goes_is}
+use Rattle.worker_model.specs.Moves.{asks_as, asks_chain, asks_response, asks_stage, count_of, with_none}
 use Rattle.worker_model.specs.Rooms.{with_marks}
 use Rattle.worker_model.specs.declared.types.Asked.{Asked}
 use Rattle.law_filters.proofs.Chains as chains
 use Rattle.law_filters.proofs.Chains.{Kept, Going, comes_asked, comes_goes, comes_head, comes_more}
-use Rattle.law_filters.proofs.Doing.{IsAside, IsClosed, IsMoved, IsShut, InBoth, Lets, acts_keep, answer_keeps, by_ended, closes_keep, dies_keep, expires_keep, in_answer, in_asks_chain, lets_response, lets_vm, never, refuses_keep, responses_keep, resumes_keep}
+use Rattle.law_filters.proofs.Doing.{IsAside, IsClosed, IsMoved, IsShut, InBoth, acts_keep, answer_keeps, by_ended, closes_keep, dies_keep, expires_keep, in_answer, in_asks_chain, lets_response, lets_vm, never, refuses_keep, responses_keep, resumes_keep}
 use Rattle.law_filters.proofs.Same.{pick, same_asked}
-use Rattle.law_filters.specs.Heads.{AreIdle, Awaits, Comes, HeadWaits, HeadsWait, IsAskedHead, IsIdle, IsSilenced, IsStageOf, OpensNone, Waits, WaitsOn, WaitsYet}
+use Rattle.law_filters.specs.Heads.{Awaits, Comes, HeadWaits, HeadsWait, IsAskedHead, IsSilenced, IsStageOf, OpensNone, Waits, WaitsOn, WaitsYet}
 
 opens_join : (a b : List Sent) → OpensNone a → OpensNone b → OpensNone (a ++ b)
 opens_join [] b one two = two

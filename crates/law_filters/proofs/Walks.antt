@@ -1,8 +1,8 @@
 -- What is known of roots stays over all steps of all turns.
-use Rattle.std.proofs.Common.{◌≡◌, ◌⊎◌, inl, inr, refl, ℕ, zero, suc, ◌+◌, ◌<◌, ◌≤◌, ◌==◌, Bool, true, false, ◌&&◌, List, [], ◌∷◌, ◌++◌, length, ap, ◌∙◌, sym, subst, arith}
+use Rattle.std.proofs.Common.{◌≡◌, ◌⊎◌, inl, inr, refl, ℕ, zero, suc, ◌+◌, ◌<◌, ◌≤◌, ◌==◌, Bool, true, false, List, [], ◌∷◌, ◌++◌, length, ap, ◌∙◌, sym, subst, arith}
 use Rattle.std.proofs.lemmas.Bool.{ltb-true, eqb-true, le-leb}
 use Rattle.std.specs.List.{list_any}
-use Rattle.std.specs.Prelude.{Contains, slice_get, slice_index_or, nat_le, position, if◌then◌else◌, is_some, Option, None, Some}
+use Rattle.std.specs.Prelude.{Contains, slice_get, slice_index_or, position, if◌then◌else◌, is_some, Option, None, Some}
 use Rattle.callouts.specs.Callouts.{line_in, is_of_call, callout_at}
 use Rattle.callouts.specs.declared.types.Callout.{Callout}
 use Rattle.contexts.specs.Creating.{no_plugin, plugin_in}
@@ -10,11 +10,9 @@ use Rattle.contexts.specs.Reached.{vm_in}
 use Rattle.contexts.specs.declared.parts.Context.{Context}
 use Rattle.contexts.specs.declared.parts.Contexts.{Contexts}
 use Rattle.contexts.specs.declared.parts.Plugin.{Plugin}
-use Rattle.exchange.specs.declared.types.Filter.{Filter}
 use Rattle.filter_host.proofs.Holds.{AllEnds, all_reached, all_then}
 use Rattle.filter_host.specs.Course.{ends}
 use Rattle.gate_io.specs.Events.{is_stop}
-use Rattle.gate_config.specs.declared.config.Config.{Config}
 use Rattle.gate_config.specs.declared.entries.PluginEntry.{PluginEntry}
 use Rattle.gate_io.specs.declared.event.Event.{Event}
 use Rattle.gate_io.specs.declared.event.What.{What}
@@ -30,21 +28,19 @@ use Rattle.worker_model.specs.Plan.{Plan}
 use Rattle.worker_model.specs.Room.{Room}
 use Rattle.worker_model.specs.Rooms.{is_dead, next_of, next_part, moves_or, frees_or, ends_or, begins_or_rests, has_move, is_any, is_over, is_released}
 use Rattle.worker_model.specs.Settling.{is_rest, settling, settling_none, settling_rest, settling_step}
-use Rattle.worker_model.specs.Steps.{Both, both, create_filter, is_drawn_out, may_stream, step, with_stream}
+use Rattle.worker_model.specs.Steps.{Both, both, create_filter, may_stream, step, with_stream}
 use Rattle.worker_model.specs.Turn.{agenda_of, at_moment, deadline_jobs, first_vms, happening, is_due_now, is_of, notice_of, notices_of, registers_at, room_for_event, roots_from, start_jobs, start_of, starts_of, ticks_due, ticks_in, ticks_of, vms_in, with_agenda, without_sent, comes_if, Outcome, outcome_of, most_steps, turn, turn_by}
 use Rattle.worker_model.specs.declared.types.Job.{Job}
 use Rattle.worker_model.specs.declared.types.Job.TheVariants as jobs
-use Rattle.worker_model.specs.declared.types.Line.{Line}
 use Rattle.worker_model.specs.declared.types.Next.{Next}
 use Rattle.worker_model.specs.declared.types.Next.TheVariants as next
-use Rattle.worker_model.specs.declared.types.ReadBatch.{ReadBatch}
 use Rattle.law_filters.proofs.Begun.{first_sound}
 use Rattle.law_filters.proofs.Good as good
-use Rattle.law_filters.proofs.Ids.{AreDrawn, both_true, some_same}
+use Rattle.law_filters.proofs.Ids.{AreDrawn, both_true}
 use Rattle.law_filters.proofs.Kept.{sound_stepped}
 use Rattle.law_filters.proofs.Rooms.{numbers}
-use Rattle.law_filters.proofs.Same.{pick, same_itself}
-use Rattle.law_filters.proofs.Sound.{IsSound, OfJob, OfJobs, HasRoot, NoRoots, Ordered, no_root, todo, Sounds, SoundBut, Nobody, Any, rebased, sound_calm}
+use Rattle.law_filters.proofs.Same.{pick}
+use Rattle.law_filters.proofs.Sound.{IsSound, OfJob, OfJobs, HasRoot, NoRoots, Ordered, no_root, todo, SoundBut, Nobody, Any, rebased, sound_calm}
 use Rattle.law_filters.proofs.Steps.{step_fine}
 use Rattle.law_filters.specs.Roots.{ComeToRest, FiltersGetContextsForLife, IsToCome, RootsStandAfterTurns, RootsStand, RootsStandForLife, first_worker, rules_for}
 
