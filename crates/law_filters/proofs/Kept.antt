@@ -262,24 +262,24 @@ module _ (plan : Plan) where
   silent_other (jobs.Happen what) is = absurd is
   silent_other job is = tt
 
-  pub sound_stepped : IsStepped plan Any Known Known
+  pub sound_stepped : IsStepped plan (λ room. Unit {0}) Any Known Known
   sound_stepped = record {
     last = λ room s. s;
-    unread = unread;
-    read = λ r reading h room at on says s. reads r reading h room on s;
-    stage = λ place room quiet at any s. stage place room s;
-    frees = λ at c room quiet jobless there s. frees at c room there s;
-    over = λ place room quiet jobless s. place_ended room place (slice_get room.lines place) refl s;
-    part = λ job later room quiet jobless at s. parts job later room jobless at s;
-    pops = λ job room is s. (good.popped_other plan job room (silent_other job is) s).0;
-    notices = λ vm left root queue room s. noticed vm left root queue room (good.popped_other plan (jobs.Notice vm left) room tt s);
-    root = λ vm p first room s. made.root plan vm p first room s;
-    create = λ n k room s. made.create plan n k room s;
+    unread = λ room here s. unread room s;
+    read = λ r reading h room at on says here s. reads r reading h room on s;
+    stage = λ place room quiet at any here s. stage place room s;
+    frees = λ at c room quiet jobless there here s. frees at c room there s;
+    over = λ place room quiet jobless here s. place_ended room place (slice_get room.lines place) refl s;
+    part = λ job later room quiet jobless at here s. parts job later room jobless at s;
+    pops = λ job room is here s. (good.popped_other plan job room (silent_other job is) s).0;
+    notices = λ vm left root queue room here s. noticed vm left root queue room (good.popped_other plan (jobs.Notice vm left) room tt s);
+    root = λ vm p first room here s. made.root plan vm p first room s;
+    create = λ n k room here s. made.create plan n k room s;
     finish = λ c value room s. made.finish plan c value room s;
     delete = λ c value room s. made.delete plan c value room s;
-    happens = λ what room quiet s. good.happens plan what room s;
-    enters = λ n room s. enters n room (good.popped_other plan (jobs.Enter n) room tt s).0;
-    puts = λ n items room s. puts n items room (good.popped_other plan (jobs.Put n false items) room tt s).0;
-    refuses = λ n status room s. (good.good_refuse plan (line_in n room.lines) n status room (good.popped_other plan (jobs.Refuse n status) room tt s)).0;
-    closes = λ n stays room quiet s. (good.good_ended plan (line_in n room.lines) n stays room (good.popped_other plan (jobs.Close n stays) room tt s)).0;
+    happens = λ what room quiet here s. good.happens plan what room s;
+    enters = λ n room here s. enters n room (good.popped_other plan (jobs.Enter n) room tt s).0;
+    puts = λ n items room here s. puts n items room (good.popped_other plan (jobs.Put n false items) room tt s).0;
+    refuses = λ n status room here s. (good.good_refuse plan (line_in n room.lines) n status room (good.popped_other plan (jobs.Refuse n status) room tt s)).0;
+    closes = λ n stays room quiet here s. (good.good_ended plan (line_in n room.lines) n stays room (good.popped_other plan (jobs.Close n stays) room tt s)).0;
   }

@@ -66,26 +66,26 @@ IsSilent (jobs.Ready vm root queue) = Unit {0}
 IsSilent (jobs.Other step) = Unit {0}
 
 -- WHAT IS TRUE BEFORE EACH STEP, AND BEHIND IT, where no stage is asked that should not be
-pub record IsStepped (plan : Plan) (Goes : Option Asked → Type 0) (P F : Room → Type 0) : Type 0 where
+pub record IsStepped (plan : Plan) (At : Room → Type 0) (Goes : Option Asked → Type 0) (P F : Room → Type 0) : Type 0 where
   pub last : (room : Room) → P room → F room
-  pub unread : (room : Room) → P room → P (record room { reading = None })
-  pub read : (r : ReadBatch) (reading : Reading) (h : Heard) (room : Room) → room.reading ≡ Some r → reading_on r room ≡ Some reading → Hears reading h → P room
+  pub unread : (room : Room) → At room → P room → P (record room { reading = None })
+  pub read : (r : ReadBatch) (reading : Reading) (h : Heard) (room : Room) → room.reading ≡ Some r → reading_on r room ≡ Some reading → Hears reading h → At room → P room
       → P (after_heard plan r h (record room { reading = None }))
-  pub stage : (place : ℕ) (room : Room) → room.reading ≡ None → position has_move room.lines ≡ Some place → Goes (asked_lines place room).0 → P room → P (with_asked room (asked_lines place room))
-  pub frees : (at : ℕ) (c : ContextAt) (room : Room) → room.reading ≡ None → room.jobs ≡ [] → slice_get room.waits at ≡ Some c → P room → P (record room { jobs = last_jobs c ++ room.jobs; waits = remove room.waits at })
-  pub over : (place : ℕ) (room : Room) → room.reading ≡ None → room.jobs ≡ [] → P room → F (end_at place room)
-  pub part : (job : Job) (later : List Job) (room : Room) → room.reading ≡ None → room.jobs ≡ [] → room.agenda ≡ job ∷ later → P room → P (record room { jobs = job ∷ []; agenda = later })
-  pub pops : (job : Job) (room : Room) → IsSilent job → P (holding job room) → P room
-  pub notices : (vm left root queue : ℕ) (room : Room) → P (holding (jobs.Notice vm left) room) → P (with_jobs_first (jobs.Ready vm root queue ∷ []) (with_agenda_first (jobs.Notice vm (left - 1) ∷ []) room))
-  pub root : (vm plugin : ℕ) (first : Bool) (room : Room) → P (holding (jobs.Root vm plugin first) room) → P (create_root vm plugin first room).1
-  pub create : (number k : ℕ) (room : Room) → P (holding (jobs.Create number k) room) → P (create_context number k room).1
+  pub stage : (place : ℕ) (room : Room) → room.reading ≡ None → position has_move room.lines ≡ Some place → Goes (asked_lines place room).0 → At room → P room → P (with_asked room (asked_lines place room))
+  pub frees : (at : ℕ) (c : ContextAt) (room : Room) → room.reading ≡ None → room.jobs ≡ [] → slice_get room.waits at ≡ Some c → At room → P room → P (record room { jobs = last_jobs c ++ room.jobs; waits = remove room.waits at })
+  pub over : (place : ℕ) (room : Room) → room.reading ≡ None → room.jobs ≡ [] → At room → P room → F (end_at place room)
+  pub part : (job : Job) (later : List Job) (room : Room) → room.reading ≡ None → room.jobs ≡ [] → room.agenda ≡ job ∷ later → At room → P room → P (record room { jobs = job ∷ []; agenda = later })
+  pub pops : (job : Job) (room : Room) → IsSilent job → At (holding job room) → P (holding job room) → P room
+  pub notices : (vm left root queue : ℕ) (room : Room) → At (holding (jobs.Notice vm left) room) → P (holding (jobs.Notice vm left) room) → P (with_jobs_first (jobs.Ready vm root queue ∷ []) (with_agenda_first (jobs.Notice vm (left - 1) ∷ []) room))
+  pub root : (vm plugin : ℕ) (first : Bool) (room : Room) → At (holding (jobs.Root vm plugin first) room) → P (holding (jobs.Root vm plugin first) room) → P (create_root vm plugin first room).1
+  pub create : (number k : ℕ) (room : Room) → At (holding (jobs.Create number k) room) → P (holding (jobs.Create number k) room) → P (create_context number k room).1
   pub finish : (c : ContextAt) (value : Option (Option ℕ)) (room : Room) → P (holding (jobs.Done c) room) → P (finish_context c value room)
   pub delete : (c : ContextAt) (value : Option (Option ℕ)) (room : Room) → P (holding (jobs.Delete c) room) → P (delete_context c value room)
-  pub happens : (what : What) (room : Room) → room.reading ≡ None → P (holding (jobs.Happen what) room) → P (take_event what room)
-  pub enters : (number : ℕ) (room : Room) → P (holding (jobs.Enter number) room) → P (on_number (enter_stages room.dead) number room)
-  pub puts : (number : ℕ) (items : List ChainItem) (room : Room) → P (holding (jobs.Put number false items) room) → P (on_number (passing.put_read_items false items) number room)
-  pub refuses : (number status : ℕ) (room : Room) → P (holding (jobs.Refuse number status) room) → P (refuse_line (line_in number room.lines) number status room)
-  pub closes : (number : ℕ) (stays : Bool) (room : Room) → room.reading ≡ None → P (holding (jobs.Close number stays) room) → P (end_line (line_in number room.lines) number stays room)
+  pub happens : (what : What) (room : Room) → room.reading ≡ None → At (holding (jobs.Happen what) room) → P (holding (jobs.Happen what) room) → P (take_event what room)
+  pub enters : (number : ℕ) (room : Room) → At (holding (jobs.Enter number) room) → P (holding (jobs.Enter number) room) → P (on_number (enter_stages room.dead) number room)
+  pub puts : (number : ℕ) (items : List ChainItem) (room : Room) → At (holding (jobs.Put number false items) room) → P (holding (jobs.Put number false items) room) → P (on_number (passing.put_read_items false items) number room)
+  pub refuses : (number status : ℕ) (room : Room) → At (holding (jobs.Refuse number status) room) → P (holding (jobs.Refuse number status) room) → P (refuse_line (line_in number room.lines) number status room)
+  pub closes : (number : ℕ) (stays : Bool) (room : Room) → room.reading ≡ None → At (holding (jobs.Close number stays) room) → P (holding (jobs.Close number stays) room) → P (end_line (line_in number room.lines) number stays room)
 
 -- ---- callbacks of the machines
 
@@ -150,7 +150,7 @@ module _ (logs : WriteLogs calling) (change : CallbacksChangeTheirOwn) (stay : P
       all_then (λ (a : Answered Vms). P a.both.room × ArePlaced a.both.host) (λ (b : Both Vms). Q b.room × ArePlaced b.host) (called_live calling vm name context first second host room) (λ a. ends (continue_with behind a))
       (live_answer P calm vm name context first second host room is placed) (λ a here. (so a.value a.both.room here.0, here.1))
 
-  module _ (plan : Plan) (Goes : Option Asked → Type 0) (P F : Room → Type 0) (calm : IsCalm P) (stepped : IsStepped plan Goes P F) where
+  module _ (plan : Plan) (At : Room → Type 0) (Goes : Option Asked → Type 0) (P F : Room → Type 0) (calm : IsCalm P) (stepped : IsStepped plan At Goes P F) where
     abbrev Keeps : Course (Both Vms) → Type 0
     Keeps p = AllEnds (Fine P calm) p
 
@@ -193,21 +193,21 @@ module _ (logs : WriteLogs calling) (change : CallbacksChangeTheirOwn) (stay : P
         (calm.hub room (put two vm mid) (same_then h mid (put two vm mid) (same_put one vm (effective_of h vm) h) (same_put two vm (effective_of mid vm) mid)) is) placed)
         (is, placed)
 
-    noticed : (vm left : ℕ) (reply : Reply) (room : Room) → P (holding (jobs.Notice vm left) room) → P room → P (take_notice_reply vm left reply room)
-    noticed vm left (replies.Owed root queue) room held s = stepped.notices vm left root queue room held
-    noticed vm left replies.Absent room held s = s
-    noticed vm left (replies.Value value number) room held s = s
-    noticed vm left (replies.Done number) room held s = s
-    noticed vm left replies.CasMismatch room held s = s
-    noticed vm left replies.Full room held s = s
-    noticed vm left (replies.Id queue) room held s = s
-    noticed vm left (replies.Item item) room held s = s
-    noticed vm left replies.Empty room held s = s
-    noticed vm left replies.NoneOwed room held s = s
+    noticed : (vm left : ℕ) (reply : Reply) (room : Room) → At (holding (jobs.Notice vm left) room) → P (holding (jobs.Notice vm left) room) → P room → P (take_notice_reply vm left reply room)
+    noticed vm left (replies.Owed root queue) room at held s = stepped.notices vm left root queue room at held
+    noticed vm left replies.Absent room at held s = s
+    noticed vm left (replies.Value value number) room at held s = s
+    noticed vm left (replies.Done number) room at held s = s
+    noticed vm left replies.CasMismatch room at held s = s
+    noticed vm left replies.Full room at held s = s
+    noticed vm left (replies.Id queue) room at held s = s
+    noticed vm left (replies.Item item) room at held s = s
+    noticed vm left replies.Empty room at held s = s
+    noticed vm left replies.NoneOwed room at held s = s
 
-    notices_fine : (vm left : ℕ) (host : Vms) (room : Room) → P (holding (jobs.Notice vm left) room) → P room → ArePlaced host → Keeps (notice_step plan vm left host room)
-    notices_fine vm left host room held is placed =
-        pick Keeps ((left == 0 || is_dead vm room) || not (nat_lt vm plan.vms)) (ends (both host room)) (ask_notice vm left host room) (is, placed) (λ reply. (noticed vm left reply room held is, placed))
+    notices_fine : (vm left : ℕ) (host : Vms) (room : Room) → At (holding (jobs.Notice vm left) room) → P (holding (jobs.Notice vm left) room) → P room → ArePlaced host → Keeps (notice_step plan vm left host room)
+    notices_fine vm left host room at held is placed =
+        pick Keeps ((left == 0 || is_dead vm room) || not (nat_lt vm plan.vms)) (ends (both host room)) (ask_notice vm left host room) (is, placed) (λ reply. (noticed vm left reply room at held is, placed))
 
     zeroed : (vm : ℕ) (death : Death) (value : Option (Option ℕ)) (room : Room) → P room → P (unless_zero vm death value room)
     zeroed vm death None room s = s
@@ -216,39 +216,39 @@ module _ (logs : WriteLogs calling) (change : CallbacksChangeTheirOwn) (stay : P
     expired : (room : Room) → P room → P (expire_all room)
     expired room s = pick P (list_any (is_late room.hub.moment) room.lines) (with_lines room (all_lines passing.expire_exchange room.lines room.hub)) room (calm.all passing.expire_exchange room op_expires s) s
 
-    works_fine : (job : Job) (host : Vms) (room : Room) → room.reading ≡ None → P (holding job room) → ArePlaced host → Keeps (works calling plan job host room)
-    works_fine (jobs.Root vm plugin first) host room quiet is placed = made_fine host (create_root vm plugin first room) (stepped.root vm plugin first room is) placed
-    works_fine (jobs.Create number k) host room quiet is placed = made_fine host (create_context number k room) (stepped.create number k room is) placed
-    works_fine (jobs.Tick vm root) host room quiet is placed = ticked vm root (tick_in (vm_in room.hub.contexts vm).contexts root) host room (stepped.pops (jobs.Tick vm root) room tt is) placed
-    works_fine (jobs.Notice vm left) host room quiet is placed = notices_fine vm left host room is (stepped.pops (jobs.Notice vm left) room tt is) placed
-    works_fine (jobs.Ready vm root queue) host room quiet is placed =
-        let now : P room = stepped.pops (jobs.Ready vm root queue) room tt is in
+    works_fine : (job : Job) (host : Vms) (room : Room) → room.reading ≡ None → At (holding job room) → P (holding job room) → ArePlaced host → Keeps (works calling plan job host room)
+    works_fine (jobs.Root vm plugin first) host room quiet at is placed = made_fine host (create_root vm plugin first room) (stepped.root vm plugin first room at is) placed
+    works_fine (jobs.Create number k) host room quiet at is placed = made_fine host (create_context number k room) (stepped.create number k room at is) placed
+    works_fine (jobs.Tick vm root) host room quiet at is placed = ticked vm root (tick_in (vm_in room.hub.contexts vm).contexts root) host room (stepped.pops (jobs.Tick vm root) room tt at is) placed
+    works_fine (jobs.Notice vm left) host room quiet at is placed = notices_fine vm left host room at is (stepped.pops (jobs.Notice vm left) room tt at is) placed
+    works_fine (jobs.Ready vm root queue) host room quiet at is placed =
+        let now : P room = stepped.pops (jobs.Ready vm root queue) room tt at is in
         pick Keeps (may_stream vm root room.hub.contexts) (tells calling vm callbacks.QueueReady root queue host room) (ends (both host room)) (tells_fine vm callbacks.QueueReady root queue host room now placed) (now, placed)
-    works_fine (jobs.Begin vm) host room quiet is placed = tells_fine vm callbacks.Begin 0 0 host room (stepped.pops (jobs.Begin vm) room tt is) placed
-    works_fine (jobs.Start vm root) host room quiet is placed =
-        live_then P P calm vm callbacks.VmStart root (vm_length vm room.hub.contexts) 0 (unless_zero vm deaths.Start) (zeroed vm deaths.Start) host room (stepped.pops (jobs.Start vm root) room tt is) placed
-    works_fine (jobs.Configure vm root plugin) host room quiet is placed =
-        live_then P P calm vm callbacks.Configure root (plugin_length plugin room.hub.contexts) 0 (unless_zero vm deaths.Configure) (zeroed vm deaths.Configure) host room (stepped.pops (jobs.Configure vm root plugin) room tt is) placed
-    works_fine (jobs.Done c) host room quiet is placed =
+    works_fine (jobs.Begin vm) host room quiet at is placed = tells_fine vm callbacks.Begin 0 0 host room (stepped.pops (jobs.Begin vm) room tt at is) placed
+    works_fine (jobs.Start vm root) host room quiet at is placed =
+        live_then P P calm vm callbacks.VmStart root (vm_length vm room.hub.contexts) 0 (unless_zero vm deaths.Start) (zeroed vm deaths.Start) host room (stepped.pops (jobs.Start vm root) room tt at is) placed
+    works_fine (jobs.Configure vm root plugin) host room quiet at is placed =
+        live_then P P calm vm callbacks.Configure root (plugin_length plugin room.hub.contexts) 0 (unless_zero vm deaths.Configure) (zeroed vm deaths.Configure) host room (stepped.pops (jobs.Configure vm root plugin) room tt at is) placed
+    works_fine (jobs.Done c) host room quiet at is placed =
         live_then (λ r. P (holding (jobs.Done c) r)) P (held_calm P calm (jobs.Done c)) c.vm callbacks.Done c.context 0 0 (finish_context c) (λ value r s. stepped.finish c value r s) host room is placed
-    works_fine (jobs.Log c) host room quiet is placed = tells_fine c.vm callbacks.Log c.context 0 host room (stepped.pops (jobs.Log c) room tt is) placed
-    works_fine (jobs.Delete c) host room quiet is placed =
+    works_fine (jobs.Log c) host room quiet at is placed = tells_fine c.vm callbacks.Log c.context 0 host room (stepped.pops (jobs.Log c) room tt at is) placed
+    works_fine (jobs.Delete c) host room quiet at is placed =
         live_then (λ r. P (holding (jobs.Delete c) r)) P (held_calm P calm (jobs.Delete c)) c.vm callbacks.Delete c.context 0 0 (delete_context c) (λ value r s. stepped.delete c value r s) host room is placed
-    works_fine (jobs.Other step) host room quiet is placed = (stepped.pops (jobs.Other step) room tt is, placed)
-    works_fine jobs.Expire host room quiet is placed = (expired room (stepped.pops jobs.Expire room tt is), placed)
-    works_fine (jobs.Happen what) host room quiet is placed = (stepped.happens what room quiet is, placed)
-    works_fine (jobs.Enter number) host room quiet is placed = (stepped.enters number room is, placed)
-    works_fine (jobs.Put number false items) host room quiet is placed = (stepped.puts number items room is, placed)
-    works_fine (jobs.Put number true items) host room quiet is placed =
-        (calm.number (passing.put_read_items true items) number room (op_responds items) (stepped.pops (jobs.Put number true items) room tt is), placed)
-    works_fine (jobs.Refuse number status) host room quiet is placed = (stepped.refuses number status room is, placed)
-    works_fine (jobs.Close number stays) host room quiet is placed = (stepped.closes number stays room quiet is, placed)
+    works_fine (jobs.Other step) host room quiet at is placed = (stepped.pops (jobs.Other step) room tt at is, placed)
+    works_fine jobs.Expire host room quiet at is placed = (expired room (stepped.pops jobs.Expire room tt at is), placed)
+    works_fine (jobs.Happen what) host room quiet at is placed = (stepped.happens what room quiet at is, placed)
+    works_fine (jobs.Enter number) host room quiet at is placed = (stepped.enters number room at is, placed)
+    works_fine (jobs.Put number false items) host room quiet at is placed = (stepped.puts number items room at is, placed)
+    works_fine (jobs.Put number true items) host room quiet at is placed =
+        (calm.number (passing.put_read_items true items) number room (op_responds items) (stepped.pops (jobs.Put number true items) room tt at is), placed)
+    works_fine (jobs.Refuse number status) host room quiet at is placed = (stepped.refuses number status room at is, placed)
+    works_fine (jobs.Close number stays) host room quiet at is placed = (stepped.closes number stays room quiet at is, placed)
 
     -- ---- reading
 
-    reads_fine : (r : ReadBatch) (o : Option Reading) (host : Vms) (room : Room) → room.reading ≡ Some r → reading_on r room ≡ o → P room → ArePlaced host → Keeps (reads_in plan r o host room)
-    reads_fine r None host room at on is placed = (stepped.unread room is, placed)
-    reads_fine r (Some reading) host room at on is placed = λ h says. (stepped.read r reading h room at on says is, placed)
+    reads_fine : (r : ReadBatch) (o : Option Reading) (host : Vms) (room : Room) → room.reading ≡ Some r → reading_on r room ≡ o → At room → P room → ArePlaced host → Keeps (reads_in plan r o host room)
+    reads_fine r None host room at on here is placed = (stepped.unread room here is, placed)
+    reads_fine r (Some reading) host room at on here is placed = λ h says. (stepped.read r reading h room at on says here is, placed)
 
     -- ---- EACH STEP
 
@@ -261,18 +261,18 @@ module _ (logs : WriteLogs calling) (change : CallbacksChangeTheirOwn) (stay : P
     onward : (p : Course (Both Vms)) → Keeps p → Leads p
     onward p all = weaker (Fine P calm) FineF p all (λ b is. (stepped.last b.room is.0, is.1))
 
-    module _ (host : Vms) (room : Room) (is : P room) (placed : ArePlaced host) where
+    module _ (host : Vms) (room : Room) (here : At room) (is : P room) (placed : ArePlaced host) where
       by_agenda : room.reading ≡ None → room.jobs ≡ [] → (a : List Job) → room.agenda ≡ a → Leads (step calling plan (begins_or_rests a) host room)
       by_agenda quiet jobless [] at = (stepped.last room is, placed)
-      by_agenda quiet jobless (job ∷ later) at = subst (λ (l : List Job). FineF (both host (begin_first_job l room))) (sym at) (stepped.last _ (stepped.part job later room quiet jobless at is), placed)
+      by_agenda quiet jobless (job ∷ later) at = subst (λ (l : List Job). FineF (both host (begin_first_job l room))) (sym at) (stepped.last _ (stepped.part job later room quiet jobless at here is), placed)
 
       by_over : room.reading ≡ None → room.jobs ≡ [] → (o : Option ℕ) → Leads (step calling plan (ends_or o (begins_or_rests room.agenda)) host room)
       by_over quiet jobless None = by_agenda quiet jobless room.agenda refl
-      by_over quiet jobless (Some place) = (stepped.over place room quiet jobless is, placed)
+      by_over quiet jobless (Some place) = (stepped.over place room quiet jobless here is, placed)
 
       freed : (at : ℕ) → room.reading ≡ None → room.jobs ≡ [] → (o : Option ContextAt) → slice_get room.waits at ≡ o → FineF (both host (release_at at o room))
       freed at quiet jobless None there = (stepped.last room is, placed)
-      freed at quiet jobless (Some c) there = (stepped.last _ (stepped.frees at c room quiet jobless there is), placed)
+      freed at quiet jobless (Some c) there = (stepped.last _ (stepped.frees at c room quiet jobless there here is), placed)
 
       by_waits : room.reading ≡ None → room.jobs ≡ [] → (o : Option ℕ) → Leads (step calling plan (frees_or o (ends_or (position is_over room.lines) (begins_or_rests room.agenda))) host room)
       by_waits quiet jobless None = by_over quiet jobless (position is_over room.lines)
@@ -282,12 +282,12 @@ module _ (logs : WriteLogs calling) (change : CallbacksChangeTheirOwn) (stay : P
       by_jobs quiet [] at = by_waits quiet at (position (is_released room) room.waits)
       by_jobs quiet (job ∷ later) at =
           subst (λ (l : List Job). Leads (works_first calling plan l host room)) (sym at)
-          (onward _ (works_fine job host (record room { jobs = later }) quiet (subst (λ (l : List Job). P (record room { jobs = l })) at is) placed))
+          (onward _ (works_fine job host (record room { jobs = later }) quiet (subst (λ (l : List Job). At (record room { jobs = l })) at here) (subst (λ (l : List Job). P (record room { jobs = l })) at is) placed))
 
       by_moves : room.reading ≡ None → (o : Option ℕ) → position has_move room.lines ≡ o → ((place : ℕ) → position has_move room.lines ≡ Some place → Goes (asked_lines place room).0)
           → Leads (step calling plan (moves_or o (if is_any room.jobs then next.Work else next_part room)) host room)
       by_moves quiet None at goes = by_jobs quiet room.jobs refl
-      by_moves quiet (Some place) at goes = onward _ (moves_fine host room (asked_lines place room) (stepped.stage place room quiet at (goes place at) is) placed)
+      by_moves quiet (Some place) at goes = onward _ (moves_fine host room (asked_lines place room) (stepped.stage place room quiet at (goes place at) here is) placed)
 
       pub step_fine : ((place : ℕ) → position has_move room.lines ≡ Some place → room.reading ≡ None → Goes (asked_lines place room).0) → Leads (step calling plan (next_of room) host room)
       step_fine goes = by_reading room.reading refl
@@ -298,4 +298,4 @@ module _ (logs : WriteLogs calling) (change : CallbacksChangeTheirOwn) (stay : P
               (by_moves at (position has_move room.lines) refl (λ place there. goes place there at))
           by_reading (Some r) at =
               subst (λ (o : Option ReadBatch). Leads (step calling plan (if is_some o then next.Read else moves_or (position has_move room.lines) (if is_any room.jobs then next.Work else next_part room)) host room)) (sym at)
-              (subst (λ (o : Option ReadBatch). Leads (reads_next plan o host room)) (sym at) (onward _ (reads_fine r (reading_on r room) host room at refl is placed)))
+              (subst (λ (o : Option ReadBatch). Leads (reads_next plan o host room)) (sym at) (onward _ (reads_fine r (reading_on r room) host room at refl here is placed)))

@@ -121,12 +121,12 @@ module _ (vm context : ℕ) (base : List Sent) where
       wrong : ◌≡◌ {A = Option Stage} None (Some s) → ⊥
       wrong e = cc e
 
-  moves_on : (n k : ℕ) (x : Exchange) (hub : Hub) → x.has_ended ≡ false → Waits vm context x → Since hub → MovedBy n x hub (continued hub.contexts k x.request)
+  pub moves_on : (n k : ℕ) (x : Exchange) (hub : Hub) → x.has_ended ≡ false → Waits vm context x → Since hub → MovedBy n x hub (continued hub.contexts k x.request)
   moves_on n k x hub runs (inl (inl ended)) since = absurd (never x.has_ended runs ended)
   moves_on n k x hub runs (inl (inr is)) since = subst (λ (ss : List Stage). MovedBy n x hub (continued hub.contexts k ss)) (sym is.1) (none_moves n k x hub is.0 since)
   moves_on n k x hub runs (inr is) since = continued_moves n is.0 k x hub x.request (slice_get x.request k) refl is.1 since
 
-  let_on : (n k : ℕ) (s : Stage) (x : Exchange) (hub : Hub) → slice_get x.request k ≡ Some s → (s.vm ≡ vm → ⊥) → x.has_ended ≡ false → Waits vm context x → Since hub → MovedBy n x hub (let_through hub.contexts k x.request)
+  pub let_on : (n k : ℕ) (s : Stage) (x : Exchange) (hub : Hub) → slice_get x.request k ≡ Some s → (s.vm ≡ vm → ⊥) → x.has_ended ≡ false → Waits vm context x → Since hub → MovedBy n x hub (let_through hub.contexts k x.request)
   let_on n k s x hub at other runs (inl (inl ended)) since = absurd (never x.has_ended runs ended)
   let_on n k s x hub at other runs (inl (inr is)) since = absurd (no_stage k s x.request is.1 at)
   let_on n k s x hub at other runs (inr is) since =
@@ -142,7 +142,7 @@ module _ (vm context : ℕ) (base : List Sent) where
   over_asks n (x, hub) is = inr is
 
   -- the stages are so, and what is asked is no head of the stage
-  asks_on : (n t : ℕ) (a : Asking) (x : Exchange) (hub : Hub) → Comes vm context t x.request → Since hub → IsAskedOr (asks_as false n a x hub)
+  pub asks_on : (n t : ℕ) (a : Asking) (x : Exchange) (hub : Hub) → Comes vm context t x.request → Since hub → IsAskedOr (asks_as false n a x hub)
   asks_on n t Nothing x hub comes since = inr (inr (t, comes), since)
   asks_on n t (Over k) x hub comes since = over_asks n (finish_put false n passed.Over x hub) (in_answer G closed n true 413 [] [] x hub (inr (t, comes), since))
   asks_on n t (Asks ask) x hub comes since = inr (inr (t, comes), since)

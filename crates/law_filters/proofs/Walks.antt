@@ -353,12 +353,12 @@ module _ (starts : StartsHaveRoots) (plan : Plan) where
     walked _ _ _ (steps b m e ms more goes reaches later) is =
         walked m e more later
         (all_reached Fine ms (step calling plan (next_of b.room) b.host b.room) m
-        (step_fine logs change stay plan Any (λ r. IsSound plan Nobody r) (λ r. IsSound plan Nobody r) (sound_calm plan Nobody) (sound_stepped plan) b.host b.room is.0 is.1 (λ place at quiet. tt)) reaches)
+        (step_fine logs change stay plan (λ room. Unit {0}) Any (λ r. IsSound plan Nobody r) (λ r. IsSound plan Nobody r) (sound_calm plan Nobody) (sound_stepped plan) b.host b.room tt is.0 is.1 (λ place at quiet. tt)) reaches)
     walked _ _ _ (turns b e event all rest goes later) is =
         walked (both b.host (room_for_event plan event (without_sent b.room))) e all later (event_faced event b.room rest is.0, is.1)
 
     step_kept : (b : Both Vms) → Fine b → AllEnds Fine (step calling plan (next_of b.room) b.host b.room)
-    step_kept b is = step_fine logs change stay plan Any (λ r. IsSound plan Nobody r) (λ r. IsSound plan Nobody r) (sound_calm plan Nobody) (sound_stepped plan) b.host b.room is.0 is.1 (λ place at quiet. tt)
+    step_kept b is = step_fine logs change stay plan (λ room. Unit {0}) Any (λ r. IsSound plan Nobody r) (λ r. IsSound plan Nobody r) (sound_calm plan Nobody) (sound_stepped plan) b.host b.room tt is.0 is.1 (λ place at quiet. tt)
 
     settled : (n : ℕ) (host : Vms) (room : Room) → Fine (both host room) → AllEnds Fine (settling calling plan n host room)
     settled zero host room is = subst (AllEnds Fine) (sym (settling_none calling plan host room)) is

@@ -24,6 +24,7 @@ pub record IsIdle (s : Stage) : Type 0 where
   pub waiting : s.waiting ≡ []
   pub holding : s.held ≡ held.Nothing
 
+-- so it is of each of these stages
 abbrev pub AreIdle : List Stage → Type 0
 AreIdle [] = Unit {0}
 AreIdle (s ∷ ss) = IsIdle s × AreIdle ss
@@ -112,3 +113,8 @@ abbrev pub StagesAwait : Type 0
 StagesAwait =
     (dead : List ℕ) (x : Exchange) (k : ℕ) (f : Filter) → x.has_ended ≡ false → x.is_answered ≡ false → slice_get x.filters k ≡ Some f → is_live dead f ≡ true
     → WaitsYet f.vm f.context (exchange_with_stages dead x)
+
+-- the stage of the context is asked the head of the request of the exchange on the line
+abbrev pub IsAskedOn : (n vm context : ℕ) → Option Asked → Type 0
+IsAskedOn n vm context None = ⊥
+IsAskedOn n vm context (Some a) = (a.line ≡ n) × IsAskedHead vm context (Some a)
