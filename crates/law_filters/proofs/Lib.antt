@@ -1,3 +1,4 @@
+mod Asking
 mod Begun
 mod Chains
 mod Doing
@@ -6,6 +7,7 @@ mod Good
 mod Ids
 mod Kept
 mod Made
+mod Onward
 mod Rooms
 mod Same
 mod Sound

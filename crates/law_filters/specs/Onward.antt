@@ -23,12 +23,15 @@ pub record WasAsked (n vm context : ℕ) (steps : List (Step Vms)) : Type 0 wher
   pub among : Contains steps ask
   pub asks : IsAskedOn n vm context (asked_in ask)
 
+-- A VM is dead in a state, or behind one of the steps from there.
+abbrev pub HasDied : (vm : ℕ) → Both Vms → List (Step Vms) → Type 0
+HasDied vm from steps = (is_dead vm from.room ≡ true) ⊎ ((s : Step Vms) × Contains steps s × (is_dead vm s.after.room ≡ true))
+
 -- THE STAGE WAS ASKED BEFORE ANYTHING WENT UP. From any state of a worker's life, where the head of the request of the exchange on a line waits for the stage of a
--- context, by any steps of any turns up to one that opens a connection for the line: one of these steps asked the stage the head, or the stage's VM is dead behind the
--- last. Whatever callbacks return and ask for, on this line and on all others, and whatever comes on them.
+-- context, by any steps of any turns up to one that opens a connection for the line: one of these steps asked the stage the head, or the stage's VM died. Whatever callbacks return and ask for, on this line and on all others, and whatever comes on them.
 abbrev pub StagesAreAskedFirst : Type 0
 StagesAreAskedFirst =
     (config : Config) (who : ℕ) (seed : List ℕ) (earlier between : List (Step Vms)) (opens : Step Vms) (mid to : Both Vms) (n vm context : ℕ) (x : Exchange) (front back : List Sent)
     → WalksTo config who seed earlier mid → exchange_on n mid.room ≡ Some x → x.is_entered ≡ true → Waits vm context x
     → Walk calling (rules_for config who seed) mid (between ++ opens ∷ []) to → StaysOn n (between ++ opens ∷ []) → Sends opens (front ++ Connect n ∷ back)
-    → (is_dead vm opens.after.room ≡ true) ⊎ WasAsked n vm context (between ++ opens ∷ [])
+    → HasDied vm mid (between ++ opens ∷ []) ⊎ WasAsked n vm context (between ++ opens ∷ [])

@@ -1,5 +1,6 @@
 // The functions call the laws that theirs rest on, and do nothing else: their contracts are the laws.
 ghost use Rattle.law_filters.specs.Heads.{AllHeadsWait, StagesAwait};
+ghost use Rattle.law_filters.specs.Onward.{StagesAreAskedFirst};
 ghost use Rattle.law_filters.specs.Roots.{FiltersGetContextsForLife, RootsStandAfterTurns, RootsStandForLife};
 
 use law_lines::machines_write_logs;
@@ -33,3 +34,14 @@ pub fn heads_wait()
     ensures made { StagesAwait }
     ensures stays { AllHeadsWait }
 {}
+
+/// Over the whole life of a worker: from any state where the head of a request waits for a stage of its exchange, by any steps up to one that opens a connection
+/// for the line, one of them asked the stage the head, or the stage's VM died.
+pub fn stages_are_asked_first()
+    ensures { StagesAreAskedFirst }
+{
+    callbacks_change_their_own();
+    made_vms_are_in_place();
+    machines_write_logs();
+    roots_stand();
+}
