@@ -1,0 +1,16 @@
+mod Asking
+mod Begun
+mod Chains
+mod Doing
+mod Entering
+mod Good
+mod Ids
+mod Kept
+mod Made
+mod Onward
+mod Rooms
+mod Same
+mod Sound
+mod Steps
+mod Waiting
+mod Walks

@@ -1,0 +1,47 @@
+// The functions call the laws that theirs rest on, and do nothing else: their contracts are the laws.
+ghost use Rattle.law_filters.specs.Heads.{AllHeadsWait, StagesAwait};
+ghost use Rattle.law_filters.specs.Onward.{StagesAreAskedFirst};
+ghost use Rattle.law_filters.specs.Roots.{FiltersGetContextsForLife, RootsStandAfterTurns, RootsStandForLife};
+
+use law_lines::machines_write_logs;
+use law_roots::roots_stand;
+use law_vms::{callbacks_change_their_own, made_vms_are_in_place};
+
+/// Over the whole life of a worker, step by step: the VM of each plug-in is dead, or the plug-in's root context stands, or it is to come; and where one is to
+/// come no line is open. So it is after each whole turn, where turns come to rest.
+pub fn roots_stand_for_life()
+    ensures steps { RootsStandForLife }
+    ensures turns { RootsStandAfterTurns }
+{
+    callbacks_change_their_own();
+    made_vms_are_in_place();
+    machines_write_logs();
+    roots_stand();
+}
+
+/// So, wherever a line is open, each filter of a plug-in whose VM lives and has an id left gets a stream context of its plug-in's root.
+pub fn filters_get_contexts_for_life()
+    ensures { FiltersGetContextsForLife }
+{
+    roots_stand();
+    roots_stand_for_life();
+}
+
+/// The head of a request waits for each stage of its exchange: whatever is done to the exchange, whatever callbacks return and ask for and whichever other VM
+/// dies, the head is not past a stage that was not asked it, and no connection to the server is opened. Or nothing more of the request goes up. So
+/// it begins where stages are made: each filter that has its context, of a VM that lives, has its stage, to which nothing came.
+pub fn heads_wait()
+    ensures made { StagesAwait }
+    ensures stays { AllHeadsWait }
+{}
+
+/// Over the whole life of a worker: from any state where the head of a request waits for a stage of its exchange, by any steps up to one that opens a connection
+/// for the line, one of them asked the stage the head, or the stage's VM died.
+pub fn stages_are_asked_first()
+    ensures { StagesAreAskedFirst }
+{
+    callbacks_change_their_own();
+    made_vms_are_in_place();
+    machines_write_logs();
+    roots_stand();
+}

@@ -1,0 +1,8 @@
+//! Every filter of a request is asked before anything goes up. No code stands here.
+#![tactic(auto)]
+
+mod laws;
+
+pub use laws::{
+    filters_get_contexts_for_life, heads_wait, roots_stand_for_life, stages_are_asked_first,
+};
