@@ -17,6 +17,7 @@ pub record IsUntouched {R P : Type 0} (upstream : SocketAddr) (w : LiveWorld R P
 abbrev pub IsReady : {R P : Type 0} → (R → List ℕ → Type 0) → SocketAddr → LiveWorld R P → Type 0
 IsReady draws upstream w = IsUntouched upstream w × draws w.rt w.seed
 
+-- so are all of these
 abbrev pub AreReady : {R P : Type 0} → (R → List ℕ → Type 0) → SocketAddr → List (LiveWorld R P) → Type 0
 AreReady draws upstream ws = All (λ w. IsReady draws upstream w) ws
 

@@ -21,5 +21,6 @@ ComesBy told last now = (moment : ℕ) × told moment × (now ≤ max last momen
 abbrev pub IsMoment : (ℕ → Type 0) → ℕ → Option ℕ → What → ℕ → Type 0
 IsMoment told last due what now = HasCome due last now ⊎ (ComesLater told last now ⊎ (IsOfLine what × ComesBy told last now))
 
+-- so of an event with its moment
 abbrev pub IsTimed : (ℕ → Type 0) → ℕ → Option ℕ → Event → Type 0
 IsTimed told last due event = IsMoment told last due event.what event.now
