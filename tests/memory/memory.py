@@ -224,7 +224,7 @@ with concurrent.futures.ThreadPoolExecutor(len(os.sched_getaffinity(0))) as POOL
         runs += judge(f"cases/{name}", case(name), is_front, lambda count: steps(count, 4000))
     runs += judge("generate", words_of("generate", "7"), is_front, lambda count: steps(count, 4000 if ALL else 100))
     for workers in (1, 2):
-        runs += judge(f"serve, workers = {workers}", serving(workers, server), is_served, lambda count: [*range(1, count, 1 if ALL else 10), count + 1])
+        runs += judge(f"serve, workers = {workers}", serving(workers, server), is_served, lambda count: [*range(1, count, 1 if ALL or workers == 1 else 10), count + 1])
 
 for name in failed:
     print(f"FAIL memory: {name}")
