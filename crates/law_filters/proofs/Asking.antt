@@ -1,17 +1,15 @@
 -- Over a worker's life each stage is asked the head before a connection is opened.
-use Rattle.std.proofs.Common.{◌≡◌, ◌⊎◌, inl, inr, refl, ℕ, zero, suc, ◌==◌, Bool, true, false, not, ◌&&◌, List, [], ◌∷◌, ◌++◌, ap, ◌∙◌, sym, subst, ⊎_elim, append-nil, append_assoc, eq-eqb}
-use Rattle.std.proofs.lemmas.Bool.{cases_Bool, cases_eq, eqb-true}
+use Rattle.std.proofs.Common.{◌≡◌, ◌⊎◌, inl, inr, refl, ℕ, ◌==◌, Bool, true, false, not, ◌&&◌, List, [], ◌∷◌, ◌++◌, ap, ◌∙◌, sym, subst, ⊎_elim, append-nil, eq-eqb}
+use Rattle.std.proofs.lemmas.Bool.{cases_Bool, cases_eq}
 use Rattle.std.proofs.lemmas.List.Elements.{Contains-append_left, Contains-append_right, Contains-push}
 use Rattle.std.specs.List.{find}
-use Rattle.std.specs.Prelude.{cond, Contains, is_some, if◌then◌else◌, Option, None, Some, position, slice_get}
+use Rattle.std.specs.Prelude.{cond, Contains, is_some, if◌then◌else◌, Option, None, Some, position}
 use Rattle.exchange.specs.declared.types.Exchange.{Exchange}
 use Rattle.filter_chain.specs.declared.item.AskKind.{AskKind}
 use Rattle.filter_chain.specs.declared.item.AskKind.TheVariants as kinds
-use Rattle.filter_chain.specs.declared.item.ChainItem.{ChainItem}
 use Rattle.filter_host.proofs.Holds.{all_reached}
 use Rattle.filter_host.specs.Course.{ends, Met, Reaches}
 use Rattle.filter_host.specs.Heard.{Hears, hands}
-use Rattle.gate_config.specs.declared.config.Config.{Config}
 use Rattle.gate_io.specs.declared.event.Event.{Event}
 use Rattle.gate_io.specs.declared.event.Sent.{Sent}
 use Rattle.gate_io.specs.declared.event.Sent.TheVariants as to
@@ -21,13 +19,13 @@ use Rattle.h1_model.specs.Unread.{head_part, Reading}
 use Rattle.law_lines.proofs.Finding.{IsOnce}
 use Rattle.law_lines.proofs.Looks.{is_n, look, line_in_is}
 use Rattle.law_lines.proofs.Reader.{InBody, body_next}
-use Rattle.law_lines.proofs.Rooms.{AllParts, IsPart}
+use Rattle.law_lines.proofs.Rooms.{AllParts}
 use Rattle.law_lines.proofs.Stepping.{step_keeps}
 use Rattle.law_lines.proofs.Story.{Busy, Enters, ExOk, Known, LineOk, Matches, NoEnter, ReadsOk, Tale, batch_of, filtered, plainly}
 use Rattle.law_lines.proofs.Turning.{emptied_known, facing_known, new_known}
 use Rattle.law_lines.specs.Logs.{WriteLogs}
 use Rattle.law_roots.specs.Roots.{StartsHaveRoots}
-use Rattle.law_meaning.specs.Walks.{Sends, Step, Walk, asked_at, asked_in, stays, steps, turns}
+use Rattle.law_meaning.specs.Walks.{Sends, Step, Walk, asked_at, stays, steps, turns}
 use Rattle.law_vms.specs.MadeVms.{MadeVmsAreInPlace}
 use Rattle.law_vms.specs.OwnChanges.{ArePlaced, CallbacksChangeTheirOwn, PlacesStay}
 use Rattle.send_queue.specs.Joined.{join_neighbours}
@@ -50,12 +48,12 @@ use Rattle.law_filters.proofs.Begun.{first_sound}
 use Rattle.law_filters.proofs.Doing.{never}
 use Rattle.law_filters.proofs.Onward as onward
 use Rattle.law_filters.proofs.Onward.{NoneOn}
-use Rattle.law_filters.proofs.Rooms.{OfEach, OfExchange, OfLine, asked_lines}
+use Rattle.law_filters.proofs.Rooms.{OfEach, OfExchange}
 use Rattle.law_filters.proofs.Steps.{step_fine}
 use Rattle.law_filters.proofs.Walks.{walked}
-use Rattle.law_filters.specs.Heads.{IsAskedHead, IsAskedOn, Waits}
+use Rattle.law_filters.specs.Heads.{IsAskedOn, Waits}
 use Rattle.law_filters.specs.Onward.{HasDied, StagesAreAskedFirst, StaysOn, WasAsked}
-use Rattle.law_filters.specs.Roots.{WalksTo, first_worker, rules_for}
+use Rattle.law_filters.specs.Roots.{first_worker, rules_for}
 
 -- ---- what is known of lines, over walks
 

@@ -10,7 +10,7 @@ use Rattle.exchange.specs.Heads.{is_bare, is_final, passes_filters, closes_line,
 use Rattle.exchange.specs.Leaving.{bytes_sent_to, hub_with_sent, out_framing, written_framing, stays_behind, send_response_head, send_response_item, send_item, send_items, is_due, with_out}
 use Rattle.exchange.specs.Maps.{put_response, answer_map, response_map, response_trailers, mark, marked}
 use Rattle.exchange.specs.Passing as passing
-use Rattle.exchange.specs.Passing.{chain_of, with_chain, finish_put, take_move, take_put, takes_nothing, put_to_chain, put_all_to_chain, resume_held, bypass, put_read_items, stage_of, resume_place, resume_context, pause_held, apply_action, fails_closed, bypass_vm_at, bypass_vm_stages, bypass_vm_response, bypass_vm, lose_vm, refuse_exchange, expire_exchange}
+use Rattle.exchange.specs.Passing.{chain_of, finish_put, take_move, take_put, takes_nothing, put_to_chain, put_all_to_chain, resume_held, bypass, put_read_items, stage_of, resume_place, resume_context, pause_held, apply_action, fails_closed, bypass_vm_at, bypass_vm_stages, bypass_vm_response, bypass_vm, lose_vm, refuse_exchange, expire_exchange}
 use Rattle.filter_chain.specs.Chains.{put as put_item, continued, let_through, paused, asked, ready, without_buffers}
 use Rattle.filter_chain.specs.declared.item.Asking.{Asking}
 use Rattle.filter_chain.specs.declared.item.Asking.TheVariants.{Nothing, Over, Asks}

@@ -2,9 +2,10 @@
 use Rattle.std.proofs.Common.{◌≡◌, inr, refl, ℕ, zero, suc, Bool, true, false, cond, ◌||◌, List, [], ◌∷◌, map, Some, ap, ◌∙◌, sym, subst}
 use Rattle.std.specs.List.{filter}
 use Rattle.std.specs.Prelude.{slice_get, reverse}
+use Rattle.exchange.specs.declared.types.Exchange.{Exchange}
 use Rattle.exchange.specs.declared.types.Filter.{Filter}
 use Rattle.filter_chain.specs.declared.stage.Stage.{Stage}
-use Rattle.worker_model.specs.Steps.{is_live, new_stage}
+use Rattle.worker_model.specs.Steps.{exchange_with_stages, is_live, new_stage}
 use Rattle.law_filters.proofs.Doing.{by_ended}
 use Rattle.law_filters.specs.Heads.{AreIdle, Awaits, StagesAwait, WaitsYet}
 
@@ -48,3 +49,12 @@ stages_await dead x k f runs free at live =
       response = reverse (map (new_stage true) (filter (is_live dead) x.filters));
       is_entered = true;
     }) (λ e. absurd (either_false x.has_ended x.is_answered runs free e)) (λ e. inr (runs, free, live_stage dead x.filters k f at live))
+
+pub stages_entered : (dead : List ℕ) (x : Exchange) → x.has_ended ≡ false → x.is_answered ≡ false → (exchange_with_stages dead x).is_entered ≡ true
+stages_entered dead x runs free =
+    by_ended (λ (y : Exchange). y.is_entered ≡ true) (x.has_ended || x.is_answered) x
+    (record x {
+      request = map (new_stage false) (filter (is_live dead) x.filters);
+      response = reverse (map (new_stage true) (filter (is_live dead) x.filters));
+      is_entered = true;
+    }) (λ e. absurd (either_false x.has_ended x.is_answered runs free e)) (λ e. refl)

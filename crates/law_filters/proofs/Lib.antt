@@ -1,8 +1,10 @@
 mod Asking
 mod Begun
 mod Chains
+mod Coming
 mod Doing
 mod Entering
+mod Examples
 mod Good
 mod Ids
 mod Kept

@@ -1,21 +1,20 @@
 -- Each step of a worker keeps the head of a request waiting for each stage that was not asked.
-use Rattle.std.proofs.Common.{◌≡◌, ◌⊎◌, inl, inr, refl, ℕ, zero, suc, ◌-◌, ◌==◌, Bool, true, false, not, ◌||◌, ◌&&◌, List, [], ◌∷◌, ◌++◌, length, ap, ◌∙◌, sym, subst, ⊎_elim, append_assoc, append-nil, ne_eqb, eq-eqb}
+use Rattle.std.proofs.Common.{◌≡◌, ◌⊎◌, inl, inr, refl, ℕ, zero, suc, ◌==◌, Bool, true, false, not, ◌||◌, ◌&&◌, List, [], ◌∷◌, ◌++◌, length, ap, ◌∙◌, sym, subst, ⊎_elim, append_assoc, ne_eqb, eq-eqb}
 use Rattle.std.proofs.lemmas.Bool.{cases_eq, eqb-true}
-use Rattle.std.specs.List.{list_any}
 use Rattle.std.specs.Option.{option_map}
-use Rattle.std.specs.Prelude.{slice_set, slice_get, nat_lt, if◌then◌else◌, Option, None, Some, is_some, remove, insert, position}
-use Rattle.contexts.specs.Creating.{next_id, plugin_in, open_exchange, await_done_of, delete_id, end_exchange, root_created, stream_created}
+use Rattle.std.specs.Prelude.{slice_get, nat_lt, if◌then◌else◌, Option, None, Some, is_some, remove, insert}
+use Rattle.contexts.specs.Creating.{next_id, plugin_in, await_done_of, delete_id, root_created}
 use Rattle.contexts.specs.Reached.{contains, seen}
 use Rattle.contexts.specs.declared.parts.Contexts.{Contexts}
 use Rattle.exchange.specs.declared.types.Exchange.{Exchange}
 use Rattle.exchange.specs.declared.types.Filter.{Filter}
 use Rattle.exchange.specs.declared.types.Hub.{Hub}
-use Rattle.exchange.specs.Answering.{none_held, with_held}
+use Rattle.exchange.specs.Answering.{with_held}
 use Rattle.exchange.specs.Heads.{path_of, route_in, sent_head, up_tail, with_connection}
-use Rattle.exchange.specs.Leaving.{bytes_sent_to as sending_to, hub_with_sent, request_framing, send_item, send_items, send_request_item}
+use Rattle.exchange.specs.Leaving.{bytes_sent_to as sending_to, request_framing, send_item, send_items, send_request_item}
 use Rattle.exchange.specs.Maps.{put_response, request_map, request_trailers, with_fields}
 use Rattle.exchange.specs.Passing as passing
-use Rattle.exchange.specs.Passing.{chain_of, finish_put, fails_closed, put_all_to_chain, put_read_items, put_to_chain, take_move, take_put, takes_nothing}
+use Rattle.exchange.specs.Passing.{chain_of, finish_put, put_all_to_chain, put_read_items, put_to_chain, take_move, take_put, takes_nothing}
 use Rattle.filter_chain.specs.Chains.{asked, continued, let_through, put as put_item}
 use Rattle.filter_chain.specs.declared.item.Asking.{Asking}
 use Rattle.filter_chain.specs.declared.item.Asking.TheVariants.{Nothing, Over, Asks}
@@ -41,8 +40,8 @@ use Rattle.law_lines.proofs.Story.{NoEnter}
 use Rattle.worker_model.specs.Moves.{asks_as, asks_at, asks_back, asks_chain, asks_exchange, asks_in, asks_stage, count_of, ended_at, ended_back, ended_in}
 use Rattle.worker_model.specs.Plan.{Plan}
 use Rattle.worker_model.specs.Room.{Room}
-use Rattle.worker_model.specs.Rooms.{Changes, has_move, is_dead, with_lines, with_contexts, with_marks, in_exchange, at_some, put_back, room_with_sent, on_number, at_place, place_in, lose_vm_in}
-use Rattle.worker_model.specs.Steps.{with_jobs_first, is_zero, has_vm, await_done, last_jobs, finish_context, delete_context, is_drawn_out, may_root, may_stream, root_jobs, new_one, create_root, with_filter, change_exchange, change_line, line_at, line_at_place, on_line, line_in, exchange_of_line, exchange_on, with_stream, create_stream, create_filter, filter_at, create_context, enter_stages, exchange_for, with_exchange, free_place, begin_exchange_on, line_reading, reading_on, with_reader, read_on, is_last, with_read_mark, on_lines, create_jobs, begins_with_head, refuse_jobs, put_jobs, exchange_jobs, begin_jobs_for, jobs_of, end_reading, with_item, add_read_item, take_read_item, with_response_head, in_contexts, head_item, interim_of, put_trailers, take_part, end_of_read, after_heard, without_place, drop_line, close_line, read_side, end_line, fixed_answer, refusal_sent, refuse_in, refuse_line, most_lines, new_line, place_for, accept_line, with_further, side_with_more, reading_with_more, is_open, is_answered_in, is_read_in, receive_on, exchange_without_client, line_without_client, lose_client, is_missed, lose_server, take_event, done_jobs, close_up, end_exchange_of, end_with, end_at, with_agenda_first}
+use Rattle.worker_model.specs.Rooms.{Changes, is_dead, with_contexts, with_marks, in_exchange, at_some, put_back, room_with_sent, on_number, at_place, place_in, lose_vm_in}
+use Rattle.worker_model.specs.Steps.{with_jobs_first, is_zero, has_vm, await_done, last_jobs, finish_context, delete_context, is_drawn_out, may_root, may_stream, root_jobs, create_root, with_filter, change_exchange, change_line, line_at, line_at_place, line_in, exchange_of_line, exchange_on, with_stream, create_stream, create_filter, filter_at, enter_stages, exchange_for, with_exchange, free_place, begin_exchange_on, line_reading, reading_on, with_reader, read_on, is_last, with_read_mark, on_lines, create_jobs, begins_with_head, refuse_jobs, put_jobs, exchange_jobs, begin_jobs_for, jobs_of, end_reading, with_item, take_read_item, with_response_head, in_contexts, head_item, interim_of, put_trailers, take_part, end_of_read, after_heard, without_place, drop_line, close_line, read_side, end_line, fixed_answer, refusal_sent, refuse_in, refuse_line, most_lines, new_line, place_for, accept_line, with_further, side_with_more, is_open, is_answered_in, is_read_in, receive_on, exchange_without_client, line_without_client, lose_client, is_missed, lose_server, take_event, done_jobs, close_up, end_with}
 use Rattle.worker_model.specs.declared.types.Asked.{Asked}
 use Rattle.worker_model.specs.declared.types.ContextAt.{ContextAt}
 use Rattle.worker_model.specs.declared.types.Job.{Job}
@@ -51,12 +50,12 @@ use Rattle.worker_model.specs.declared.types.Line.{Line}
 use Rattle.worker_model.specs.declared.types.NewContext.{NewContext}
 use Rattle.worker_model.specs.declared.types.ReadBatch.{ReadBatch}
 use Rattle.law_filters.proofs.Doing.{NoConnects, IsAside, IsShut, IsClosed, IsMoved, InBoth, InThird, in_answer, in_asks, in_marking, lets_vm, lets_response, bytes_connect_none, by_ended, never}
-use Rattle.law_filters.proofs.Rooms.{OfExchange, OfLine, OfEach, Joint, IsRest, IsApart, IsCalm, Holds, Op, op_refuses, LinesBoth, numbers, numbers_set, each_at, each_set, on_place, holding, apart_closed, asked_lines, with_asked, holds_lines, holds_number, holds_context, holds_all, holds_dies}
-use Rattle.law_filters.proofs.Same.{pick, SameIds}
+use Rattle.law_filters.proofs.Rooms.{OfExchange, OfLine, OfEach, Joint, IsRest, IsApart, IsCalm, Holds, Op, op_refuses, LinesBoth, numbers_set, each_at, each_set, on_place, holding, apart_closed, with_asked, holds_lines, holds_number, holds_context, holds_all, holds_dies}
+use Rattle.law_filters.proofs.Same.{pick}
 use Rattle.law_filters.proofs.Sound.{still_dead, now_dead}
-use Rattle.law_filters.proofs.Steps.{IsStepped, IsSilent}
+use Rattle.law_filters.proofs.Steps.{IsStepped}
 use Rattle.law_filters.proofs.Waiting as waiting
-use Rattle.law_filters.specs.Heads.{Comes, IsAskedHead, IsAskedOn, IsSilenced, OpensNone, Waits}
+use Rattle.law_filters.specs.Heads.{Comes, IsAskedHead, IsAskedOn, OpensNone, Waits}
 
 -- ---- what is sent for a line
 

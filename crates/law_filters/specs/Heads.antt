@@ -15,8 +15,10 @@ use Rattle.gate_io.specs.declared.event.Sent.{Sent}
 use Rattle.gate_io.specs.declared.event.Sent.TheVariants as to
 use Rattle.h1_model.specs.Fields.{Pair}
 use Rattle.worker_model.specs.Moves.{asks_exchange}
+use Rattle.worker_model.specs.Room.{Room}
 use Rattle.worker_model.specs.Rooms.{Changes}
-use Rattle.worker_model.specs.Steps.{exchange_with_stages, is_live}
+use Rattle.worker_model.specs.Steps.{exchange_on, exchange_with_stages, is_live, run_silent_job}
+use Rattle.worker_model.specs.declared.types.Job.TheVariants as jobs
 use Rattle.worker_model.specs.declared.types.Asked.{Asked}
 
 -- nothing came to the stage, or all of it went on
@@ -113,6 +115,14 @@ abbrev pub StagesAwait : Type 0
 StagesAwait =
     (dead : List ℕ) (x : Exchange) (k : ℕ) (f : Filter) → x.has_ended ≡ false → x.is_answered ≡ false → slice_get x.filters k ≡ Some f → is_live dead f ≡ true
     → WaitsYet f.vm f.context (exchange_with_stages dead x)
+
+-- SO THE HEAD COMES TO WAIT: where stages are made of the exchange on a line, which runs and was not answered, and what was read, from the head on, is put to them, the head
+-- waits for the stage of each filter that has its context, of a VM that lives.
+abbrev pub HeadsComeToWait : Type 0
+HeadsComeToWait =
+    (n k : ℕ) (end : Bool) (items : List ChainItem) (room : Room) (x : Exchange) (f : Filter)
+    → exchange_on n room ≡ Some x → x.has_ended ≡ false → x.is_answered ≡ false → slice_get x.filters k ≡ Some f → is_live room.dead f ≡ true
+    → (y : Exchange) × (exchange_on n (run_silent_job (jobs.Put n false (Head end ∷ items)) (run_silent_job (jobs.Enter n) room)) ≡ Some y) × (y.is_entered ≡ true) × Waits f.vm f.context y
 
 -- the stage of the context is asked the head of the request of the exchange on the line
 abbrev pub IsAskedOn : (n vm context : ℕ) → Option Asked → Type 0

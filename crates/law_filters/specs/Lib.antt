@@ -1,3 +1,4 @@
 pub mod Roots
 pub mod Heads
 pub mod Onward
+pub mod Examples

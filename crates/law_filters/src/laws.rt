@@ -1,5 +1,6 @@
 // The functions call the laws that theirs rest on, and do nothing else: their contracts are the laws.
-ghost use Rattle.law_filters.specs.Heads.{AllHeadsWait, StagesAwait};
+ghost use Rattle.law_filters.specs.Examples.{HeadExamples};
+ghost use Rattle.law_filters.specs.Heads.{AllHeadsWait, HeadsComeToWait, StagesAwait};
 ghost use Rattle.law_filters.specs.Onward.{StagesAreAskedFirst};
 ghost use Rattle.law_filters.specs.Roots.{FiltersGetContextsForLife, RootsStandAfterTurns, RootsStandForLife};
 
@@ -29,9 +30,10 @@ pub fn filters_get_contexts_for_life()
 
 /// The head of a request waits for each stage of its exchange: whatever is done to the exchange, whatever callbacks return and ask for and whichever other VM
 /// dies, the head is not past a stage that was not asked it, and no connection to the server is opened. Or nothing more of the request goes up. So
-/// it begins where stages are made: each filter that has its context, of a VM that lives, has its stage, to which nothing came.
+/// it begins where stages are made: each filter that has its context, of a VM that lives, has its stage, to which nothing came, and waits for the head once that is put.
 pub fn heads_wait()
     ensures made { StagesAwait }
+    ensures begun { HeadsComeToWait }
     ensures stays { AllHeadsWait }
 {}
 
@@ -45,3 +47,8 @@ pub fn stages_are_asked_first()
     machines_write_logs();
     roots_stand();
 }
+
+/// Worked: where the head of a request waits for a stage in a chain of two, and where it is past one.
+pub fn worked_heads()
+    ensures { HeadExamples }
+{}

@@ -5,4 +5,5 @@ mod laws;
 
 pub use laws::{
     filters_get_contexts_for_life, heads_wait, roots_stand_for_life, stages_are_asked_first,
+    worked_heads,
 };
