@@ -1,13 +1,15 @@
 -- CALLOUTS UNDER WAY: how they begin, what comes of their lines, and when they end.
-use Rattle.std.specs.Prelude.{ℕ, ◌+◌, ◌-◌, ◌*◌, ◌==◌, Bool, true, false, not, ◌&&◌, ◌||◌, List, [], ◌∷◌, ◌++◌, length, map, filter, nat_lt, nat_le, Option, None, Some, codes, if◌then◌else◌}
+use Rattle.std.specs.Prelude.{ℕ, ◌+◌, ◌-◌, ◌*◌, ◌==◌, Bool, true, false, not, ◌&&◌, ◌||◌, List, [], ◌∷◌, ◌++◌, length, map, filter, nat_lt, nat_le, Option, None, Some, codes, bytes_eq, if◌then◌else◌}
 use Rattle.body_buffers.specs.Bodies.{body_limit}
 use Rattle.contexts.specs.Keyed.{first_of_number, with_first_changed, without_first}
 use Rattle.contexts.specs.declared.parts.CallAnswer.{CallAnswer}
 use Rattle.contexts.specs.declared.parts.Request.{Request}
+use Rattle.filter_host.specs.Heard.{Heard, hands, halts}
 use Rattle.gate_io.specs.declared.event.Side.{Side}
 use Rattle.gate_io.specs.declared.event.Side.TheVariants.{Down, Up}
 use Rattle.gate_io.specs.declared.event.What.{What}
 use Rattle.gate_io.specs.declared.event.What.TheVariants as whats
+use Rattle.header_maps.specs.Headers.{Headers}
 use Rattle.header_maps.specs.Operations.{no_headers}
 use Rattle.header_maps.specs.declared.kind.ListKind.TheVariants.{Plain}
 use Rattle.h1_model.specs.Length.{BodyLength, nothing as nothing_follows, exactly, chunked, until_end}
@@ -44,6 +46,10 @@ is_full more under_way last = nat_le most_under_way (under_way + more) || nat_le
 
 -- ---- one begins
 
+-- the method that the response answers, of which it matters alone whether it is HEAD
+abbrev pub asked_by : Headers → List ℕ
+asked_by fields = if bytes_eq (pseudo_of fields (codes ":method")) (codes "HEAD") then codes "HEAD" else codes "GET"
+
 -- the moment so many milliseconds later, at most 2^64 - 1
 abbrev pub due_of : (now timeout : ℕ) → ℕ
 due_of now timeout = if nat_le (now + timeout * 1000000) 18446744073709551615 then now + timeout * 1000000 else 18446744073709551615
@@ -57,7 +63,7 @@ begun id now q = record {
   vm = q.vm;
   context = q.context;
   due = due_of now q.timeout_ms;
-  reader = new_reading (Some (pseudo_of q.fields (codes ":method")));
+  reader = new_reading (Some (asked_by q.fields));
   answer = no_answer;
 }
 
@@ -161,12 +167,12 @@ takes (interim_part h) a = has a
 takes (piece bytes last) a = longer (a.body ++ bytes) a
 takes (trailer_part fields) a = has (record a { trailers = record { kind = Plain; pairs = fields } })
 
--- it goes on to be read; it waits for more; it was answered; or it has failed. (No part but the last one uses no bytes.)
+-- It goes on to be read; it waits for more; it was answered; or it has failed. (No part but the last one uses no bytes.)
 pub data AfterRead : Type 0 where
   goes_on : Callout → AfterRead
   waits : Callout → AfterRead
   answers : Callout → AfterRead
-  breaks : AfterRead
+  breaks : Callout → AfterRead
 
 -- the response is whole with this part, so that none follows
 abbrev pub is_bare : BodyLength → Bool
@@ -185,14 +191,22 @@ abbrev pub with_part : (is_whole : Bool) → Callout → AfterRead
 with_part true c = answers c
 with_part false c = goes_on c
 
-abbrev pub after_taken : (is_whole : Bool) → Reading → Callout → Taken → AfterRead
-after_taken is_whole r c (has a) = with_part is_whole (record c { reader = r; answer = a })
-after_taken is_whole r c too_long = breaks
+abbrev pub after_taken : (is_whole : Bool) → Callout → Taken → AfterRead
+after_taken is_whole c (has a) = with_part is_whole (record c { answer = a })
+after_taken is_whole c too_long = breaks c
 
+abbrev pub with_reading : Reading → Callout → Callout
+with_reading r c = record c { reader = r }
+
+-- by a part that its reader hands on, and by why there is none
 abbrev pub after_part : Part → Reading → Callout → AfterRead
-after_part p r c = after_taken (is_last p) r c (takes p c.answer)
+after_part p r c = after_taken (is_last p) (with_reading r c) (takes p c.answer)
 
 abbrev pub after_stop : Stop → Reading → Callout → AfterRead
-after_stop rest r c = waits (record c { reader = r })
-after_stop over r c = answers (record c { reader = r })
-after_stop (refusal number) r c = breaks
+after_stop rest r c = waits (with_reading r c)
+after_stop over r c = answers (with_reading r c)
+after_stop (refusal number) r c = breaks (with_reading r c)
+
+abbrev pub after_heard : Heard → Callout → AfterRead
+after_heard (hands p r) c = after_part p r c
+after_heard (halts why r) c = after_stop why r c
