@@ -8,6 +8,7 @@ pub mod Settling
 pub mod Turn
 pub mod State
 pub mod Wants
+pub mod Tcp
 pub mod Making
 pub mod Turned
 pub mod NoCalls
