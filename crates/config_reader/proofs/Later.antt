@@ -67,9 +67,10 @@ pub record IsBare (g : Given) : Type 0 where
   pub vms : g.vms ≡ []
   pub plugins : g.plugins ≡ []
   pub routes : g.routes ≡ []
+  pub tcp : g.tcp ≡ []
 
 bare_is : (ms : Members) (g : Given) → gateway_of ms ≡ g → IsBare g
-bare_is ms g e = record { vms = ap (λ (x : Given). x.vms) (sym e); plugins = ap (λ (x : Given). x.plugins) (sym e); routes = ap (λ (x : Given). x.routes) (sym e) }
+bare_is ms g e = record { vms = ap (λ (x : Given). x.vms) (sym e); plugins = ap (λ (x : Given). x.plugins) (sym e); routes = ap (λ (x : Given). x.routes) (sym e); tcp = ap (λ (x : Given). x.tcp) (sym e) }
 
 gateway_is_bare : (ms : Members) (g : Given) → judge_gateway ms ≡ Ok g → IsBare g
 gateway_is_bare ms g e =

@@ -47,8 +47,12 @@ deadline_ms = row (codes "deadline_ms") (kind.Number 0 3600000) (number 0)
 abbrev pub log_level : Row
 log_level = row (codes "log_level") kind.Level (text (codes "info"))
 
+-- the plug-ins of streams of bytes; without the key, lines are HTTP
+abbrev pub tcp : Row
+tcp = row (codes "tcp") kind.Streams no_names
+
 abbrev pub gateway_keys : List Row
-gateway_keys = listen ∷ upstream ∷ workers ∷ deadline_ms ∷ log_level ∷ []
+gateway_keys = listen ∷ upstream ∷ workers ∷ deadline_ms ∷ log_level ∷ tcp ∷ []
 
 -- ---- `vm`
 

@@ -25,6 +25,8 @@ pub enum KeyKind {
     Path,
     /// A list of names of plug-ins.
     Filters,
+    /// A list of names of the plug-ins of streams, which are looked for later.
+    Streams,
     /// Tables, which are judged key by key.
     Tables,
 }
@@ -95,7 +97,14 @@ pub(crate) const LOG_LEVEL: Key = Key {
     absent: Absent::Text { text: "info" },
 };
 
-static GATEWAY_KEYS: [Key; 5] = [LISTEN, UPSTREAM, WORKERS, DEADLINE_MS, LOG_LEVEL];
+/// The plug-ins of streams of bytes.
+const TCP: Key = Key {
+    name: "tcp",
+    kind: KeyKind::Streams,
+    absent: Absent::NoNames,
+};
+
+static GATEWAY_KEYS: [Key; 6] = [LISTEN, UPSTREAM, WORKERS, DEADLINE_MS, LOG_LEVEL, TCP];
 
 /// The name of a VM.
 pub(crate) const VM_NAME: Key = Key {
