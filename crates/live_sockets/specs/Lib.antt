@@ -4,6 +4,7 @@ pub mod Keeping
 pub mod Looks
 pub mod Moments
 pub mod Numbers
+pub mod Offers
 pub mod Origins
 pub mod Places
 pub mod Spent
