@@ -19,13 +19,14 @@ use Rattle.worker_model.specs.Rooms.{Changes, at_place, place_in, on_number}
 use Rattle.worker_model.specs.Steps.{exchange_of_line}
 use Rattle.law_lines.specs.Clients.{client_traffic}
 use Rattle.law_lines.proofs.Finding.{IsOnce}
-use Rattle.law_lines.proofs.Looks.{is_n, look, Went, goes_aside, does_so, is_asked, has_too_much, has_filter, goes_then, BringsNone, Quietly, Exs, Looks}
+use Rattle.law_lines.proofs.Looks.{is_n, look, IsPlain, LivesOn, Went, goes_aside, does_so, is_asked, has_too_much, has_filter, goes_then, BringsNone, Quietly, Exs, Looks}
 use Rattle.law_lines.proofs.Rooms.{IsFree, AllFree, Calm}
 use Rattle.law_lines.proofs.Phases.{Phase}
 use Rattle.law_lines.proofs.Story.{Tale, plainly, filtered, ExOk, LineOk}
 use Rattle.law_lines.proofs.Turned.{Exact, same as unchanged, changed, exact, on_another}
 use Rattle.law_lines.proofs.Upward.{Up}
-use Rattle.law_down.proofs.Deeds.{rest_still, Fine, fine_then, like_fine, hub_fine, own_fine, asked_fine, too_much_fine}
+use Rattle.law_down.proofs.Exactly.{Stills, lives_still, still_exact}
+use Rattle.law_down.proofs.Deeds.{live_before, rest_still, Onward, Fine, fine_then, like_fine, hub_fine, own_fine, asked_fine, too_much_fine}
 use Rattle.law_down.proofs.Under.{back_of, backs_of, awaiting, Closing, Going, LineUnder, exchange_at, held_on, Under, total_same, Alike, under_alike, Stays, deed_goes, reader_same}
 
 -- ---- what became of an exchange is fine
@@ -59,13 +60,14 @@ pub record HasUp (x : Exchange) : Type 0 where
   pub went : List Traffic
   pub phase : Phase
   pub up : Up x [] went phase
+  pub plain : x.filters ≡ [] → IsPlain x
 
 abbrev pub HasUps : ℕ → List Line → Type 0
 HasUps n lines = (l : Line) (x : Exchange) → look n lines ≡ Some l → l.exchange ≡ Some x → HasUp x
 
 tale_up : (plan : Plan) (n : ℕ) (past : List Sent) (reading : Option ReadBatch) (js : List Job) (lines : List Line) (x : Exchange) (hub : Hub) → Tale plan n past reading js lines x hub → HasUp x
-tale_up plan n past reading js lines x hub (plainly s) = record { went = s.passage.went; phase = _; up = s.passage.up }
-tale_up plan n past reading js lines x hub (filtered o) = record { went = o.passage.went; phase = _; up = o.passage.up }
+tale_up plan n past reading js lines x hub (plainly s) = record { went = s.passage.went; phase = _; up = s.passage.up; plain = λ none. s.plain }
+tale_up plan n past reading js lines x hub (filtered o) = record { went = o.passage.went; phase = _; up = o.passage.up; plain = λ none. absurd (o.filters none) }
 
 pub line_ups : (plan : Plan) (n : ℕ) (past : List Sent) (reading : Option ReadBatch) (js : List Job) (lines : List Line) (hub : Hub) → LineOk plan n past reading js lines (look n lines) hub → (l : Line) (x : Exchange) → look n lines ≡ Some l → l.exchange ≡ Some x → HasUp x
 line_ups plan n past reading js lines hub ok l x at some =
@@ -75,16 +77,24 @@ line_ups plan n past reading js lines hub ok l x at some =
 
 -- ---- the line before and behind
 
-pub fine_goes : (plan : Plan) (n : ℕ) (past : List Sent) (js ks : List Job) (x y : Exchange) (hub after : Hub) → Fine n (x, hub) (y, after) → Stays x y → awaiting n None ks ≡ awaiting n None js
+pub fine_goes : (plan : Plan) (n : ℕ) (past : List Sent) (js ks : List Job) (x y : Exchange) (hub after : Hub) → Fine n (x, hub) (y, after) → Stays x y → awaiting n None ks ≡ awaiting n None js → Stills n x hub y after
     → Going plan n (client_traffic n (past ++ hub.sent)) None js x → Going plan n (client_traffic n (past ++ after.sent)) None ks y
-fine_goes plan n past js ks x y hub after f s waits g = deed_goes plan n past None None js ks x y hub after [] f.rest s (sym waits) tt g (f.keeps g.went g.phase g.below)
+fine_goes plan n past js ks x y hub after f s waits still g =
+    let o : Onward n hub (y, after) g.went g.phase = f.keeps g.went g.phase g.below in
+    deed_goes plan n past None None js ks x y hub after [] f.rest s (sym waits) tt g o
+    (λ none live. still_exact n x y hub after g.went o.onto.more g.came o.onto.grows still (λ gone. g.exact gone (live_before n (x, hub) (y, after) f.rest live)) none live)
 
 quietly_goes : (plan : Plan) (n : ℕ) (past : List Sent) (js ks : List Job) (x y : Exchange) (hub after : Hub) → HasUp x → Quietly n x hub y after → awaiting n None ks ≡ awaiting n None js
     → Going plan n (client_traffic n (past ++ hub.sent)) None js x → Going plan n (client_traffic n (past ++ after.sent)) None ks y
 quietly_goes plan n past js ks x y hub after u q waits g =
     let f : Fine n (x, hub) (y, after) = went_fine n x y hub after q.how in
     fine_goes plan n past js ks x y hub after f
-    (record { asked = q.asked; fits = f.rest.fits; reader = reader_same n x y hub after u.went u.phase u.phase u.up (q.keeps u.went u.phase u.up) f.rest }) waits g
+    (record { asked = q.asked; fits = f.rest.fits; reader = reader_same n x y hub after u.went u.phase u.phase u.up (q.keeps u.went u.phase u.up) f.rest }) waits
+    (λ none live.
+    let plain : IsPlain x = u.plain (q.filtered none) in
+    let l : LivesOn n x hub y after = q.plain plain in
+    let s = lives_still n l.deeds x y hub after plain (live_before n (x, hub) (y, after) f.rest live) (l.lives true) l.no_response live in
+    (q.filtered none, s.0, s.1)) g
 
 pub looks_under : (plan : Plan) (n : ℕ) (past : List Sent) (js ks : List Job) (o p : Option Line) (hub after : Hub) → Looks n o hub p after → Alike n None js None ks → ((l : Line) (x : Exchange) → o ≡ Some l → l.exchange ≡ Some x → HasUp x)
     → LineUnder plan n (client_traffic n (past ++ hub.sent)) None js (option_map exchange_at o) → LineUnder plan n (client_traffic n (past ++ after.sent)) None ks (option_map exchange_at p)

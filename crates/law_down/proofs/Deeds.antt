@@ -32,7 +32,7 @@ use Rattle.gate_io.specs.declared.event.Sent.TheVariants.{Connect}
 use Rattle.h1_model.specs.Fields.{Pair}
 use Rattle.h1_model.specs.Framing.{head_wire, piece_wire, trailer_wire}
 use Rattle.h1_model.specs.Messages.{head}
-use Rattle.h1_model.specs.Unread.{Reading}
+use Rattle.h1_model.specs.Unread.{Reading, new_reading}
 use Rattle.worker_model.specs.Steps.{is_live, new_stage, exchange_with_stages}
 use Rattle.law_lines.specs.Clients.{client_traffic}
 use Rattle.law_lines.specs.Examples.{opening_count}
@@ -48,6 +48,11 @@ abbrev pub IsHeadDue : Option Reading → Type 0
 IsHeadDue None = Unit {0}
 IsHeadDue (Some r) = r.due ≡ head
 
+-- and nothing of its text has come
+abbrev pub IsYoung : Option Reading → Type 0
+IsYoung None = Unit {0}
+IsYoung (Some r) = r ≡ new_reading r.asked
+
 -- its reader is the same unless a connection was opened; whether a head was heard is the same, and so is what is kept of it unless it is over; and what is over or
 -- answered stays so
 pub record Rest (n : ℕ) (p q : Exchange × Hub) : Type 0 where
@@ -55,6 +60,7 @@ pub record Rest (n : ℕ) (p q : Exchange × Hub) : Type 0 where
   pub grows : up_traffic n q.1.sent ≡ up_traffic n p.1.sent ++ more
   pub reader : opening_count more ≡ 0 → q.0.reader ≡ p.0.reader
   pub due : IsHeadDue p.0.reader → IsHeadDue q.0.reader
+  pub young : IsYoung p.0.reader → IsYoung q.0.reader
   pub headed : q.0.is_headed ≡ p.0.is_headed
   pub over : is_over p.0 ≡ true → is_over q.0 ≡ true
   pub answered : p.0.is_answered ≡ true → q.0.is_answered ≡ true
@@ -72,7 +78,7 @@ none_of_two zero b is = (refl, omega (arith, is))
 none_of_two (suc a) b is = let never : ⊥ = omega (arith, is) in absurd never
 
 pub rest_itself : (n : ℕ) (p : Exchange × Hub) → Rest n p p
-rest_itself n p = record { more = []; grows = sym (append-nil (up_traffic n p.1.sent)); reader = λ e. refl; due = λ d. d; headed = refl; over = λ o. o; answered = λ a. a; told = λ e. refl; fits = λ f. f }
+rest_itself n p = record { more = []; grows = sym (append-nil (up_traffic n p.1.sent)); reader = λ e. refl; due = λ d. d; young = λ d. d; headed = refl; over = λ o. o; answered = λ a. a; told = λ e. refl; fits = λ f. f }
 
 pub live_before : (n : ℕ) (p q : Exchange × Hub) → Rest n p q → is_over q.0 ≡ false → is_over p.0 ≡ false
 live_before n p q r live = by_test (is_over p.0) refl
@@ -87,6 +93,7 @@ rest_then n p q r a b = record {
   grows = b.grows ∙ (ap (λ t. t ++ b.more) a.grows ∙ append_assoc (up_traffic n p.1.sent) a.more b.more);
   reader = λ e. let both = none_of_two (opening_count a.more) (opening_count b.more) (sym (openings_join a.more b.more) ∙ e) in b.reader both.1 ∙ a.reader both.0;
   due = λ d. b.due (a.due d);
+  young = λ d. b.young (a.young d);
   headed = b.headed ∙ a.headed;
   over = λ o. b.over (a.over o);
   answered = λ o. b.answered (a.answered o);
@@ -102,6 +109,7 @@ rest_still n p q sends reader up_as headed over answered told = record {
   grows = sends ∙ sym (append-nil (up_traffic n p.1.sent));
   reader = λ e. reader;
   due = subst IsHeadDue (sym reader);
+  young = subst IsYoung (sym reader);
   headed = headed;
   over = over;
   answered = answered;
@@ -214,6 +222,7 @@ up_fine n (Head end) x hub =
       grows = adds n hub.sent (Connect n ∷ bytes_sent_to n Up bytes) (opening ∷ map byte bytes) (λ j. here n (opening ∷ []) j ++ up_is_all n bytes j);
       reader = λ e. absurd (cc);
       due = λ d. refl;
+      young = λ d. refl;
       headed = refl;
       over = λ o. o;
       answered = λ a. a;
@@ -223,11 +232,11 @@ up_fine n (Head end) x hub =
 up_fine n (Piece bytes end) x hub =
     let wire : List ℕ = piece_wire (request_framing x) bytes end in
     like_fine n x x hub (send_request_item n (Piece bytes end) x hub).1 refl (grows_none n hub.sent (bytes_sent_to n Up wire) (client_up n wire))
-    (record { more = map byte wire; grows = adds n hub.sent (bytes_sent_to n Up wire) (map byte wire) (up_is_all n wire); reader = λ e. refl; due = λ d. d; headed = refl; over = λ o. o; answered = λ a. a; told = λ e. refl; fits = λ f. f })
+    (record { more = map byte wire; grows = adds n hub.sent (bytes_sent_to n Up wire) (map byte wire) (up_is_all n wire); reader = λ e. refl; due = λ d. d; young = λ d. d; headed = refl; over = λ o. o; answered = λ a. a; told = λ e. refl; fits = λ f. f })
 up_fine n Trailers x hub =
     let wire : List ℕ = trailer_wire (request_framing x) _ in
     like_fine n x x hub (send_request_item n Trailers x hub).1 refl (grows_none n hub.sent (bytes_sent_to n Up wire) (client_up n wire))
-    (record { more = map byte wire; grows = adds n hub.sent (bytes_sent_to n Up wire) (map byte wire) (up_is_all n wire); reader = λ e. refl; due = λ d. d; headed = refl; over = λ o. o; answered = λ a. a; told = λ e. refl; fits = λ f. f })
+    (record { more = map byte wire; grows = adds n hub.sent (bytes_sent_to n Up wire) (map byte wire) (up_is_all n wire); reader = λ e. refl; due = λ d. d; young = λ d. d; headed = refl; over = λ o. o; answered = λ a. a; told = λ e. refl; fits = λ f. f })
 
 left_up : (n : ℕ) (items : List ChainItem) (p : Exchange × Hub) → Fine n p (send_items false n items p)
 left_up n [] p = fine_itself n p

@@ -34,6 +34,9 @@ use Rattle.law_lines.proofs.Rooms.{calm_number}
 use Rattle.law_down.specs.Downward.{Closed}
 use Rattle.law_down.proofs.Sending.{grows_by, grows_none}
 use Rattle.law_down.proofs.Below.{at_end, ended_below, cut_sent}
+use Rattle.exchange.specs.Leaving.{written_framing}
+use Rattle.filter_chain.specs.declared.item.ChainItem.{ChainItem}
+use Rattle.law_down.proofs.Exactly.{HeardAll, Unmoved, exact_on, fed_all}
 use Rattle.law_down.proofs.Deeds.{IsHeadDue, IsLike, like_below, like_over}
 use Rattle.law_down.proofs.Under.{backs_of, back_batch, awaiting, Fitting, Hears, silent, speaks, BackReads, reads_as, Going, LineUnder, exchange_at, held_on, Under, total_more, Alike, under_alike}
 use Rattle.law_down.proofs.Calmly.{HasUps, calm_under}
@@ -44,9 +47,13 @@ use Rattle.law_down.proofs.Closes.{closed_more, close_here, close_aside, aside_u
 asked_so : (x y start : Exchange) → IsLike x y → IsAskedAs x start → IsAskedAs y start
 asked_so x y start is asked = ap (λ (z : Exchange). z.asked) is ∙ ap (λ (q : Request). record q { whole = y.asked.whole }) asked
 
+like_unmoved : (x y : Exchange) → IsLike x y → Unmoved x y
+like_unmoved x y is = record { head = ap (λ (z : Exchange). z.is_head_out) is; framed = λ e. ap written_framing is }
+
 pub note_goes : (plan : Plan) (n : ℕ) (total later : List Traffic) (reading now : Option ReadBatch) (js ks : List Job) (x y : Exchange) → later ≡ total → IsLike x y → (Fits x → Fits y)
-    → ((i : Phase) → is_over x ≡ false → Hears x i (awaiting n reading js) → Hears y i (awaiting n now ks)) → BackReads n now y → Going plan n total reading js x → Going plan n later now ks y
-note_goes plan n total later reading now js ks x y same like fits hears reads g = record {
+    → ((i : Phase) → is_over x ≡ false → Hears x i (awaiting n reading js) → Hears y i (awaiting n now ks)) → BackReads n now y → (y.filters ≡ [] → x.filters ≡ [])
+    → ((items : List ChainItem) → is_over x ≡ false → HeardAll x.reader (items ++ awaiting n reading js) → HeardAll y.reader (items ++ awaiting n now ks)) → Going plan n total reading js x → Going plan n later now ks y
+note_goes plan n total later reading now js ks x y same like fits hears reads filters heard g = record {
   before = g.before;
   closed = g.closed;
   staying = g.staying;
@@ -65,6 +72,10 @@ note_goes plan n total later reading now js ks x y same like fits hears reads g 
   fits = fits g.fits;
   hears = λ live. let runs : is_over x ≡ false = sym (like_over x y like) ∙ live in hears g.phase runs (g.hears runs);
   reads = reads;
+  came = g.came;
+  exact = λ none live. exact_on x y g.went g.came (like_unmoved x y like) (g.exact (filters none) (sym (like_over x y like) ∙ live));
+  comes = λ live. g.comes (sym (like_over x y like) ∙ live);
+  heard = λ live. let runs : is_over x ≡ false = sym (like_over x y like) ∙ live in heard g.came runs (g.heard runs);
 }
 
 -- more text of its server, or the end of it
@@ -176,6 +187,7 @@ module _ (plan : Plan) (n : ℕ) (past : List Sent) (w : What) (mid : Room) (onc
           by_exchange (Some x) some v =
               note_goes plan n (Total mid) (Total mid) None now (jobs.Happen w ∷ mid.jobs) mid.jobs x (with_further stops bytes x) refl refl (further_fits stops bytes x)
               (λ i live h. subst (Hears (with_further stops bytes x) i) (sym b.waits) (further_hears stops bytes x i (awaiting n None (jobs.Happen w ∷ mid.jobs)) h)) (reads_as n now x (with_further stops bytes x) refl (reads x (ap exchange_of_line at ∙ some)))
+              (λ none. none) (λ items live h. fed_all stops bytes x.reader (items ++ awaiting n now mid.jobs) (subst (λ (l : List ChainItem). HeardAll x.reader (items ++ l)) (sym b.waits) h))
               (subst (λ (o : Option Exchange). LineUnder plan n (Total mid) None (jobs.Happen w ∷ mid.jobs) (Some o)) some v)
 
   comes_under : (up stops : Bool) (bytes : List ℕ) (m : ℕ) → Under plan n past (receive up stops bytes m mid)
@@ -237,6 +249,10 @@ module _ (plan : Plan) (n : ℕ) (past : List Sent) (w : What) (mid : Room) (onc
     fits = g.fits;
     hears = λ live. absurd (cc);
     reads = none_reads mid.reading quiet (exchange_without_client x);
+    came = g.came;
+    exact = λ none live. absurd (cc);
+    comes = λ live. absurd (cc);
+    heard = λ live. absurd (cc);
   }
 
   loses_down_under : (m : ℕ) → Under plan n past (lose_client m (line_in m mid.lines) mid)

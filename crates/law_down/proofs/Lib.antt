@@ -2,6 +2,7 @@ pub mod Sending
 pub mod Below
 pub mod Deeds
 pub mod Judging
+pub mod Exactly
 pub mod Under
 pub mod Calmly
 pub mod Works
@@ -12,6 +13,7 @@ pub mod Reading
 pub mod Ending
 pub mod Stepping
 pub mod Turning
+pub mod AsItCame
 pub mod Refusing
 pub mod Ordering
 pub mod Upwards

@@ -1,5 +1,5 @@
 -- A step in which what is read is read, whichever side it is.
-use Rattle.std.proofs.Common.{◌≡◌, ◌⊎◌, inl, inr, ℕ, ◌==◌, Bool, true, false, ◌&&◌, List, [], ◌++◌, refl, ap, ◌∙◌, sym, subst}
+use Rattle.std.proofs.Common.{◌≡◌, ◌⊎◌, inl, inr, ℕ, ◌==◌, Bool, true, false, ◌&&◌, List, [], ◌∷◌, ◌++◌, refl, ap, ◌∙◌, sym, subst}
 use Rattle.std.specs.Prelude.{Option, None, Some, option_map, if◌then◌else◌}
 use Rattle.filter_host.specs.Course.{Course}
 use Rattle.filter_host.specs.Heard.{Heard, hands, halts, Hears as Says}
@@ -20,6 +20,7 @@ use Rattle.law_lines.specs.Clients.{client_traffic}
 use Rattle.law_lines.proofs.Looks.{look, line_in_is, equal_by}
 use Rattle.law_lines.proofs.Reader.{InBody, HeadNext, head_next, BodyNext, body_next}
 use Rattle.law_lines.proofs.Story.{HasClose, Matches, ExOk, LineOk, Known}
+use Rattle.law_down.proofs.Exactly.{HeardAll}
 use Rattle.law_down.proofs.Under.{awaiting, Hears, silent, speaks, Going, LineUnder, exchange_at, held_on, Under, under_alike}
 use Rattle.law_down.proofs.Calmly.{under_free}
 use Rattle.law_down.proofs.Happens.{note_goes}
@@ -152,8 +153,17 @@ module _ {H : Type 0} (plan : Plan) (past : List Sent) (room : Room) (host : H) 
               by_reader : (o : Option Reading) → x.reader ≡ o → Goal (reads_in plan (side_of n true batch) o host room)
               by_reader None none =
                   subst (λ (q : Option (Option Exchange)). LineUnder plan n total None room.jobs q) (sym (ap (option_map exchange_at) at ∙ ap Some some))
-                  (note_goes plan n total total (Some (side_of n true batch)) None [] room.jobs x x refl refl (λ f. f) (λ i live h. by_hears i h) tt g)
+                  (note_goes plan n total total (Some (side_of n true batch)) None [] room.jobs x x refl refl (λ f. f) (λ i live h. by_hears i h) tt (λ gone. gone) (λ items live h. by_heard items h) g)
                 where
+                  front_none : (b c : List ChainItem) → b ++ c ≡ [] → b ≡ []
+                  front_none [] c is = refl
+                  front_none (i ∷ b) c is = absurd (cc)
+
+                  by_heard : (items : List ChainItem) → HeardAll x.reader (items ++ awaiting n (Some (side_of n true batch)) []) → HeardAll x.reader (items ++ awaiting n None room.jobs)
+                  by_heard items h =
+                      let nothing : items ≡ [] = front_none items (awaiting n (Some (side_of n true batch)) []) (subst (λ (o : Option Reading). HeardAll o (items ++ awaiting n (Some (side_of n true batch)) [])) none h) in
+                      subst (λ (o : Option Reading). HeardAll o (items ++ awaiting n None room.jobs)) (sym none) (λ i. nothing i ++ awaiting n None (jobless i))
+
                   by_hears : (i : _) → Hears x i (awaiting n (Some (side_of n true batch)) []) → Hears x i (awaiting n None room.jobs)
                   by_hears i (silent unheard fresh_is empty due) = silent unheard fresh_is (ap (λ l. awaiting n None l) jobless) due
                   by_hears i (speaks heard q reads fitting suits) = let e : ◌≡◌ {A = Option Reading} None (Some q) = sym none ∙ reads in absurd (cc)

@@ -1,7 +1,7 @@
 -- A step in which a side of a line is read, seen from what goes down on the line of a number.
 use Rattle.std.proofs.Common.{◌≡◌, ◌⊎◌, inl, inr, ℕ, zero, suc, ◌==◌, Bool, true, false, ◌||◌, ◌&&◌, List, [], ◌∷◌, ◌++◌, map, length, codes, refl, ap, ◌∙◌, sym, subst}
 use Rattle.std.proofs.lemmas.Grind.{flat_map-append}
-use Rattle.std.proofs.lemmas.List.{append-nil}
+use Rattle.std.proofs.lemmas.List.{append-nil, append_assoc}
 use Rattle.std.specs.List.{flat_map}
 use Rattle.std.specs.Prelude.{Option, None, Some, is_some, option_map, bytes_eq, if◌then◌else◌}
 use Rattle.contexts.specs.declared.parts.Contexts.{Contexts}
@@ -23,7 +23,7 @@ use Rattle.header_maps.specs.Operations.{no_headers}
 use Rattle.h1_model.specs.Head.{Head, SpellsStep, SpellsResponse, found}
 use Rattle.h1_model.specs.Length.{BodyLength, nothing as no_length, exactly, chunked, until_end}
 use Rattle.h1_model.specs.Messages.{Stop, rest, over as text_over, refusal, Due, head as head_due, body, done, due_behind, counted, coded, unbounded}
-use Rattle.h1_model.specs.Unread.{Part as ReadPart, head_part, interim_part, piece, trailer_part, part, Reading, Hands, Halts, IsNext, due_at}
+use Rattle.h1_model.specs.Unread.{Part as ReadPart, head_part, interim_part, piece, trailer_part, part, Reading, Hands, Halts, IsNext, due_at, hands as hands_on, halts as halts_so}
 use Rattle.worker_model.specs.Room.{Room}
 use Rattle.worker_model.specs.declared.types.Job.{Job}
 use Rattle.worker_model.specs.declared.types.Job.TheVariants as jobs
@@ -43,6 +43,9 @@ use Rattle.law_lines.proofs.Sides.{numbered_change, numbered_read}
 use Rattle.law_down.specs.Downward.{Part, IsInterim, AreInterim, interim_wire, interims_wire, last_wire, wire_of}
 use Rattle.law_down.proofs.Judging.{judged_head, interim_is}
 use Rattle.law_down.proofs.Sending.{grows_by, grows_none}
+use Rattle.law_lines.specs.Heard.{items_of}
+use Rattle.law_down.specs.Exactly.{Exact}
+use Rattle.law_down.proofs.Exactly.{HeardAll, HeardBy, heard_more, run_none}
 use Rattle.law_down.proofs.Below.{flag, at, nothing, clash, is_nothing}
 use Rattle.law_down.proofs.Deeds.{IsHeadDue, chain_fresh, parts}
 use Rattle.law_down.proofs.Under.{back_of, backs_of, awaiting, Closing, Fitting, Hears, silent, speaks, BackReads, Going, Waiting, LineUnder, exchange_at, held_on, Under, total_same, total_more, more_is, under_alike}
@@ -259,7 +262,8 @@ module _ (plan : Plan) (n : ℕ) (past : List Sent) (a : Room) (once : IsOnce (i
   client_item : (batch : List ChainItem) (item : ChainItem) (x : Exchange) → Going plan n (Total a) (Some (side false batch)) [] x → Going plan n (Total a) (Some (side false (batch ++ item ∷ []))) [] (with_read_mark false item x)
   client_item batch item x g =
       note_goes plan n (Total a) (Total a) (Some (side false batch)) (Some (side false (batch ++ item ∷ []))) [] [] x (with_read_mark false item x) refl refl (λ f. f)
-      (λ i live h. noted_hears i (subst (Hears x i) (side_batch false batch ∙ sym (side_batch false (batch ++ item ∷ []))) h)) (λ here up. absurd (cc)) g
+      (λ i live h. noted_hears i (subst (Hears x i) (side_batch false batch ∙ sym (side_batch false (batch ++ item ∷ []))) h)) (λ here up. absurd (cc)) (λ gone. gone)
+      (λ got live h. subst (λ (l : List ChainItem). HeardAll x.reader (got ++ l)) (side_batch false batch ∙ sym (side_batch false (batch ++ item ∷ []))) h) g
     where
       noted_hears : (i : Phase) → Hears x i (awaiting n (Some (side false (batch ++ item ∷ []))) []) → Hears (with_read_mark false item x) i (awaiting n (Some (side false (batch ++ item ∷ []))) [])
       noted_hears i (silent unheard is empty due) = silent unheard is empty due
@@ -319,6 +323,10 @@ module _ (plan : Plan) (n : ℕ) (past : List Sent) (a : Room) (once : IsOnce (i
     fits = tt;
     hears = λ live. silent refl refl (side_batch false batch) tt;
     reads = λ here up. absurd (cc);
+    came = [];
+    exact = λ none live. (refl, refl);
+    comes = λ live. refl;
+    heard = λ live. side_batch false batch;
   }
     where
       by_ends : {o : Option Part} → (o ≡ None) ⊎ Closing n [] → o ≡ None
@@ -347,7 +355,12 @@ module _ (plan : Plan) (n : ℕ) (past : List Sent) (a : Room) (once : IsOnce (i
     asks : reading.asked ≡ Some (if x.is_head_up then codes "HEAD" else codes "GET")
     asks = subst (λ (o : Option Reading). FitsIn o x.is_head_up) reads g.fits
 
-    module _ (new : Reading) (asked_new : new.asked ≡ reading.asked) where
+    -- what came to its chain, while no head was heard
+    came_none : g.phase ≡ fresh → g.came ≡ []
+    came_none is = run_none g.came (sym (g.comes live) ∙ is)
+
+    -- its reader became this, and handed that on
+    module _ (new : Reading) (asked_new : new.asked ≡ reading.asked) (said : List ChainItem) (more : (got : List ChainItem) → HeardBy reading got → HeardBy new (got ++ said)) where
       abbrev back : Room
       back = on_lines (read_on true new) n a
 
@@ -360,11 +373,25 @@ module _ (plan : Plan) (n : ℕ) (past : List Sent) (a : Room) (once : IsOnce (i
       fits_new : FitsIn (Some new) x.is_head_up
       fits_new = asked_new ∙ asks
 
+      heard_to : (got later : List ChainItem) → batch ++ said ≡ later → HeardAll x.reader (got ++ awaiting n (Some (side true batch)) []) → HeardBy new (got ++ later)
+      heard_to got later is h =
+          let before : HeardBy reading (got ++ batch)
+          = subst (λ (o : Option Reading). HeardAll o (got ++ batch)) reads (subst (λ (l : List ChainItem). HeardAll x.reader (got ++ l)) (side_batch true batch) h) in
+          subst (HeardBy new) (append_assoc got batch said ∙ ap (λ (l : List ChainItem). got ++ l) is) (more (got ++ batch) before)
+
+      -- it handed on one item, or none
+      one_more : (item : ChainItem) → said ≡ item ∷ [] → batch ++ said ≡ awaiting n (Some (side true (batch ++ item ∷ []))) []
+      one_more item is = ap (λ (l : List ChainItem). batch ++ l) is ∙ sym (side_batch true (batch ++ item ∷ []))
+
+      no_more : said ≡ [] → batch ++ said ≡ awaiting n (Some (side true batch)) []
+      no_more is = ap (λ (l : List ChainItem). batch ++ l) is ∙ (append-nil batch ∙ sym (side_batch true batch))
+
       -- an item of its body
-      item_goes : (item : ChainItem) → ((i : Phase) → Hears x i batch → Hears (with_read_mark true item (with_reader new x)) i (batch ++ item ∷ [])) → Going plan n (Total a) (Some (side true (batch ++ item ∷ []))) [] (with_read_mark true item (with_reader new x))
-      item_goes item hears =
+      item_goes : (item : ChainItem) → said ≡ item ∷ [] → ((i : Phase) → Hears x i batch → Hears (with_read_mark true item (with_reader new x)) i (batch ++ item ∷ [])) → Going plan n (Total a) (Some (side true (batch ++ item ∷ []))) [] (with_read_mark true item (with_reader new x))
+      item_goes item is hears =
           note_goes plan n (Total a) (Total a) (Some (side true batch)) (Some (side true (batch ++ item ∷ []))) [] [] x (with_read_mark true item (with_reader new x)) refl refl (λ f. fits_new)
-          (λ i l h. subst (Hears (with_read_mark true item (with_reader new x)) i) (sym (side_batch true (batch ++ item ∷ []))) (hears i (subst (Hears x i) (side_batch true batch) h))) (λ here up. live) g
+          (λ i l h. subst (Hears (with_read_mark true item (with_reader new x)) i) (sym (side_batch true (batch ++ item ∷ []))) (hears i (subst (Hears x i) (side_batch true batch) h))) (λ here up. live) (λ gone. gone)
+          (λ got l h. heard_to got (awaiting n (Some (side true (batch ++ item ∷ []))) []) (one_more item is) h) g
 
       same_reading : (r : Reading) → x.reader ≡ Some r → r ≡ reading
       same_reading r is = let e : Some r ≡ Some reading = sym is ∙ reads in cc
@@ -382,23 +409,23 @@ module _ (plan : Plan) (n : ℕ) (past : List Sent) (a : Room) (once : IsOnce (i
           by_due (body b) due f = f
           by_due done due f = absurd due
 
-      body_part : (p : ReadPart) → InBody reading.due → BodyNext (Some (if x.is_head_up then codes "HEAD" else codes "GET")) p new.due → Under plan n past (take_part plan (side true batch) p back)
-      body_part (head_part h) due is = absurd is
-      body_part (interim_part h) due is = absurd is
-      body_part (piece bytes false) due is =
+      body_part : (p : ReadPart) → InBody reading.due → BodyNext (Some (if x.is_head_up then codes "HEAD" else codes "GET")) p new.due → said ≡ items_of p → Under plan n past (take_part plan (side true batch) p back)
+      body_part (head_part h) due is says = absurd is
+      body_part (interim_part h) due is says = absurd is
+      body_part (piece bytes false) due is says =
           takes_mine true batch (items.Piece bytes false) back (with_reader new x) back_once back_held idle
-          (item_goes (items.Piece bytes false) (λ i h. body_hears (items.Piece bytes false) i due (λ p inside_is. subst (λ (q : Phase). Fitting new.due (step q (items.Piece bytes false)) × (flag (step q (items.Piece bytes false)) ≡ false)) (sym inside_is) (on_body new.due is, refl)) h))
+          (item_goes (items.Piece bytes false) says (λ i h. body_hears (items.Piece bytes false) i due (λ p inside_is. subst (λ (q : Phase). Fitting new.due (step q (items.Piece bytes false)) × (flag (step q (items.Piece bytes false)) ≡ false)) (sym inside_is) (on_body new.due is, refl)) h))
         where
           on_body : (d : Due) → InBody d → Fitting d inside
           on_body head_due is = absurd is
           on_body (body b) is = refl
           on_body done is = absurd is
-      body_part (piece bytes true) due is =
+      body_part (piece bytes true) due is says =
           takes_mine true batch (items.Piece bytes true) back (with_reader new x) back_once back_held idle
-          (item_goes (items.Piece bytes true) (λ i h. body_hears (items.Piece bytes true) i due (λ p inside_is. subst (λ (q : Phase). Fitting new.due (step q (items.Piece bytes true)) × (flag (step q (items.Piece bytes true)) ≡ false)) (sym inside_is) (subst (λ (d : Due). Fitting d whole) (sym is) tt, refl)) h))
-      body_part (trailer_part fields) due is =
+          (item_goes (items.Piece bytes true) says (λ i h. body_hears (items.Piece bytes true) i due (λ p inside_is. subst (λ (q : Phase). Fitting new.due (step q (items.Piece bytes true)) × (flag (step q (items.Piece bytes true)) ≡ false)) (sym inside_is) (subst (λ (d : Due). Fitting d whole) (sym is) tt, refl)) h))
+      body_part (trailer_part fields) due is says =
           takes_contexts true batch items.Trailers (put_trailers true (with_fields no_headers fields)) (exchange_on n back) back (with_reader new x) back_once back_held idle
-          (item_goes items.Trailers (λ i h. body_hears items.Trailers i due (λ p inside_is. subst (λ (q : Phase). Fitting new.due (step q items.Trailers) × (flag (step q items.Trailers) ≡ false)) (sym inside_is) (subst (λ (d : Due). Fitting d whole) (sym is) tt, refl)) h))
+          (item_goes items.Trailers says (λ i h. body_hears items.Trailers i due (λ p inside_is. subst (λ (q : Phase). Fitting new.due (step q items.Trailers) × (flag (step q items.Trailers) ≡ false)) (sym inside_is) (subst (λ (d : Due). Fitting d whole) (sym is) tt, refl)) h))
 
       -- where a head is due, nothing of it came
       module _ (fresh_is : g.phase ≡ fresh) (unheard : x.is_headed ≡ false) (empty : batch ≡ []) where
@@ -418,9 +445,9 @@ module _ (plan : Plan) (n : ℕ) (past : List Sent) (a : Room) (once : IsOnce (i
         abbrev kept : Head → Exchange
         kept h = with_response_head h (with_reader new x)
 
-        head_goes : (h : Head) (text : List ℕ) (used : ℕ) → SpellsResponse (bytes_eq (if x.is_head_up then codes "HEAD" else codes "GET") (codes "HEAD")) text (found h used) → new.due ≡ due_behind done h.connection h.length
+        head_goes : (h : Head) (text : List ℕ) (used : ℕ) → said ≡ head_item h ∷ [] → SpellsResponse (bytes_eq (if x.is_head_up then codes "HEAD" else codes "GET") (codes "HEAD")) text (found h used) → new.due ≡ due_behind done h.connection h.length
             → Going plan n (Total a) (Some (side true (batch ++ head_item h ∷ []))) [] (with_read_mark true (head_item h) (with_response_head h (with_reader new x)))
-        head_goes h text used spells due = record {
+        head_goes h text used says spells due = record {
           before = g.before;
           closed = g.closed;
           staying = g.staying;
@@ -448,6 +475,10 @@ module _ (plan : Plan) (n : ℕ) (past : List Sent) (a : Room) (once : IsOnce (i
           hears = λ l. speaks refl new refl (subst (Fitting new.due) (sym phase_is) (subst (λ (d : Due). Fitting d (step fresh (head_item h))) (sym due) (by_length h.length)))
               (subst (λ b. Suits b (response_of x.is_head_up h)) (sym (ap flag phase_is ∙ headed_flag (is_bare (length_in h.length)))) (judged_sound (is_bare (length_in h.length)) (response_of x.is_head_up h) (judged_head x.is_head_up text h used (by_method x.is_head_up spells))));
           reads = λ here up. live;
+          came = g.came;
+          exact = λ none l. subst (Exact (with_read_mark true (head_item h) (with_response_head h (with_reader new x))) g.went) (sym (came_none fresh_is)) (none_went, unsent);
+          comes = λ l. g.comes live;
+          heard = λ l. heard_to g.came (awaiting n (Some (side true (batch ++ head_item h ∷ []))) []) (one_more (head_item h) says) (g.heard live);
         }
           where
             phase_is : run g.phase (awaiting n (Some (side true (batch ++ head_item h ∷ []))) []) ≡ step fresh (head_item h)
@@ -477,8 +508,8 @@ module _ (plan : Plan) (n : ℕ) (past : List Sent) (a : Room) (once : IsOnce (i
             (held_same n n (with_response_head h) back.lines (with_reader new x) back_once (itself n) back_held) idle y
 
         -- an interim head
-        interim_under : (h : Head) → IsInterim h.fields → new.due ≡ head_due → Under plan n past (record (room_with_sent (sending_to n Down (interim_of (exchange_on n back) h)) back) { reading = Some (side true batch) })
-        interim_under h of due =
+        interim_under : (h : Head) → said ≡ [] → IsInterim h.fields → new.due ≡ head_due → Under plan n past (record (room_with_sent (sending_to n Down (interim_of (exchange_on n back) h)) back) { reading = Some (side true batch) })
+        interim_under h says of due =
             subst (λ (o : Option Exchange). Under plan n past (record (room_with_sent (sending_to n Down (interim_of o h)) back) { reading = Some (side true batch) })) (sym (on_held n back (Some (with_reader new x)) back_held)) (by_client x.asked.old_client refl)
           where
             hears_on : (i : Phase) → Hears x i (awaiting n (Some (side true batch)) []) → Hears (with_reader new x) i (awaiting n (Some (side true batch)) [])
@@ -488,7 +519,8 @@ module _ (plan : Plan) (n : ℕ) (past : List Sent) (a : Room) (once : IsOnce (i
             by_client : (b : Bool) → x.asked.old_client ≡ b → Under plan n past (record (room_with_sent (sending_to n Down (if b then [] else interim_wire h.fields)) back) { reading = Some (side true batch) })
             by_client true old =
                 goes_mine true batch (room_with_sent [] back) (Some (Some (with_reader new x))) back_held idle
-                (note_goes plan n (Total a) (Total (room_with_sent [] back)) (Some (side true batch)) (Some (side true batch)) [] [] x (with_reader new x) (ap (λ l. client_traffic n (past ++ l)) (append-nil a.hub.sent)) refl (λ f. fits_new) (λ i l e. hears_on i e) (λ here up. live) g)
+                (note_goes plan n (Total a) (Total (room_with_sent [] back)) (Some (side true batch)) (Some (side true batch)) [] [] x (with_reader new x) (ap (λ l. client_traffic n (past ++ l)) (append-nil a.hub.sent)) refl (λ f. fits_new) (λ i l e. hears_on i e) (λ here up. live) (λ gone. gone)
+                (λ got l h. heard_to got (awaiting n (Some (side true batch)) []) (no_more says) h) g)
             by_client false new_one =
                 goes_mine true batch s (Some (Some (with_reader new x))) back_held idle (record {
                   before = g.before;
@@ -517,6 +549,10 @@ module _ (plan : Plan) (n : ℕ) (past : List Sent) (a : Room) (once : IsOnce (i
                   fits = fits_new;
                   hears = λ l. hears_on g.phase (g.hears l);
                   reads = λ here up. live;
+                  came = g.came;
+                  exact = λ none l. subst (Exact (with_reader new x) []) (sym (came_none fresh_is)) (refl, unsent);
+                  comes = λ l. g.comes live;
+                  heard = λ l. heard_to g.came (awaiting n (Some (side true batch)) []) (no_more says) (g.heard live);
                 })
               where
                 s : Room
@@ -535,11 +571,11 @@ module _ (plan : Plan) (n : ℕ) (past : List Sent) (a : Room) (once : IsOnce (i
                     (total_more n past a.hub s.hub (map byte (interim_wire h.fields)) (grows_by n a.hub.sent (sending_to n Down (interim_wire h.fields)) (map byte (interim_wire h.fields)) (bytes_here n n (interim_wire h.fields) (itself n))))
                     ∙ ap (λ l. g.before ++ map byte (flat_map wire_of g.staying ++ l)) (sym all ∙ sym (append-nil (interims_wire (g.interims ++ h.fields ∷ []))))
 
-        head_part_under : (text : List ℕ) (p : ReadPart) (used : ℕ) → HeadNext (Some (if x.is_head_up then codes "HEAD" else codes "GET")) text p used new.due → ((h : Head) → p ≡ interim_part h → IsInterim h.fields) → Under plan n past (take_part plan (side true batch) p back)
-        head_part_under text (head_part h) used is of = head_takes h (exchange_on n back) (head_goes h text used is.0 is.1)
-        head_part_under text (interim_part h) used is of = interim_under h (of h refl) is
-        head_part_under text (piece bytes last) used is of = absurd is
-        head_part_under text (trailer_part fields) used is of = absurd is
+        head_part_under : (text : List ℕ) (p : ReadPart) (used : ℕ) → HeadNext (Some (if x.is_head_up then codes "HEAD" else codes "GET")) text p used new.due → ((h : Head) → p ≡ interim_part h → IsInterim h.fields) → said ≡ items_of p → Under plan n past (take_part plan (side true batch) p back)
+        head_part_under text (head_part h) used is of says = head_takes h (exchange_on n back) (head_goes h text used says is.0 is.1)
+        head_part_under text (interim_part h) used is of says = interim_under h says (of h refl) is
+        head_part_under text (piece bytes last) used is of says = absurd is
+        head_part_under text (trailer_part fields) used is of says = absurd is
 
       -- no further part
       stop_hears : new.due ≡ due_at reading.due reading.unread → (i : Phase) → Hears x i (awaiting n (Some (side true batch)) []) → Hears (with_reader new x) i (awaiting n (Some (side true batch)) [])
@@ -554,11 +590,12 @@ module _ (plan : Plan) (n : ℕ) (past : List Sent) (a : Room) (once : IsOnce (i
           by_due (body unbounded) f = f
           by_due done f = f
 
-      stop_under : (why : Stop) → new.due ≡ due_at reading.due reading.unread → Under plan n past (end_of_read (side true batch) why back)
-      stop_under why due = by_stop why
+      stop_under : (why : Stop) → said ≡ [] → new.due ≡ due_at reading.due reading.unread → Under plan n past (end_of_read (side true batch) why back)
+      stop_under why says due = by_stop why
         where
           y : Going plan n (Total a) (Some (side true batch)) [] (with_reader new x)
-          y = note_goes plan n (Total a) (Total a) (Some (side true batch)) (Some (side true batch)) [] [] x (with_reader new x) refl refl (λ f. fits_new) (λ i l e. stop_hears due i e) (λ here up. live) g
+          y = note_goes plan n (Total a) (Total a) (Some (side true batch)) (Some (side true batch)) [] [] x (with_reader new x) refl refl (λ f. fits_new) (λ i l e. stop_hears due i e) (λ here up. live) (λ gone. gone)
+              (λ got l h. heard_to got (awaiting n (Some (side true batch)) []) (no_more says) h) g
 
           by_stop : (w : Stop) → Under plan n past (end_of_read (side true batch) w back)
           by_stop rest = ends_mine true batch None back (Some (Some (with_reader new x))) back_held idle y
@@ -571,6 +608,9 @@ module _ (plan : Plan) (n : ℕ) (past : List Sent) (a : Room) (once : IsOnce (i
         asked_new : new.asked ≡ reading.asked
         asked_new = ap (λ (r : Reading). r.asked) is.is
 
+        handed : (got : List ChainItem) → HeardBy reading got → HeardBy new (got ++ items_of p)
+        handed got h = heard_more reading new (hands_on p ∷ []) got (items_of p) asked_new (new, is, refl) (append-nil (items_of p)) h
+
         due_new : new.due ≡ is.due
         due_new = ap (λ (r : Reading). r.due) is.is
 
@@ -578,22 +618,23 @@ module _ (plan : Plan) (n : ℕ) (past : List Sent) (a : Room) (once : IsOnce (i
         next d at = subst (λ (o : Option (List ℕ)). IsNext reading.ended o d reading.unread (part p is.used is.due)) asks (subst (λ (d : Due). IsNext reading.ended reading.asked d reading.unread (part p is.used is.due)) at is.next)
 
         by_hears : reading.due ≡ head_due → Hears x g.phase batch → Under plan n past (take_part plan (side true batch) p (on_lines (read_on true new) n a))
-        by_hears at (speaks heard r reads_so fitting suits) = absurd (subst (λ (d : Due). Fitting d (run g.phase batch)) at (subst (λ (q : Reading). Fitting q.due (run g.phase batch)) (same_reading new asked_new r reads_so) fitting))
+        by_hears at (speaks heard r reads_so fitting suits) = absurd (subst (λ (d : Due). Fitting d (run g.phase batch)) at (subst (λ (q : Reading). Fitting q.due (run g.phase batch)) (same_reading new asked_new (items_of p) handed r reads_so) fitting))
         by_hears at (silent unheard fresh_is empty due) =
-            head_part_under new asked_new fresh_is unheard empty reading.unread p is.used
+            head_part_under new asked_new (items_of p) handed fresh_is unheard empty reading.unread p is.used
             (subst (λ (d : Due). HeadNext (Some (if x.is_head_up then codes "HEAD" else codes "GET")) reading.unread p is.used d) (sym due_new) (head_next reading.ended (Some (if x.is_head_up then codes "HEAD" else codes "GET")) reading.unread p is.used is.due (next head_due at)))
-            (λ h same. interim_is reading.ended (if x.is_head_up then codes "HEAD" else codes "GET") reading.unread h is.used is.due (subst (λ (q : ReadPart). IsNext reading.ended (Some (if x.is_head_up then codes "HEAD" else codes "GET")) head_due reading.unread (part q is.used is.due)) same (next head_due at)))
+            (λ h same. interim_is reading.ended (if x.is_head_up then codes "HEAD" else codes "GET") reading.unread h is.used is.due (subst (λ (q : ReadPart). IsNext reading.ended (Some (if x.is_head_up then codes "HEAD" else codes "GET")) head_due reading.unread (part q is.used is.due)) same (next head_due at))) refl
 
         by_due : (d : Due) → reading.due ≡ d → Under plan n past (take_part plan (side true batch) p (on_lines (read_on true new) n a))
         by_due head_due at = by_hears at (subst (Hears x g.phase) (side_batch true batch) (g.hears live))
         by_due (body b) at =
-            body_part new asked_new p (subst InBody (sym at) tt)
+            body_part new asked_new (items_of p) handed p (subst InBody (sym at) tt)
             (subst (λ (d : Due). BodyNext (Some (if x.is_head_up then codes "HEAD" else codes "GET")) p d) (sym due_new)
-            (body_next reading.ended (Some (if x.is_head_up then codes "HEAD" else codes "GET")) (body b) reading.unread p is.used is.due tt (next (body b) at)))
+            (body_next reading.ended (Some (if x.is_head_up then codes "HEAD" else codes "GET")) (body b) reading.unread p is.used is.due tt (next (body b) at))) refl
         by_due done at = absurd (done_next reading.ended (Some (if x.is_head_up then codes "HEAD" else codes "GET")) reading.unread p is.used is.due (next done at))
 
     server_halts : (why : Stop) (new : Reading) → Halts reading why new → Under plan n past (end_of_read (side true batch) why (on_lines (read_on true new) n a))
-    server_halts why new is = stop_under new (ap (λ (r : Reading). r.asked) is.is) why (ap (λ (r : Reading). r.due) is.is)
+    server_halts why new is =
+        stop_under new (ap (λ (r : Reading). r.asked) is.is) [] (λ got h. heard_more reading new (halts_so why ∷ []) got [] (ap (λ (r : Reading). r.asked) is.is) (new, is, refl) refl h) why refl (ap (λ (r : Reading). r.due) is.is)
 
     pub server_heard : (h : Heard) → Says reading h → Under plan n past (after_heard plan (side true batch) h a)
     server_heard (hands p new) says = server_hands p new says

@@ -68,7 +68,7 @@ module _ {H : Type 0} (calling : Calling H) (logs : WriteLogs calling) (plan : P
           (settling_whole calling logs plan past most_steps state.host (room_for_event plan event state.room) (λ n. (facing_known plan n past event state.room (all n).0, (all n).1)))
           (λ b k n. (emptied_known plan n past b.room (k n).0, emptied_under plan n past b.room (k n).1))
 
-  turns_whole : (past : List Sent) (from : Both H) (ts : List (Done H)) (to : Both H) → All past from.room → Turns calling plan from ts to → All (past ++ sent_in ts) to.room
+  pub turns_whole : (past : List Sent) (from : Both H) (ts : List (Done H)) (to : Both H) → All past from.room → Turns calling plan from ts to → All (past ++ sent_in ts) to.room
   turns_whole past from [] to all turned n =
       subst (λ (b : Both H). Known plan n (past ++ []) b.room × Under plan n (past ++ []) b.room) (sym turned) (subst (λ l. Known plan n l from.room × Under plan n l from.room) (sym (append-nil past)) (all n))
   turns_whole past from (t ∷ ts) to all turned n =

@@ -35,7 +35,9 @@ use Rattle.law_lines.proofs.Upward.{Up, IsMade, AreMade, is_any, Onward as UpOnw
 use Rattle.law_down.specs.Downward.{AreInterim, interims_wire, Part, AreStaying, IsLast, last_wire, wire_of, Closed}
 use Rattle.law_down.proofs.Sending.{clients_join}
 use Rattle.law_down.proofs.Below.{flag, Below}
-use Rattle.law_down.proofs.Deeds.{IsHeadDue, Rest, Onward, openings_join, live_before}
+use Rattle.law_down.specs.Exactly.{Exact}
+use Rattle.law_down.proofs.Exactly.{HeardAll}
+use Rattle.law_down.proofs.Deeds.{IsHeadDue, IsYoung, Rest, Onward, openings_join, live_before}
 
 -- ---- what of a response was read, and has not come to its chain
 
@@ -99,6 +101,11 @@ pub record Going (plan : Plan) (n : ℕ) (total : List Traffic) (reading : Optio
   pub fits : Fits x
   pub hears : is_over x ≡ false → Hears x phase (awaiting n reading js)
   pub reads : BackReads n reading x
+  -- of an exchange without filters, that went down which came to the chain of its response; what came there, and what is in hand, is what its reader handed on
+  pub came : List ChainItem
+  pub exact : x.filters ≡ [] → is_over x ≡ false → Exact x went came
+  pub comes : is_over x ≡ false → phase ≡ run fresh came
+  pub heard : is_over x ≡ false → HeardAll x.reader (came ++ awaiting n reading js)
 
 -- of a line without one
 pub record Waiting (plan : Plan) (n : ℕ) (total : List Traffic) (js : List Job) : Type 0 where
@@ -176,6 +183,10 @@ under_alike plan n total later reading now js ks (Some (Some x)) same a reads u 
   fits = u.fits;
   hears = λ live. subst (Hears x u.phase) (sym a.waits) (u.hears live);
   reads = reads x refl;
+  came = u.came;
+  exact = u.exact;
+  comes = u.comes;
+  heard = λ live. subst (λ (l : List ChainItem). HeardAll x.reader (u.came ++ l)) (sym a.waits) (u.heard live);
 }
 
 -- ---- a deed
@@ -203,10 +214,23 @@ hears_on n x y hub after i j pend left rest s live same none (speaks heard r rea
     speaks (rest.headed ∙ heard) r (s.reader (some_reader x.reader r reads) ∙ reads) (subst (Fitting r.due) (sym same) fitting)
     (subst (λ (p : Phase). Suits (flag p) y.told) (sym same) (subst (Suits (flag (run i pend))) (sym (rest.told live)) suits))
 
+-- what its reader handed on is the same, also where its connection was opened
+pub heard_on : (n : ℕ) (x y : Exchange) (hub after : Hub) → Rest n (x, hub) (y, after) → Stays x y → (items : List ChainItem) → HeardAll x.reader items → HeardAll y.reader items
+heard_on n x y hub after rest s items h = by_reader x.reader refl h
+  where
+    by_young : (o : Option Reading) → IsYoung o → items ≡ [] → HeardAll o items
+    by_young None young none = none
+    by_young (Some r) young none = record { acts = []; does = young; are = none }
+
+    by_reader : (o : Option Reading) → x.reader ≡ o → HeardAll o items → HeardAll y.reader items
+    by_reader None is none = by_young y.reader (rest.young (subst IsYoung (sym is) tt)) none
+    by_reader (Some r) is h = subst (λ (o : Option Reading). HeardAll o items) (sym (s.reader (some_reader x.reader r is) ∙ is)) h
+
 -- these items of a response came to its chain, or none
 pub deed_goes : (plan : Plan) (n : ℕ) (past : List Sent) (reading now : Option ReadBatch) (js ks : List Job) (x y : Exchange) (hub after : Hub) (a : List ChainItem) → Rest n (x, hub) (y, after) → Stays x y → awaiting n reading js ≡ a ++ awaiting n now ks → BackReads n now y
-    → (g : Going plan n (client_traffic n (past ++ hub.sent)) reading js x) → Onward n hub (y, after) g.went (run g.phase a) → Going plan n (client_traffic n (past ++ after.sent)) now ks y
-deed_goes plan n past reading now js ks x y hub after a rest s waits reads g o = record {
+    → (g : Going plan n (client_traffic n (past ++ hub.sent)) reading js x) → (o : Onward n hub (y, after) g.went (run g.phase a)) → (y.filters ≡ [] → is_over y ≡ false → Exact y (g.went ++ o.onto.more) (g.came ++ a))
+    → Going plan n (client_traffic n (past ++ after.sent)) now ks y
+deed_goes plan n past reading now js ks x y hub after a rest s waits reads g o exact = record {
   before = g.before;
   closed = g.closed;
   staying = g.staying;
@@ -227,6 +251,11 @@ deed_goes plan n past reading now js ks x y hub after a rest s waits reads g o =
       (ap (λ (p : Phase). run p (awaiting n now ks)) (o.same live) ∙ (sym (run_join g.phase a (awaiting n now ks)) ∙ ap (run g.phase) (sym waits)))
       (λ is none. let both = none_both a (awaiting n now ks) (sym waits ∙ none) in (o.same live ∙ (ap (run g.phase) both.0 ∙ is), both.1)) (g.hears (live_before n (x, hub) (y, after) rest live));
   reads = reads;
+  came = g.came ++ a;
+  exact = exact;
+  comes = λ live. o.same live ∙ (ap (λ (p : Phase). run p a) (g.comes (live_before n (x, hub) (y, after) rest live)) ∙ sym (run_join fresh g.came a));
+  heard = λ live. heard_on n x y hub after rest s ((g.came ++ a) ++ awaiting n now ks)
+      (subst (HeardAll x.reader) (ap (λ (l : List ChainItem). g.came ++ l) waits ∙ sym (append_assoc g.came a (awaiting n now ks))) (g.heard (live_before n (x, hub) (y, after) rest live)));
 }
   where
     none_both : (b c : List ChainItem) → b ++ c ≡ [] → (b ≡ []) × (c ≡ [])

@@ -7,6 +7,7 @@ use Rattle.exchange.specs.declared.types.Hub.{Hub}
 use Rattle.exchange.specs.Passing.{put_read_items, put_all_to_chain, refuse_exchange}
 use Rattle.law_exchange.specs.Ends.{IsOwn, StaysEnded}
 use Rattle.law_exchange.specs.Lives.{Deed, comes, responds, refuses, done_by, is_over}
+use Rattle.law_exchange.specs.Responses.{down_bytes}
 use Rattle.law_exchange.proofs.Ends.{nothing_follows_end}
 use Rattle.law_exchange.proofs.Framings.{IsSound as Suits}
 use Rattle.law_exchange.proofs.Own.{own_line}
@@ -26,12 +27,15 @@ use Rattle.law_lines.specs.Living.{request_in}
 use Rattle.law_lines.proofs.Finding.{IsOnce}
 use Rattle.law_lines.proofs.Items.{message_sound}
 use Rattle.law_lines.proofs.Kept.{Kept, by_bool, put_in_kept}
-use Rattle.law_lines.proofs.Looks.{is_n, look, kept_by}
+use Rattle.law_lines.proofs.Looks.{is_n, look, IsPlain, kept_by}
 use Rattle.law_lines.proofs.Phases.{Phase, fresh, step, run, IsSound, run_join, sound_run}
 use Rattle.law_lines.proofs.Story.{puts_of, pending, Flow, flows, ceases, Passage, NoEnter, Tale, plainly, filtered, ExOk, LineOk}
 use Rattle.law_lines.proofs.Upward.{Onward as UpOnward, own_goes, put_in_goes}
 use Rattle.law_down.proofs.Below.{flag, clash}
-use Rattle.law_down.proofs.Deeds.{Rest, Fine, rest_then, hub_fine, Onward, made_fine, comes_fine, refused_fine, responds_rest, responds_onward, onto_still, not_stepped, not_run, same_flag}
+use Rattle.law_bodies.proofs.Living.{read_open}
+use Rattle.law_down.specs.Exactly.{Exact}
+use Rattle.law_down.proofs.Exactly.{Came, Unmoved, deed_still, items_come, more_is_same, unmoved_itself}
+use Rattle.law_down.proofs.Deeds.{live_before, parts, Rest, Fine, rest_then, hub_fine, Onward, made_fine, comes_fine, refused_fine, responds_rest, responds_onward, onto_still, not_stepped, not_run, same_flag}
 use Rattle.law_down.proofs.Under.{backs_of, awaiting, Fitting, Hears, silent, speaks, Going, LineUnder, held_on, Under, Stays, deed_goes, reader_same}
 use Rattle.law_down.proofs.Calmly.{HasUp, line_ups, fine_goes, fine_after, number_under}
 
@@ -71,8 +75,15 @@ module _ (plan : Plan) (n : ℕ) (past : List Sent) (mid : Room) (once : IsOnce 
             asked = by_bool (λ (z : Exchange). z.asked ≡ x.asked) (x.has_ended || x.is_answered) x _ (λ e. refl) (λ e. refl);
             fits = f.rest.fits;
             reader = λ some. by_bool (λ (z : Exchange). z.reader ≡ x.reader) (x.has_ended || x.is_answered) x _ (λ e. refl) (λ e. refl);
-          }) refl g
+          }) refl
+          (λ none live. (sym filters ∙ none, unmoved, ap (down_bytes n) same)) g
         where
+          filters : (exchange_with_stages mid.dead x).filters ≡ x.filters
+          filters = by_bool (λ (z : Exchange). z.filters ≡ x.filters) (x.has_ended || x.is_answered) x _ (λ e. refl) (λ e. refl)
+
+          unmoved : Unmoved x (exchange_with_stages mid.dead x)
+          unmoved = by_bool (λ (z : Exchange). Unmoved x z) (x.has_ended || x.is_answered) x _ (λ e. unmoved_itself x) (λ e. record { head = refl; framed = λ o. refl })
+
           unentered : (b : Bool) → x.is_entered ≡ b → (x.is_entered ≡ true → NoEnter n (jobs.Enter m ∷ mid.jobs)) → x.is_entered ≡ false
           unentered false is none = is
           unentered true is none = let never : ◌≡◌ {A = Bool} true false = sym here ∙ (none is).0 in absurd (cc)
@@ -109,7 +120,8 @@ module _ (plan : Plan) (n : ℕ) (past : List Sent) (mid : Room) (once : IsOnce 
           let kept : Kept x q.0 = put_in_kept false a n x mid.hub in
           let up : UpOnward n mid.hub q k.passage.went (run (run fresh k.got) a) = put_in_goes n a x mid.hub k.passage.went (run fresh k.got) k.passage.up (sound_of here x k.got k.passage.heard k.passage.up.sound k.passage.flow) in
           fine_goes plan n past js mid.jobs x q.0 mid.hub after (fine_after n x mid.hub after q same f)
-          (record { asked = kept.asked; fits = f.rest.fits; reader = reader_same n x q.0 mid.hub q.1 k.passage.went (run fresh k.got) (run (run fresh k.got) a) k.passage.up up f.rest }) refl g
+          (record { asked = kept.asked; fits = f.rest.fits; reader = reader_same n x q.0 mid.hub q.1 k.passage.went (run fresh k.got) (run (run fresh k.got) a) k.passage.up up f.rest }) refl
+          (deed_still n (comes a) x mid.hub after tt refl (line_ups plan n past None js mid.lines mid.hub ok l x at some).plain kept.filters same (λ live. live_before n (x, mid.hub) q f.rest live)) g
 
   -- an own deed that brings no item of the request leaves the reader
   stays_by : (deed : Deed) (x : Exchange) (js : List Job) (l : Line) → IsOwn deed → request_in deed ≡ [] → LineOk plan n past None js mid.lines (look n mid.lines) mid.hub → look n mid.lines ≡ Some l → l.exchange ≡ Some x
@@ -127,7 +139,9 @@ module _ (plan : Plan) (n : ℕ) (past : List Sent) (mid : Room) (once : IsOnce 
       number_under plan n past m (refuse_exchange status) js mid once quiet (λ x k. own_line m (refuses status) x k tt) (λ e. record { waits = refl; ends = λ c. absurd c.0 }) (λ c. absurd c.0) (line_ups plan n past None js mid.lines mid.hub ok)
       (λ here x after l at some same g.
       let f : Fine n (x, mid.hub) (refuse_exchange status n x mid.hub) = refused_fine status n x mid.hub in
-      fine_goes plan n past js mid.jobs x (refuse_exchange status n x mid.hub).0 mid.hub after (fine_after n x mid.hub after (refuse_exchange status n x mid.hub) same f) (stays_by (refuses status) x js l tt refl ok at some f.rest) refl g) u
+      fine_goes plan n past js mid.jobs x (refuse_exchange status n x mid.hub).0 mid.hub after (fine_after n x mid.hub after (refuse_exchange status n x mid.hub) same f) (stays_by (refuses status) x js l tt refl ok at some f.rest) refl
+      (deed_still n (refuses status) x mid.hub after tt refl (line_ups plan n past None js mid.lines mid.hub ok l x at some).plain (kept_by n (refuses status) x mid.hub tt).filters same
+      (λ live. live_before n (x, mid.hub) (refuse_exchange status n x mid.hub) f.rest live)) g) u
     where
       js : List Job
       js = jobs.Refuse m status ∷ mid.jobs
@@ -171,7 +185,7 @@ module _ (plan : Plan) (n : ℕ) (past : List Sent) (mid : Room) (once : IsOnce 
 
       goes : (m == n) ≡ true → (x : Exchange) (after : Hub) → (l : Line) → look n mid.lines ≡ Some l → l.exchange ≡ Some x → after.sent ≡ (put_read_items true a n x mid.hub).1.sent → Going plan n (client_traffic n (past ++ mid.hub.sent)) None js x
           → Going plan n (client_traffic n (past ++ after.sent)) None mid.jobs (put_read_items true a n x mid.hub).0
-      goes here x after l at some same g = deed_goes plan n past None None js mid.jobs x q.0 mid.hub after a rest_after stays (waits here) tt g onward
+      goes here x after l at some same g = deed_goes plan n past None None js mid.jobs x q.0 mid.hub after a rest_after stays (waits here) tt g onward exactly
         where
           q : Exchange × Hub
           q = put_read_items true a n x mid.hub
@@ -217,3 +231,24 @@ module _ (plan : Plan) (n : ℕ) (past : List Sent) (mid : Room) (once : IsOnce 
               by_over : (b : Bool) → is_over x ≡ b → Onward n mid.hub (q.0, after) g.went (run g.phase a)
               by_over true ended = let nothing = nothing_comes x a ended in same_onward (run g.phase a) (λ live. clash (is_over x) ended live) nothing.0 nothing.1
               by_over false live = by_hears (g.hears live)
+
+          -- what is in hand is sound behind what came
+          sound_a : is_over x ≡ false → IsSound (run (run fresh g.came) a)
+          sound_a live = subst (λ (p : Phase). IsSound (run p a)) (g.comes live) (by_hears (g.hears live))
+            where
+              by_hears : Hears x g.phase (awaiting n None js) → IsSound (run g.phase a)
+              by_hears (silent unheard is empty due) = subst (λ (l : List ChainItem). IsSound (run g.phase l)) (sym (none_left a (awaiting n None mid.jobs) (sym (waits here) ∙ empty)).0) g.below.sound
+              by_hears (speaks heard r reads fitting suits) =
+                  sound_run (run g.phase a) (awaiting n None mid.jobs)
+                  (subst IsSound (ap (run g.phase) (waits here) ∙ run_join g.phase a (awaiting n None mid.jobs)) (fitting_sound r.due (run g.phase (awaiting n None js)) fitting))
+
+          exactly : (put_read_items true a n x mid.hub).0.filters ≡ [] → is_over (put_read_items true a n x mid.hub).0 ≡ false → Exact (put_read_items true a n x mid.hub).0 (g.went ++ onward.onto.more) (g.came ++ a)
+          exactly none runs =
+              let live : is_over x ≡ false = live_before n (x, mid.hub) q rest runs in
+              let gone : x.filters ≡ [] = sym (kept_by n (responds a) x mid.hub tt).filters ∙ none in
+              let plain : IsPlain x = (line_ups plan n past None js mid.lines mid.hub ok l x at some).plain gone in
+              let p : Exchange × Hub = put_all_to_chain true n a (x, mid.hub) in
+              let is : q ≡ p = read_open n a x mid.hub (parts x.has_ended x.is_answered live).1 in
+              let c : Came n mid.hub g.went (g.came ++ a) p = items_come n a x mid.hub g.went g.came plain.2 live (sound_a live) (g.exact gone live) (subst (λ (s : Exchange × Hub). is_over s.0 ≡ false) is runs) in
+              let more : onward.onto.more ≡ c.more = more_is_same n mid.hub after onward.onto.more c.more onward.onto.grows (ap (down_bytes n) (same ∙ ap (λ (s : Exchange × Hub). s.1.sent) is) ∙ c.adds) in
+              subst (λ (m : List ℕ). Exact q.0 (g.went ++ m) (g.came ++ a)) (sym more) (subst (λ (s : Exchange × Hub). Exact s.0 (g.went ++ c.more) (g.came ++ a)) (sym is) c.exact)

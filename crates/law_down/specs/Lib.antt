@@ -1,4 +1,5 @@
 pub mod Downward
+pub mod Exactly
 pub mod Laws
 pub mod InOrder
 pub mod Examples

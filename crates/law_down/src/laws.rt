@@ -1,5 +1,6 @@
 // What goes down on lines over turns. The functions have nothing to do: their contracts are the laws.
 ghost use Rattle.law_down.specs.Examples.{OrderExamples, Refuses};
+ghost use Rattle.law_down.specs.Exactly.{ResponsesGoDownAsTheyCame, ResponsesOfTheProductGoDownAsTheyCame};
 ghost use Rattle.law_down.specs.InOrder.{ConnectionsGoInOrder, ConnectionsOfTheProductGoInOrder, WorkersGoInOrder};
 ghost use Rattle.law_down.specs.Laws.{ResponsesGoDownOneByOne, ResponsesOfTheProductGoDown, WorkersAnswerOneByOne};
 
@@ -24,6 +25,19 @@ pub fn workers_answer_one_by_one<H, S: Shared>()
 /// And of one with the machines of its VMs, whatever their modules do.
 pub fn responses_of_the_product_go_down<S: Shared>()
     ensures { ResponsesOfTheProductGoDown S S.performs }
+{}
+
+/// Over the turns of a new worker, whatever its machines do, of an exchange without filters that is open, has a connection to its server, and was neither answered nor
+/// has ended, where nothing is in hand: what went down of it is interim heads, and then its response as the reader of its server handed it on, from its head on:
+/// each piece of its body with its bytes, in order. It is written as the exchange writes its body. Which text the reader was fed is not said, so bytes that are turned
+/// around are not refused by this alone.
+pub fn responses_go_down_as_they_came<H>()
+    ensures { ResponsesGoDownAsTheyCame H }
+{}
+
+/// And of a worker of a configuration with the machines of its VMs, by the whole turns that its code takes, over shared stores.
+pub fn responses_of_the_product_go_down_as_they_came<S: Shared>()
+    ensures { ResponsesOfTheProductGoDownAsTheyCame S S.performs }
 {}
 
 /// What the definitions refuse: something after a close, a line that stays after a response cut short or after an answer of no exchange, and an interim
