@@ -8,6 +8,8 @@ ghost use Rattle.law_vms.specs.LastIds.{IdsRunOut, LastIdExamples};
 ghost use Rattle.law_vms.specs.Levels.{LevelExamples};
 ghost use Rattle.law_vms.specs.Lives.{LivesKeepPlaces};
 ghost use Rattle.law_vms.specs.MadeVms.{MadeVmsAreInPlace};
+ghost use Rattle.law_vms.specs.Numbers.{NumberExamples};
+ghost use Rattle.law_vms.specs.OwnCalls.{CallsHaveRoom};
 ghost use Rattle.law_vms.specs.OwnChanges.{CallbacksChangeTheirOwn, PlacesBegin, PlacesStay};
 ghost use Rattle.law_vms.specs.OwnEffects.{EffectsAreOwn};
 ghost use Rattle.law_vms.specs.OwnLines.{EffectsActOnOwnLines};
@@ -55,9 +57,9 @@ pub fn lives_keep_places()
 {}
 
 /// A whole callback sends nothing but lines for the log, each not below the log's level and no longer than a line may be. What it asks its worker to
-/// do stands after what was asked before, each of it for a context of its own VM that is of an exchange; and it answers no exchange and ends
-/// none by itself. Where its effects are done, whatever they are, a line in whose exchange the VM takes no part stays as it was, what is sent goes
-/// out on lines in whose exchanges it does, and no VM dies.
+/// do stands after what was asked before, each of it for a context of its own VM, and all but callouts for one that is of an exchange; and it
+/// answers no exchange and ends none by itself. Where its effects are done, whatever they are, a line in whose exchange the VM takes no part
+/// stays as it was, what is sent goes out on lines in whose exchanges it does or on those of callouts, and no VM dies.
 pub fn effects_are_own()
     ensures asked { EffectsAreOwn }
     ensures lines { EffectsActOnOwnLines }
@@ -77,6 +79,12 @@ pub fn callbacks_see_their_own()
 /// root of one of the VM's contexts; it is looked up and used in the store of any VM there is, by its id in the one that the id says.
 pub fn callbacks_ask_their_own()
     ensures { CallbacksAskTheirOwn }
+{}
+
+/// No callback asks for more callouts than there is room for, whatever its module does: with those that are under way there are at most 64, and each has
+/// an id up to 2,147,483,647.
+pub fn calls_have_room()
+    ensures { CallsHaveRoom }
 {}
 
 /// Two VMs with their contexts on two lines, of which they share one, worked.
@@ -108,6 +116,11 @@ pub fn worked_fits()
 /// The numbers of the levels of log lines, and the levels of the numbers.
 pub fn worked_levels()
     ensures { LevelExamples }
+{}
+
+/// What callbacks are given: their context, as many numbers more as they take, and after a callout how much came back.
+pub fn worked_numbers()
+    ensures { NumberExamples }
 {}
 
 /// What of a VM never changes, whatever its module does and whatever the shared stores reply, in a callback and over a worker's whole life: the program that its machine runs, with the
