@@ -25,8 +25,8 @@ enum status {
 enum action { CONTINUE = 0, PAUSE = 1 };
 
 enum level { TRACE, DEBUG, INFO, WARN, ERROR, CRITICAL };
-enum map { REQUEST_HEADERS, REQUEST_TRAILERS, RESPONSE_HEADERS, RESPONSE_TRAILERS };
-enum buffer { REQUEST_BODY = 0, RESPONSE_BODY = 1, VM_CONFIGURATION = 6, PLUGIN_CONFIGURATION = 7 };
+enum map { REQUEST_HEADERS, REQUEST_TRAILERS, RESPONSE_HEADERS, RESPONSE_TRAILERS, CALL_HEADERS = 6, CALL_TRAILERS = 7 };
+enum buffer { REQUEST_BODY = 0, RESPONSE_BODY = 1, CALL_BODY = 4, VM_CONFIGURATION = 6, PLUGIN_CONFIGURATION = 7 };
 enum stream { REQUEST = 0, RESPONSE = 1 };
 enum metric { COUNTER = 0, GAUGE = 1 };
 
@@ -65,6 +65,11 @@ HOST(proxy_close_stream) u32 proxy_close_stream(u32 stream);
 HOST(proxy_send_local_response)
 u32 proxy_send_local_response(u32 code, const void *details, u32 details_size, const void *body, u32 body_size,
                               const void *headers, u32 headers_size, u32 grpc_status);
+// A request of the filter's own to the server, whose name is `upstream`. Among the fields are the pairs :method, :path and :authority. The outcome comes to
+// proxy_on_http_call_response, on the context that is the effective one now.
+HOST(proxy_http_call)
+u32 proxy_http_call(const void *upstream, u32 upstream_size, const void *headers, u32 headers_size, const void *body, u32 body_size,
+                    const void *trailers, u32 trailers_size, u32 timeout_milliseconds, u32 *call);
 HOST(proxy_get_shared_data)
 u32 proxy_get_shared_data(const void *key, u32 key_size, u8 **value, u32 *size, u32 *cas);
 HOST(proxy_set_shared_data)

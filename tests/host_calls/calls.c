@@ -32,6 +32,7 @@ ENV(proxy_remove_header_map_value, u32, u32, u32)
 ENV(proxy_continue_stream, u32)
 ENV(proxy_close_stream, u32)
 ENV(proxy_send_local_response, u32, u32, u32, u32, u32, u32, u32, u32)
+ENV(proxy_http_call, u32, u32, u32, u32, u32, u32, u32, u32, u32, u32)
 ENV(proxy_get_shared_data, u32, u32, u32, u32, u32)
 ENV(proxy_set_shared_data, u32, u32, u32, u32, u32)
 ENV(proxy_register_shared_queue, u32, u32, u32)
@@ -386,6 +387,7 @@ static u32 made(char letter) {
         CALL('c', args_sizes_get, args_sizes_get(A(0), A(1)))
         CALL('d', fd_close, fd_close(A(0)))
         CALL('e', proc_exit, (proc_exit(A(0)), 0))
+        CALL('f', http_call, proxy_http_call(A(0), A(1), A(2), A(3), A(4), A(5), A(6), A(7), A(8), A(9)))
     }
     return 999;
 }
@@ -679,6 +681,16 @@ CALLBACK(proxy_on_response_body) u32 proxy_on_response_body(u32 id, u32 size, u3
 #endif
 CALLBACK(proxy_on_request_trailers) u32 proxy_on_request_trailers(u32 id, u32 pairs) { RUN1(AT('j', request_trailers), id, 0, pairs) return answer; }
 CALLBACK(proxy_on_response_trailers) u32 proxy_on_response_trailers(u32 id, u32 pairs) { RUN1(AT('m', response_trailers), id, 0, pairs) return answer; }
+CALLBACK(proxy_on_http_call_response) void proxy_on_http_call_response(u32 id, u32 call, u32 fields, u32 size, u32 trailers) {
+    static u32 nth;
+    begin(id);
+    arguments[0] = call;
+    arguments[1] = fields;
+    arguments[2] = size;
+    arguments[3] = trailers;
+    arguments_used = 4;
+    run(AT('r', http_call_response), ++nth);
+}
 CALLBACK(proxy_on_done) u32 proxy_on_done(u32 id) { RUN(AT('n', done), id, 1) return answer; }
 CALLBACK(proxy_on_log) void proxy_on_log(u32 id) { RUN(AT('o', log), id, 0) }
 CALLBACK(proxy_on_delete) void proxy_on_delete(u32 id) { RUN(AT('p', delete), id, 0) }

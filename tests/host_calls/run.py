@@ -36,8 +36,6 @@ WITHOUT_PLACES = {
     "proxy_set_tick_period_milliseconds", "proxy_set_effective_context", "proxy_done", "proxy_continue_stream", "proxy_close_stream",
     "proxy_increment_metric", "proxy_record_metric", "environ_get", "args_get",
 }
-# the calls that are not built: no module here makes them, and tests/why asks the program what it answers
-UNBUILT = {"proxy_http_call"}
 
 
 def talk_tool():
@@ -181,8 +179,6 @@ def lacking(cases):
     for line in (HERE / "table.txt").read_text().splitlines():
         if line and not line.startswith("#"):
             module, name, _, own = line.split()
-            if name in UNBUILT:
-                continue
             statuses = {0} | ({int(n) for n in own.split(",")} if own != "-" else set())
             if name != "proc_exit":
                 statuses |= {10 if module == "env" else 52} | (set() if name in WITHOUT_PLACES else {6 if module == "env" else 21})

@@ -3,13 +3,6 @@
 #define ROOM 1310720
 #include "../../examples/filters/proxy_wasm.h"
 
-HOST(proxy_http_call)
-u32 proxy_http_call(const void *upstream, u32 upstream_size, const void *headers, u32 headers_size, const void *body, u32 body_size, const void *trailers,
-                    u32 trailers_size, u32 timeout, u32 *call);
-
-// The buffer of a callout's answer.
-#define CALL_BODY 4
-
 // So many milliseconds a callout may take.
 #define TIMEOUT 500
 

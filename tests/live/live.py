@@ -1606,14 +1606,18 @@ def calls_out(gateway, path, wanted, status="200"):
 def called_out(gateway, upstream):
     """Callouts are answered, by the server's answer to each: a short one, a long one, one that comes byte by byte, one that ends with its connection, and
     one that came whole before a reset. The server gets what the callout says, and its own line for each."""
-    base = gateway.descriptors()
-    calls_out(gateway, "/called", b"/called")
-    expect(upstream.seen["/called"][1]["host"], "a")
-    calls_out(gateway, "/big/200000", b"0123456789" * 20000)
-    calls_out(gateway, "/slow", b"slow answer")
-    calls_out(gateway, "/to-end", b"until the end" * 1000)
-    calls_out(gateway, "/answer-reset", b"whole")
-    gateway.frees(base)
+    with gateway.connect() as s:
+        # Once a line is answered the gateway has all descriptors that it keeps. A process that has just begun has fewer.
+        s.sendall(UNROUTED)
+        is_unrouted(s)
+        base = gateway.descriptors()
+        calls_out(gateway, "/called", b"/called")
+        expect(upstream.seen["/called"][1]["host"], "a")
+        calls_out(gateway, "/big/200000", b"0123456789" * 20000)
+        calls_out(gateway, "/slow", b"slow answer")
+        calls_out(gateway, "/to-end", b"until the end" * 1000)
+        calls_out(gateway, "/answer-reset", b"whole")
+        gateway.frees(base)
 
 
 def not_answered(gateway, upstream):
@@ -1632,12 +1636,11 @@ def calls_at_once(gateway, upstream):
 def too_many_calls(gateway, upstream):
     """64 callouts are under way at most: a further one is refused. Once these failed there may be others."""
     base = gateway.descriptors()
-    lines = []
-    for _ in range(64):
-        s = gateway.connect()
+    lines = [gateway.connect() for _ in range(64)]
+    for s in lines:
         s.sendall(request("/call/silent"))
-        lines.append(s)
-        time.sleep(0.002)
+    # By now all of them are under way, and the time of none is over.
+    time.sleep(0.1)
     calls_out(gateway, "/one-more", b"full", "429")
     for s in lines:
         first, fields = Reader(s).head()
@@ -1665,21 +1668,12 @@ def no_server_for_calls(gateway, upstream):
         calls_out(gateway, "/%d" % n, b"failed", "503")
 
 
-def has_callouts(program, folder, upstream):
-    """Whether the program has callouts."""
-    gateway = Gateway(program, folder, upstream.address, (upstream.address, upstream.port), 1, 1, WITH_A_CALLER)
-    try:
-        with gateway.connect() as s:
-            s.sendall(request("/call/first"))
-            return status_of(Reader(s).head()[0]) != "501"
-    finally:
-        gateway.kill()
-
-
 def tells(text):
     """Whether standard error has lines of this notice, once or several times, and nothing else."""
     return lambda err: re.fullmatch(rb"(warn %s: [1-9][0-9]*\n)+" % re.escape(text.encode()), err) is not None
 
+
+CALLED = b"store caller calls 0 keys 0 items 0\n"
 
 # name, workers, what the configuration has besides, what is printed at the end, cases with how many lines each opens, and where it is looked at
 # what is true of standard error
@@ -1773,13 +1767,8 @@ GROUPS = [
     ("no descriptor for a server", 1, "", b"", [(undialled, 1)], tells("upstream not dialled, no descriptor or port is left")),
     ("descriptors that run out", 1, "", b"", [(no_descriptor, 5)], tells("line not accepted, the system refused it")),
     ("lines that are not read", 1, "", b"", [(unread, 363)]),
-]
-
-# Those that need callouts, which are tried where the program has them.
-CALLED = b"store caller calls 0 keys 0 items 0\n"
-CALLING = [
-    ("callouts", 1, WITH_A_CALLER, CALLED, [(called_out, 5), (not_answered, 5), (calls_at_once, 60), (too_many_calls, 66), (gone_meanwhile, 11)]),
-    ("callouts of two workers", 2, WITH_A_CALLER, CALLED, [(called_out, 5), (calls_at_once, 60)]),
+    ("callouts", 1, WITH_A_CALLER, CALLED, [(called_out, 6), (not_answered, 5), (calls_at_once, 60), (too_many_calls, 66), (gone_meanwhile, 11)]),
+    ("callouts of two workers", 2, WITH_A_CALLER, CALLED, [(called_out, 6), (calls_at_once, 60)]),
     ("no server for callouts", 1, WITH_A_CALLER, CALLED, [(no_server_for_calls, 3)], tells("upstream refused")),
 ]
 
@@ -1837,11 +1826,7 @@ def main():
         for module in (METER, SHOUT, TELLER, BUSY, CALLER, WAITS, ENQUEUES, *OPERATORS):
             shutil.copy(module, folder)
         only = os.environ.get("ONLY", "")
-        calling = [group for group in CALLING if only in group[0]]
-        if calling and not has_callouts(program, folder, upstream):
-            print("live: the program has no callouts, so their groups are not tried: %d" % len(calling))
-            calling = []
-        for group in [group for group in GROUPS if only in group[0]] + calling:
+        for group in [group for group in GROUPS if only in group[0]]:
             p, f = run_group(program, folder, upstream, group)
             passed += p
             failed += f

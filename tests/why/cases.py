@@ -151,7 +151,7 @@ WANTED = [
     Its type is (i32) -> i32; wanted is () -> i32. The SDK is for another version of the ABI, or its declaration is wrong.
 """ + NO_NAMES + """  imports
     env.abort                        not linked
-    env.proxy_http_call              answers 12: An SDK in Rust panics on this answer, and the VM is dead. Do not make the call.
+    env.proxy_http_call              works
     wasi_snapshot_preview1.fd_close  answers 52
     env.proxy_done                   not linked
   callbacks: none

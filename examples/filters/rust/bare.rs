@@ -23,6 +23,8 @@ pub enum Map {
     RequestTrailers = 1,
     ResponseHeaders = 2,
     ResponseTrailers = 3,
+    CallHeaders = 6,
+    CallTrailers = 7,
 }
 
 /// The bytes that a call is about.
@@ -31,6 +33,7 @@ pub enum Map {
 pub enum Buffer {
     RequestBody = 0,
     ResponseBody = 1,
+    CallBody = 4,
     VmConfiguration = 6,
     PluginConfiguration = 7,
 }
@@ -93,6 +96,18 @@ extern "C" {
         pairs_size: usize,
         grpc_status: u32,
     ) -> u32;
+    fn proxy_http_call(
+        upstream: *const u8,
+        upstream_size: usize,
+        headers: *const u8,
+        headers_size: usize,
+        body: *const u8,
+        body_size: usize,
+        trailers: *const u8,
+        trailers_size: usize,
+        timeout: u32,
+        call: *mut u32,
+    ) -> u32;
 }
 
 /// Writes a line to the log.
@@ -149,6 +164,27 @@ pub fn send_local_response(code: u32, body: &[u8]) -> Result<(), Status> {
     done(unsafe { proxy_send_local_response(code, null(), 0, body.as_ptr(), body.len(), null(), 0, u32::MAX) })
 }
 
+/// Sends a request of the filter's own to the server, and answers the number of the call. Among the fields are `:method`, `:path` and `:authority`. The outcome
+/// comes to `proxy_on_http_call_response`, on the context that is the effective one now.
+pub fn http_call(fields: &Pairs, body: &[u8], milliseconds: u32) -> Result<u32, Status> {
+    let (upstream, fields, mut call) = (b"upstream", fields.as_slice(), 0);
+    let status = unsafe {
+        proxy_http_call(
+            upstream.as_ptr(),
+            upstream.len(),
+            fields.as_ptr(),
+            fields.len(),
+            body.as_ptr(),
+            body.len(),
+            null(),
+            0,
+            milliseconds,
+            &mut call,
+        )
+    };
+    done(status).map(|()| call)
+}
+
 fn done(status: u32) -> Result<(), Status> {
     match status {
         0 => Ok(()),
@@ -202,6 +238,48 @@ impl Bytes {
 impl Drop for Bytes {
     fn drop(&mut self) {
         unsafe { LENT -= self.size };
+    }
+}
+
+/// How many bytes `Pairs` may take.
+const PAIRS_SIZE: usize = 196_608;
+static mut PAIRS: [u8; PAIRS_SIZE] = [0; PAIRS_SIZE];
+
+/// Pairs as the host reads them: how many, the sizes of each name and value, and then each name and value with a zero byte after it. They are in `PAIRS`,
+/// so only those that were made last are there; what does not fit is cut off, which the host refuses.
+pub struct Pairs {
+    size: usize,
+}
+
+impl Pairs {
+    /// These pairs.
+    pub fn of(list: &[(&[u8], &[u8])]) -> Pairs {
+        let mut pairs = Pairs { size: 0 };
+        pairs.put(&(list.len() as u32).to_le_bytes());
+        for (name, value) in list {
+            pairs.put(&(name.len() as u32).to_le_bytes());
+            pairs.put(&(value.len() as u32).to_le_bytes());
+        }
+        for (name, value) in list {
+            for part in [name, value] {
+                pairs.put(part);
+                pairs.put(b"\0");
+            }
+        }
+        pairs
+    }
+
+    fn put(&mut self, bytes: &[u8]) {
+        for byte in bytes {
+            if self.size < PAIRS_SIZE {
+                unsafe { PAIRS[self.size] = *byte };
+                self.size += 1;
+            }
+        }
+    }
+
+    fn as_slice(&self) -> &[u8] {
+        unsafe { from_raw_parts(addr_of_mut!(PAIRS) as *const u8, self.size) }
     }
 }
 

@@ -24,6 +24,7 @@ pub mod types {
     pub enum BufferType {
         HttpRequestBody = 0,
         HttpResponseBody = 1,
+        HttpCallResponseBody = 4,
         VmConfiguration = 6,
         PluginConfiguration = 7,
     }
@@ -36,6 +37,8 @@ pub mod types {
         HttpRequestTrailers = 1,
         HttpResponseHeaders = 2,
         HttpResponseTrailers = 3,
+        HttpCallResponseHeaders = 6,
+        HttpCallResponseTrailers = 7,
     }
 
     /// The level of a log line.
@@ -230,9 +233,15 @@ pub mod hostcalls {
         done(unsafe { proxy_send_local_response(code, null(), 0, body.as_ptr(), body.len(), pairs.as_ptr(), pairs.len(), -1) })
     }
 
-    /// A call to another server, and its token.
-    pub fn dispatch_http_call(upstream: &str, headers: Vec<(&str, &str)>, body: Option<&[u8]>, timeout: Duration) -> Result<u32, Status> {
-        let (headers, trailers) = (bytes_of(&headers), bytes_of(&[]));
+    /// A request of the filter's own to the server, whose name is `upstream`, and its token.
+    pub fn dispatch_http_call(
+        upstream: &str,
+        headers: Vec<(&str, &str)>,
+        body: Option<&[u8]>,
+        trailers: Vec<(&str, &str)>,
+        timeout: Duration,
+    ) -> Result<u32, Status> {
+        let (headers, trailers) = (bytes_of(&headers), bytes_of(&trailers));
         let body = body.unwrap_or(&[]);
         let mut token = 0;
         let status = unsafe {
@@ -313,10 +322,27 @@ pub mod traits {
             upstream: &str,
             headers: Vec<(&str, &str)>,
             body: Option<&[u8]>,
-            _trailers: Vec<(&str, &str)>,
+            trailers: Vec<(&str, &str)>,
             timeout: Duration,
         ) -> Result<u32, Status> {
-            hostcalls::dispatch_http_call(upstream, headers, body, timeout)
+            hostcalls::dispatch_http_call(upstream, headers, body, trailers, timeout)
+        }
+        /// The outcome of a call: how many headers, bytes and trailers its answer has; all are 0 if none came.
+        fn on_http_call_response(&mut self, _token: u32, _headers: usize, _body_size: usize, _trailers: usize) {}
+        fn get_http_call_response_headers_bytes(&self) -> Vec<(String, Bytes)> {
+            hostcalls::get_map_bytes(MapType::HttpCallResponseHeaders).unwrap()
+        }
+        fn get_http_call_response_header(&self, name: &str) -> Option<String> {
+            hostcalls::get_map_value(MapType::HttpCallResponseHeaders, name).unwrap()
+        }
+        fn get_http_call_response_header_bytes(&self, name: &str) -> Option<Bytes> {
+            hostcalls::get_map_value_bytes(MapType::HttpCallResponseHeaders, name).unwrap()
+        }
+        fn get_http_call_response_body(&self, start: usize, most: usize) -> Option<Bytes> {
+            hostcalls::get_buffer(BufferType::HttpCallResponseBody, start, most).unwrap()
+        }
+        fn get_http_call_response_trailer(&self, name: &str) -> Option<String> {
+            hostcalls::get_map_value(MapType::HttpCallResponseTrailers, name).unwrap()
         }
         fn on_done(&mut self) -> bool {
             true
@@ -577,6 +603,15 @@ mod exports {
     #[no_mangle]
     pub extern "C" fn proxy_on_response_trailers(id: u32, count: usize) -> Action {
         stream(id, |stream| stream.on_http_response_trailers(count))
+    }
+
+    #[no_mangle]
+    pub extern "C" fn proxy_on_http_call_response(id: u32, token: u32, headers: usize, body_size: usize, trailers: usize) {
+        with(|contexts| match (contexts.streams.get_mut(&id), contexts.roots.get_mut(&id)) {
+            (Some(stream), _) => stream.on_http_call_response(token, headers, body_size, trailers),
+            (None, Some(root)) => root.on_http_call_response(token, headers, body_size, trailers),
+            (None, None) => panic!("invalid context_id"),
+        })
     }
 
     #[no_mangle]
