@@ -1,5 +1,5 @@
 -- What is done about callouts leaves the lines of clients as they were.
-use Rattle.std.proofs.Common.{ℕ, Bool, List, [], ◌∷◌, refl}
+use Rattle.std.proofs.Common.{ℕ, Bool, true, false, List, [], ◌∷◌, refl}
 use Rattle.std.specs.Prelude.{Option, None, Some}
 use Rattle.callouts.specs.Callouts.{callout_in, after_heard as after_part_heard}
 use Rattle.callouts.specs.Steps.{After, after_event, after_read}

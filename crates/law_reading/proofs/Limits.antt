@@ -1,8 +1,10 @@
 -- How many lines there are, and how much is unread of them, over turns.
-use Rattle.std.proofs.Common.{◌≡◌, ℕ, zero, suc, ◌+◌, ◌==◌, ◌<◌, ◌≤◌, Bool, true, false, ◌&&◌, List, [], ◌∷◌, map, filter, length, refl, ap, ◌∙◌, sym, subst, arith}
-use Rattle.std.proofs.lemmas.Bool.{and_parts, ltb-true}
+use Rattle.std.proofs.Common.{◌≡◌, ℕ, zero, suc, ◌+◌, ◌==◌, ◌<◌, ◌≤◌, Bool, true, false, ◌&&◌, List, [], ◌∷◌, ◌++◌, map, filter, length, refl, ap, ◌∙◌, sym, subst, arith}
+use Rattle.std.proofs.lemmas.Bool.{and_parts, ltb-true, le-leb, false≢true}
 use Rattle.std.proofs.lemmas.List.{length-append, length-drop}
 use Rattle.std.specs.Prelude.{Contains, Option, None, Some, if◌then◌else◌}
+use Rattle.callouts.specs.Callouts.{is_call_line, line_of}
+use Rattle.callouts.specs.declared.types.Callout.{Callout}
 use Rattle.filter_host.specs.Called.{Calling}
 use Rattle.filter_host.specs.Heard as heard
 use Rattle.filter_host.specs.Heard.{Heard, Hears}
@@ -20,7 +22,7 @@ use Rattle.send_queue.specs.Places.{is_same_side}
 use Rattle.worker_model.specs.Making.{first_room}
 use Rattle.worker_model.specs.Plan.{Plan}
 use Rattle.worker_model.specs.Steps.{Both, both, line_reading, exchange_reading, reading_with_more}
-use Rattle.worker_model.specs.Wants.{has_room, reads_more, is_wanted, is_up, wants_of}
+use Rattle.worker_model.specs.Wants.{has_room, reads_more, reads_call_more, call_line, call_lines, is_wanted, is_up, wants_of}
 use Rattle.worker_model.specs.Room as rooms
 use Rattle.worker_model.specs.declared.types.Line.{Line}
 use Rattle.law_reading.specs.Limits.{KeepLimits, LinesKeepLimits, AreWanted, IsShort, UnreadStaysShort}
@@ -30,7 +32,7 @@ use Rattle.law_reading.specs.Turns.{OneTurn, Turns, AreWhole}
 use Rattle.law_reading.proofs.Readers.{by_bool}
 use Rattle.law_reading.proofs.Every.{OfLine, Every, Closed, reading_in}
 use Rattle.law_reading.proofs.Events.{Says, Follows}
-use Rattle.law_reading.proofs.Lines.{found_in, line_in_found, equal_is, equal_by}
+use Rattle.law_reading.proofs.Lines.{found_in, line_in_found, equal_is, equal_by, AreLow}
 use Rattle.law_reading.proofs.Settles.{Spans, Ready, turn_reached}
 use Rattle.law_reading.proofs.Since.{AreFew, few_invariant, few_comes, FewWith, with_spans}
 use Rattle.law_reading.proofs.Told.{said, is_side, both_true}
@@ -179,9 +181,41 @@ wanted_more : (s : Side) (waiting : List Sent) (l : Line) → is_wanted s waitin
 wanted_more Down waiting l is = (and_parts (has_room waiting Down l && has_room waiting Up l) (reads_more (line_reading false (Some l))) is).1
 wanted_more Up waiting l is = (and_parts (has_room waiting Down l) (reads_more (line_reading true (Some l))) is).1
 
-obeyed : (plan : Plan) (room : rooms.Room) (waiting : List Sent) (m : ℕ) (s : Side) (bytes : List ℕ) → Obeys (wants_of plan room waiting) (whats.Bytes m s bytes) → Contains (numbers (filter (is_wanted s waiting) room.lines)) m
-obeyed plan room waiting m Down bytes obeys = obeys
-obeyed plan room waiting m Up bytes obeys = obeys
+-- the lines of callouts are those from 2^31 on
+high : (id : ℕ) → is_call_line (line_of id) ≡ true
+high id = le-leb 2147483648 (2147483648 + id) (omega arith)
+
+call_lines_high : (calls : List Callout) (n : ℕ) → Contains (call_lines calls) n → is_call_line n ≡ true
+call_lines_high [] n (k, below, is) = let never : ⊥ = omega (arith, below) in absurd never
+call_lines_high (c ∷ calls) n there = by_test (λ later. call_lines_high calls n later) (reads_call_more c) there
+  where
+    by_test : (Contains (call_lines calls) n → is_call_line n ≡ true) → (b : Bool) → Contains (map call_line (if b then c ∷ filter reads_call_more calls else filter reads_call_more calls)) n → is_call_line n ≡ true
+    by_test more true (zero, below, is) = subst (λ (m : ℕ). is_call_line m ≡ true) is (high c.id)
+    by_test more true (suc k, below, is) = more (k, omega (arith, below), is)
+    by_test more false later = more later
+
+-- a client's line that is asked for is one of those that are wanted
+of_clients : (lines : List ℕ) (calls : List Callout) (n : ℕ) → is_call_line n ≡ false → Contains (lines ++ call_lines calls) n → Contains lines n
+of_clients [] calls n low there = absurd (false≢true (sym low ∙ call_lines_high calls n there))
+of_clients (l ∷ lines) calls n low (zero, below, is) = (zero, omega arith, is)
+of_clients (l ∷ lines) calls n low (suc k, below, is) =
+    let later = of_clients lines calls n low (k, omega (arith, below), is) in
+    (suc later.0, omega (arith, later.1), later.2)
+
+-- no client has the line of a callout
+none_called : (test : Line → Bool) (m : ℕ) → is_call_line m ≡ true → (lines : List Line) → AreLow lines → Each (λ (l : Line). l.number ≡ m → test l ≡ true) lines
+none_called test m is [] low = tt
+none_called test m is (l ∷ lines) low =
+    ((λ same. absurd (false≢true (sym low.0 ∙ (ap is_call_line same ∙ is)))), none_called test m is lines low.1)
+
+obeyed : (plan : Plan) (room : rooms.Room) (waiting : List Sent) (m : ℕ) (s : Side) (bytes : List ℕ) → Obeys (wants_of plan room waiting) (whats.Bytes m s bytes) → AreRising room.lines → AreLow room.lines
+    → Each (λ (l : Line). l.number ≡ m → is_wanted s waiting l ≡ true) room.lines
+obeyed plan room waiting m Down bytes obeys rising low = all_pass (is_wanted Down waiting) m room.lines rising obeys
+obeyed plan room waiting m Up bytes obeys rising low = by_line (is_call_line m) refl
+  where
+    by_line : (b : Bool) → is_call_line m ≡ b → Each (λ (l : Line). l.number ≡ m → is_wanted Up waiting l ≡ true) room.lines
+    by_line true is = none_called (is_wanted Up waiting) m is room.lines low
+    by_line false is = all_pass (is_wanted Up waiting) m room.lines rising (of_clients (numbers (filter (is_wanted Up waiting) room.lines)) room.calls m is obeys)
 
 none_more : (r : Reading) → length r.unread ≤ 81919 → length r.unread + length {A = ℕ} [] ≤ 81919
 none_more r few = omega (arith, few)
@@ -206,18 +240,18 @@ with_bytes up waiting m s bytes few (l ∷ lines) each all = ((λ r is. by_test 
         omega (arith, more_is_short r more, few)
     by_test false e r is = none_more r (all.0 r is)
 
-start_short : (up : Bool) (plan : Plan) (room : rooms.Room) (waiting : List Sent) (w : What) → Obeys (wants_of plan room waiting) w → IsSized w → AreRising room.lines → Every up Short room.lines
+start_short : (up : Bool) (plan : Plan) (room : rooms.Room) (waiting : List Sent) (w : What) → Obeys (wants_of plan room waiting) w → IsSized w → AreRising room.lines → AreLow room.lines → Every up Short room.lines
     → Every up (ShortWith up w) room.lines
-start_short up plan room waiting (whats.Opened m) obeys sized rising all = with_none up (whats.Opened m) (λ n. refl) room.lines all
-start_short up plan room waiting (whats.Bytes m s bytes) obeys sized rising all =
-    with_bytes up waiting m s bytes sized.1 room.lines (all_pass (is_wanted s waiting) m room.lines rising (obeyed plan room waiting m s bytes obeys)) all
-start_short up plan room waiting (whats.End m s) obeys sized rising all = with_none up (whats.End m s) (λ n. refl) room.lines all
-start_short up plan room waiting (whats.Gone m s) obeys sized rising all = with_none up (whats.Gone m s) (λ n. refl) room.lines all
-start_short up plan room waiting (whats.Joined m) obeys sized rising all = with_none up (whats.Joined m) (λ n. refl) room.lines all
-start_short up plan room waiting (whats.Refused m) obeys sized rising all = with_none up (whats.Refused m) (λ n. refl) room.lines all
-start_short up plan room waiting (whats.Room m s) obeys sized rising all = with_none up (whats.Room m s) (λ n. refl) room.lines all
-start_short up plan room waiting whats.Clock obeys sized rising all = with_none up whats.Clock (λ n. refl) room.lines all
-start_short up plan room waiting whats.Stop obeys sized rising all = with_none up whats.Stop (λ n. refl) room.lines all
+start_short up plan room waiting (whats.Opened m) obeys sized rising low all = with_none up (whats.Opened m) (λ n. refl) room.lines all
+start_short up plan room waiting (whats.Bytes m s bytes) obeys sized rising low all =
+    with_bytes up waiting m s bytes sized.1 room.lines (obeyed plan room waiting m s bytes obeys rising low) all
+start_short up plan room waiting (whats.End m s) obeys sized rising low all = with_none up (whats.End m s) (λ n. refl) room.lines all
+start_short up plan room waiting (whats.Gone m s) obeys sized rising low all = with_none up (whats.Gone m s) (λ n. refl) room.lines all
+start_short up plan room waiting (whats.Joined m) obeys sized rising low all = with_none up (whats.Joined m) (λ n. refl) room.lines all
+start_short up plan room waiting (whats.Refused m) obeys sized rising low all = with_none up (whats.Refused m) (λ n. refl) room.lines all
+start_short up plan room waiting (whats.Room m s) obeys sized rising low all = with_none up (whats.Room m s) (λ n. refl) room.lines all
+start_short up plan room waiting whats.Clock obeys sized rising low all = with_none up whats.Clock (λ n. refl) room.lines all
+start_short up plan room waiting whats.Stop obeys sized rising low all = with_none up whats.Stop (λ n. refl) room.lines all
 
 short_turns : {H : Type 0} (up : Bool) (calling : Calling H) (plan : Plan) (turns : List (OneTurn H)) (from to : Both H) → Turns calling plan from turns to → AreWhole turns → AreWanted plan from turns
     → Ready (FewWith up Short) from.room → Ready (FewWith up Short) to.room
@@ -225,7 +259,7 @@ short_turns {H} up calling plan [] from to turned whole wanted ready = subst (λ
 short_turns up calling plan (t ∷ turns) from to turned whole (waiting, obeys, sized, more) ready =
     let w : What = t.event.what in
     let start : Ready (FewWith up (ShortWith up w)) from.room
-    = (ready.0, record { few = ready.1.few; every = start_short up plan from.room waiting w obeys sized ready.1.few.rising ready.1.every }) in
+    = (ready.0, record { few = ready.1.few; every = start_short up plan from.room waiting w obeys sized ready.1.few.rising ready.1.few.low ready.1.every }) in
     short_turns up calling plan turns t.end.state to turned.1 whole.1 more
     (turn_reached calling plan from t.event t.met t.end (FewWith up (ShortWith up w)) (FewWith up Short) (with_spans up (ShortWith up w) Short w (with_closed up w sized) (short_closed up) (short_follows up w)) turned.0 whole.0 start)
 

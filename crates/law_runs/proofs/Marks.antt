@@ -1,5 +1,5 @@
 -- What drops the mark that an answer was asked for, and that no step raises it where machines never ask for an answer.
-use Rattle.std.proofs.Common.{◌≡◌, ℕ, zero, suc, ◌==◌, Bool, not, ◌||◌, List, [], ◌∷◌, refl, ap, ◌∙◌, sym, subst}
+use Rattle.std.proofs.Common.{◌≡◌, ℕ, zero, suc, ◌==◌, Bool, true, false, not, ◌||◌, List, [], ◌∷◌, refl, ap, ◌∙◌, sym, subst}
 use Rattle.std.proofs.lemmas.Option.{none-some}
 use Rattle.std.specs.Prelude.{Option, None, Some, nat_lt, slice_get, slice_set}
 use Rattle.contexts.proofs.Places.{from_some}
