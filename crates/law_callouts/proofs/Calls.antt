@@ -1,10 +1,10 @@
 -- The worked turns with callouts, by computation.
-use Rattle.std.proofs.Common.{◌≡◌, ℕ, true, false, List, [], ◌∷◌, ◌++◌, length, map, None, Some, codes, refl, inl, inr}
+use Rattle.std.proofs.Common.{◌≡◌, ℕ, true, List, [], ◌∷◌, ◌++◌, length, map, None, Some, codes, refl, inl}
 use Rattle.std.specs.Fmt.{digits}
 use Rattle.callouts.specs.declared.types.Callout.{Callout}
-use Rattle.filter_host.specs.Course.{Course, Met, ends, Reaches}
+use Rattle.filter_host.specs.Course.{Course, Met}
 use Rattle.filter_host.specs.Heard.{Hears, hands, halts}
-use Rattle.filter_host.specs.declared.host.Callback.TheVariants.{Tick, RequestHeaders, CallAnswered, Done, Log, Delete}
+use Rattle.filter_host.specs.declared.host.Callback.TheVariants.{Tick, CallAnswered}
 use Rattle.gate_io.specs.declared.event.Sent.TheVariants as sent
 use Rattle.gate_io.specs.declared.event.Side.TheVariants.{Down, Up}
 use Rattle.gate_io.specs.declared.event.What.TheVariants as whats
@@ -27,7 +27,7 @@ use Rattle.h1_model.specs.ChunkExamples.{chunked_text}
 use Rattle.h1_model.specs.Examples.{worked_interim_text, worked_response_text}
 use Rattle.law_turns.specs.Downloads.{old_gets_met, old_counts_met}
 use Rattle.law_turns.specs.Texts.{no_content_text, no_content_head, download_text}
-use Rattle.law_callouts.specs.Scenes.{Told, told, counted, contexts, ticking, begins_with, turn_by, goes_on, holds, lets_go, traps, root_calls, Comes}
+use Rattle.law_callouts.specs.Scenes.{Told, told, counted, contexts, ticking, begins_with, turn_by, goes_on, traps, root_calls}
 use Rattle.law_callouts.specs.Calls.{CalloutTurns, asked, asked_and, behind_end, first_out, second_out, first_closed, second_closed, goes_up, died, answer, behind_answer, answer_met, cut, cut_met, no_content, three, trailed, table, twice, deadly, ticks, two, in_order, quiet}
 
 answer_is_read : Hears answer (hands (head_part no_content_head) behind_answer)

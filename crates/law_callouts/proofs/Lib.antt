@@ -1,2 +1,16 @@
+pub mod About
 pub mod Calls
+pub mod Changing
+pub mod Ending
+pub mod Lives
+pub mod Reading
+pub mod Reports
+pub mod Rooms
+pub mod Shapes
 pub mod Sound
+pub mod Splitting
+pub mod Staying
+pub mod Steps
+pub mod Texts
+pub mod Turning
+pub mod Workers

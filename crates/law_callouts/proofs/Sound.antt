@@ -1,5 +1,5 @@
 -- Callouts stay sound.
-use Rattle.std.proofs.Common.{◌≡◌, ◌<◌, ◌≤◌, ◌+◌, ◌==◌, ℕ, suc, Bool, true, false, cond, List, [], ◌∷◌, ◌++◌, length, refl, sym, ap, ◌∙◌, subst, eqb-true, ne_eqb, eq-eqb, arith}
+use Rattle.std.proofs.Common.{◌≡◌, ◌<◌, ◌≤◌, ◌==◌, ℕ, suc, Bool, true, false, cond, List, [], ◌∷◌, ◌++◌, length, refl, sym, ap, ◌∙◌, subst, eqb-true, ne_eqb, eq-eqb, arith}
 use Rattle.std.specs.Prelude.{Option, None, Some}
 use Rattle.callouts.specs.Callouts.{Coming, reads, fails, nothing, comes_of, callout_at, line_in, begun, callout_in, without, Taken, has, too_long, takes, is_last, after_taken, after_stop, after_heard, with_reading}
 use Rattle.callouts.specs.Steps.{put_callout, after_coming, after_event_of, after_event, callout_after, after_read}
@@ -24,14 +24,14 @@ use Rattle.law_callouts.specs.Sound.{AreRising, AreUpTo, AreSound, CalloutsStayS
 -- ---- ids that are not there
 
 -- none of those above it has an id
-none_above : (id low : ℕ) (calls : List Callout) → id ≤ low → AreRising low calls → callout_in id calls ≡ None
+pub none_above : (id low : ℕ) (calls : List Callout) → id ≤ low → AreRising low calls → callout_in id calls ≡ None
 none_above id low [] below rising = refl
 none_above id low (c ∷ calls) below rising =
     ap (λ (b : Bool). cond b (Some c) (callout_in id calls)) (ne_eqb c.id id (λ same. absurd (omega (arith, same, below, rising.0))))
     ∙ none_above id c.id calls (omega (arith, below, rising.0)) rising.1
 
 -- none of those up to another has an id above that
-none_beyond : (id last : ℕ) (calls : List Callout) → last < id → AreUpTo last calls → callout_in id calls ≡ None
+pub none_beyond : (id last : ℕ) (calls : List Callout) → last < id → AreUpTo last calls → callout_in id calls ≡ None
 none_beyond id last [] beyond drawn = refl
 none_beyond id last (c ∷ calls) beyond drawn =
     ap (λ (b : Bool). cond b (Some c) (callout_in id calls)) (ne_eqb c.id id (λ same. absurd (omega (arith, same, beyond, drawn.0))))
@@ -105,7 +105,7 @@ without_up_to last id (c ∷ calls) drawn = by (without_up_to last id calls draw
     by later true = drawn.1
     by later false = (drawn.0, later)
 
-without_gone : (low id : ℕ) (calls : List Callout) → AreRising low calls → callout_in id (without id calls) ≡ None
+pub without_gone : (low id : ℕ) (calls : List Callout) → AreRising low calls → callout_in id (without id calls) ≡ None
 without_gone low id [] rising = refl
 without_gone low id (c ∷ calls) rising = by (without_gone c.id id calls rising.1) (c.id == id) refl
   where
@@ -125,11 +125,11 @@ stop_id rest r c = refl
 stop_id over r c = refl
 stop_id (refusal number) r c = refl
 
-heard_id : (h : Heard) (c : Callout) → (callout_after (after_heard h c)).id ≡ c.id
+pub heard_id : (h : Heard) (c : Callout) → (callout_after (after_heard h c)).id ≡ c.id
 heard_id (hands part new) c = taken_id (is_last part) (with_reading new c) (takes part c.answer)
 heard_id (halts why new) c = stop_id why new c
 
-found_id : (id : ℕ) (calls : List Callout) (c : Callout) → callout_in id calls ≡ Some c → c.id ≡ id
+pub found_id : (id : ℕ) (calls : List Callout) (c : Callout) → callout_in id calls ≡ Some c → c.id ≡ id
 found_id id [] c is = absurd (cc)
 found_id id (d ∷ calls) c is = by (found_id id calls c) (d.id == id) refl is
   where
@@ -154,14 +154,14 @@ none_called config seed = plugins_call_none (with_vms (no_contexts config.log_le
 
 -- ---- the steps
 
-put_sound : (id : ℕ) (c : Callout) (room : Room) → c.id ≡ id → AreSound room → AreSound (record room { calls = put_callout id c room.calls })
+pub put_sound : (id : ℕ) (c : Callout) (room : Room) → c.id ≡ id → AreSound room → AreSound (record room { calls = put_callout id c room.calls })
 put_sound id c room same sound = record {
   rising = put_rising 0 id c room.calls same sound.rising;
   drawn = put_up_to room.hub.contexts.calls.last id c room.calls same sound.drawn;
   counted = sound.counted ∙ sym (put_length id c room.calls);
 }
 
-next_sound : (next : Option CallStep) (room : Room) → AreSound room → AreSound (with_call_step next room)
+pub next_sound : (next : Option CallStep) (room : Room) → AreSound room → AreSound (with_call_step next room)
 next_sound None room sound = sound
 next_sound (Some step) room sound = record { rising = sound.rising; drawn = sound.drawn; counted = sound.counted }
 

@@ -2,7 +2,7 @@
 use Rattle.std.specs.Prelude.{ℕ, List, [], ◌∷◌, ◌++◌, None, Some, codes}
 use Rattle.contexts.specs.declared.parts.CallAnswer.{CallAnswer}
 use Rattle.contexts.specs.declared.parts.Effect.{Effect}
-use Rattle.filter_host.specs.Course.{Course, Met, heard}
+use Rattle.filter_host.specs.Course.{Met, heard}
 use Rattle.filter_host.specs.Heard.{hands, halts}
 use Rattle.filter_host.specs.declared.host.Callback.TheVariants.{Tick, RequestHeaders, CallAnswered, Done, Log, Delete}
 use Rattle.gate_base.specs.declared.level.Level.TheVariants.{Critical}
@@ -17,7 +17,6 @@ use Rattle.header_maps.specs.declared.kind.ListKind.TheVariants.{Plain}
 use Rattle.h1_model.specs.Messages.{done, refusal}
 use Rattle.h1_model.specs.Unread.{Reading, head_part, new_reading, reading_with_bytes, reading_with_end, moved_on, awaiting_bytes}
 use Rattle.worker_model.specs.Steps.{Both, both, with_tick}
-use Rattle.worker_model.specs.Turn.{Outcome}
 use Rattle.law_turns.specs.Scenes.{line_of, first_date, room, contexts_with_roots, waits_on}
 use Rattle.law_turns.specs.Downloads.{old_gets_met, old_counts_met}
 use Rattle.law_turns.specs.Texts.{no_content_text, no_content_head, download_text, download_head}

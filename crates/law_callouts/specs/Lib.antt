@@ -1,3 +1,5 @@
 pub mod Scenes
 pub mod Calls
 pub mod Sound
+pub mod Ends
+pub mod Workers

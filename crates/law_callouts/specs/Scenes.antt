@@ -1,5 +1,5 @@
 -- What worked turns with callouts begin with: machines that begin callouts, and are told of what came back.
-use Rattle.std.specs.Prelude.{◌≡◌, ℕ, ◌==◌, ◌&&◌, Bool, true, false, List, [], ◌∷◌, ◌++◌, length, map, Option, None, Some, codes, if◌then◌else◌}
+use Rattle.std.specs.Prelude.{◌≡◌, ℕ, ◌==◌, ◌&&◌, true, false, List, [], ◌∷◌, ◌++◌, length, map, Option, None, Some, codes, if◌then◌else◌}
 use Rattle.contexts.specs.declared.parts.CallAnswer.{CallAnswer}
 use Rattle.contexts.specs.declared.parts.Calls.{Calls}
 use Rattle.contexts.specs.declared.parts.Own.{Own}
@@ -18,20 +18,18 @@ use Rattle.filter_host.specs.declared.host.Callback.{Callback}
 use Rattle.filter_host.specs.declared.host.Callback.TheVariants.{Tick, RequestHeaders, CallAnswered}
 use Rattle.filter_host.specs.declared.host.Death.TheVariants.{Trapped}
 use Rattle.exchange.specs.declared.types.Exchange.{Exchange}
-use Rattle.filter_chain.specs.declared.stage.Stage.{Stage}
 use Rattle.filter_chain.specs.declared.item.Held.TheVariants as held
 use Rattle.filter_chain.specs.declared.item.ChainItem.TheVariants.{Head}
 use Rattle.gate_base.specs.declared.cause.Cause.TheVariants.{Unreachable}
 use Rattle.gate_config.specs.declared.entries.PluginEntry.{PluginEntry}
-use Rattle.gate_io.specs.declared.event.Event.{Event}
 use Rattle.gate_io.specs.declared.event.Sent.{Sent}
 use Rattle.gate_io.specs.declared.event.What.{What}
 use Rattle.header_maps.specs.Operations.{no_headers, request_headers}
 use Rattle.store_model.specs.Program.{Program, done}
 use Rattle.worker_model.specs.Steps.{Both, both, with_tick}
-use Rattle.worker_model.specs.Turn.{Outcome, outcome, turn}
+use Rattle.worker_model.specs.Turn.{Outcome, turn}
 use Rattle.worker_model.specs.declared.types.Line.{Line}
-use Rattle.law_turns.specs.Tables.{Call, call_of, number_of, usual}
+use Rattle.law_turns.specs.Tables.{number_of, usual}
 use Rattle.law_turns.specs.Scenes.{get_map, plugin, contexts_with_roots, filter_of, stage, exchange, line, room, event, plan_of}
 
 -- ---- the machines: what was called of them, with what the context had of an answer then

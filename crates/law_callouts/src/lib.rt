@@ -1,6 +1,8 @@
-//! Laws of callouts: worked turns, and what their steps keep.
+//! Laws of callouts: worked turns, what their steps keep, and that each ends once, by its fate.
 #![tactic(auto)]
 
 mod laws;
 
-pub use laws::{callouts_stay_sound, worked_callout_turns};
+pub use laws::{
+    callouts_end_once, callouts_stay_sound, worked_callout_turns, workers_end_callouts_once,
+};
