@@ -23,14 +23,15 @@ pub record LinesAreTakenAndStay : Type 0 where
   pub stays : (line : Line) (number : ℕ) (room : Room) → line.is_gone ≡ false → end_line (Some line) number true room ≡ read_side number false room
   pub closes : (line : Line) (number : ℕ) (room : Room) → line.is_gone ≡ false → end_line (Some line) number false room ≡ close_line number room
 
--- A RESPONSE IS DUE so many milliseconds after its request as are configured, and a tick one period after the last, where 64 bits of nanoseconds reach so far.
+-- A RESPONSE IS DUE so many milliseconds after its request as are configured, and a tick one period after the moment at which the last was done, where 64 bits of
+-- nanoseconds reach so far.
 pub record TimesAreKept : Type 0 where
   pub due : (now deadline : ℕ) → (deadline ≡ 0 → ⊥) → now + deadline * 1000000 ≤ 18446744073709551615 → due_at now deadline ≡ Some (now + deadline * 1000000)
   pub never : (now : ℕ) → due_at now 0 ≡ None
   pub tick : (now : ℕ) (t : Tick) → now + t.period ≤ 18446744073709551615 → (next_tick now t).due ≡ now + t.period
   pub period : (now : ℕ) (t : Tick) → (next_tick now t).period ≡ t.period
 
--- EACH ROOT IS CONFIGURED once it is made, and each context of a filter is done with once its exchange ends.
+-- EACH ROOT IS TO BE CONFIGURED once it is made, and each context of a filter is to be done with once its exchange ends: so the jobs say that follow.
 pub record ContextsBeginAndEnd : Type 0 where
   pub configured : (vm root plugin : ℕ) (first : Bool) → Contains (root_jobs vm root plugin first) (jobs.Configure vm root plugin)
   pub done : (filters : List Filter) (place : ℕ) (f : Filter) → slice_get filters place ≡ Some f → f.created ≡ true → Contains (done_jobs filters) (jobs.Done (record { vm = f.vm; context = f.context }))

@@ -35,8 +35,8 @@ AreAs (item ∷ items) (o ∷ outs) = IsAs item o × AreAs items outs
 
 -- ---- a response
 
--- Of what was read of a response, its head and these items of its body went down: that head's list, framed in some way, and each item as it came, written by that
--- framing where the client awaits a body. Nothing is left while the exchange runs.
+-- Of what was read of a response, a head and these items of its body went down: a list of some fields, framed in some way, and each item as it came, written by that
+-- framing where the client awaits a body. Nothing is left while the exchange runs. (That the fields are those of the head that was read is not said.)
 pub record GoesAsItCame (to_head : Bool) (came : List ChainItem) (y : Exchange) (wire : List ℕ) : Type 0 where
   pub end : Bool
   pub body : List ChainItem

@@ -99,8 +99,8 @@ pub record InterimHeadsGoDown : Type 0 where
 
 -- ---- the last words of contexts
 
--- A CONTEXT THAT IS DONE WITH logs, and is deleted then: at once where its `done` answered anything but 0, or was missing, or its VM died; else it waits, and does
--- so once it is released.
+-- A CONTEXT THAT IS DONE WITH is to log, and to be deleted then: these jobs are in hand at once where its `done` answered anything but 0, or was missing, or its VM died;
+-- else it waits, and they are once it is released.
 pub record ContextsHaveTheirLastWords : Type 0 where
   pub done : (c : ContextAt) (value : ℕ) (room : Room) → (value ≡ 0 → ⊥) → (finish_context c (Some (Some value)) room).jobs ≡ jobs.Log c ∷ jobs.Delete c ∷ room.jobs
   pub missing : (c : ContextAt) (room : Room) → (finish_context c (Some None) room).jobs ≡ jobs.Log c ∷ jobs.Delete c ∷ room.jobs

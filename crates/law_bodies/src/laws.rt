@@ -4,30 +4,33 @@ ghost use Rattle.law_bodies.specs.Bounds.{ContextsBeginAndEnd, LinesAreTakenAndS
 ghost use Rattle.law_bodies.specs.Lives.{ResponsesGoDownAsTheyCame};
 ghost use Rattle.law_bodies.specs.Steps.{ContextsHaveTheirLastWords, FiltersStandInOrder, InterimHeadsGoDown, StaleSetsAreRefused, WhatIsPausedIsHeld, WhatIsReadComesOn};
 
-/// What goes down of a response's body that passes no stage, and what goes up of a request's, is read as that body: the bytes that came, in order, and its end
-/// or the trailers that are left. How it came in batches does not matter.
+/// Where a whole body is put to a chain without stages, and suits its framing (it has as many bytes as are told, say), what goes out of it is read as that body: the
+/// bytes that came, in order, and its end or the trailers that are left. So it is of responses and of requests. How it came in batches does not matter.
 pub fn bodies_go_on_as_they_came()
     ensures { BodiesGoOnAsTheyCame }
 {}
 
-/// Over the life of a new exchange without filters, whatever happens to it but that an interim head is handed on: what goes down is nothing; or an answer; or the head
-/// of the server's response and the items of its body as they came, each piece with its bytes, as far as they went, and all that came while the exchange runs.
+/// Over any deeds that happen to a new exchange without filters, but that an interim head is handed on, where what is read of its response is a front of one message: what
+/// goes down is nothing; or an answer; or one head and the items of the response's body as they came, each piece with its bytes, as far as they went, and all that came
+/// while the exchange runs. Which fields that head has is not said here, nor that a worker's exchange lives by such deeds.
 pub fn responses_go_down_as_they_came()
     ensures { ResponsesGoDownAsTheyCame }
 {}
 
-/// The filters of an exchange are the plug-ins of its route in their order. So stand the stages of the request, and those of the response in reverse.
+/// The filters of a route are its plug-ins in their order. So stand the stages of the request, of those that live and have their context, and those of the response
+/// in reverse.
 pub fn filters_stand_in_order()
     ensures { FiltersStandInOrder }
 {}
 
-/// A stage whose callback answers anything but Continue goes on holding: nothing is sent, and the exchange stays as it is. A callback that lets the other
-/// direction of its stream go on, or another stream, does so at once; of its own direction the action that it returns decides.
+/// Where the callback of a stage answers anything but Continue, nothing is sent, and the exchange stays as it is. A callback that lets the other direction of its
+/// stream go on, or another stream, does so at once; of its own direction the action that it returns decides.
 pub fn what_is_paused_is_held()
     ensures { WhatIsPausedIsHeld }
 {}
 
-/// What a reader of a response hands on joins what was read before it, and comes to the chain of the response with it, in order.
+/// Bytes that come from a server are read next, and what a reader hands on of a response's body joins what was read before it, and is put to the chain of the response
+/// with it, in order. By single steps; of heads nothing is said here.
 pub fn what_is_read_comes_on()
     ensures { WhatIsReadComesOn }
 {}
@@ -37,7 +40,7 @@ pub fn interim_heads_go_down()
     ensures { InterimHeadsGoDown }
 {}
 
-/// A context that is done with is told so, then to log, and then that it is deleted; one that asked to wait is told the last two once it is released.
+/// After the callback `done` of a context, its log and its deletion are put in hand, in this order: at once, or, where it asked to wait, once it is released.
 pub fn contexts_have_their_last_words()
     ensures { ContextsHaveTheirLastWords }
 {}
@@ -57,12 +60,13 @@ pub fn lines_are_taken_and_stay()
     ensures { LinesAreTakenAndStay }
 {}
 
-/// A response is due so many milliseconds after its request as are configured, and a tick one period after the one before.
+/// A response is due so many milliseconds after its request as are configured, and a tick one period after the moment of the turn that did the one before.
 pub fn times_are_kept()
     ensures { TimesAreKept }
 {}
 
-/// Each root is configured once it is made, and each context that was made for a filter is done with once its exchange ends.
+/// Among the jobs that follow the making of a root is its configuration, and among those that follow the end of an exchange is the end of each context that was made
+/// for a filter of it.
 pub fn contexts_begin_and_end()
     ensures { ContextsBeginAndEnd }
 {}

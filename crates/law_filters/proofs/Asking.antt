@@ -61,23 +61,23 @@ use Rattle.law_filters.specs.Roots.{first_worker, rules_for}
 
 module _ (logs : WriteLogs calling) (plan : Plan) where
   -- of each line, after what was sent in earlier turns
-  record Knows (room : Room) : Type 0 where
-    past : List Sent
-    known : KnownAll plan past room
+  pub record Knows (room : Room) : Type 0 where
+    pub past : List Sent
+    pub known : KnownAll plan past room
 
-  step_knows : (b m : Both Vms) (ms : List Met) → Reaches (step calling plan (next_of b.room) b.host b.room) ms (ends m) → Knows b.room → Knows m.room
+  pub step_knows : (b m : Both Vms) (ms : List Met) → Reaches (step calling plan (next_of b.room) b.host b.room) ms (ends m) → Knows b.room → Knows m.room
   step_knows b m ms reaches k = record {
     past = k.past;
     known = all_reached (λ (c : Both Vms). KnownAll plan k.past c.room) ms (step calling plan (next_of b.room) b.host b.room) m (steps_keep calling logs plan k.past b.host b.room k.known) reaches;
   }
 
-  turn_knows : (event : Event) (room : Room) → Knows room → Knows (room_for_event plan event (without_sent room))
+  pub turn_knows : (event : Event) (room : Room) → Knows room → Knows (room_for_event plan event (without_sent room))
   turn_knows event room k = record {
     past = k.past ++ join_neighbours room.hub.sent;
     known = facing_all plan (k.past ++ join_neighbours room.hub.sent) event (without_sent room) (emptied_all plan k.past room k.known);
   }
 
-  walk_knows : (b e : Both Vms) (all : List (Step Vms)) → Walk calling plan b all e → Knows b.room → Knows e.room
+  pub walk_knows : (b e : Both Vms) (all : List (Step Vms)) → Walk calling plan b all e → Knows b.room → Knows e.room
   walk_knows _ _ _ (stays b) k = k
   walk_knows _ _ _ (steps b m e ms more goes reaches later) k = walk_knows m e more later (step_knows b m ms reaches k)
   walk_knows _ _ _ (turns b e event all rest goes later) k = walk_knows (both b.host (room_for_event plan event (without_sent b.room))) e all later (turn_knows event b.room k)
@@ -110,7 +110,7 @@ module _ (logs : WriteLogs calling) (plan : Plan) where
             }
 
     -- where it has an exchange no head is heard on it
-    unheard : (past : List Sent) (room : Room) (x : Exchange) → exchange_on n room ≡ Some x → Known plan n past room
+    pub unheard : (past : List Sent) (room : Room) (x : Exchange) → exchange_on n room ≡ Some x → Known plan n past room
         → (r : ReadBatch) (reading : Reading) (head : Head) (new : Reading) → room.reading ≡ Some r → reading_on r room ≡ Some reading → Hears reading (hands (head_part head) new) → r.up ≡ false → r.line ≡ n → ⊥
     unheard past room x on k r reading head new at found_it says down same =
         let f : Found past room x = found past room x on k in
@@ -133,7 +133,7 @@ module _ (logs : WriteLogs calling) (plan : Plan) where
         by_tale (plainly story) = story.passage.enters
         by_tale (filtered other) = other.passage.enters
 
-    parts_enter : (js : List Job) → AllParts js → NoEnter n js
+    pub parts_enter : (js : List Job) → AllParts js → NoEnter n js
     parts_enter [] are = tt
     parts_enter (jobs.Enter m ∷ js) are = absurd are.0
     parts_enter (job ∷ js) are = parts_enter js are.1
@@ -204,7 +204,7 @@ module _ (logs : WriteLogs calling) (plan : Plan) where
 
 -- ---- is the stage asked?
 
-asked_cases : (n vm context : ℕ) (o : Option Asked) → IsAskedOn n vm context o ⊎ (IsAskedOn n vm context o → ⊥)
+pub asked_cases : (n vm context : ℕ) (o : Option Asked) → IsAskedOn n vm context o ⊎ (IsAskedOn n vm context o → ⊥)
 asked_cases n vm context None = inr (λ e. e)
 asked_cases n vm context (Some a) =
     ⊎_elim
@@ -231,14 +231,14 @@ asked_cases n vm context (Some a) =
 
 -- ---- what is sent
 
-same_rest : (base a b : List Sent) → base ++ a ≡ base ++ b → a ≡ b
+pub same_rest : (base a b : List Sent) → base ++ a ≡ base ++ b → a ≡ b
 same_rest [] a b is = is
 same_rest (s ∷ base) a b is = same_rest base a b (tail_same s (base ++ a) (base ++ b) is)
   where
     tail_same : (s : Sent) (a b : List Sent) → ◌≡◌ {A = List Sent} (s ∷ a) (s ∷ b) → a ≡ b
     tail_same s a b is = cc is
 
-none_among : (n : ℕ) (front back : List Sent) → NoneOn n (front ++ to.Connect n ∷ back) → ⊥
+pub none_among : (n : ℕ) (front back : List Sent) → NoneOn n (front ++ to.Connect n ∷ back) → ⊥
 none_among n [] back none = none.0 refl
 none_among n (to.Connect m ∷ front) back none = none_among n front back none.1
 none_among n (to.Bytes m side bytes ∷ front) back none = none_among n front back none
@@ -247,13 +247,13 @@ none_among n (to.Log level text ∷ front) back none = none_among n front back n
 
 -- ---- members of the steps
 
-step_here : (s : Step Vms) (more : List (Step Vms)) → Contains (s ∷ more) s
+pub step_here : (s : Step Vms) (more : List (Step Vms)) → Contains (s ∷ more) s
 step_here s more = Contains-append_left (s ∷ []) more s (Contains-push [] s)
 
-step_later : (s t : Step Vms) (more : List (Step Vms)) → Contains more t → Contains (s ∷ more) t
+pub step_later : (s t : Step Vms) (more : List (Step Vms)) → Contains more t → Contains (s ∷ more) t
 step_later s t more there = Contains-append_right (s ∷ []) more t there
 
-moves_next : (room : Room) (place : ℕ) → position has_move room.lines ≡ Some place → room.reading ≡ None → next_of room ≡ next.Move place
+pub moves_next : (room : Room) (place : ℕ) → position has_move room.lines ≡ Some place → room.reading ≡ None → next_of room ≡ next.Move place
 moves_next room place at quiet = λ i. if is_some (quiet i) then next.Read else moves_or (at i) (if is_any room.jobs then next.Work else next_part room)
 
 abbrev OneOf : (n vm context : ℕ) → Both Vms → List (Step Vms) → Type 0

@@ -216,7 +216,7 @@ module _ (n vm context : ℕ) (base : List Sent) (low : is_call_line n ≡ false
   abbrev pub NotAsked : Option Asked → Type 0
   NotAsked a = IsAskedOn n vm context a → ⊥
 
-  asked_line : (m : ℕ) (a : Asking) (x : Exchange) (hub : Hub) → m ≡ n → IsAskedHead vm context (asks_as false m a x hub).0 → IsAskedOn n vm context (asks_as false m a x hub).0
+  pub asked_line : (m : ℕ) (a : Asking) (x : Exchange) (hub : Hub) → m ≡ n → IsAskedHead vm context (asks_as false m a x hub).0 → IsAskedOn n vm context (asks_as false m a x hub).0
   asked_line m Nothing x hub same is = absurd is
   asked_line m (Over j) x hub same is = absurd is
   asked_line m (Asks ask) x hub same is = by_stage (option_map (λ (s : Stage). (s.vm, s.context)) (slice_get (chain_of false x) ask.stage)) is

@@ -145,7 +145,7 @@ module _ (logs : WriteLogs calling) (change : CallbacksChangeTheirOwn) (stay : P
     abbrev FineAnswer : Answered Vms → Type 0
     FineAnswer a = P a.both.room × ArePlaced a.both.host
 
-    called_fine : (vm : ℕ) (name : Callback) (context first second : ℕ) (own : Owner) (host : Vms) (room : Room) → P room → ArePlaced host
+    pub called_fine : (vm : ℕ) (name : Callback) (context first second : ℕ) (own : Owner) (host : Vms) (room : Room) → P room → ArePlaced host
         → AllEnds FineAnswer (called_in calling vm name context first second own host room)
     called_fine vm name context first second own host room is placed =
         runs_so (Leaves room.hub.contexts vm) FineAnswer (calling host vm name context first second room.hub.moment room.hub.contexts)
@@ -159,7 +159,7 @@ module _ (logs : WriteLogs calling) (change : CallbacksChangeTheirOwn) (stay : P
         (called_fine vm name context first second owns.Nobody host room is placed)
 
   -- the callback is called with one thing true, and behind it another is
-  live_then : (P Q : Room → Type 0) → IsCalm P → (vm : ℕ) (name : Callback) (context first second : ℕ) (behind : Then) → ((value : Option (Option ℕ)) (room : Room) → P room → Q (behind value room)) → (host : Vms) (room : Room)
+  pub live_then : (P Q : Room → Type 0) → IsCalm P → (vm : ℕ) (name : Callback) (context first second : ℕ) (behind : Then) → ((value : Option (Option ℕ)) (room : Room) → P room → Q (behind value room)) → (host : Vms) (room : Room)
       → P room → ArePlaced host → AllEnds (λ (b : Both Vms). Q b.room × ArePlaced b.host) (calls_live calling vm name context first second behind host room)
   live_then P Q calm vm name context first second behind so host room is placed =
       all_then (λ (a : Answered Vms). P a.both.room × ArePlaced a.both.host) (λ (b : Both Vms). Q b.room × ArePlaced b.host) (called_live calling vm name context first second host room) (λ a. ends (continue_with behind a))

@@ -1,4 +1,6 @@
 // The functions call the laws that theirs rest on, and do nothing else: their contracts are the laws.
+ghost use Rattle.law_filters.specs.Every.{ClosedLetsNothingPass, EveryFilterIsAsked};
+ghost use Rattle.law_filters.specs.EveryExamples.{EveryExamples};
 ghost use Rattle.law_filters.specs.Examples.{HeadExamples};
 ghost use Rattle.law_filters.specs.Heads.{AllHeadsWait, HeadsComeToWait, StagesAwait};
 ghost use Rattle.law_filters.specs.Onward.{StagesAreAskedFirst};
@@ -20,7 +22,7 @@ pub fn roots_stand_for_life()
     roots_stand();
 }
 
-/// So, wherever a line is open, each filter of a plug-in whose VM lives and has an id left gets a stream context of its plug-in's root.
+/// So, wherever a line is open, the step that makes the context of a filter makes a stream context of its plug-in's root, where the plug-in's VM lives and has an id left.
 pub fn filters_get_contexts_for_life()
     ensures { FiltersGetContextsForLife }
 {
@@ -38,7 +40,7 @@ pub fn heads_wait()
 {}
 
 /// Over the whole life of a worker: from any state where the head of a request waits for a stage of its exchange, by any steps up to one that opens a connection
-/// for the line, one of them asked the stage the head, or the stage's VM died.
+/// for the line, one of them asked the stage the head, or the stage's VM died. That a request comes to such a state is said by `every_filter_is_asked`.
 pub fn stages_are_asked_first()
     ensures { StagesAreAskedFirst }
 {
@@ -51,4 +53,32 @@ pub fn stages_are_asked_first()
 /// Worked: where the head of a request waits for a stage in a chain of two, and where it is past one.
 pub fn worked_heads()
     ensures { HeadExamples }
+{}
+
+/// Every filter is asked. Over the whole life of a worker, from the step that reads the head of a request on a line to one that opens the connection to its server: each
+/// plug-in of the route that takes the request was asked the head before, with a context of its own that was made for this exchange. Only a plug-in that fails
+/// open, and whose VM died, was passed over.
+pub fn every_filter_is_asked()
+    ensures { EveryFilterIsAsked }
+{
+    callbacks_change_their_own();
+    made_vms_are_in_place();
+    machines_write_logs();
+    roots_stand();
+}
+
+/// What fails closed lets nothing pass. From the step that reads the head of a request on: once the VM of a plug-in of its route is dead that fails closed, no later step
+/// opens a connection to the server for it, and after each of them the exchange has ended, was answered, or is refused with 503 before any filter sees it.
+pub fn closed_lets_nothing_pass()
+    ensures { ClosedLetsNothingPass }
+{
+    callbacks_change_their_own();
+    made_vms_are_in_place();
+    machines_write_logs();
+    roots_stand();
+}
+
+/// Worked: what begins an exchange, who is passed over, what counts as asked, and which exchanges are barred.
+pub fn worked_filters()
+    ensures { EveryExamples }
 {}

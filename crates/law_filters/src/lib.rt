@@ -4,6 +4,6 @@
 mod laws;
 
 pub use laws::{
-    filters_get_contexts_for_life, heads_wait, roots_stand_for_life, stages_are_asked_first,
-    worked_heads,
+    closed_lets_nothing_pass, every_filter_is_asked, filters_get_contexts_for_life, heads_wait,
+    roots_stand_for_life, stages_are_asked_first, worked_filters, worked_heads,
 };

@@ -2,6 +2,7 @@
 ghost use Rattle.law_bodies.specs.Bodies.{BodiesGoOnAsTheyCame};
 ghost use Rattle.law_bodies.specs.Lives.{ResponsesGoDownAsTheyCame};
 ghost use Rattle.law_bodies.specs.Steps.{FiltersStandInOrder, InterimHeadsGoDown, WhatIsPausedIsHeld, WhatIsReadComesOn};
+ghost use Rattle.law_filters.specs.Every.{ClosedLetsNothingPass, EveryFilterIsAsked};
 ghost use Rattle.promises.specs.Callbacks.{CallbackNames, LinesAreSent};
 ghost use Rattle.promises.specs.Due.{DueComes};
 ghost use Rattle.promises.specs.Failures.{FailuresAreAnswered};
@@ -18,6 +19,7 @@ use law_bodies::{
     bodies_go_on_as_they_came, filters_stand_in_order, interim_heads_go_down,
     responses_go_down_as_they_came, what_is_paused_is_held, what_is_read_comes_on,
 };
+use law_filters::{closed_lets_nothing_pass, every_filter_is_asked};
 use law_fleet::each_call_of_a_fleet_stands_once;
 use law_lines::{machines_write_logs, requests_go_up_one_by_one};
 use law_meaning::meanings_are_turns;
@@ -99,7 +101,7 @@ pub fn failures_are_answered()
 {}
 
 /// What goes down is what came up, and what goes up is what came, where no filter stands: what goes out of a body is read as that body; over the life of an exchange
-/// without filters its response goes down as it came; what a reader hands on comes to the chain, in order; and interim heads go down, but not to HTTP/1.0.
+/// without filters its response goes down as it came; what a reader hands on of a response's body comes to its chain, in order; and interim heads go down, but not to HTTP/1.0.
 pub fn what_goes_on_is_what_came()
     ensures bodies { BodiesGoOnAsTheyCame }
     ensures responses { ResponsesGoDownAsTheyCame }
@@ -119,4 +121,20 @@ pub fn filters_keep_their_order()
 {
     filters_stand_in_order();
     what_is_paused_is_held();
+}
+
+/// Before the connection to a server is opened, each plug-in of the route that takes the request was asked the request's head, with a context of its own that was made
+/// for this exchange: over the whole life of a worker, whatever callbacks return and ask for. Only a plug-in that fails open, and whose VM died, was passed over.
+pub fn filters_are_asked()
+    ensures { EveryFilterIsAsked }
+{
+    every_filter_is_asked();
+}
+
+/// Once the VM of a plug-in on the route of a request is dead that fails closed, no connection to a server is opened for the request any more: it has ended, was
+/// answered, or is refused with 503. So it is over the whole life of a worker, of the exchange that was there when the VM died and of later ones.
+pub fn dead_filters_that_close_let_nothing_pass()
+    ensures { ClosedLetsNothingPass }
+{
+    closed_lets_nothing_pass();
 }
