@@ -23,7 +23,7 @@ use Rattle.abi_services.specs.Local.{own_get_log_level, own_get_current_time, ow
 use Rattle.abi_maps.specs.Buffers.{own_get_buffer_bytes, own_get_buffer_status, own_set_buffer_bytes}
 use Rattle.abi_maps.specs.Maps.{own_get_header_map_pairs, own_set_header_map_pairs, own_get_header_map_size, own_get_header_map_value, own_add_header_map_value, own_replace_header_map_value, own_remove_header_map_value}
 use Rattle.abi_maps.specs.Streams.{own_continue_stream, own_close_stream, own_send_local_response}
-use Rattle.abi_maps.specs.Callouts.{own_http_call}
+use Rattle.abi_services.specs.Callouts.{own_http_call}
 use Rattle.abi_services.specs.Data.{own_get_shared_data, own_set_shared_data}
 use Rattle.abi_services.specs.Queues.{own_register_shared_queue, own_resolve_shared_queue, own_dequeue_shared_queue, own_enqueue_shared_queue}
 use Rattle.abi_services.specs.Properties.{own_get_property, own_set_property}
@@ -76,7 +76,7 @@ hosting call.RemoveHeaderMapValue now vm args g s = locally 6 (row_of call.Remov
 hosting call.ContinueStream now vm args g s = locally 6 (row_of call.ContinueStream) own_continue_stream args g s
 hosting call.CloseStream now vm args g s = locally 6 (row_of call.CloseStream) own_close_stream args g s
 hosting call.SendLocalResponse now vm args g s = locally 6 (row_of call.SendLocalResponse) own_send_local_response args g s
-hosting call.HttpCall now vm args g s = locally 6 (row_of call.HttpCall) own_http_call args g s
+hosting call.HttpCall now vm args g s = locally 6 (row_of call.HttpCall) (own_http_call vm) args g s
 hosting call.GetSharedData now vm args g s = asking (row_of call.GetSharedData) own_get_shared_data vm args g s
 hosting call.SetSharedData now vm args g s = asking (row_of call.SetSharedData) own_set_shared_data vm args g s
 hosting call.RegisterSharedQueue now vm args g s = asking (row_of call.RegisterSharedQueue) own_register_shared_queue vm args g s

@@ -9,15 +9,14 @@ ghost use Rattle.abi_calls.specs.Hosting.{hosting, HostedEnds};
 use abi_maps::{
     proxy_add_header_map_value, proxy_close_stream, proxy_continue_stream, proxy_get_buffer_bytes,
     proxy_get_buffer_status, proxy_get_header_map_pairs, proxy_get_header_map_size,
-    proxy_get_header_map_value, proxy_http_call, proxy_remove_header_map_value,
-    proxy_replace_header_map_value, proxy_send_local_response, proxy_set_buffer_bytes,
-    proxy_set_header_map_pairs,
+    proxy_get_header_map_value, proxy_remove_header_map_value, proxy_replace_header_map_value,
+    proxy_send_local_response, proxy_set_buffer_bytes, proxy_set_header_map_pairs,
 };
 use abi_model::{HostCall, HostEnd};
 use abi_services::{
     proxy_define_metric, proxy_dequeue_shared_queue, proxy_done, proxy_enqueue_shared_queue,
     proxy_get_current_time_nanoseconds, proxy_get_log_level, proxy_get_metric, proxy_get_property,
-    proxy_get_shared_data, proxy_increment_metric, proxy_log, proxy_record_metric,
+    proxy_get_shared_data, proxy_http_call, proxy_increment_metric, proxy_log, proxy_record_metric,
     proxy_register_shared_queue, proxy_resolve_shared_queue, proxy_set_effective_context,
     proxy_set_property, proxy_set_shared_data, proxy_set_tick_period_milliseconds,
 };

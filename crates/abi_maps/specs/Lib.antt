@@ -1,5 +1,4 @@
 pub mod Buffers
-pub mod Callouts
 pub mod Examples
 pub mod Maps
 pub mod Streams

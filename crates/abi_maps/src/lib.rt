@@ -2,7 +2,6 @@
 #![tactic(auto)]
 
 mod buffers;
-mod callouts;
 mod changing;
 mod given;
 mod laws;
@@ -11,7 +10,6 @@ mod reached;
 mod streams;
 
 pub use buffers::{proxy_get_buffer_bytes, proxy_get_buffer_status, proxy_set_buffer_bytes};
-pub use callouts::proxy_http_call;
 pub use changing::{
     proxy_add_header_map_value, proxy_remove_header_map_value, proxy_replace_header_map_value,
     proxy_set_header_map_pairs,

@@ -2,4 +2,5 @@ pub mod Lines
 pub mod Named
 pub mod Once
 pub mod Pieces
+pub mod Refused
 pub mod Words

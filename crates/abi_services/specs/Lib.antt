@@ -1,3 +1,4 @@
+pub mod Callouts
 pub mod Data
 pub mod Examples
 pub mod Files

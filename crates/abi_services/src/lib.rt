@@ -1,6 +1,7 @@
-//! The host calls on the log, the clock, ticks, contexts, properties, shared data, queues and metrics, and those of WASI.
+//! The host calls on the log, the clock, ticks, contexts, callouts, properties, shared data, queues and metrics, and those of WASI.
 #![tactic(auto)]
 
+mod callouts;
 mod data;
 mod files;
 mod laws;
@@ -11,6 +12,7 @@ mod properties;
 mod queues;
 mod wasi;
 
+pub use callouts::proxy_http_call;
 pub use data::{proxy_get_shared_data, proxy_set_shared_data};
 pub use files::wasi_fd_write;
 pub use laws::worked_services;

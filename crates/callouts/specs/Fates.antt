@@ -1,6 +1,6 @@
 -- THE FATE of a callout, by what passed: the first event or moment that decides. It is told by the whole text that came of its line so far, and not
 -- by what a worker keeps.
-use Rattle.std.specs.Prelude.{◌≡◌, ◌⊎◌, ◌<◌, ℕ, ◌==◌, Bool, true, false, not, ◌&&◌, List, [], ◌∷◌, ◌++◌, length, nat_lt, nat_le, Option, None, Some, if◌then◌else◌}
+use Rattle.std.specs.Prelude.{◌≡◌, ℕ, ◌==◌, Bool, true, false, not, List, [], ◌∷◌, ◌++◌, length, nat_lt, nat_le, Some, if◌then◌else◌}
 use Rattle.body_buffers.specs.Bodies.{body_limit}
 use Rattle.contexts.specs.declared.parts.CallAnswer.{CallAnswer}
 use Rattle.gate_io.specs.Events.{is_stop}
@@ -24,6 +24,7 @@ head_in (interim_part h ∷ parts) = head_in parts
 head_in (piece bytes last ∷ parts) = head_in parts
 head_in (trailer_part fields ∷ parts) = head_in parts
 
+-- All bytes of the body, joined.
 abbrev pub body_in : List Part → List ℕ
 body_in [] = []
 body_in (head_part h ∷ parts) = body_in parts
@@ -31,6 +32,7 @@ body_in (interim_part h ∷ parts) = body_in parts
 body_in (piece bytes last ∷ parts) = bytes ++ body_in parts
 body_in (trailer_part fields ∷ parts) = body_in parts
 
+-- The trailers, if any came.
 abbrev pub trailers_in : List Part → Headers
 trailers_in [] = no_headers
 trailers_in (head_part h ∷ parts) = trailers_in parts
@@ -38,6 +40,7 @@ trailers_in (interim_part h ∷ parts) = trailers_in parts
 trailers_in (piece bytes last ∷ parts) = trailers_in parts
 trailers_in (trailer_part fields ∷ parts) = record { kind = Plain; pairs = fields }
 
+-- The answer that these parts make.
 abbrev pub answer_in : List Part → CallAnswer
 answer_in parts = record { fields = head_in parts; body = body_in parts; trailers = trailers_in parts }
 
@@ -47,11 +50,13 @@ pub data Verdict : Type 0 where
   whole : CallAnswer → Verdict
   broken : Verdict
 
+-- What the parts say, by why there are no more of them.
 abbrev pub verdict_by : List Part → Stop → Verdict
 verdict_by parts rest = unfinished
 verdict_by parts over = whole (answer_in parts)
 verdict_by parts (refusal number) = broken
 
+-- The same, but a body that is too long is no answer.
 abbrev pub verdict_of : List Part → Stop → Verdict
 verdict_of parts why = if nat_lt body_limit (length (body_in parts)) then broken else verdict_by parts why
 
@@ -61,6 +66,7 @@ Says method ended text v = (parts : List Part) × (why : Stop) × Unread text en
 
 -- ---- the fate
 
+-- What becomes of a callout: nothing yet, an answer, or none.
 pub data Fate : Type 0 where
   pending : Fate
   answered : CallAnswer → Fate
@@ -73,6 +79,7 @@ pub record Known : Type 0 where
   pub due : ℕ
   pub text : List ℕ
 
+-- What is known with more bytes of its line.
 abbrev pub with_text : List ℕ → Known → Known
 with_text bytes k = record k { text = k.text ++ bytes }
 
@@ -82,6 +89,7 @@ DecidedBy unfinished fate later = later
 DecidedBy (whole a) fate later = fate ≡ answered a
 DecidedBy broken fate later = fate ≡ failed
 
+-- By the whole text so far: the fate is what it says, or that of what passes later.
 abbrev pub ByText : Known → (ended : Bool) → List ℕ → Fate → Type 0 → Type 0
 ByText k ended bytes fate later = (v : Verdict) × Says k.method ended (k.text ++ bytes) v × DecidedBy v fate later
 

@@ -254,6 +254,31 @@ there_other f h t ss there = by_own (own_at h t.vm t.context) refl
     by_own None is = subst (λ (p : Option Own). AreThere (stage_after f h t.vm t.context t.response p) ss) (sym is) there
     by_own (Some o) is = all_there f h t.vm t.context t.response ss (there_within h t.vm t.context o is, o, is) there
 
+-- ---- a context has something else for itself, and its stages hold what they held
+
+own_bytes : (h : Contexts) (vm e : ℕ) (o w : Own) (s : Stage) → own_at h vm e ≡ Some o → ((r : Bool) → held_in r (Some w) ≡ held_in r (Some o)) → bytes_at (own_put_of h vm e w) s ≡ bytes_at h s
+own_bytes h vm e o w s is holds =
+    let within : vm < length h.vms = there_within h vm e o is in
+    let k : Contexts = own_put_of h vm e w in
+    ⊎_elim
+    (λ (same : s.vm ≡ vm). ⊎_elim
+    (λ (one : s.context ≡ e).
+    (λ i. held_in s.response (own_at k (same i) (one i)))
+    ∙ (ap (held_in s.response) (own_after h vm e o w within is)
+    ∙ (holds s.response ∙ (ap (held_in s.response) (sym is) ∙ (λ i. held_in s.response (own_at h (sym same i) (sym one i)))))))
+    (λ (two : s.context ≡ e → ⊥). ap (held_in s.response) (own_other h vm e s.vm s.context w within (λ _ one. two one)))
+    (cases_eq s.context e))
+    (λ (other : s.vm ≡ vm → ⊥). ap (held_in s.response) (own_other h vm e s.vm s.context w within (λ same _. other same)))
+    (cases_eq s.vm vm)
+
+pub hold_own : (h : Contexts) (vm e : ℕ) (o w : Own) (ss : List Stage) → own_at h vm e ≡ Some o → ((r : Bool) → held_in r (Some w) ≡ held_in r (Some o)) → HoldSame h (own_put_of h vm e w) ss
+hold_own h vm e o w [] is holds = tt
+hold_own h vm e o w (s ∷ ss) is holds = (own_bytes h vm e o w s is holds, hold_own h vm e o w ss is holds)
+
+pub there_own : (h : Contexts) (vm e : ℕ) (o w : Own) (ss : List Stage) → own_at h vm e ≡ Some o → AreThere h ss → AreThere (own_put_of h vm e w) ss
+there_own h vm e o w [] is there = tt
+there_own h vm e o w (s ∷ ss) is there = (there_put h vm e o w s.vm s.context (there_within h vm e o is) is there.0, there_own h vm e o w ss is there.1)
+
 -- ---- a change of what is no stage's
 
 fitted_none : (p : Option Own) → fitted p None ≡ p

@@ -3,6 +3,13 @@ use Rattle.std.proofs.Common.{◌≡◌, ℕ, zero, suc, ◌==◌, Bool, true, f
 use Rattle.std.proofs.lemmas.List.{append-nil, append_assoc}
 use Rattle.std.specs.List.{list_any}
 use Rattle.std.specs.Prelude.{Option, None, Some, option_map, slice_get, slice_set, nat_lt}
+use Rattle.callouts.specs.Callouts.{callout_in, line_of, after_heard as after_part_heard}
+use Rattle.callouts.specs.Requests.{request_wire}
+use Rattle.callouts.specs.Steps.{After, after_event, after_read}
+use Rattle.callouts.specs.declared.types.Callout.{Callout}
+use Rattle.callouts.specs.declared.types.CallStep.{CallStep}
+use Rattle.callouts.specs.declared.types.CallStep.TheVariants as steps
+use Rattle.contexts.specs.declared.parts.CallAnswer.{CallAnswer}
 use Rattle.contexts.specs.declared.parts.Contexts.{Contexts}
 use Rattle.contexts.specs.declared.parts.Effect.{Effect}
 use Rattle.contexts.specs.declared.parts.Tick.{Tick}
@@ -12,6 +19,7 @@ use Rattle.contexts.specs.Creating.{plugin_in, next_id, root_created, await_done
 use Rattle.contexts.specs.Reached.{vm_in, tick_in, contains, seen}
 use Rattle.filter_host.specs.Called.{Calling}
 use Rattle.filter_host.specs.Course.{Course, ends, asks, measures, hears}
+use Rattle.filter_host.specs.Heard.{Heard}
 use Rattle.filter_host.proofs.Holds.{AllEnds, all_then}
 use Rattle.filter_host.specs.declared.host.CallbackEnd.{CallbackEnd}
 use Rattle.filter_host.specs.declared.host.CallbackEnd.TheVariants as call_ends
@@ -32,6 +40,7 @@ use Rattle.filter_chain.specs.declared.item.PassOutcome.TheVariants as passed
 use Rattle.filter_chain.specs.Chains.{asked}
 use Rattle.gate_io.specs.declared.event.Sent.{Sent}
 use Rattle.gate_io.specs.declared.event.Sent.TheVariants as to
+use Rattle.gate_io.specs.declared.event.Side.TheVariants.{Up}
 use Rattle.gate_io.specs.declared.event.What.{What}
 use Rattle.store_model.specs.declared.call.Reply.{Reply}
 use Rattle.store_model.specs.declared.call.Reply.TheVariants as replies
@@ -43,14 +52,18 @@ use Rattle.worker_model.specs.declared.types.Job.{Job}
 use Rattle.worker_model.specs.declared.types.Job.TheVariants as jobs
 use Rattle.worker_model.specs.declared.types.Line.{Line}
 use Rattle.worker_model.specs.declared.types.NewContext.{NewContext}
+use Rattle.worker_model.specs.declared.types.OtherStep.{OtherStep}
+use Rattle.worker_model.specs.declared.types.OtherStep.TheVariants as others
 use Rattle.worker_model.specs.declared.types.Owner.{Owner}
 use Rattle.worker_model.specs.declared.types.Owner.TheVariants.{Nobody, Stage}
+use Rattle.worker_model.specs.Calls.{with_call_step, answer_if, put_call_answer, has_listener, close_call}
 use Rattle.worker_model.specs.Changes.{apply_change}
 use Rattle.worker_model.specs.Moves.{asks_at, asks_line, asks_in, asks_exchange, asks_as, asks_response}
 use Rattle.worker_model.specs.Plan.{Plan}
-use Rattle.worker_model.specs.Rooms.{Changes, in_exchange, in_line, at_some, at_place, all_lines, with_lines, place_in, place_of, on_number, on_context, with_contexts, room_with_sent, is_dead, is_own, apply_effect, effects_of, without_effects, lose_vm_in, death_text, after_callback, take_callback_end}
-use Rattle.worker_model.specs.Steps.{Both, both, Answered, callback_result, Then, continue_with, nothing_more, called_in, called_live, calls_live, is_zero, action_of, with_jobs_first, unless_zero, has_vm, await_done, last_jobs, finish_context, delete_context, apply_stage_action, is_drawn_out, may_root, root_jobs, create_root, with_filter, change_line, change_exchange, line_at, line_at_place, on_line, may_stream, with_stream, create_stream, create_filter, filter_at, create_context, tick_of, tick_root, is_due_tick, is_late, expire_all, take_notice_reply, moved, move_at, tells, made_one, made_with, roots, streams, ticks, tells_ready, ask_notice, notice_step, works, callback_of, number_of, vm_length, plugin_length}
+use Rattle.worker_model.specs.Rooms.{Changes, in_exchange, in_line, at_some, at_place, all_lines, with_lines, place_in, place_of, on_number, on_context, with_contexts, room_with_sent, is_dead, is_own, next_call, begin_call, apply_effect, effects_of, without_effects, lose_vm_in, death_text, after_callback, take_callback_end}
+use Rattle.worker_model.specs.Steps.{Both, both, Answered, callback_result, Then, continue_with, nothing_more, called_in, called_live, calls_live, is_zero, action_of, with_jobs_first, unless_zero, has_vm, await_done, last_jobs, finish_context, delete_context, apply_stage_action, is_drawn_out, may_root, root_jobs, create_root, with_filter, change_line, change_exchange, line_at, line_at_place, on_line, may_stream, with_stream, create_stream, create_filter, filter_at, create_context, tick_of, tick_root, is_due_tick, is_late, expire_all, take_notice_reply, moved, move_at, tells, made_one, made_with, roots, streams, ticks, tells_ready, ask_notice, notice_step, reads_call, drop_answer, tells_call, ends_call, works_call, works_other, works, callback_of, number_of, vm_length, plugin_length}
 use Rattle.law_lines.specs.Logs.{AreLogs, WriteLogs}
+use Rattle.law_lines.proofs.Callouts.{call_line_is}
 use Rattle.law_lines.proofs.Calls.{IsCalm}
 use Rattle.law_lines.proofs.Finding.{Seeks, missing, first as stands_first, seeks}
 use Rattle.law_lines.proofs.Kept.{by_bool}
@@ -58,7 +71,7 @@ use Rattle.law_lines.proofs.Looks.{is_n, look}
 use Rattle.law_lines.proofs.OnLines.{Numbered}
 use Rattle.law_lines.proofs.Rooms.{logs_then}
 use Rattle.law_lines.proofs.Sides.{numbered_change}
-use Rattle.law_down.proofs.Ordering.{AreQuiet}
+use Rattle.law_down.proofs.Ordering.{AreQuiet, call_bytes_quiet}
 use Rattle.law_down.proofs.Quietly.{Adds, adds_none, adds_then, own_quiet, passed_on_on}
 
 -- ---- whether a line is there, and its client gone
@@ -205,7 +218,10 @@ does_goes vm own context (what.Continue response) room =
     by_bool (Goes room) (is_own own context response) room (on_context (passing.resume_context vm context response) vm context room) (λ e. goes_itself room)
     (λ e. context_goes (passing.resume_context vm context response) vm context room (λ m x hub. own_quiet m (resumes vm context response) x hub tt))
 does_goes vm own context what.Close room = context_goes passing.close_exchange vm context room (λ m x hub. own_quiet m closes x hub tt)
-does_goes vm own context (what.Call request) room = goes_itself room
+does_goes vm own context (what.Call request) room =
+    goes_with room (begin_call request room) refl
+    (record { more = to.Connect (line_of (next_call room)) ∷ to.Bytes (line_of (next_call room)) Up (request_wire request) ∷ []; adds = refl; quiet = (tt, (call_bytes_quiet (line_of (next_call room)) Up (request_wire request) (call_line_is (next_call room)), tt)) })
+    refl refl
 does_goes vm own context (what.Answer status fields body) room =
     context_goes (apply_change (changes.Answer status fields body)) vm context room (λ m x hub. own_quiet m (answers false status fields.pairs body) x hub tt)
 
@@ -410,6 +426,51 @@ module _ {H : Type 0} (calling : Calling H) (logs : WriteLogs calling) where
   notices_go plan vm left host room =
       by_bool (GoesAll room) ((left == 0 || is_dead vm room) || not (nat_lt vm plan.vms)) (ends (both host room)) (ask_notice vm left host room) (λ e. goes_itself room) (λ e. λ r. noticed_goes vm left r room)
 
+  -- ---- callouts
+
+  -- they are others now, and this comes next for one of them, if anything
+  call_step_goes : (calls : List Callout) (step : Option CallStep) (room : Room) → Goes room (with_call_step step (record room { calls = calls }))
+  call_step_goes calls None room = goes_with room (record room { calls = calls }) refl (adds_none room.hub) refl refl
+  call_step_goes calls (Some step) room = record { lines = λ n. refl; sends = adds_none room.hub; jobs = refl; agenda = refl }
+
+  closes_call_goes : (id : ℕ) (room : Room) → Goes room (close_call id room)
+  closes_call_goes id room = goes_with room (close_call id room) refl (record { more = to.Close (line_of id) Up ∷ []; adds = refl; quiet = (call_line_is id, tt) }) refl refl
+
+  answer_goes : (answer : Option CallAnswer) (vm e : ℕ) (room : Room) → Goes room (put_call_answer answer vm e room)
+  answer_goes answer vm e room = goes_with room (put_call_answer answer vm e room) refl (same_adds room.hub (put_call_answer answer vm e room).hub refl) refl refl
+
+  drops_answer_goes : (vm e : ℕ) → GoesThen (drop_answer vm e)
+  drops_answer_goes vm e value room = answer_goes None vm e room
+
+  reads_call_goes : (id : ℕ) (o : Option Callout) (host : H) (room : Room) → GoesAll room (reads_call id o host room)
+  reads_call_goes id None host room = goes_itself room
+  reads_call_goes id (Some c) host room =
+      let after : Heard → After = λ h. after_read id (after_part_heard h c) room.calls in
+      λ h heard. call_step_goes (after h).calls (after h).next room
+
+  tells_call_goes : (answer : Option CallAnswer) (c : Callout) (host : H) (room : Room) → GoesAll room (tells_call calling answer c host room)
+  tells_call_goes answer c host room =
+      let mid : Room = put_call_answer answer c.vm c.context room in
+      by_bool (GoesAll room) (has_listener c room) (calls_live calling c.vm callbacks.CallAnswered c.context c.id 0 (drop_answer c.vm c.context) host mid) (ends (both host room))
+      (λ e. goes_first room mid _ (answer_goes answer c.vm c.context room) (calls_live_goes c.vm callbacks.CallAnswered c.context c.id 0 (drop_answer c.vm c.context) host mid (drops_answer_goes c.vm c.context)))
+      (λ e. goes_itself room)
+
+  ends_call_goes : (answered : Bool) (id : ℕ) (o : Option Callout) (host : H) (room : Room) → GoesAll room (ends_call calling answered id o host room)
+  ends_call_goes answered id None host room = goes_itself room
+  ends_call_goes answered id (Some c) host room =
+      let mid : Room = close_call id room in
+      goes_first room mid (tells_call calling (answer_if answered c) c host mid) (closes_call_goes id room) (tells_call_goes (answer_if answered c) c host mid)
+
+  works_call_goes : (step : CallStep) (host : H) (room : Room) → GoesAll room (works_call calling step host room)
+  works_call_goes (steps.Comes w) host room = let a : After = after_event w room.calls in call_step_goes a.calls a.next room
+  works_call_goes (steps.Read id) host room = reads_call_goes id (callout_in id room.calls) host room
+  works_call_goes (steps.Fail id) host room = ends_call_goes false id (callout_in id room.calls) host room
+  works_call_goes (steps.Answer id) host room = ends_call_goes true id (callout_in id room.calls) host room
+
+  works_other_goes : (step : OtherStep) (host : H) (room : Room) → GoesAll room (works_other calling step host room)
+  works_other_goes (others.Call step) host room = works_call_goes step host room
+  works_other_goes (others.Tcp step) host room = goes_itself room
+
   pub works_goes : (plan : Plan) (job : Job) (host : H) (room : Room) → IsCalm job → GoesAll room (works calling plan job host room)
   works_goes plan (jobs.Begin vm) host room is = tells_goes vm callbacks.Begin 0 0 host room
   works_goes plan (jobs.Root vm plugin first) host room is = roots_go vm plugin first host room
@@ -429,4 +490,4 @@ module _ {H : Type 0} (calling : Calling H) (logs : WriteLogs calling) where
   works_goes plan (jobs.Close number stays) host room is = absurd is
   works_goes plan (jobs.Notice vm left) host room is = notices_go plan vm left host room
   works_goes plan (jobs.Ready vm root queue) host room is = ready_goes vm root queue host room
-  works_goes plan (jobs.Other step) host room is = goes_itself room
+  works_goes plan (jobs.Other step) host room is = works_other_goes step host room

@@ -3,6 +3,7 @@ use Rattle.std.proofs.Common.{◌≡◌, ℕ, Bool, true, false, List, [], ◌�
 use Rattle.std.proofs.lemmas.List.{append-nil, append_assoc, append_cancel_left}
 use Rattle.std.proofs.lemmas.Grind.{flat_map-append}
 use Rattle.std.specs.Prelude.{Option, None, Some, option_map, if◌then◌else◌}
+use Rattle.callouts.specs.Callouts.{is_call_line}
 use Rattle.exchange.specs.declared.types.Exchange.{Exchange}
 use Rattle.exchange.specs.declared.types.Hub.{Hub}
 use Rattle.law_exchange.specs.Ends.{IsOwn, StaysEnded}
@@ -132,7 +133,7 @@ record Ran (n : ℕ) (face : State → State) (room later : Room) : Type 0 where
   adds : later.hub.sent ≡ room.hub.sent ++ more
   so : state_after n more (face (state_in (look n room.lines))) ≡ Some (state_in (look n later.lines))
 
-module _ (plan : Plan) (n : ℕ) (past : List Sent) (room later : Room) (before : Known plan n past room) (behind : Known plan n past later) where
+module _ (plan : Plan) (n : ℕ) (low : is_call_line n ≡ false) (past : List Sent) (room later : Room) (before : Known plan n past room) (behind : Known plan n past later) where
   still_runs : (face : State → State) → ((s : State) → face s ≡ s) → gone_at n later.lines ≡ gone_at n room.lines → (s : Adds room.hub later.hub) → ((gone_at n room.lines ≡ Some false → ⊥) → Beside n room.hub later.hub)
       → state_after n s.more (face (state_in (look n room.lines))) ≡ Some (state_in (look n later.lines))
   still_runs face same gone s away = by_lines (look n room.lines) (look n later.lines) gone away delta
@@ -154,7 +155,7 @@ module _ (plan : Plan) (n : ℕ) (past : List Sent) (room later : Room) (before 
           (sym (ap (client_traffic n) s.adds ∙ flat_map-append (client_of n) room.hub.sent s.more) ∙ (b.client ∙ sym (append-nil (client_traffic n room.hub.sent))))
 
       nothing_so : Beside n room.hub later.hub → (t : State) → state_after n s.more (face t) ≡ Some t
-      nothing_so b t = ap (state_after n s.more) (same t) ∙ beside_runs n s.more t s.quiet (none_up b) (none_down b)
+      nothing_so b t = ap (state_after n s.more) (same t) ∙ beside_runs n low s.more t s.quiet (none_up b) (none_down b)
 
       by_lines : (o p : Option Line) → option_map gone_of p ≡ option_map gone_of o → ((option_map gone_of o ≡ Some false → ⊥) → Beside n room.hub later.hub) → moves_up (up_traffic n s.more) (up_at o) ≡ Some (up_at p)
           → state_after n s.more (face (state_in o)) ≡ Some (state_in p)
@@ -170,7 +171,7 @@ module _ (plan : Plan) (n : ℕ) (past : List Sent) (room later : Room) (before 
           by_gone false is =
               ap (λ c. state_after n s.more (face (if c then lost_or_shut (has_up l.exchange) else stands (has_up l.exchange)))) is
               ∙ (ap (state_after n s.more) (same (stands (has_up l.exchange)))
-              ∙ (open_runs n s.more (has_up l.exchange) (has_up m.exchange) s.quiet up
+              ∙ (open_runs n low s.more (has_up l.exchange) (has_up m.exchange) s.quiet up
               ∙ ap (λ c. Some (if c then lost_or_shut (has_up m.exchange) else stands (has_up m.exchange))) (sym (alike ∙ is))))
           by_gone true is =
               let b : Beside n room.hub later.hub = away (λ e. let never : ◌≡◌ {A = Option Bool} (Some true) (Some false) = sym (ap Some is) ∙ e in absurd (cc)) in
@@ -189,21 +190,21 @@ pub data Turning (n : ℕ) (w : What) (from : State) (room : Room) : Type 0 wher
   has_faced : due_in room.jobs room ≡ [] → (before behind : List Sent) (mid : State) → room.hub.sent ≡ before ++ behind → state_after n before from ≡ Some mid → state_after n behind (state_at_event n w mid) ≡ Some (state_in (look n room.lines))
       → Turning n w from room
 
-pub turning_step : (plan : Plan) (n : ℕ) (past : List Sent) (w : What) (from : State) (room later : Room) → Known plan n past room → Known plan n past later → Step n room.jobs room later → Turning n w from room → Turning n w from later
-turning_step plan n past w from room later before behind (plainly p) (waits_for is so) =
-    let c : Ran n as_before room later = change_runs plan n past room later before behind as_before p.change in
+pub turning_step : (plan : Plan) (n : ℕ) → is_call_line n ≡ false → (past : List Sent) (w : What) (from : State) (room later : Room) → Known plan n past room → Known plan n past later → Step n room.jobs room later → Turning n w from room → Turning n w from later
+turning_step plan n low past w from room later before behind (plainly p) (waits_for is so) =
+    let c : Ran n as_before room later = change_runs plan n low past room later before behind as_before p.change in
     waits_for (sym p.due ∙ is) (ap (λ (l : List Sent). state_after n l from) c.adds ∙ runs_then n room.hub.sent c.more from (state_in (look n room.lines)) (state_in (look n later.lines)) so c.so)
-turning_step plan n past w from room later before behind (plainly p) (has_faced is first later_on mid adds so then_so) =
-    let c : Ran n as_before room later = change_runs plan n past room later before behind as_before p.change in
+turning_step plan n low past w from room later before behind (plainly p) (has_faced is first later_on mid adds so then_so) =
+    let c : Ran n as_before room later = change_runs plan n low past room later before behind as_before p.change in
     has_faced (sym p.due ∙ is) first (later_on ++ c.more) mid (c.adds ∙ (ap (λ (l : List Sent). l ++ c.more) adds ∙ append_assoc first later_on c.more)) so
     (runs_then n later_on c.more (state_at_event n w mid) (state_in (look n room.lines)) (state_in (look n later.lines)) then_so c.so)
-turning_step plan n past w from room later before behind (faces v change gone due) (waits_for is so) =
-    let c : Ran n (state_at_event n v) room later = change_runs plan n past room later before behind (state_at_event n v) change in
+turning_step plan n low past w from room later before behind (faces v change gone due) (waits_for is so) =
+    let c : Ran n (state_at_event n v) room later = change_runs plan n low past room later before behind (state_at_event n v) change in
     let e : v ∷ due_in later.jobs later ≡ w ∷ [] = sym due ∙ is in
     let same : v ≡ w = cc in
     let none : due_in later.jobs later ≡ [] = cc in
     has_faced none room.hub.sent c.more (state_in (look n room.lines)) c.adds so (subst (λ (u : What). state_after n c.more (state_at_event n u (state_in (look n room.lines))) ≡ Some (state_in (look n later.lines))) same c.so)
-turning_step plan n past w from room later before behind (faces v change gone due) (has_faced is first later_on mid adds so then_so) = let never : v ∷ due_in later.jobs later ≡ [] = sym due ∙ is in absurd (cc)
+turning_step plan n low past w from room later before behind (faces v change gone due) (has_faced is first later_on mid adds so then_so) = let never : v ∷ due_in later.jobs later ≡ [] = sym due ∙ is in absurd (cc)
 
 -- ---- a calm step
 

@@ -14,6 +14,7 @@ pub mod Stepping
 pub mod Turning
 pub mod Refusing
 pub mod Ordering
+pub mod Callouts
 pub mod Upwards
 pub mod Quietly
 pub mod Goings

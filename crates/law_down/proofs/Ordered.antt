@@ -2,6 +2,7 @@
 use Rattle.std.proofs.Common.{◌≡◌, ℕ, zero, suc, ◌==◌, Bool, true, false, List, [], ◌∷◌, ◌++◌, refl, ap, ◌∙◌, sym, subst}
 use Rattle.std.proofs.lemmas.List.{append-nil}
 use Rattle.std.specs.Prelude.{Option, None, Some, is_some, slice_get, slice_set, remove, position, if◌then◌else◌}
+use Rattle.callouts.specs.Callouts.{is_call_line}
 use Rattle.filter_host.specs.Called.{Calling}
 use Rattle.filter_host.specs.Course.{Course, ends, asks, measures, hears}
 use Rattle.filter_host.proofs.Holds.{AllEnds, all_then}
@@ -29,12 +30,12 @@ use Rattle.law_lines.proofs.Ending.{done_free}
 use Rattle.law_lines.proofs.Finding.{Seeks, missing, first as stands_first, seeks, IsOnce, set_other, only_found, set_once, set_there}
 use Rattle.law_lines.proofs.Looks.{is_n, look, beside_itself}
 use Rattle.law_lines.proofs.Rooms.{IsFree, AllFree, Calm}
-use Rattle.law_lines.proofs.Stepping.{found_passes, step_keeps}
+use Rattle.law_lines.proofs.Stepping.{found_passes}
 use Rattle.law_lines.proofs.Story.{Phase, Stands, LineOk, Known}
 use Rattle.law_down.specs.InOrder.{State, shut, stands, lost, closes, and_then, state_after, has_up, lost_or_shut, state_in}
 use Rattle.law_down.proofs.Under.{Closing, Under}
 use Rattle.law_down.proofs.Calmly.{free_closing}
-use Rattle.law_down.proofs.Stepping.{step_under, both_ends}
+use Rattle.law_down.proofs.Stepping.{Whole, step_whole}
 use Rattle.law_down.proofs.Quietly.{adds_none}
 use Rattle.law_down.proofs.Goings.{happening, happens_in, happens_join, GoesAll, move_goes, works_goes}
 use Rattle.law_down.proofs.Gone.{GoneEx, GoneOk, Change, still, sends_so, Plain, Step, plainly, faces, step_gone, Turning, turning_step, calm_step}
@@ -134,7 +135,7 @@ calm_pop : (n : ℕ) (job : Job) (later : List Job) → IsCalm job → Closing n
 calm_pop n (jobs.Close m stays) later is c = absurd is
 calm_pop n job later is c = c.1
 
-module _ {H : Type 0} (calling : Calling H) (logs : WriteLogs calling) (plan : Plan) (past : List Sent) (n : ℕ) where
+module _ {H : Type 0} (calling : Calling H) (logs : WriteLogs calling) (plan : Plan) (past : List Sent) (n : ℕ) (low : is_call_line n ≡ false) where
   all_weaken : (P Q : Both H → Type 0) → ((b : Both H) → P b → Q b) → (p : Course (Both H)) → AllEnds P p → AllEnds Q p
   all_weaken P Q f (ends b) all = f b all
   all_weaken P Q f (asks vm call k) all = λ r. all_weaken P Q f (k r) (all r)
@@ -162,7 +163,7 @@ module _ {H : Type 0} (calling : Calling H) (logs : WriteLogs calling) (plan : P
         calm : (j : Job) → IsCalm j → GoneOk n (j ∷ later) (look n room.lines) → AllEnds (λ (b : Both H). Step n (j ∷ later) (record room { jobs = later }) b.room) (works calling plan j host (record room { jobs = later }))
         calm j is o =
             calm_steps (j ∷ later) (record room { jobs = later }) (calm_pop n j later is) (ap (λ l. l ++ happens_in later) (calm_none j is)) o (works calling plan j host (record room { jobs = later }))
-            (works_calm calling logs n plan j host (record room { jobs = later }) is k.once) (works_goes calling logs plan j host (record room { jobs = later }) is)
+            (works_calm calling logs n low plan j host (record room { jobs = later }) is k.once) (works_goes calling logs plan j host (record room { jobs = later }) is)
 
         by_job : (j : Job) → GoneOk n (j ∷ later) (look n room.lines) → Phase room.lines (j ∷ later) → Stands (j ∷ later) → LineOk plan n past None (j ∷ later) room.lines (look n room.lines) room.hub
             → AllEnds (λ (b : Both H). Step n (j ∷ later) (record room { jobs = later }) b.room) (works calling plan j host (record room { jobs = later }))
@@ -229,7 +230,7 @@ module _ {H : Type 0} (calling : Calling H) (logs : WriteLogs calling) (plan : P
         by_moves quiet None is = by_jobs quiet room.jobs refl
         by_moves quiet (Some place) is =
             calm_steps room.jobs room (λ c. c) refl ok (step calling plan (next.Move place) host room)
-            (move_calm calling logs n place host room k.once (λ l there. found_passes has_move room.lines place l is there)) (move_goes calling logs place host room)
+            (move_calm calling logs n low place host room k.once (λ l there. found_passes has_move room.lines place l is there)) (move_goes calling logs place host room)
 
         by_reading : (o : Option ReadBatch) → room.reading ≡ o → Takes (step calling plan (next_of room) host room)
         by_reading None is =
@@ -241,16 +242,13 @@ module _ {H : Type 0} (calling : Calling H) (logs : WriteLogs calling) (plan : P
 
   -- ---- the loop
 
-  abbrev pub Whole : Room → Type 0
-  Whole room = (m : ℕ) → Known plan m past room × Under plan m past room
-
   -- what is known of the line, where the turn began as is said
   abbrev pub Orders : (start : Type 0) (w : What) (from : State) → Room → Type 0
-  Orders start w from room = Whole room × GoneOk n room.jobs (look n room.lines) × (start → Turning n w from room)
+  Orders start w from room = Whole plan past room × GoneOk n room.jobs (look n room.lines) × (start → Turning n w from room)
 
   module _ (start : Type 0) (w : What) (from : State) where
-    both_orders : (room : Room) → Orders start w from room → (p : Course (Both H)) → AllEnds (λ (b : Both H). Whole b.room) p → AllEnds (λ (b : Both H). Step n room.jobs room b.room) p → AllEnds (λ (b : Both H). Orders start w from b.room) p
-    both_orders room o (ends b) whole s = (whole, step_gone n room.jobs room b.room s, (λ begun. turning_step plan n past w from room b.room (o.0 n).0 (whole n).0 s (o.2 begun)))
+    both_orders : (room : Room) → Orders start w from room → (p : Course (Both H)) → AllEnds (λ (b : Both H). Whole plan past b.room) p → AllEnds (λ (b : Both H). Step n room.jobs room b.room) p → AllEnds (λ (b : Both H). Orders start w from b.room) p
+    both_orders room o (ends b) whole s = (whole, step_gone n room.jobs room b.room s, (λ begun. turning_step plan n low past w from room b.room (o.0.0 n low).0 (whole.0 n low).0 s (o.2 begun)))
     both_orders room o (asks vm call k) whole s = λ r. both_orders room o (k r) (whole r) (s r)
     both_orders room o (measures vm call k) whole s = λ r. both_orders room o (k r) (whole r) (s r)
     both_orders room o (hears t k) whole s = λ h says. both_orders room o (k h) (whole h says) (s h says)
@@ -267,6 +265,5 @@ module _ {H : Type 0} (calling : Calling H) (logs : WriteLogs calling) (plan : P
         by_rest go false is =
             subst OrdersAll (sym (settling_step calling plan k (next_of room) host room refl is))
             (all_then (λ (b : Both H). Orders start w from b.room) (λ (b : Both H). Orders start w from b.room) (step calling plan (next_of room) host room) (λ b. settling calling plan k b.host b.room)
-            (both_orders room all (step calling plan (next_of room) host room)
-            (both_ends calling logs plan past (step calling plan (next_of room) host room) (λ m. step_keeps calling logs plan past host room m (λ j. (all.0 j).0)) (λ m. step_under calling logs plan past host room m (all.0 m).0 (all.0 m).1))
-            (step_orders host room (all.0 n).0 (all.0 n).1 all.1)) (λ b e. go b.host b.room e))
+            (both_orders room all (step calling plan (next_of room) host room) (step_whole calling logs plan past host room all.0)
+            (step_orders host room (all.0.0 n low).0 (all.0.0 n low).1 all.1)) (λ b e. go b.host b.room e))

@@ -1,13 +1,16 @@
 -- What is sent in order: lists joined, what goes up, and what is of other lines.
 use Rattle.std.proofs.Common.{◌≡◌, ℕ, ◌==◌, Bool, true, false, List, [], ◌∷◌, ◌++◌, map, refl, ap, ◌∙◌, sym, subst}
 use Rattle.std.specs.Prelude.{Option, None, Some, if◌then◌else◌}
+use Rattle.callouts.specs.Callouts.{is_call_line}
 use Rattle.law_exchange.specs.Traffic.{Traffic, opens, byte, closes as closing, up_of, up_traffic}
 use Rattle.gate_io.specs.declared.event.Sent.{Sent}
 use Rattle.gate_io.specs.declared.event.Sent.TheVariants as to
+use Rattle.gate_io.specs.declared.event.Side.{Side}
 use Rattle.gate_io.specs.declared.event.Side.TheVariants.{Down, Up}
 use Rattle.law_lines.specs.Clients.{client_traffic, client_of}
+use Rattle.law_lines.proofs.Callouts.{lines_apart}
 use Rattle.law_lines.proofs.Looks.{equal_by, equal_is, other_is, other_by}
-use Rattle.law_down.specs.InOrder.{State, stands, connects, passes, state_after_one, and_then, state_after}
+use Rattle.law_down.specs.InOrder.{State, stands, connects, passes, closes, state_after_one, and_then, state_after}
 
 pub runs_join : (n : ℕ) (a b : List Sent) (s : State) → state_after n (a ++ b) s ≡ and_then (state_after n b) (state_after n a s)
 runs_join n [] b s = refl
@@ -57,14 +60,18 @@ pub bytes_up : (bytes : List ℕ) → moves_up (map byte bytes) true ≡ Some tr
 bytes_up [] = refl
 bytes_up (b ∷ bytes) = bytes_up bytes
 
--- ---- where nothing is closed, and no piece is empty
+-- ---- where nothing is closed, and no piece is empty, but on lines of callouts
 
 abbrev pub IsQuiet : Sent → Type 0
 IsQuiet (to.Connect m) = Unit {0}
-IsQuiet (to.Bytes m side []) = ⊥
+IsQuiet (to.Bytes m side []) = is_call_line m ≡ true
 IsQuiet (to.Bytes m side (b ∷ bytes)) = Unit {0}
-IsQuiet (to.Close m side) = ⊥
+IsQuiet (to.Close m side) = is_call_line m ≡ true
 IsQuiet (to.Log level text) = Unit {0}
+
+pub call_bytes_quiet : (m : ℕ) (side : Side) (bytes : List ℕ) → is_call_line m ≡ true → IsQuiet (to.Bytes m side bytes)
+call_bytes_quiet m side [] high = high
+call_bytes_quiet m side (b ∷ bytes) high = tt
 
 abbrev pub AreQuiet : List Sent → Type 0
 AreQuiet [] = Unit {0}
@@ -79,8 +86,8 @@ if_same : (b : Bool) (s : State) → (if b then Some s else Some s) ≡ Some s
 if_same true s = refl
 if_same false s = refl
 
-one_up : (n : ℕ) (e : Sent) (rest : List Traffic) (u v : Bool) → IsQuiet e → moves_up (up_of n e ++ rest) u ≡ Some v → OneUp n e rest u v
-one_up n (to.Connect m) rest u v quiet is = by_test (m == n) refl
+one_up : (n : ℕ) → is_call_line n ≡ false → (e : Sent) (rest : List Traffic) (u v : Bool) → IsQuiet e → moves_up (up_of n e ++ rest) u ≡ Some v → OneUp n e rest u v
+one_up n low (to.Connect m) rest u v quiet is = by_test (m == n) refl
   where
     connected : (w : Bool) → (m == n) ≡ true → moves_up (opens ∷ rest) w ≡ Some v → OneUp n (to.Connect m) rest w v
     connected true here e = absurd (cc)
@@ -90,9 +97,14 @@ one_up n (to.Connect m) rest u v quiet is = by_test (m == n) refl
     by_test true here = connected u here (subst (λ c. moves_up ((if c then opens ∷ [] else []) ++ rest) u ≡ Some v) (turned n m ∙ here) is)
     by_test false other =
         record { then_so = u; one = ap (λ c. if c then connects (stands u) else Some (stands u)) other; others = subst (λ c. moves_up ((if c then opens ∷ [] else []) ++ rest) u ≡ Some v) (turned n m ∙ other) is }
-one_up n (to.Bytes m side []) rest u v quiet is = absurd quiet
-one_up n (to.Bytes m Down (b ∷ bytes)) rest u v quiet is = record { then_so = u; one = if_same (m == n) (stands u); others = is }
-one_up n (to.Bytes m Up (b ∷ bytes)) rest u v quiet is = by_test (m == n) refl
+one_up n low (to.Bytes m Down []) rest u v high is = record { then_so = u; one = ap (λ c. if c then passes Down [] (stands u) else Some (stands u)) (lines_apart m n high low); others = is }
+one_up n low (to.Bytes m Up []) rest u v high is = record {
+  then_so = u;
+  one = ap (λ c. if c then passes Up [] (stands u) else Some (stands u)) (lines_apart m n high low);
+  others = subst (λ c. moves_up ((if c then map byte [] else []) ++ rest) u ≡ Some v) (turned n m ∙ lines_apart m n high low) is;
+}
+one_up n low (to.Bytes m Down (b ∷ bytes)) rest u v quiet is = record { then_so = u; one = if_same (m == n) (stands u); others = is }
+one_up n low (to.Bytes m Up (b ∷ bytes)) rest u v quiet is = by_test (m == n) refl
   where
     gone_up : (w : Bool) → (m == n) ≡ true → moves_up (byte b ∷ map byte bytes ++ rest) w ≡ Some v → OneUp n (to.Bytes m Up (b ∷ bytes)) rest w v
     gone_up false here e = absurd (cc)
@@ -102,40 +114,55 @@ one_up n (to.Bytes m Up (b ∷ bytes)) rest u v quiet is = by_test (m == n) refl
     by_test true here = gone_up u here (subst (λ c. moves_up ((if c then map byte (b ∷ bytes) else []) ++ rest) u ≡ Some v) (turned n m ∙ here) is)
     by_test false other =
         record { then_so = u; one = ap (λ c. if c then passes Up (b ∷ bytes) (stands u) else Some (stands u)) other; others = subst (λ c. moves_up ((if c then map byte (b ∷ bytes) else []) ++ rest) u ≡ Some v) (turned n m ∙ other) is }
-one_up n (to.Close m side) rest u v quiet is = absurd quiet
-one_up n (to.Log level text) rest u v quiet is = record { then_so = u; one = refl; others = is }
+one_up n low (to.Close m Down) rest u v high is = record { then_so = u; one = ap (λ c. if c then closes Down (stands u) else Some (stands u)) (lines_apart m n high low); others = is }
+one_up n low (to.Close m Up) rest u v high is = record {
+  then_so = u;
+  one = ap (λ c. if c then closes Up (stands u) else Some (stands u)) (lines_apart m n high low);
+  others = subst (λ c. moves_up ((if c then closing ∷ [] else []) ++ rest) u ≡ Some v) (turned n m ∙ lines_apart m n high low) is;
+}
+one_up n low (to.Log level text) rest u v quiet is = record { then_so = u; one = refl; others = is }
 
 -- where the client is connected, it is in order as it is in order upwards
-pub open_runs : (n : ℕ) (more : List Sent) (u v : Bool) → AreQuiet more → moves_up (up_traffic n more) u ≡ Some v → state_after n more (stands u) ≡ Some (stands v)
-open_runs n [] u v quiet is = let same : u ≡ v = cc in ap (λ c. Some (stands c)) same
-open_runs n (e ∷ more) u v quiet is =
-    let o : OneUp n e (up_traffic n more) u v = one_up n e (up_traffic n more) u v quiet.0 is in
-    ap (and_then (state_after n more)) o.one ∙ open_runs n more o.then_so v quiet.1 o.others
+pub open_runs : (n : ℕ) → is_call_line n ≡ false → (more : List Sent) (u v : Bool) → AreQuiet more → moves_up (up_traffic n more) u ≡ Some v → state_after n more (stands u) ≡ Some (stands v)
+open_runs n low [] u v quiet is = let same : u ≡ v = cc in ap (λ c. Some (stands c)) same
+open_runs n low (e ∷ more) u v quiet is =
+    let o : OneUp n e (up_traffic n more) u v = one_up n low e (up_traffic n more) u v quiet.0 is in
+    ap (and_then (state_after n more)) o.one ∙ open_runs n low more o.then_so v quiet.1 o.others
 
 -- ---- what is of other lines
 
-one_beside : (n : ℕ) (e : Sent) (a b : List Traffic) (s : State) → IsQuiet e → up_of n e ++ a ≡ [] → client_of n e ++ b ≡ [] → (state_after_one n e s ≡ Some s) × (a ≡ []) × (b ≡ [])
-one_beside n (to.Connect m) a b s quiet up down = by_test (m == n) refl
+one_beside : (n : ℕ) → is_call_line n ≡ false → (e : Sent) (a b : List Traffic) (s : State) → IsQuiet e → up_of n e ++ a ≡ [] → client_of n e ++ b ≡ [] → (state_after_one n e s ≡ Some s) × (a ≡ []) × (b ≡ [])
+one_beside n low (to.Connect m) a b s quiet up down = by_test (m == n) refl
   where
     by_test : (c : Bool) → (m == n) ≡ c → (state_after_one n (to.Connect m) s ≡ Some s) × (a ≡ []) × (b ≡ [])
     by_test true here = let never : opens ∷ a ≡ [] = subst (λ c. (if c then opens ∷ [] else []) ++ a ≡ []) (turned n m ∙ here) up in absurd (cc)
     by_test false other = (ap (λ c. if c then connects s else Some s) other, subst (λ c. (if c then opens ∷ [] else []) ++ a ≡ []) (turned n m ∙ other) up, down)
-one_beside n (to.Bytes m side []) a b s quiet up down = absurd quiet
-one_beside n (to.Bytes m Up (o ∷ bytes)) a b s quiet up down = by_test (m == n) refl
+one_beside n low (to.Bytes m Up []) a b s high up down =
+    let apart = lines_apart m n high low in
+    (ap (λ c. if c then passes Up [] s else Some s) apart, subst (λ c. (if c then map byte [] else []) ++ a ≡ []) (turned n m ∙ apart) up, down)
+one_beside n low (to.Bytes m Down []) a b s high up down =
+    let apart = lines_apart m n high low in
+    (ap (λ c. if c then passes Down [] s else Some s) apart, up, subst (λ c. (if c then map byte [] else []) ++ b ≡ []) (turned n m ∙ apart) down)
+one_beside n low (to.Bytes m Up (o ∷ bytes)) a b s quiet up down = by_test (m == n) refl
   where
     by_test : (c : Bool) → (m == n) ≡ c → (state_after_one n (to.Bytes m Up (o ∷ bytes)) s ≡ Some s) × (a ≡ []) × (b ≡ [])
     by_test true here = let never : byte o ∷ map byte bytes ++ a ≡ [] = subst (λ c. (if c then map byte (o ∷ bytes) else []) ++ a ≡ []) (turned n m ∙ here) up in absurd (cc)
     by_test false other = (ap (λ c. if c then passes Up (o ∷ bytes) s else Some s) other, subst (λ c. (if c then map byte (o ∷ bytes) else []) ++ a ≡ []) (turned n m ∙ other) up, down)
-one_beside n (to.Bytes m Down (o ∷ bytes)) a b s quiet up down = by_test (m == n) refl
+one_beside n low (to.Bytes m Down (o ∷ bytes)) a b s quiet up down = by_test (m == n) refl
   where
     by_test : (c : Bool) → (m == n) ≡ c → (state_after_one n (to.Bytes m Down (o ∷ bytes)) s ≡ Some s) × (a ≡ []) × (b ≡ [])
     by_test true here = let never : byte o ∷ map byte bytes ++ b ≡ [] = subst (λ c. (if c then map byte (o ∷ bytes) else []) ++ b ≡ []) (turned n m ∙ here) down in absurd (cc)
     by_test false other = (ap (λ c. if c then passes Down (o ∷ bytes) s else Some s) other, up, subst (λ c. (if c then map byte (o ∷ bytes) else []) ++ b ≡ []) (turned n m ∙ other) down)
-one_beside n (to.Close m side) a b s quiet up down = absurd quiet
-one_beside n (to.Log level text) a b s quiet up down = (refl, up, down)
+one_beside n low (to.Close m Up) a b s high up down =
+    let apart = lines_apart m n high low in
+    (ap (λ c. if c then closes Up s else Some s) apart, subst (λ c. (if c then closing ∷ [] else []) ++ a ≡ []) (turned n m ∙ apart) up, down)
+one_beside n low (to.Close m Down) a b s high up down =
+    let apart = lines_apart m n high low in
+    (ap (λ c. if c then closes Down s else Some s) apart, up, subst (λ c. (if c then closing ∷ [] else []) ++ b ≡ []) (turned n m ∙ apart) down)
+one_beside n low (to.Log level text) a b s quiet up down = (refl, up, down)
 
-pub beside_runs : (n : ℕ) (more : List Sent) (s : State) → AreQuiet more → up_traffic n more ≡ [] → client_traffic n more ≡ [] → state_after n more s ≡ Some s
-beside_runs n [] s quiet up down = refl
-beside_runs n (e ∷ more) s quiet up down =
-    let o = one_beside n e (up_traffic n more) (client_traffic n more) s quiet.0 up down in
-    ap (and_then (state_after n more)) o.0 ∙ beside_runs n more s quiet.1 o.1 o.2
+pub beside_runs : (n : ℕ) → is_call_line n ≡ false → (more : List Sent) (s : State) → AreQuiet more → up_traffic n more ≡ [] → client_traffic n more ≡ [] → state_after n more s ≡ Some s
+beside_runs n low [] s quiet up down = refl
+beside_runs n low (e ∷ more) s quiet up down =
+    let o = one_beside n low e (up_traffic n more) (client_traffic n more) s quiet.0 up down in
+    ap (and_then (state_after n more)) o.0 ∙ beside_runs n low more s quiet.1 o.1 o.2

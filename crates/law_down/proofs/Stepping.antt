@@ -1,5 +1,6 @@
 -- What is known of what went down stays so in each step.
 use Rattle.std.proofs.Common.{◌≡◌, ℕ, zero, suc, Bool, true, false, List, [], ◌∷◌, ◌++◌, refl, ap, sym, subst}
+use Rattle.callouts.specs.Callouts.{is_call_line}
 use Rattle.filter_host.specs.Called.{Calling}
 use Rattle.std.specs.Prelude.{Option, None, Some, is_some, slice_get, remove, position, if◌then◌else◌}
 use Rattle.filter_host.specs.Course.{Course, ends, asks, measures, hears}
@@ -23,6 +24,8 @@ use Rattle.law_lines.proofs.Looks.{look, still_aside, beside_itself}
 use Rattle.law_lines.proofs.Rooms.{IsPart, AllParts, Calm}
 use Rattle.law_lines.proofs.Stepping.{found_passes, step_keeps}
 use Rattle.law_lines.proofs.Story.{Phase, LineOk, Known}
+use Rattle.law_lines.proofs.Unused.{reads_clients}
+use Rattle.law_down.proofs.Callouts.{CallsSilent, silent_unused, steps_silent}
 use Rattle.law_down.proofs.Under.{back_of, BackReads, LineUnder, held_on, Under, Alike, under_alike}
 use Rattle.law_down.proofs.Calmly.{HasUps, line_ups, calm_under}
 use Rattle.law_down.proofs.Works.{enter_under, request_under, response_under}
@@ -44,11 +47,15 @@ part_backs : (n : ℕ) (job : Job) → IsPart job → back_of n job ≡ []
 part_backs n (jobs.Put m response items) is = absurd is
 part_backs n job is = refl
 
+-- what is known of each line of a client, and that nothing goes down on one of a callout
+abbrev pub Whole : Plan → List Sent → Room → Type 0
+Whole plan past room = ((n : ℕ) → is_call_line n ≡ false → Known plan n past room × Under plan n past room) × CallsSilent past room
+
 module _ {H : Type 0} (calling : Calling H) (logs : WriteLogs calling) (plan : Plan) (past : List Sent) where
   abbrev pub Leaves : ℕ → Course (Both H) → Type 0
   Leaves n course = AllEnds (λ (b : Both H). Under plan n past b.room) course
 
-  module _ (host : H) (room : Room) (n : ℕ) (k : Known plan n past room) (u : Under plan n past room) where
+  module _ (host : H) (room : Room) (n : ℕ) (low : is_call_line n ≡ false) (k : Known plan n past room) (u : Under plan n past room) where
     calm_all : (js : List Job) (mid : Room) → mid.reading ≡ None → Alike n None js None mid.jobs → HasUps n mid.lines → LineUnder plan n (client_traffic n (past ++ mid.hub.sent)) None js (held_on n mid.lines) → (p : Course (Both H)) → AllEnds (λ (b : Both H). Calm n mid b.room) p → Leaves n p
     calm_all js mid quiet a ups w (ends b) calm = calm_under plan n past js mid b.room quiet calm a ups w
     calm_all js mid quiet a ups w (asks vm call k) calm = λ r. calm_all js mid quiet a ups w (k r) (calm r)
@@ -72,7 +79,7 @@ module _ {H : Type 0} (calling : Calling H) (logs : WriteLogs calling) (plan : P
           mid = record room { jobs = later }
 
           simple : (j : Job) → IsCalm j → LineUnder plan n (client_traffic n (past ++ room.hub.sent)) None (j ∷ later) (held_on n room.lines) → Leaves n (works calling plan j host (record room { jobs = later }))
-          simple j is w = calm_all (j ∷ later) (record room { jobs = later }) quiet (alike_pop n j later is) ups_now w (works calling plan j host (record room { jobs = later })) (works_calm calling logs n plan j host (record room { jobs = later }) is k.once)
+          simple j is w = calm_all (j ∷ later) (record room { jobs = later }) quiet (alike_pop n j later is) ups_now w (works calling plan j host (record room { jobs = later })) (works_calm calling logs n low plan j host (record room { jobs = later }) is k.once)
 
           by_job : (j : Job) → LineOk plan n past None (j ∷ later) room.lines (look n room.lines) room.hub → LineUnder plan n (client_traffic n (past ++ room.hub.sent)) None (j ∷ later) (held_on n room.lines) → Phase room.lines (j ∷ later)
               → Leaves n (works calling plan j host (record room { jobs = later }))
@@ -137,7 +144,7 @@ module _ {H : Type 0} (calling : Calling H) (logs : WriteLogs calling) (plan : P
         by_moves quiet None is = by_jobs quiet room.jobs refl
         by_moves quiet (Some place) is =
             calm_all room.jobs room quiet (record { waits = refl; ends = λ c. c }) (ups_now quiet) (under_now quiet room.jobs refl) (step calling plan (next.Move place) host room)
-            (move_calm calling logs n place host room k.once (λ l there. found_passes has_move room.lines place l is there))
+            (move_calm calling logs n low place host room k.once (λ l there. found_passes has_move room.lines place l is there))
 
         by_reading : (o : Option ReadBatch) → room.reading ≡ o → Leaves n (step calling plan (next_of room) host room)
         by_reading None is =
@@ -149,25 +156,27 @@ module _ {H : Type 0} (calling : Calling H) (logs : WriteLogs calling) (plan : P
 
   -- ---- the loop, with what is known of what went up
 
-  abbrev pub Whole : Room → Type 0
-  Whole room = (n : ℕ) → Known plan n past room × Under plan n past room
-
-  pub both_ends : (p : Course (Both H)) → ((n : ℕ) → AllEnds (λ (b : Both H). Known plan n past b.room) p) → ((n : ℕ) → Leaves n p) → AllEnds (λ (b : Both H). Whole b.room) p
-  both_ends (ends b) up down = λ n. (up n, down n)
-  both_ends (asks vm call k) up down = λ r. both_ends (k r) (λ n. up n r) (λ n. down n r)
-  both_ends (measures vm call k) up down = λ r. both_ends (k r) (λ n. up n r) (λ n. down n r)
-  both_ends (hears t k) up down = λ h says. both_ends (k h) (λ n. up n h says) (λ n. down n h says)
-
   abbrev pub LeavesAll : Course (Both H) → Type 0
-  LeavesAll course = AllEnds (λ (b : Both H). Whole b.room) course
+  LeavesAll course = AllEnds (λ (b : Both H). Whole plan past b.room) course
 
-  pub settling_whole : (k : ℕ) (host : H) (room : Room) → Whole room → LeavesAll (settling calling plan k host room)
+  both_ends : (p : Course (Both H)) → ((n : ℕ) → is_call_line n ≡ false → AllEnds (λ (b : Both H). Known plan n past b.room) p) → ((n : ℕ) → is_call_line n ≡ false → Leaves n p) → AllEnds (λ (b : Both H). CallsSilent past b.room) p → LeavesAll p
+  both_ends (ends b) up down silent = ((λ n low. (up n low, down n low)), silent)
+  both_ends (asks vm call k) up down silent = λ r. both_ends (k r) (λ n low. up n low r) (λ n low. down n low r) (silent r)
+  both_ends (measures vm call k) up down silent = λ r. both_ends (k r) (λ n low. up n low r) (λ n low. down n low r) (silent r)
+  both_ends (hears t k) up down silent = λ h says. both_ends (k h) (λ n low. up n low h says) (λ n low. down n low h says) (silent h says)
+
+  pub step_whole : (host : H) (room : Room) → Whole plan past room → LeavesAll (step calling plan (next_of room) host room)
+  step_whole host room all =
+      both_ends (step calling plan (next_of room) host room) (λ n low. step_keeps calling logs plan past host room n low (reads_clients room (silent_unused past room all.1)) (λ m below. (all.0 m below).0))
+      (λ n low. step_under host room n low (all.0 n low).0 (all.0 n low).1) (steps_silent calling logs plan past host room all.1)
+
+  pub settling_whole : (k : ℕ) (host : H) (room : Room) → Whole plan past room → LeavesAll (settling calling plan k host room)
   settling_whole zero host room all = subst LeavesAll (sym (settling_none calling plan host room)) all
   settling_whole (suc k) host room all = by_rest (λ h r e. settling_whole k h r e) (is_rest (next_of room)) refl
     where
-      by_rest : ((h : H) (r : Room) → Whole r → LeavesAll (settling calling plan k h r)) → (b : Bool) → is_rest (next_of room) ≡ b → LeavesAll (settling calling plan (suc k) host room)
+      by_rest : ((h : H) (r : Room) → Whole plan past r → LeavesAll (settling calling plan k h r)) → (b : Bool) → is_rest (next_of room) ≡ b → LeavesAll (settling calling plan (suc k) host room)
       by_rest go true is = subst LeavesAll (sym (settling_rest calling plan k (next_of room) host room refl is)) all
       by_rest go false is =
           subst LeavesAll (sym (settling_step calling plan k (next_of room) host room refl is))
-          (all_then (λ (b : Both H). Whole b.room) (λ (b : Both H). Whole b.room) (step calling plan (next_of room) host room) (λ b. settling calling plan k b.host b.room)
-          (both_ends (step calling plan (next_of room) host room) (λ n. step_keeps calling logs plan past host room n (λ m. (all m).0)) (λ n. step_under host room n (all n).0 (all n).1)) (λ b e. go b.host b.room e))
+          (all_then (λ (b : Both H). Whole plan past b.room) (λ (b : Both H). Whole plan past b.room) (step calling plan (next_of room) host room) (λ b. settling calling plan k b.host b.room)
+          (step_whole host room all) (λ b e. go b.host b.room e))

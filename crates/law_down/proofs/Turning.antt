@@ -2,6 +2,7 @@
 use Rattle.std.proofs.Common.{◌≡◌, ℕ, Bool, true, false, List, [], ◌∷◌, ◌++◌, refl, ap, ◌∙◌, sym, subst}
 use Rattle.std.proofs.lemmas.List.{append-nil, append_assoc}
 use Rattle.std.specs.Prelude.{Option, None, Some, option_map, if◌then◌else◌}
+use Rattle.callouts.specs.Callouts.{is_call_line}
 use Rattle.contexts.specs.declared.parts.Contexts.{Contexts}
 use Rattle.filter_host.specs.Called.{Calling}
 use Rattle.filter_host.specs.Course.{ends}
@@ -27,57 +28,56 @@ use Rattle.worker_model.specs.Turn.{Outcome, turn, turn_by, room_for_event, most
 use Rattle.law_lines.specs.Clients.{client_traffic}
 use Rattle.law_lines.specs.Logs.{WriteLogs}
 use Rattle.law_lines.specs.Turns.{Done, Turns, new_room, sent_in}
-use Rattle.law_lines.proofs.Joining.{clients_joined}
 use Rattle.law_lines.proofs.Looks.{look, line_in_is}
 use Rattle.law_lines.proofs.Machines.{machines_write_logs}
-use Rattle.law_lines.proofs.Story.{Known}
 use Rattle.law_lines.proofs.Turning.{facing_known, emptied_known, new_known, turns_empty}
+use Rattle.law_lines.proofs.Unused.{no_line}
 use Rattle.law_lines.proofs.Wholly.{Run, worked_run}
 use Rattle.law_down.specs.Downward.{Standing as Stands, Answering, GoesDownBy}
-use Rattle.law_down.specs.Laws.{ResponsesGoDownOneByOne, WorkersAnswerOneByOne, ResponsesOfTheProductGoDown}
-use Rattle.law_down.proofs.Sending.{clients_join}
+use Rattle.law_down.specs.Laws.{CalloutsGoUpAlone, ResponsesGoDownOneByOne, WorkersAnswerOneByOne, ResponsesOfTheProductGoDown}
+use Rattle.law_down.proofs.Callouts.{emptied_client, facing_silent, emptied_silent, new_silent}
 use Rattle.law_down.proofs.Below.{SentDown, nothing, running, at_end}
 use Rattle.law_down.proofs.Under.{Going, Waiting, LineUnder, exchange_at, held_on, Under}
 use Rattle.law_down.proofs.Ending.{one_of}
-use Rattle.law_down.proofs.Stepping.{settling_whole}
+use Rattle.law_down.proofs.Stepping.{Whole, settling_whole}
 
 -- ---- a turn
 
 pub emptied_under : (plan : Plan) (n : ℕ) (past : List Sent) (room : Room) → Under plan n past room → Under plan n (past ++ join_neighbours room.hub.sent) (without_sent room)
-emptied_under plan n past room u = subst (λ (t : List Traffic). LineUnder plan n t room.reading room.jobs (held_on n room.lines)) (sym same) u
-  where
-    same : client_traffic n ((past ++ join_neighbours room.hub.sent) ++ []) ≡ client_traffic n (past ++ room.hub.sent)
-    same =
-        ap (client_traffic n) (append-nil (past ++ join_neighbours room.hub.sent))
-        ∙ (clients_join n past (join_neighbours room.hub.sent) ∙ (ap (λ t. client_traffic n past ++ t) (clients_joined n room.hub.sent) ∙ sym (clients_join n past room.hub.sent)))
+emptied_under plan n past room u = subst (λ (t : List Traffic). LineUnder plan n t room.reading room.jobs (held_on n room.lines)) (sym (emptied_client n past room)) u
+
+-- of all lines
+pub facing_whole : (plan : Plan) (past : List Sent) (event : Event) (room : Room) → Whole plan past room → Whole plan past (room_for_event plan event room)
+facing_whole plan past event room all = ((λ n low. (facing_known plan n past event room (all.0 n low).0, (all.0 n low).1)), facing_silent plan past event room all.1)
+
+pub emptied_whole : (plan : Plan) (past : List Sent) (room : Room) → Whole plan past room → Whole plan (past ++ join_neighbours room.hub.sent) (without_sent room)
+emptied_whole plan past room all = ((λ n low. (emptied_known plan n past room (all.0 n low).0, emptied_under plan n past room (all.0 n low).1)), emptied_silent past room all.1)
 
 module _ {H : Type 0} (calling : Calling H) (logs : WriteLogs calling) (plan : Plan) where
-  abbrev All : List Sent → Room → Type 0
-  All past room = (n : ℕ) → Known plan n past room × Under plan n past room
-
   abbrev Comes : List Sent → Outcome H → Type 0
-  Comes past o = All (past ++ o.sent) o.state.room
+  Comes past o = Whole plan (past ++ o.sent) o.state.room
 
-  turn_whole : (past : List Sent) (state : Both H) (event : Event) → All past state.room → AllEnds (Comes past) (turn calling plan state event)
+  turn_whole : (past : List Sent) (state : Both H) (event : Event) → Whole plan past state.room → AllEnds (Comes past) (turn calling plan state event)
   turn_whole past state event all = by_stop (is_stop event.what)
     where
       by_stop : (b : Bool) → AllEnds (Comes past) (turn_by calling plan b state event)
-      by_stop true = λ n. subst (λ l. Known plan n l state.room × Under plan n l state.room) (sym (append-nil past)) (all n)
+      by_stop true = subst (λ l. Whole plan l state.room) (sym (append-nil past)) all
       by_stop false =
-          all_then (λ (b : Both H). All past b.room) (Comes past) (settling calling plan most_steps state.host (room_for_event plan event state.room)) (λ b. ends (outcome_of b))
-          (settling_whole calling logs plan past most_steps state.host (room_for_event plan event state.room) (λ n. (facing_known plan n past event state.room (all n).0, (all n).1)))
-          (λ b k n. (emptied_known plan n past b.room (k n).0, emptied_under plan n past b.room (k n).1))
+          all_then (λ (b : Both H). Whole plan past b.room) (Comes past) (settling calling plan most_steps state.host (room_for_event plan event state.room)) (λ b. ends (outcome_of b))
+          (settling_whole calling logs plan past most_steps state.host (room_for_event plan event state.room) (facing_whole plan past event state.room all)) (λ b k. emptied_whole plan past b.room k)
 
-  turns_whole : (past : List Sent) (from : Both H) (ts : List (Done H)) (to : Both H) → All past from.room → Turns calling plan from ts to → All (past ++ sent_in ts) to.room
-  turns_whole past from [] to all turned n =
-      subst (λ (b : Both H). Known plan n (past ++ []) b.room × Under plan n (past ++ []) b.room) (sym turned) (subst (λ l. Known plan n l from.room × Under plan n l from.room) (sym (append-nil past)) (all n))
-  turns_whole past from (t ∷ ts) to all turned n =
+  turns_whole : (past : List Sent) (from : Both H) (ts : List (Done H)) (to : Both H) → Whole plan past from.room → Turns calling plan from ts to → Whole plan (past ++ sent_in ts) to.room
+  turns_whole past from [] to all turned = subst (λ (b : Both H). Whole plan (past ++ []) b.room) (sym turned) (subst (λ l. Whole plan l from.room) (sym (append-nil past)) all)
+  turns_whole past from (t ∷ ts) to all turned =
       let one : Comes past t.end = all_reached (Comes past) t.met (turn calling plan from t.event) t.end (turn_whole past from t.event all) turned.0 in
-      subst (λ l. Known plan n l to.room × Under plan n l to.room) (append_assoc past t.end.sent (sent_in ts)) (turns_whole (past ++ t.end.sent) t.end.state ts to one turned.1 n)
+      subst (λ l. Whole plan l to.room) (append_assoc past t.end.sent (sent_in ts)) (turns_whole (past ++ t.end.sent) t.end.state ts to one turned.1)
 
 -- a new worker
 pub new_under : (plan : Plan) (contexts : Contexts) (n : ℕ) → Under plan n [] (new_room contexts)
 new_under plan contexts n = record { connections = []; are = tt; is = refl }
+
+pub new_whole : (plan : Plan) (contexts : Contexts) → Whole plan [] (new_room contexts)
+new_whole plan contexts = ((λ n low. (new_known plan contexts n, new_under plan contexts n)), new_silent contexts)
 
 -- ---- what went down
 
@@ -118,12 +118,31 @@ down_by plan n total room u = subst (λ (o : Option Line). GoesDownBy plan o tot
         by_exchange None none u = subst (λ (o : Option Exchange). GoesDownBy plan (Some (record l { exchange = o })) total) (sym none) (standing (subst (λ (o : Option Exchange). LineUnder plan n total room.reading room.jobs (Some o)) none u))
         by_exchange (Some x) some u = subst (λ (o : Option Exchange). GoesDownBy plan (Some (record l { exchange = o })) total) (sym some) (answering x (subst (λ (o : Option Exchange). LineUnder plan n total room.reading room.jobs (Some o)) some u))
 
+-- on the line of a callout nothing does
+pub callouts_go_up : (H : Type 0) → CalloutsGoUpAlone H
+callouts_go_up H calling plan contexts host ts to n high logs turned =
+    let all : Whole plan (sent_in ts) to.room = turns_whole calling logs plan [] (both host (new_room contexts)) ts to (new_whole plan contexts) turned in
+    let none : to.room.hub.sent ≡ [] = turns_empty calling logs plan (both host (new_room contexts)) ts to refl turned in (
+      no_line n to.room (all.1 n high).0,
+      sym (ap (λ l. client_traffic n (sent_in ts ++ l)) none ∙ ap (client_traffic n) (append-nil (sent_in ts))) ∙ (all.1 n high).1,
+    )
+
+-- where nothing did, and there is no line
+none_down : (plan : Plan) (o : Option Line) (total : List Traffic) → o ≡ None → total ≡ [] → GoesDownBy plan o total
+none_down plan o total none empty = subst (λ (t : List Traffic). GoesDownBy plan o t) (sym empty) (subst (λ (p : Option Line). GoesDownBy plan p []) (sym none) (record { connections = []; are = tt; is = refl }))
+
 pub responses_go_down : (H : Type 0) → ResponsesGoDownOneByOne H
-responses_go_down H calling plan contexts host ts to n logs turned =
-    let k = turns_whole calling logs plan [] (both host (new_room contexts)) ts to (λ m. (new_known plan contexts m, new_under plan contexts m)) turned n in
-    let none : to.room.hub.sent ≡ [] = turns_empty calling logs plan (both host (new_room contexts)) ts to refl turned in
-    down_by plan n (client_traffic n (sent_in ts)) to.room
-    (subst (λ (t : List Traffic). LineUnder plan n t to.room.reading to.room.jobs (held_on n to.room.lines)) (ap (λ l. client_traffic n (sent_in ts ++ l)) none ∙ ap (client_traffic n) (append-nil (sent_in ts))) k.1)
+responses_go_down H calling plan contexts host ts to n logs turned = by_line (is_call_line n) refl
+  where
+    by_line : (b : Bool) → is_call_line n ≡ b → GoesDownBy plan (line_in n to.room.lines) (client_traffic n (sent_in ts))
+    by_line false low =
+        let all : Whole plan (sent_in ts) to.room = turns_whole calling logs plan [] (both host (new_room contexts)) ts to (new_whole plan contexts) turned in
+        let none : to.room.hub.sent ≡ [] = turns_empty calling logs plan (both host (new_room contexts)) ts to refl turned in
+        down_by plan n (client_traffic n (sent_in ts)) to.room
+        (subst (λ (t : List Traffic). LineUnder plan n t to.room.reading to.room.jobs (held_on n to.room.lines)) (ap (λ l. client_traffic n (sent_in ts ++ l)) none ∙ ap (client_traffic n) (append-nil (sent_in ts))) (all.0 n low).1)
+    by_line true high =
+        let up = callouts_go_up H calling plan contexts host ts to n high logs turned in
+        none_down plan (line_in n to.room.lines) (client_traffic n (sent_in ts)) up.0 up.1
 
 -- ---- of a worker, and of the product
 

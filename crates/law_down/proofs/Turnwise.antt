@@ -35,8 +35,8 @@ use Rattle.worker_model.specs.Rooms.{has_move, moves_or, frees_or, ends_or, begi
 use Rattle.worker_model.specs.Settling.{settling, is_rest}
 use Rattle.worker_model.specs.State.{Standing, rules_of}
 use Rattle.worker_model.specs.Steps.{Both, both}
-use Rattle.worker_model.specs.Turn.{Outcome, outcome, turn, turn_by, room_for_event, happening, agenda_of, start_jobs, starts_of, start_of, roots_from, vms_in, is_of, ticks_in, ticks_of, ticks_due, deadline_jobs, notice_of, notices_of, is_due_now, registers_at, at_moment, most_steps, outcome_of, without_sent}
-use Rattle.worker_model.proofs.Events.{by_event}
+use Rattle.worker_model.specs.Turn.{Outcome, outcome, turn, turn_by, room_for_event, calls_due, happening, agenda_of, start_jobs, starts_of, start_of, roots_from, vms_in, is_of, ticks_in, ticks_of, ticks_due, deadline_jobs, notice_of, notices_of, is_due_now, registers_at, at_moment, most_steps, outcome_of, without_sent}
+use Rattle.worker_model.proofs.Events.{by_event, by_due}
 use Rattle.worker_model.proofs.Resting.{whole_rests}
 use Rattle.law_lines.specs.Logs.{WriteLogs}
 use Rattle.law_lines.specs.Turns.{Done, Turns, Worked, no_turn, a_turn, new_room, sent_in}
@@ -45,16 +45,15 @@ use Rattle.law_lines.proofs.Kept.{by_bool}
 use Rattle.law_lines.proofs.Looks.{is_n, look, line_in_is, equal_by}
 use Rattle.law_lines.proofs.Machines.{machines_write_logs}
 use Rattle.law_lines.proofs.Stepping.{none_found}
-use Rattle.law_lines.proofs.Story.{Known}
-use Rattle.law_lines.proofs.Turning.{facing_known, emptied_known, new_known, turns_empty}
+use Rattle.law_lines.proofs.Turning.{turns_empty}
 use Rattle.law_lines.proofs.Wholly.{Run, worked_run}
 use Rattle.law_down.specs.Examples.{OrderExamples}
 use Rattle.law_down.specs.InOrder.{State, stands, lost, opened, left, state_at_event, state_after, has_up, lost_or_shut, state_in, state_of, IsTurn, IsAtRest, ConnectionsGoInOrder, WorkersGoInOrder, ConnectionsOfTheProductGoInOrder}
-use Rattle.law_down.proofs.Under.{Under}
 use Rattle.law_down.proofs.Cutting.{parted}
 use Rattle.law_down.proofs.Goings.{happens_in, happens_join}
 use Rattle.law_down.proofs.Gone.{GoneEx, GoneOk, due_in, Turning, waits_for, has_faced}
-use Rattle.law_down.proofs.Turning.{emptied_under, new_under}
+use Rattle.law_down.proofs.Stepping.{Whole}
+use Rattle.law_down.proofs.Turning.{facing_whole, emptied_whole, new_whole}
 use Rattle.law_down.proofs.Ordered.{Orders, settling_orders}
 
 -- ---- the parts of a turn: the event is one of them
@@ -101,6 +100,9 @@ event_none : (what : What) (room : Room) → is_of_call (event_line what) ≡ tr
 event_none what room of_call =
     by_event (λ (l : List Job). happens_in l ≡ []) what room (λ e. let never : ◌≡◌ {A = Bool} true false = sym of_call ∙ e in absurd (cc)) (λ e. refl) (λ e. refl)
 
+calls_none : (room : Room) → happens_in (calls_due room) ≡ []
+calls_none room = by_due (λ (l : List Job). happens_in l ≡ []) room refl (λ id later e. e)
+
 event_in : (plan : Plan) (what : What) (room : Room) (ws : List What) → happens_in (happening what room) ≡ ws → happens_in (agenda_of plan what room) ≡ ws
 event_in plan what room ws is =
     behind_none (start_jobs room) _ ws
@@ -108,7 +110,8 @@ event_in plan what room ws is =
     (behind_none (ticks_due room) _ ws (all_ticks_none room.hub.moment (vms_in room) room.hub.contexts)
     (behind_none (deadline_jobs plan) _ ws
     (by_bool (λ (l : List Job). happens_in l ≡ []) (plan.deadline == 0) [] (jobs.Expire ∷ []) (λ e. refl) (λ e. refl))
-    (happens_join (happening what room) (notices_of plan (vms_in room)) ∙ ((λ i. is i ++ notices_none plan (vms_in room) i) ∙ append-nil ws))))
+    (behind_none (calls_due room) _ ws (calls_none room)
+    (happens_join (happening what room) (notices_of plan (vms_in room)) ∙ ((λ i. is i ++ notices_none plan (vms_in room) i) ∙ append-nil ws)))))
 
 -- ---- rest
 
@@ -191,7 +194,7 @@ call_faces n whats.Stop s low of_call = refl
 module _ {H : Type 0} (calling : Calling H) (logs : WriteLogs calling) (plan : Plan) (n : ℕ) (low : is_call_line n ≡ false) where
   -- what is known of the line between turns
   abbrev Stands : List Sent → Room → Type 0
-  Stands past room = ((m : ℕ) → Known plan m past room × Under plan m past room) × GoneOk n room.jobs (look n room.lines)
+  Stands past room = Whole plan past room × GoneOk n room.jobs (look n room.lines)
 
   abbrev Comes : List Sent → Both H → What → Outcome H → Type 0
   Comes past state what o =
@@ -206,7 +209,7 @@ module _ {H : Type 0} (calling : Calling H) (logs : WriteLogs calling) (plan : P
 
       stopped : is_stop event.what ≡ true → Comes past state event.what (record { state = state; sent = [] })
       stopped is = (
-        ((λ m. subst (λ l. Known plan m l state.room × Under plan m l state.room) (sym (append-nil past)) (all.0 m)), all.1),
+        (subst (λ l. Whole plan l state.room) (sym (append-nil past)) all.0, all.1),
         (λ none at_rest rested_so. record {
           before = [];
           behind = [];
@@ -256,12 +259,12 @@ module _ {H : Type 0} (calling : Calling H) (logs : WriteLogs calling) (plan : P
       by_stop : (b : Bool) → is_stop event.what ≡ b → AllEnds (Comes past state event.what) (turn_by calling plan b state event)
       by_stop true is = stopped is
       by_stop false is =
-          all_then (λ (b : Both H). Orders calling logs plan past n ((state.room.hub.sent ≡ []) × IsAtRest state.room) event.what (state_in (look n state.room.lines)) b.room) (Comes past state event.what)
+          all_then (λ (b : Both H). Orders calling logs plan past n low ((state.room.hub.sent ≡ []) × IsAtRest state.room) event.what (state_in (look n state.room.lines)) b.room) (Comes past state event.what)
           (settling calling plan most_steps state.host (room_for_event plan event state.room)) (λ b. ends (outcome_of b))
-          (settling_orders calling logs plan past n ((state.room.hub.sent ≡ []) × IsAtRest state.room) event.what (state_in (look n state.room.lines)) most_steps state.host (room_for_event plan event state.room)
-          ((λ m. (facing_known plan m past event state.room (all.0 m).0, (all.0 m).1)), all.1, begins))
+          (settling_orders calling logs plan past n low ((state.room.hub.sent ≡ []) × IsAtRest state.room) event.what (state_in (look n state.room.lines)) most_steps state.host (room_for_event plan event state.room)
+          (facing_whole plan past event state.room all.0, all.1, begins))
           (λ b o. (
-            ((λ m. (emptied_known plan m past b.room (o.0 m).0, emptied_under plan m past b.room (o.0 m).1)), o.1),
+            (emptied_whole plan past b.room o.0, o.1),
             (λ none at_rest rested_so. ended b.room rested_so o.1 (o.2 (none, at_rest))),
           ))
 
@@ -274,7 +277,7 @@ module _ {H : Type 0} (calling : Calling H) (logs : WriteLogs calling) (plan : P
 pub connections_go_in_order : (H : Type 0) → ConnectionsGoInOrder H
 connections_go_in_order H calling plan contexts host ts state event met end n low logs turned at_rest reaches rested_so =
     let past : List Sent = sent_in ts in
-    let all = turns_stand calling logs plan n low [] (both host (new_room contexts)) ts state ((λ m. (new_known plan contexts m, new_under plan contexts m)), tt) turned in
+    let all = turns_stand calling logs plan n low [] (both host (new_room contexts)) ts state (new_whole plan contexts, tt) turned in
     let one = all_reached (Comes calling logs plan n low past state event.what) met (turn calling plan state event) end (turn_orders calling logs plan n low past state event all) reaches in
     one.1 (turns_empty calling logs plan (both host (new_room contexts)) ts state refl turned) at_rest rested_so
 

@@ -1,5 +1,6 @@
 -- What goes down on every line, over all turns of a worker.
-use Rattle.std.specs.Prelude.{ℕ, Bool, List}
+use Rattle.std.specs.Prelude.{◌≡◌, ℕ, Bool, true, List, [], None}
+use Rattle.callouts.specs.Callouts.{is_call_line}
 use Rattle.contexts.specs.declared.parts.Contexts.{Contexts}
 use Rattle.filter_host.specs.Called.{Calling}
 use Rattle.filter_host.specs.declared.host.Callback.{Callback}
@@ -39,3 +40,10 @@ ResponsesOfTheProductGoDown S performs =
     (config : Config) (who : ℕ) (seed : List ℕ) (host : Vms) (sent : List Sent) (to : Standing Vms) (n : ℕ)
     → Worked slots.calling performs (new_worker slots.exported_in slots.registering_in config who seed host) sent to
     → GoesDownBy (rules_of to.setting) (line_in n to.state.room.lines) (client_traffic n sent)
+
+-- ON THE LINE OF A CALLOUT, from 2^31 on, there is no client, and nothing goes down: whatever turns a new worker has had, and whatever its machines do but that they
+-- send nothing but logs.
+abbrev pub CalloutsGoUpAlone : (H : Type 0) → Type 0
+CalloutsGoUpAlone H =
+    (calling : Calling H) (plan : Plan) (contexts : Contexts) (host : H) (turns : List (Done H)) (to : Both H) (n : ℕ) → is_call_line n ≡ true → WriteLogs calling
+    → Turns calling plan (both host (new_room contexts)) turns to → (line_in n to.room.lines ≡ None) × (client_traffic n (sent_in turns) ≡ [])

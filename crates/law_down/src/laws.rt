@@ -1,7 +1,7 @@
 // What goes down on lines over turns. The functions have nothing to do: their contracts are the laws.
 ghost use Rattle.law_down.specs.Examples.{OrderExamples, Refuses};
 ghost use Rattle.law_down.specs.InOrder.{ConnectionsGoInOrder, ConnectionsOfTheProductGoInOrder, WorkersGoInOrder};
-ghost use Rattle.law_down.specs.Laws.{ResponsesGoDownOneByOne, ResponsesOfTheProductGoDown, WorkersAnswerOneByOne};
+ghost use Rattle.law_down.specs.Laws.{CalloutsGoUpAlone, ResponsesGoDownOneByOne, ResponsesOfTheProductGoDown, WorkersAnswerOneByOne};
 
 use store_model::Shared;
 
@@ -24,6 +24,12 @@ pub fn workers_answer_one_by_one<H, S: Shared>()
 /// And of one with the machines of its VMs, whatever their modules do.
 pub fn responses_of_the_product_go_down<S: Shared>()
     ensures { ResponsesOfTheProductGoDown S S.performs }
+{}
+
+/// Nothing goes down on the line of a callout over the turns of a new worker, whatever its filters do and whatever comes of it; nor is it ever a line of a client.
+/// What goes up on it is not said here.
+pub fn callouts_go_up_alone<H>()
+    ensures { CalloutsGoUpAlone H }
 {}
 
 /// What the definitions refuse: something after a close, a line that stays after a response cut short or after an answer of no exchange, and an interim

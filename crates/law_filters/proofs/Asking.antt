@@ -3,7 +3,8 @@ use Rattle.std.proofs.Common.{◌≡◌, ◌⊎◌, inl, inr, refl, ℕ, ◌==�
 use Rattle.std.proofs.lemmas.Bool.{cases_Bool, cases_eq}
 use Rattle.std.proofs.lemmas.List.Elements.{Contains-append_left, Contains-append_right, Contains-push}
 use Rattle.std.specs.List.{find}
-use Rattle.std.specs.Prelude.{cond, Contains, is_some, if◌then◌else◌, Option, None, Some, position}
+use Rattle.std.specs.Prelude.{cond, Contains, is_some, if◌then◌else◌, Option, None, Some, position, slice_get}
+use Rattle.callouts.specs.Callouts.{is_call_line}
 use Rattle.exchange.specs.declared.types.Exchange.{Exchange}
 use Rattle.filter_chain.specs.declared.item.AskKind.{AskKind}
 use Rattle.filter_chain.specs.declared.item.AskKind.TheVariants as kinds
@@ -19,10 +20,11 @@ use Rattle.h1_model.specs.Unread.{head_part, Reading}
 use Rattle.law_lines.proofs.Finding.{IsOnce}
 use Rattle.law_lines.proofs.Looks.{is_n, look, line_in_is}
 use Rattle.law_lines.proofs.Reader.{InBody, body_next}
-use Rattle.law_lines.proofs.Rooms.{AllParts}
-use Rattle.law_lines.proofs.Stepping.{step_keeps}
+use Rattle.law_lines.proofs.Rooms.{AllParts, IsPart}
+use Rattle.law_lines.proofs.Stepping.{step_keeps, KnownAll, steps_keep}
 use Rattle.law_lines.proofs.Story.{Busy, Enters, ExOk, Known, LineOk, Matches, NoEnter, ReadsOk, Tale, batch_of, filtered, plainly}
-use Rattle.law_lines.proofs.Turning.{emptied_known, facing_known, new_known}
+use Rattle.law_lines.proofs.Turning.{emptied_all, facing_all, new_all}
+use Rattle.law_lines.proofs.Unused.{no_exchange}
 use Rattle.law_lines.specs.Logs.{WriteLogs}
 use Rattle.law_roots.specs.Roots.{StartsHaveRoots}
 use Rattle.law_meaning.specs.Walks.{Sends, Step, Walk, asked_at, stays, steps, turns}
@@ -61,18 +63,18 @@ module _ (logs : WriteLogs calling) (plan : Plan) where
   -- of each line, after what was sent in earlier turns
   record Knows (room : Room) : Type 0 where
     past : List Sent
-    known : (m : ℕ) → Known plan m past room
+    known : KnownAll plan past room
 
   step_knows : (b m : Both Vms) (ms : List Met) → Reaches (step calling plan (next_of b.room) b.host b.room) ms (ends m) → Knows b.room → Knows m.room
   step_knows b m ms reaches k = record {
     past = k.past;
-    known = λ i. all_reached (λ (c : Both Vms). Known plan i k.past c.room) ms (step calling plan (next_of b.room) b.host b.room) m (step_keeps calling logs plan k.past b.host b.room i k.known) reaches;
+    known = all_reached (λ (c : Both Vms). KnownAll plan k.past c.room) ms (step calling plan (next_of b.room) b.host b.room) m (steps_keep calling logs plan k.past b.host b.room k.known) reaches;
   }
 
   turn_knows : (event : Event) (room : Room) → Knows room → Knows (room_for_event plan event (without_sent room))
   turn_knows event room k = record {
     past = k.past ++ join_neighbours room.hub.sent;
-    known = λ i. facing_known plan i (k.past ++ join_neighbours room.hub.sent) event (without_sent room) (emptied_known plan i k.past room (k.known i));
+    known = facing_all plan (k.past ++ join_neighbours room.hub.sent) event (without_sent room) (emptied_all plan k.past room k.known);
   }
 
   walk_knows : (b e : Both Vms) (all : List (Step Vms)) → Walk calling plan b all e → Knows b.room → Knows e.room
@@ -139,32 +141,32 @@ module _ (logs : WriteLogs calling) (plan : Plan) where
     -- ---- where the head begins to wait
 
     -- no line has the number
-    none_waits : (vm context : ℕ) (base : List Sent) (lines : List Line) → find (is_n n) lines ≡ None → OfEach (onward.WaitsOf n vm context base) lines
-    none_waits vm context base [] none = tt
-    none_waits vm context base (l ∷ lines) none = by_number (l.number == n) refl none (λ later. none_waits vm context base lines later)
+    none_waits : (low : is_call_line n ≡ false) (vm context : ℕ) (base : List Sent) (lines : List Line) → find (is_n n) lines ≡ None → OfEach (onward.WaitsOf n vm context base low) lines
+    none_waits low vm context base [] none = tt
+    none_waits low vm context base (l ∷ lines) none = by_number (l.number == n) refl none (λ later. none_waits low vm context base lines later)
       where
-        by_number : (b : Bool) → (l.number == n) ≡ b → cond (l.number == n) (Some l) (find (is_n n) lines) ≡ None → (find (is_n n) lines ≡ None → OfEach (onward.WaitsOf n vm context base) lines)
-            → OfEach (onward.WaitsOf n vm context base) (l ∷ lines)
+        by_number : (b : Bool) → (l.number == n) ≡ b → cond (l.number == n) (Some l) (find (is_n n) lines) ≡ None → (find (is_n n) lines ≡ None → OfEach (onward.WaitsOf n vm context base low) lines)
+            → OfEach (onward.WaitsOf n vm context base low) (l ∷ lines)
         by_number true is gone later = absurd (wrong (ap (λ (c : Bool). cond c (Some l) (find (is_n n) lines)) (sym is) ∙ gone))
           where
             wrong : ◌≡◌ {A = Option Line} (Some l) None → ⊥
             wrong e = cc e
         by_number false is gone later = (other l.exchange, later (ap (λ (c : Bool). cond c (Some l) (find (is_n n) lines)) (sym is) ∙ gone))
           where
-            other : (o : Option Exchange) → OfExchange (onward.WaitsOf n vm context base) l.number o
+            other : (o : Option Exchange) → OfExchange (onward.WaitsOf n vm context base low) l.number o
             other None = tt
             other (Some x) = λ same. absurd (never (l.number == n) is (eq-eqb l.number n same))
 
-    each_waits : (vm context : ℕ) (base : List Sent) (x : Exchange) (lines : List Line) (line : Line) → IsOnce (is_n n) lines → find (is_n n) lines ≡ Some line → line.exchange ≡ Some x → Waits vm context x
-        → OfEach (onward.WaitsOf n vm context base) lines
-    each_waits vm context base x [] line once at its waits = absurd (cc at)
-    each_waits vm context base x (l ∷ lines) line once at its waits = by_number (l.number == n) refl at (λ later. each_waits vm context base x lines line once.1 later its waits)
+    each_waits : (low : is_call_line n ≡ false) (vm context : ℕ) (base : List Sent) (x : Exchange) (lines : List Line) (line : Line) → IsOnce (is_n n) lines → find (is_n n) lines ≡ Some line → line.exchange ≡ Some x → Waits vm context x
+        → OfEach (onward.WaitsOf n vm context base low) lines
+    each_waits low vm context base x [] line once at its waits = absurd (cc at)
+    each_waits low vm context base x (l ∷ lines) line once at its waits = by_number (l.number == n) refl at (λ later. each_waits low vm context base x lines line once.1 later its waits)
       where
-        by_number : (b : Bool) → (l.number == n) ≡ b → cond (l.number == n) (Some l) (find (is_n n) lines) ≡ Some line → (find (is_n n) lines ≡ Some line → OfEach (onward.WaitsOf n vm context base) lines)
-            → OfEach (onward.WaitsOf n vm context base) (l ∷ lines)
+        by_number : (b : Bool) → (l.number == n) ≡ b → cond (l.number == n) (Some l) (find (is_n n) lines) ≡ Some line → (find (is_n n) lines ≡ Some line → OfEach (onward.WaitsOf n vm context base low) lines)
+            → OfEach (onward.WaitsOf n vm context base low) (l ∷ lines)
         by_number true is here later =
             let same : l ≡ line = same_line l line (ap (λ (c : Bool). cond c (Some l) (find (is_n n) lines)) (sym is) ∙ here) in
-            (mine l.exchange (ap (λ (y : Line). y.exchange) same ∙ its), none_waits vm context base lines (once.0 is))
+            (mine l.exchange (ap (λ (y : Line). y.exchange) same ∙ its), none_waits low vm context base lines (once.0 is))
           where
             same_line : (a b : Line) → Some a ≡ Some b → a ≡ b
             same_line a b e = cc e
@@ -172,25 +174,25 @@ module _ (logs : WriteLogs calling) (plan : Plan) where
             same_exchange : (a b : Exchange) → Some a ≡ Some b → a ≡ b
             same_exchange a b e = cc e
 
-            mine : (o : Option Exchange) → o ≡ Some x → OfExchange (onward.WaitsOf n vm context base) l.number o
+            mine : (o : Option Exchange) → o ≡ Some x → OfExchange (onward.WaitsOf n vm context base low) l.number o
             mine None e = tt
             mine (Some y) e = λ number. subst (Waits vm context) (sym (same_exchange y x e)) waits
         by_number false is here later = (other l.exchange, later (ap (λ (c : Bool). cond c (Some l) (find (is_n n) lines)) (sym is) ∙ here))
           where
-            other : (o : Option Exchange) → OfExchange (onward.WaitsOf n vm context base) l.number o
+            other : (o : Option Exchange) → OfExchange (onward.WaitsOf n vm context base low) l.number o
             other None = tt
             other (Some y) = λ same. absurd (never (l.number == n) is (eq-eqb l.number n same))
 
-    begins_fair : (vm context : ℕ) (past : List Sent) (room : Room) (x : Exchange) → exchange_on n room ≡ Some x → x.is_entered ≡ true → Waits vm context x → Known plan n past room → onward.Fair n vm context room.hub.sent room
-    begins_fair vm context past room x on entered waits k =
+    begins_fair : (low : is_call_line n ≡ false) (vm context : ℕ) (past : List Sent) (room : Room) (x : Exchange) → exchange_on n room ≡ Some x → x.is_entered ≡ true → Waits vm context x → Known plan n past room → onward.Fair n vm context room.hub.sent low room
+    begins_fair low vm context past room x on entered waits k =
         let f : Found past room x = found past room x on k in
         let e : Enters n room.reading room.jobs x = enters_of past room x f.line.requests.due f.busy in (
-          each_waits vm context room.hub.sent x room.lines f.line k.once f.there f.its waits,
+          each_waits low vm context room.hub.sent x room.lines f.line k.once f.there f.its waits,
           ([], sym (append-nil room.hub.sent), tt),
           (e.none entered, parts_enter room.agenda k.parts, cold room.reading e.first),
         )
       where
-        cold : (o : Option ReadBatch) → (begins_with_head (batch_of n o) ≡ true → x.is_entered ≡ false) → onward.Cold n vm context room.hub.sent o
+        cold : (o : Option ReadBatch) → (begins_with_head (batch_of n o) ≡ true → x.is_entered ≡ false) → onward.Cold n vm context room.hub.sent low o
         cold None first = tt
         cold (Some r) first = λ same down. by_head same down (begins_with_head r.batch) refl
           where
@@ -262,10 +264,10 @@ earlier_one n vm context b m s more same (inl (inl dead)) = inl (inr (s, step_he
 earlier_one n vm context b m s more same (inl (inr died)) = inl (inr (died.0, step_later s died.0 more died.1, died.2))
 earlier_one n vm context b m s more same (inr asked) = inr (record { ask = asked.ask; among = step_later s asked.ask more asked.among; asks = asked.asks })
 
-module _ (logs : WriteLogs calling) (change : CallbacksChangeTheirOwn) (stay : PlacesStay) (plan : Plan) (n vm context : ℕ) where
+module _ (logs : WriteLogs calling) (change : CallbacksChangeTheirOwn) (stay : PlacesStay) (plan : Plan) (n vm context : ℕ) (low : is_call_line n ≡ false) where
   -- the head waits, in this state
   record IsWaiting (b : Both Vms) : Type 0 where
-    fair : onward.Fair n vm context b.room.hub.sent b.room
+    fair : onward.Fair n vm context b.room.hub.sent low b.room
     placed : ArePlaced b.host
     knows : Knows logs plan b.room
     exchange : Exchange
@@ -273,20 +275,20 @@ module _ (logs : WriteLogs calling) (change : CallbacksChangeTheirOwn) (stay : P
 
   -- one step
   record Stepped (b m : Both Vms) : Type 0 where
-    fair : onward.Fair n vm context b.room.hub.sent m.room
+    fair : onward.Fair n vm context b.room.hub.sent low m.room
     placed : ArePlaced m.host
 
   one_step : (b m : Both Vms) (ms : List Met) → Reaches (step calling plan (next_of b.room) b.host b.room) ms (ends m) → IsWaiting b → is_dead vm b.room ≡ false → (IsAskedOn n vm context (asked_at b.room (next_of b.room)) → ⊥)
       → (is_dead vm m.room ≡ true) ⊎ Stepped b m
   one_step b m ms reaches w lives none =
       let base : List Sent = b.room.hub.sent in
-      let here : onward.IsHere n vm context base b.room
-      = record { lives = lives; unheard = λ r reading head new at on says down same. unheard logs plan n w.knows.past b.room w.exchange w.on (w.knows.known n) r reading head new at on says down same } in
-      let goes = all_reached (λ (c : Both Vms). onward.P n vm context base c.room × ArePlaced c.host) ms (step calling plan (next_of b.room) b.host b.room) m
-      (step_fine logs change stay plan (onward.IsHere n vm context base) (onward.NotAsked n vm context base) (onward.P n vm context base) (onward.P n vm context base) (onward.calm n vm context base) (onward.stepped n vm context base plan) b.host b.room
+      let here : onward.IsHere n vm context base low b.room
+      = record { lives = lives; unheard = λ r reading head new at on says down same. unheard logs plan n w.knows.past b.room w.exchange w.on (w.knows.known.0 n low) r reading head new at on says down same } in
+      let goes = all_reached (λ (c : Both Vms). onward.P n vm context base low c.room × ArePlaced c.host) ms (step calling plan (next_of b.room) b.host b.room) m
+      (step_fine logs change stay plan (onward.IsHere n vm context base low) (onward.NotAsked n vm context base low) (onward.P n vm context base low) (onward.P n vm context base low) (onward.calm n vm context base low) (onward.stepped n vm context base low plan) b.host b.room
       here (inr w.fair) w.placed
       (λ place at quiet is. none (subst (λ (x : Next). IsAskedOn n vm context (asked_at b.room x)) (sym (moves_next b.room place at quiet)) is))) reaches in
-      ⊎_elim (λ (dead : is_dead vm m.room ≡ true). inl dead) (λ (fair : onward.Fair n vm context base m.room). inr (record { fair = fair; placed = goes.1 })) goes.0
+      ⊎_elim (λ (dead : is_dead vm m.room ≡ true). inl dead) (λ (fair : onward.Fair n vm context base low m.room). inr (record { fair = fair; placed = goes.1 })) goes.0
 
   -- and on from there
   rebased : (b m : Both Vms) → Stepped b m → Knows logs plan m.room → (x : Exchange) × (exchange_on n m.room ≡ Some x) → IsWaiting m
@@ -302,7 +304,7 @@ module _ (logs : WriteLogs calling) (change : CallbacksChangeTheirOwn) (stay : P
   faced b event w =
       let k : Knows logs plan (room_for_event plan event (without_sent b.room)) = turn_knows logs plan event b.room w.knows in
       record {
-        fair = (w.fair.0, ([], refl, tt), (w.fair.2.0, parts_enter logs plan n _ (k.known n).parts, w.fair.2.2));
+        fair = (w.fair.0, ([], refl, tt), (w.fair.2.0, parts_enter logs plan n _ (k.known.0 n low).parts, w.fair.2.2));
         placed = w.placed;
         knows = k;
         exchange = w.exchange;
@@ -366,8 +368,17 @@ pub stages_are_asked_first : StartsHaveRoots → WriteLogs calling → Callbacks
 stages_are_asked_first starts logs change stay made config who seed earlier between opens mid to n vm context x front back before on entered waits walk stays_on sends =
     let plan : Plan = rules_for config who seed in
     let first : Both Vms = (first_worker config who seed).state in
-    let begun : Knows logs plan first.room = record { past = []; known = λ m. new_known plan (contexts_of config seed) m } in
+    let begun : Knows logs plan first.room = record { past = []; known = new_all plan (contexts_of config seed) } in
     let k : Knows logs plan mid.room = walk_knows logs plan first mid earlier before begun in
     let sound = walked starts plan logs change stay first mid earlier before (first_sound config seed plan refl, made.placed config.vms) in
-    asked_first logs change stay plan n vm context mid to (between ++ opens ∷ []) walk between opens refl (front, back, sends) stays_on
-    (record { fair = begins_fair logs plan n vm context k.past mid.room x on entered waits (k.known n); placed = sound.1; knows = k; exchange = x; on = on })
+    let low : is_call_line n ≡ false = of_client k (is_call_line n) refl in
+    asked_first logs change stay plan n vm context low mid to (between ++ opens ∷ []) walk between opens refl (front, back, sends) stays_on
+    (record { fair = begins_fair logs plan n low vm context k.past mid.room x on entered waits (k.known.0 n low); placed = sound.1; knows = k; exchange = x; on = on })
+  where
+    -- on the line of a callout there is none
+    of_client : Knows logs (rules_for config who seed) mid.room → (b : Bool) → is_call_line n ≡ b → b ≡ false
+    of_client k false is = refl
+    of_client k true high = absurd (wrong (sym (no_exchange n mid.room (k.known.1 n high)) ∙ on))
+      where
+        wrong : ◌≡◌ {A = Option Exchange} None (Some x) → ⊥
+        wrong e = cc e

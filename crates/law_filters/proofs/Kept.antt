@@ -15,6 +15,7 @@ use Rattle.filter_chain.specs.declared.item.ChainItem.{ChainItem}
 use Rattle.filter_host.specs.Heard.{Heard}
 use Rattle.gate_config.specs.declared.entries.PluginEntry.{PluginEntry}
 use Rattle.h1_model.specs.Unread.{Reading}
+use Rattle.worker_model.specs.Calls.{call_job}
 use Rattle.worker_model.specs.Moves.{asks_at, asks_in, asks_back, asks_exchange, ended_at, ended_in, ended_back}
 use Rattle.worker_model.specs.Plan.{Plan}
 use Rattle.worker_model.specs.Room.{Room}
@@ -273,6 +274,7 @@ module _ (plan : Plan) where
     part = λ job later room quiet jobless at here s. parts job later room jobless at s;
     pops = λ job room is here s. (good.popped_other plan job room (silent_other job is) s).0;
     notices = λ vm left root queue room here s. noticed vm left root queue room (good.popped_other plan (jobs.Notice vm left) room tt s);
+    calls = λ other then_ room here s. (good.good_front plan (call_job then_ ∷ []) room (tt, tt) (good.popped_other plan (jobs.Other other) room tt s)).0;
     root = λ vm p first room here s. made.root plan vm p first room s;
     create = λ n k room here s. made.create plan n k room s;
     finish = λ c value room s. made.finish plan c value room s;

@@ -2,8 +2,9 @@
 use Rattle.std.proofs.Common.{◌≡◌, ◌⊎◌, inl, inr, refl, ℕ, zero, suc, ◌==◌, Bool, true, false, not, ◌||◌, ◌&&◌, List, [], ◌∷◌, ◌++◌, length, ap, ◌∙◌, sym, subst, ⊎_elim, append_assoc, ne_eqb, eq-eqb}
 use Rattle.std.proofs.lemmas.Bool.{cases_eq, eqb-true}
 use Rattle.std.specs.Option.{option_map}
-use Rattle.std.specs.Prelude.{slice_get, nat_lt, if◌then◌else◌, Option, None, Some, is_some, remove, insert}
-use Rattle.contexts.specs.Creating.{next_id, plugin_in, await_done_of, delete_id, root_created}
+use Rattle.std.specs.Prelude.{slice_get, nat_lt, if◌then◌else◌, Option, None, Some, is_some, remove, insert, slice_set, position}
+use Rattle.contexts.specs.Creating.{next_id, plugin_in, await_done_of, delete_id, root_created, open_exchange, end_exchange, stream_created}
+use Rattle.callouts.specs.Callouts.{is_call_line, line_of}
 use Rattle.contexts.specs.Reached.{contains, seen}
 use Rattle.contexts.specs.declared.parts.Contexts.{Contexts}
 use Rattle.exchange.specs.declared.types.Exchange.{Exchange}
@@ -35,8 +36,10 @@ use Rattle.h1_model.specs.Head.{Head}
 use Rattle.h1_model.specs.Messages.{Stop, rest, over, refusal}
 use Rattle.h1_model.specs.Unread.{Part, head_part, interim_part, piece, trailer_part, Reading}
 use Rattle.header_maps.specs.Operations.{no_headers}
+use Rattle.law_lines.proofs.Callouts.{call_line_is}
 use Rattle.law_lines.proofs.Stepping.{found_passes}
 use Rattle.law_lines.proofs.Story.{NoEnter}
+use Rattle.worker_model.specs.Calls.{call_job}
 use Rattle.worker_model.specs.Moves.{asks_as, asks_at, asks_back, asks_chain, asks_exchange, asks_in, asks_stage, count_of, ended_at, ended_back, ended_in}
 use Rattle.worker_model.specs.Plan.{Plan}
 use Rattle.worker_model.specs.Room.{Room}
@@ -50,8 +53,8 @@ use Rattle.worker_model.specs.declared.types.Line.{Line}
 use Rattle.worker_model.specs.declared.types.NewContext.{NewContext}
 use Rattle.worker_model.specs.declared.types.ReadBatch.{ReadBatch}
 use Rattle.law_filters.proofs.Doing.{NoConnects, IsAside, IsShut, IsClosed, IsMoved, InBoth, InThird, in_answer, in_asks, in_marking, lets_vm, lets_response, bytes_connect_none, by_ended, never}
-use Rattle.law_filters.proofs.Rooms.{OfExchange, OfLine, OfEach, Joint, IsRest, IsApart, IsCalm, Holds, Op, op_refuses, LinesBoth, numbers_set, each_at, each_set, on_place, holding, apart_closed, with_asked, holds_lines, holds_number, holds_context, holds_all, holds_dies}
-use Rattle.law_filters.proofs.Same.{pick}
+use Rattle.law_filters.proofs.Rooms.{OfExchange, OfLine, OfEach, Joint, IsRest, IsApart, IsCalm, Holds, Op, op_refuses, LinesBoth, numbers_set, each_at, each_set, on_place, holding, apart_closed, with_asked, holds_lines, holds_number, holds_context, holds_all, holds_dies, numbers, asked_lines, holds_begins}
+use Rattle.law_filters.proofs.Same.{pick, SameIds}
 use Rattle.law_filters.proofs.Sound.{still_dead, now_dead}
 use Rattle.law_filters.proofs.Steps.{IsStepped}
 use Rattle.law_filters.proofs.Waiting as waiting
@@ -110,7 +113,7 @@ done_enter n (f ∷ fs) = pick (NoEnter n) f.created (jobs.Done (record { vm = f
 
 -- ---- one line
 
-module _ (n vm context : ℕ) (base : List Sent) where
+module _ (n vm context : ℕ) (base : List Sent) (low : is_call_line n ≡ false) where
   -- since then no connection was opened for the line
   abbrev pub NoneSince : Hub → Type 0
   NoneSince hub = (more : List Sent) × (hub.sent ≡ base ++ more) × NoneOn n more
@@ -134,10 +137,17 @@ module _ (n vm context : ℕ) (base : List Sent) where
       by_over (inl ended) = inl (inl ended)
       by_over (inr answered) = inl (inr (answered, s.request))
 
+  -- the line of a callout is none of a client
+  call_elsewhere : (id : ℕ) → line_of id ≡ n → ⊥
+  call_elsewhere id same = never (is_call_line n) low (ap is_call_line (sym same) ∙ call_line_is id)
+
   apart : IsApart WaitsOf NoneSince
   apart = record {
     hub = λ hub h same is. is;
     sent = λ hub more none is. (is.0 ++ more, ap (λ (l : List Sent). l ++ more) is.1 ∙ append_assoc base is.0 more, none_join n is.0 more is.2 (none_any n more none));
+    called = λ hub id wire is.
+        (let more : List Sent = to.Connect (line_of id) ∷ to.Bytes (line_of id) Up wire ∷ [] in
+        (is.0 ++ more, ap (λ (l : List Sent). l ++ more) is.1 ∙ append_assoc base is.0 more, none_join n is.0 more is.2 (call_elsewhere id, tt)));
     aside = λ m x y a is same. waits_aside x y a (is same);
     shut = λ m x y s is same. waits_shut x y s;
   }
@@ -275,7 +285,7 @@ module _ (n vm context : ℕ) (base : List Sent) where
   P room = (is_dead vm room ≡ true) ⊎ Fair room
 
   settled_rest : IsRest WaitsOf NoneSince Dies Settled
-  settled_rest = record { beside = λ room lines hub same r. r; died = λ gone room dies r. r }
+  settled_rest = record { beside = λ room lines hub same r. r; died = λ gone room dies r. r; under_way = λ calls room r. r }
 
   pub calm : IsCalm P
   calm = record {
@@ -289,6 +299,8 @@ module _ (n vm context : ℕ) (base : List Sent) where
         (λ (other : gone ≡ vm → ⊥). inr (holds_dies WaitsOf NoneSince Dies Settled settled_rest NotAsked closed moved gone death room other apart.sent fair)) (cases_eq gone vm)) s;
     hub = λ room h same s. s;
     sent = λ room more none s. ⊎_elim (λ (dead : is_dead vm room ≡ true). inl dead) (λ (fair : Fair room). inr (fair.0, apart.sent room.hub more none fair.1, fair.2)) s;
+    begins = λ q room s. ⊎_elim (λ (dead : is_dead vm room ≡ true). inl dead) (λ (fair : Fair room). inr (holds_begins WaitsOf NoneSince Dies Settled apart settled_rest q room fair)) s;
+    under_way = λ calls room s. ⊎_elim (λ (dead : is_dead vm room ≡ true). inl dead) (λ (fair : Fair room). inr fair) s;
   }
 
   -- ---- jobs, lines and what is read
@@ -674,6 +686,7 @@ module _ (n vm context : ℕ) (base : List Sent) where
     pops = λ job room is here s. pop_p job room s;
     notices = λ v left root queue room here s.
         (let fair : Fair room = fair_pop (jobs.Notice v left) room (fair_of (holding (jobs.Notice v left) room) here.lives s) in inr (fair.0, fair.1, (fair.2.0, fair.2.1, fair.2.2)));
+    calls = λ other then_ room here s. front_p (call_job then_ ∷ []) room tt (pop_p (jobs.Other other) room s);
     root = λ v p first room here s. root_p v p first room (pop_p (jobs.Root v p first) room s);
     create = λ m k room here s. by_filter m k (filter_at m k room.lines) room (pop_p (jobs.Create m k) room s);
     finish = λ c value room s. finish_p c value room (pop_p (jobs.Done c) room s);

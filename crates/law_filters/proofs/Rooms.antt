@@ -1,11 +1,15 @@
 -- What stays true of a room, whatever callbacks do to it.
-use Rattle.std.proofs.Common.{◌≡◌, refl, ℕ, zero, suc, Bool, true, false, List, [], ◌∷◌, ◌++◌, ◌∙◌, sym, subst, ap}
+use Rattle.std.proofs.Common.{◌≡◌, refl, ℕ, zero, suc, Bool, true, false, List, [], ◌∷◌, ◌++◌, length, ◌∙◌, sym, subst, ap}
 use Rattle.std.specs.Prelude.{map, Option, None, Some, slice_get, slice_set}
+use Rattle.callouts.specs.Callouts.{line_of, begun}
+use Rattle.callouts.specs.Requests.{request_wire}
+use Rattle.callouts.specs.declared.types.Callout.{Callout}
 use Rattle.contexts.specs.Reached.{vm_in}
 use Rattle.contexts.specs.declared.parts.Contexts.{Contexts}
 use Rattle.contexts.specs.declared.parts.Effect.{Effect}
 use Rattle.contexts.specs.declared.parts.EffectKind.{EffectKind}
 use Rattle.contexts.specs.declared.parts.EffectKind.TheVariants as what
+use Rattle.contexts.specs.declared.parts.Request.{Request}
 use Rattle.filter_host.specs.declared.host.CallbackEnd.{CallbackEnd}
 use Rattle.filter_host.specs.declared.host.CallbackEnd.TheVariants as call_ends
 use Rattle.filter_host.specs.declared.host.Death.{Death}
@@ -18,20 +22,21 @@ use Rattle.filter_chain.specs.declared.item.ChainItem.{ChainItem}
 use Rattle.gate_base.specs.declared.level.Level.TheVariants.{Critical}
 use Rattle.gate_io.specs.declared.event.Sent.{Sent}
 use Rattle.gate_io.specs.declared.event.Sent.TheVariants as to
+use Rattle.gate_io.specs.declared.event.Side.TheVariants.{Up}
 use Rattle.h1_model.specs.Fields.{Pair}
 use Rattle.law_lines.specs.Logs.{AreLogs}
 use Rattle.law_vms.specs.OwnChanges.{ChangesItsOwn}
 use Rattle.worker_model.specs.Changes.{apply_change}
 use Rattle.worker_model.specs.Moves.{asks_at}
 use Rattle.worker_model.specs.Room.{Room}
-use Rattle.worker_model.specs.Rooms.{Changes, with_marks, in_exchange, in_line, at_some, at_place, all_lines, with_lines, place_in, place_of, on_number, on_context, with_contexts, room_with_sent, is_own, apply_effect, effects_of, without_effects, lose_vm_in, death_text, after_callback, take_callback_end}
+use Rattle.worker_model.specs.Rooms.{Changes, with_marks, in_exchange, in_line, at_some, at_place, all_lines, with_lines, place_in, place_of, on_number, on_context, with_contexts, room_with_sent, count_calls, next_call, begin_call, is_own, apply_effect, effects_of, without_effects, lose_vm_in, death_text, after_callback, take_callback_end}
 use Rattle.worker_model.specs.declared.types.Asked.{Asked}
 use Rattle.worker_model.specs.declared.types.Change.TheVariants as changes
 use Rattle.worker_model.specs.declared.types.Job.{Job}
 use Rattle.worker_model.specs.declared.types.Line.{Line}
 use Rattle.worker_model.specs.declared.types.Owner.{Owner}
 use Rattle.law_filters.proofs.Doing.{NoConnects, IsAside, IsShut, IsClosed, IsMoved, Keeping, InBoth, marked_keeps, responses_keep, resumes_keep, closes_keep, acts_keep, dies_keep, refuses_keep, expires_keep, answer_keeps}
-use Rattle.law_filters.proofs.Same.{pick, SameIds, same_own}
+use Rattle.law_filters.proofs.Same.{pick, SameIds, same_own, same_calls}
 
 -- what callbacks, and the jobs that follow from them, do to an exchange
 pub data Op : Changes → Type 0 where
@@ -51,6 +56,9 @@ pub record IsCalm (P : Room → Type 0) : Type 0 where
   pub dies : (vm : ℕ) (death : Death) (room : Room) → P room → P (lose_vm_in vm death room)
   pub hub : (room : Room) (h : Contexts) → SameIds room.hub.contexts h → P room → P (with_contexts h room)
   pub sent : (room : Room) (more : List Sent) → NoConnects more → P room → P (room_with_sent more room)
+  -- a callout begins, and these are under way
+  pub begins : (q : Request) (room : Room) → P room → P (begin_call q room)
+  pub under_way : (calls : List Callout) (room : Room) → P room → P (record room { calls = calls })
 
 pub logs_connect_none : (sent : List Sent) → AreLogs sent → NoConnects sent
 logs_connect_none [] are = tt
@@ -64,7 +72,7 @@ module _ (P : Room → Type 0) (calm : IsCalm P) where
   to_effect vm own context (what.Continue response) room s =
       pick P (is_own own context response) room (on_context (passing.resume_context vm context response) vm context room) s
       (calm.context (passing.resume_context vm context response) vm context room (op_resumes vm context response) s)
-  to_effect vm own context (what.Call request) room s = s
+  to_effect vm own context (what.Call request) room s = calm.begins request room s
   to_effect vm own context what.Close room s = calm.context passing.close_exchange vm context room op_closes s
   to_effect vm own context (what.Answer status fields body) room s =
       calm.context (apply_change (changes.Answer status fields body)) vm context room (op_answers status fields.pairs body) s
@@ -103,6 +111,8 @@ held_calm P calm job = record {
       subst P (held_lines job (record told { dead = room.dead ++ vm ∷ [] }) (all_lines (passing.lose_vm vm) room.lines told.hub)) (calm.dies vm death (holding job room) s));
   hub = λ room h same s. calm.hub (holding job room) h same s;
   sent = λ room more none s. calm.sent (holding job room) more none s;
+  begins = λ q room s. calm.begins q (holding job room) s;
+  under_way = λ calls room s. calm.under_way calls (holding job room) s;
 }
 
 -- ---- of each exchange, of what all lines have in common, and of the rest
@@ -185,6 +195,7 @@ module _ (X : ℕ → Exchange → Type 0) (K : Hub → Type 0) where
   pub record IsRest (D : ℕ → Type 0) (R : Room → Type 0) : Type 0 where
     pub beside : (room : Room) (lines : List Line) (hub : Hub) → numbers lines ≡ numbers room.lines → R room → R (record room { lines = lines; hub = hub })
     pub died : (vm : ℕ) (room : Room) → D vm → R room → R (record room { dead = room.dead ++ vm ∷ [] })
+    pub under_way : (calls : List Callout) (room : Room) → R room → R (record room { calls = calls })
 
   abbrev pub Holds : (Room → Type 0) → Room → Type 0
   Holds R room = OfEach X room.lines × K room.hub × R room
@@ -227,6 +238,7 @@ module _ (X : ℕ → Exchange → Type 0) (K : Hub → Type 0) where
 pub record IsApart (X : ℕ → Exchange → Type 0) (K : Hub → Type 0) : Type 0 where
   pub hub : (hub : Hub) (h : Contexts) → SameIds hub.contexts h → K hub → K (record hub { contexts = h })
   pub sent : (hub : Hub) (more : List Sent) → NoConnects more → K hub → K (hub_with_sent more hub)
+  pub called : (hub : Hub) (id : ℕ) (wire : List ℕ) → K hub → K (hub_with_sent (to.Connect (line_of id) ∷ to.Bytes (line_of id) Up wire ∷ []) hub)
   pub aside : (n : ℕ) (x y : Exchange) → IsAside x y → X n x → X n y
   pub shut : (n : ℕ) (x y : Exchange) → IsShut x y → X n x → X n y
 
@@ -238,6 +250,16 @@ apart_closed X K apart = record {
   shut = λ n x y hub is s. (apart.shut n x y is s.0, s.1);
 }
 
+-- a callout begins
+pub holds_begins : (X : ℕ → Exchange → Type 0) (K : Hub → Type 0) (D : ℕ → Type 0) (R : Room → Type 0) → IsApart X K → IsRest X K D R → (q : Request) (room : Room) → Holds X K R room → Holds X K R (begin_call q room)
+holds_begins X K D R apart rest q room s =
+    let id : ℕ = next_call room in
+    let calls : List Callout = room.calls ++ begun id room.hub.moment q ∷ [] in
+    let h : Contexts = count_calls (length calls) id room.hub.contexts in
+    let counted : Hub = record room.hub { contexts = h } in
+    let sent : Hub = hub_with_sent (to.Connect (line_of id) ∷ to.Bytes (line_of id) Up (request_wire q) ∷ []) counted in
+    (s.0, apart.called counted id (request_wire q) (apart.hub room.hub h (same_calls (length calls) id room.hub.contexts) s.1), rest.under_way calls (record room { hub = sent }) (rest.beside room room.lines sent refl s.2))
+
 -- where nothing hangs on which VM dies, what holds of a room so stays by what callbacks do
 pub holds_calm : (X : ℕ → Exchange → Type 0) (K : Hub → Type 0) (R : Room → Type 0) (Goes : Option Asked → Type 0) → IsApart X K → IsRest X K (λ vm. Unit {0}) R → IsMoved (λ vm. Unit {0}) Goes (Joint X K)
     → IsCalm (Holds X K R)
@@ -248,4 +270,6 @@ holds_calm X K R Goes apart rest moved = record {
   dies = λ vm death room s. holds_dies X K (λ vm. Unit {0}) R rest Goes (apart_closed X K apart) moved vm death room tt apart.sent s;
   hub = λ room h same s. (s.0, apart.hub room.hub h same s.1, rest.beside room room.lines (record room.hub { contexts = h }) refl s.2);
   sent = λ room more none s. (s.0, apart.sent room.hub more none s.1, rest.beside room room.lines (hub_with_sent more room.hub) refl s.2);
+  begins = λ q room s. holds_begins X K (λ vm. Unit {0}) R apart rest q room s;
+  under_way = λ calls room s. (s.0, s.1, rest.under_way calls room s.2);
 }

@@ -7,6 +7,7 @@ use Rattle.contexts.proofs.Keyed.{kept}
 use Rattle.contexts.specs.Lending.{stage_in, with_stage}
 use Rattle.contexts.specs.Reached.{Changes, no_changes, vm_in, no_vm, context_in, context_no, put_of, vm_after, contexts_after, changed_by, with_own, with_tick}
 use Rattle.contexts.specs.Stages.{own_at, stage_after, stage_changed, without_buffer, let_go, returned, with_bytes}
+use Rattle.contexts.specs.declared.parts.CallAnswer.{CallAnswer}
 use Rattle.contexts.specs.declared.parts.Context.{Context}
 use Rattle.contexts.specs.declared.parts.Contexts.{Contexts}
 use Rattle.contexts.specs.declared.parts.ExchangeView.{ExchangeView}
@@ -24,6 +25,8 @@ use Rattle.filter_chain.specs.declared.item.PassOutcome.{PassOutcome}
 use Rattle.filter_chain.specs.declared.item.PassOutcome.TheVariants as passed
 use Rattle.filter_chain.specs.declared.stage.Stage.{Stage}
 use Rattle.law_vms.specs.OwnChanges.{ChangesItsOwn, outline, outlines}
+use Rattle.worker_model.specs.Calls as callouts
+use Rattle.worker_model.specs.Rooms.{count_calls}
 
 pub pick : {A : Type 0} (P : A → Type 0) (b : Bool) (x y : A) → P x → P y → P (if b then x else y)
 pick P true x y here there = here
@@ -83,6 +86,15 @@ same_put s vm e h = record {
 pub same_view : (change : ExchangeView → ExchangeView) (place : ℕ) (o : Option ExchangeView) (h : Contexts) → SameIds h (in_view change place o h)
 same_view change place None h = same_itself h
 same_view change place (Some v) h = record { outlined = λ vm. refl; last = λ vm. refl; count = refl; plugins = refl }
+
+-- what a context has of a callout's answer
+pub same_answer : (a : Option CallAnswer) (o : Option Own) (vm e : ℕ) (h : Contexts) → SameIds h (callouts.with_call_answer a o vm e h)
+same_answer a None vm e h = same_itself h
+same_answer a (Some o) vm e h = same_put (record no_changes { own = Some (record o { answer = a }) }) vm e h
+
+-- how many callouts are under way, and the last id drawn
+pub same_calls : (under_way last : ℕ) (h : Contexts) → SameIds h (count_calls under_way last h)
+same_calls under_way last h = record { outlined = λ vm. refl; last = λ vm. refl; count = refl; plugins = refl }
 
 -- ---- what stages hold
 

@@ -291,6 +291,7 @@ sound_rest plan Spared h = record {
     no_line = r.no_line;
     each = λ begun p e at. dies_on vm room p e (r.each begun p e at);
   };
+  under_way = λ calls room r. record { drawn = r.drawn; of_jobs = r.of_jobs; of_waits = r.of_waits; ordered = r.ordered; begun = r.begun; no_line = r.no_line; each = r.each };
 }
   where
     beside_begun : (room : Room) (lines : List Line) → numbers lines ≡ numbers room.lines → (room.is_begun ≡ true) ⊎ ((todo room ≡ []) × (numbers room.lines ≡ []) × (room.waits ≡ []))
@@ -308,6 +309,7 @@ pub sound_apart : (h : Contexts) → IsApart (Filtered h) (SameHub h)
 sound_apart h = record {
   hub = λ hub k same is. same_then h hub.contexts k is same;
   sent = λ hub more none is. is;
+  called = λ hub id wire is. is;
   aside = λ n x y a is. subst (OfFilters h) (sym a.filters) is;
   shut = λ n x y s is. subst (OfFilters h) (sym s.filters) is;
 }
@@ -386,4 +388,6 @@ sound_calm plan Spared = record {
   dies = λ vm death room s. record { contexts = s.contexts; holds = (sound_but_calm plan Spared s.contexts).dies vm death room s.holds };
   hub = λ room h same s. record { contexts = s.contexts; holds = (sound_but_calm plan Spared s.contexts).hub room h same s.holds };
   sent = λ room more none s. record { contexts = s.contexts; holds = (sound_but_calm plan Spared s.contexts).sent room more none s.holds };
+  begins = λ q room s. record { contexts = s.contexts; holds = (sound_but_calm plan Spared s.contexts).begins q room s.holds };
+  under_way = λ calls room s. record { contexts = s.contexts; holds = (sound_but_calm plan Spared s.contexts).under_way calls room s.holds };
 }

@@ -1,8 +1,15 @@
 -- What stays true of a room, step by step.
-use Rattle.std.proofs.Common.{◌≡◌, refl, ℕ, ◌-◌, ◌==◌, Bool, true, false, not, ◌||◌, List, [], ◌∷◌, ◌++◌, sym, subst}
+use Rattle.std.proofs.Common.{◌≡◌, refl, ℕ, ◌-◌, ◌==◌, Bool, true, false, not, ◌||◌, List, [], ◌∷◌, ◌++◌, length, sym, subst}
 use Rattle.std.specs.List.{list_any}
 use Rattle.std.specs.Prelude.{◌&&◌, if◌then◌else◌, Option, None, Some, is_some, slice_get, nat_lt, remove, position}
+use Rattle.callouts.specs.Callouts.{line_of, without, callout_in, after_heard as after_part_heard}
+use Rattle.callouts.specs.Steps.{After, after_event, after_read}
+use Rattle.callouts.specs.declared.types.Callout.{Callout}
+use Rattle.callouts.specs.declared.types.CallStep.{CallStep}
+use Rattle.callouts.specs.declared.types.CallStep.TheVariants as steps
 use Rattle.contexts.specs.Reached.{vm_in, tick_in, no_changes, put, effective_of, Changes as Kept}
+use Rattle.contexts.specs.Stages.{own_at}
+use Rattle.contexts.specs.declared.parts.CallAnswer.{CallAnswer}
 use Rattle.contexts.specs.declared.parts.Contexts.{Contexts}
 use Rattle.contexts.specs.declared.parts.Tick.{Tick}
 use Rattle.exchange.specs.declared.types.Hub.{Hub}
@@ -16,6 +23,8 @@ use Rattle.filter_host.specs.declared.host.Callback.{Callback}
 use Rattle.filter_host.specs.declared.host.Callback.TheVariants as callbacks
 use Rattle.filter_host.specs.declared.host.Death.{Death}
 use Rattle.filter_host.specs.declared.host.Death.TheVariants as deaths
+use Rattle.gate_io.specs.declared.event.Sent.TheVariants.{Close}
+use Rattle.gate_io.specs.declared.event.Side.TheVariants.{Up}
 use Rattle.gate_io.specs.declared.event.What.{What}
 use Rattle.h1_model.specs.Unread.{Reading}
 use Rattle.store_model.specs.Program.{Program, done, ask, measure}
@@ -26,10 +35,12 @@ use Rattle.law_vms.specs.Apart as programs
 use Rattle.law_vms.specs.OwnChanges.{ArePlaced, ChangesItsOwn, CallbacksChangeTheirOwn, PlacesStay}
 use Rattle.vm_host.specs.Slots.{calling}
 use Rattle.vm_host.specs.declared.slots.Vms.{Vms}
+use Rattle.worker_model.specs.Calls.{call_job, with_call_step, take_after, answer_if, put_call_answer, has_listener, close_call}
+use Rattle.worker_model.specs.Calls as callouts
 use Rattle.worker_model.specs.Plan.{Plan}
 use Rattle.worker_model.specs.Room.{Room}
-use Rattle.worker_model.specs.Rooms.{next_of, next_part, moves_or, frees_or, ends_or, begins_or_rests, has_move, is_any, is_over, is_released, is_dead, with_lines, with_contexts, on_number, all_lines, take_callback_end, value_of_end, lose_vm_in}
-use Rattle.worker_model.specs.Steps.{Both, both, Answered, callback_result, Then, continue_with, nothing_more, called_in, called_live, calls_live, is_zero, action_of, with_jobs_first, unless_zero, last_jobs, finish_context, delete_context, apply_stage_action, create_root, create_context, enter_stages, line_in, after_heard, refuse_line, end_line, take_event, end_at, is_late, with_tick, next_tick, is_due_tick, has_vm, tick_of, expire_all, with_agenda_first, take_notice_reply, begin_first_job, release_at, reading_on, reads_in, reads_next, callback_of, number_of, vm_length, plugin_length, may_stream, moved, moved_with, tells, made_with, ticks_with, ask_notice, notice_step, works, works_first, step}
+use Rattle.worker_model.specs.Rooms.{next_of, next_part, moves_or, frees_or, ends_or, begins_or_rests, has_move, is_any, is_over, is_released, is_dead, with_lines, with_contexts, count_calls, with_calls, on_number, all_lines, take_callback_end, value_of_end, lose_vm_in}
+use Rattle.worker_model.specs.Steps.{Both, both, Answered, callback_result, Then, continue_with, nothing_more, called_in, called_live, calls_live, is_zero, action_of, with_jobs_first, unless_zero, last_jobs, finish_context, delete_context, apply_stage_action, create_root, create_context, enter_stages, line_in, after_heard, refuse_line, end_line, take_event, end_at, is_late, with_tick, next_tick, is_due_tick, has_vm, tick_of, expire_all, with_agenda_first, take_notice_reply, begin_first_job, release_at, reading_on, reads_in, reads_next, callback_of, number_of, vm_length, plugin_length, may_stream, moved, moved_with, tells, made_with, ticks_with, ask_notice, notice_step, reads_call, drop_answer, tells_call, ends_call, works_call, works_other, works, works_first, step}
 use Rattle.worker_model.specs.declared.types.Asked.{Asked}
 use Rattle.worker_model.specs.declared.types.ContextAt.{ContextAt}
 use Rattle.worker_model.specs.declared.types.Job.{Job}
@@ -37,11 +48,13 @@ use Rattle.worker_model.specs.declared.types.Job.TheVariants as jobs
 use Rattle.worker_model.specs.declared.types.Line.{Line}
 use Rattle.worker_model.specs.declared.types.NewContext.{NewContext}
 use Rattle.worker_model.specs.declared.types.Next.TheVariants as next
+use Rattle.worker_model.specs.declared.types.OtherStep.{OtherStep}
+use Rattle.worker_model.specs.declared.types.OtherStep.TheVariants as others
 use Rattle.worker_model.specs.declared.types.Owner.{Owner}
 use Rattle.worker_model.specs.declared.types.Owner.TheVariants as owns
 use Rattle.worker_model.specs.declared.types.ReadBatch.{ReadBatch}
 use Rattle.law_filters.proofs.Rooms.{IsCalm, op_acts, op_expires, op_responds, to_called, holding, held_calm, asked_lines, with_asked}
-use Rattle.law_filters.proofs.Same.{pick, same_put, same_then}
+use Rattle.law_filters.proofs.Same.{pick, same_put, same_then, same_answer, same_calls}
 
 -- a job that goes without a trace, once its callback is called
 abbrev pub IsSilent : Job → Type 0
@@ -77,6 +90,8 @@ pub record IsStepped (plan : Plan) (At : Room → Type 0) (Goes : Option Asked �
   pub part : (job : Job) (later : List Job) (room : Room) → room.reading ≡ None → room.jobs ≡ [] → room.agenda ≡ job ∷ later → At room → P room → P (record room { jobs = job ∷ []; agenda = later })
   pub pops : (job : Job) (room : Room) → IsSilent job → At (holding job room) → P (holding job room) → P room
   pub notices : (vm left root queue : ℕ) (room : Room) → At (holding (jobs.Notice vm left) room) → P (holding (jobs.Notice vm left) room) → P (with_jobs_first (jobs.Ready vm root queue ∷ []) (with_agenda_first (jobs.Notice vm (left - 1) ∷ []) room))
+  -- of a callout, this is done next
+  pub calls : (other : OtherStep) (then_ : CallStep) (room : Room) → At (holding (jobs.Other other) room) → P (holding (jobs.Other other) room) → P (holding (call_job then_) room)
   pub root : (vm plugin : ℕ) (first : Bool) (room : Room) → At (holding (jobs.Root vm plugin first) room) → P (holding (jobs.Root vm plugin first) room) → P (create_root vm plugin first room).1
   pub create : (number k : ℕ) (room : Room) → At (holding (jobs.Create number k) room) → P (holding (jobs.Create number k) room) → P (create_context number k room).1
   pub finish : (c : ContextAt) (value : Option (Option ℕ)) (room : Room) → P (holding (jobs.Done c) room) → P (finish_context c value room)
@@ -216,6 +231,51 @@ module _ (logs : WriteLogs calling) (change : CallbacksChangeTheirOwn) (stay : P
     expired : (room : Room) → P room → P (expire_all room)
     expired room s = pick P (list_any (is_late room.hub.moment) room.lines) (with_lines room (all_lines passing.expire_exchange room.lines room.hub)) room (calm.all passing.expire_exchange room op_expires s) s
 
+    -- ---- callouts
+
+    after_fine : (other : OtherStep) (a : After) (room : Room) → At (holding (jobs.Other other) room) → P (holding (jobs.Other other) room) → P (take_after a room)
+    after_fine other a room at is = by_next a.next
+      where
+        by_next : (o : Option CallStep) → P (with_call_step o (record room { calls = a.calls }))
+        by_next None = calm.under_way a.calls room (stepped.pops (jobs.Other other) room tt at is)
+        by_next (Some then_) = calm.under_way a.calls (holding (call_job then_) room) (stepped.calls other then_ room at is)
+
+    closed_call : (id : ℕ) (room : Room) → P room → P (close_call id room)
+    closed_call id room s =
+        let calls : List Callout = without id room.calls in
+        let h : Contexts = count_calls (length calls) room.hub.contexts.calls.last room.hub.contexts in
+        calm.sent (with_calls calls room) (Close (line_of id) Up ∷ []) tt
+        (calm.under_way calls (with_contexts h room) (calm.hub room h (same_calls (length calls) room.hub.contexts.calls.last room.hub.contexts) s))
+
+    answered : (a : Option CallAnswer) (vm e : ℕ) (room : Room) → P room → P (put_call_answer a vm e room)
+    answered a vm e room s =
+        calm.hub room (callouts.with_call_answer a (own_at room.hub.contexts vm e) vm e room.hub.contexts) (same_answer a (own_at room.hub.contexts vm e) vm e room.hub.contexts) s
+
+    told_fine : (a : Option CallAnswer) (c : Callout) (host : Vms) (room : Room) → P room → ArePlaced host → Keeps (tells_call calling a c host room)
+    told_fine a c host room is placed =
+        pick Keeps (has_listener c room) (calls_live calling c.vm callbacks.CallAnswered c.context c.id 0 (drop_answer c.vm c.context) host (put_call_answer a c.vm c.context room)) (ends (both host room))
+        (live_then P P calm c.vm callbacks.CallAnswered c.context c.id 0 (drop_answer c.vm c.context) (λ value r s. answered None c.vm c.context r s) host (put_call_answer a c.vm c.context room)
+        (answered a c.vm c.context room is) placed)
+        (is, placed)
+
+    ended_fine : (is_answered : Bool) (id : ℕ) (o : Option Callout) (host : Vms) (room : Room) → P room → ArePlaced host → Keeps (ends_call calling is_answered id o host room)
+    ended_fine is_answered id None host room is placed = (is, placed)
+    ended_fine is_answered id (Some c) host room is placed = told_fine (answer_if is_answered c) c host (close_call id room) (closed_call id room is) placed
+
+    heard_fine : (other : OtherStep) (id : ℕ) (o : Option Callout) (host : Vms) (room : Room) → At (holding (jobs.Other other) room) → P (holding (jobs.Other other) room) → ArePlaced host → Keeps (reads_call id o host room)
+    heard_fine other id None host room at is placed = (stepped.pops (jobs.Other other) room tt at is, placed)
+    heard_fine other id (Some c) host room at is placed = λ h says. (after_fine other (after_read id (after_part_heard h c) room.calls) room at is, placed)
+
+    call_fine : (now : CallStep) (host : Vms) (room : Room) → At (holding (call_job now) room) → P (holding (call_job now) room) → ArePlaced host → Keeps (works_call calling now host room)
+    call_fine (steps.Comes what) host room at is placed = (after_fine (others.Call (steps.Comes what)) (after_event what room.calls) room at is, placed)
+    call_fine (steps.Read id) host room at is placed = heard_fine (others.Call (steps.Read id)) id (callout_in id room.calls) host room at is placed
+    call_fine (steps.Fail id) host room at is placed = ended_fine false id (callout_in id room.calls) host room (stepped.pops (call_job (steps.Fail id)) room tt at is) placed
+    call_fine (steps.Answer id) host room at is placed = ended_fine true id (callout_in id room.calls) host room (stepped.pops (call_job (steps.Answer id)) room tt at is) placed
+
+    other_fine : (now : OtherStep) (host : Vms) (room : Room) → At (holding (jobs.Other now) room) → P (holding (jobs.Other now) room) → ArePlaced host → Keeps (works_other calling now host room)
+    other_fine (others.Call now) host room at is placed = call_fine now host room at is placed
+    other_fine (others.Tcp now) host room at is placed = (stepped.pops (jobs.Other (others.Tcp now)) room tt at is, placed)
+
     works_fine : (job : Job) (host : Vms) (room : Room) → room.reading ≡ None → At (holding job room) → P (holding job room) → ArePlaced host → Keeps (works calling plan job host room)
     works_fine (jobs.Root vm plugin first) host room quiet at is placed = made_fine host (create_root vm plugin first room) (stepped.root vm plugin first room at is) placed
     works_fine (jobs.Create number k) host room quiet at is placed = made_fine host (create_context number k room) (stepped.create number k room at is) placed
@@ -234,7 +294,7 @@ module _ (logs : WriteLogs calling) (change : CallbacksChangeTheirOwn) (stay : P
     works_fine (jobs.Log c) host room quiet at is placed = tells_fine c.vm callbacks.Log c.context 0 host room (stepped.pops (jobs.Log c) room tt at is) placed
     works_fine (jobs.Delete c) host room quiet at is placed =
         live_then (λ r. P (holding (jobs.Delete c) r)) P (held_calm P calm (jobs.Delete c)) c.vm callbacks.Delete c.context 0 0 (delete_context c) (λ value r s. stepped.delete c value r s) host room is placed
-    works_fine (jobs.Other step) host room quiet at is placed = (stepped.pops (jobs.Other step) room tt at is, placed)
+    works_fine (jobs.Other now) host room quiet at is placed = other_fine now host room at is placed
     works_fine jobs.Expire host room quiet at is placed = (expired room (stepped.pops jobs.Expire room tt at is), placed)
     works_fine (jobs.Happen what) host room quiet at is placed = (stepped.happens what room quiet at is, placed)
     works_fine (jobs.Enter number) host room quiet at is placed = (stepped.enters number room at is, placed)

@@ -3,7 +3,7 @@ use Rattle.std.proofs.Common.{◌≡◌, ◌⊎◌, inl, inr, refl, ℕ, zero, s
 use Rattle.std.proofs.lemmas.Bool.{ltb-true, eqb-true, le-leb}
 use Rattle.std.specs.List.{list_any}
 use Rattle.std.specs.Prelude.{Contains, slice_get, slice_index_or, position, if◌then◌else◌, is_some, Option, None, Some}
-use Rattle.callouts.specs.Callouts.{line_in, is_of_call, callout_at}
+use Rattle.callouts.specs.Callouts.{line_in, is_of_call, callout_at, due_at}
 use Rattle.callouts.specs.declared.types.Callout.{Callout}
 use Rattle.contexts.specs.Creating.{no_plugin, plugin_in}
 use Rattle.contexts.specs.Reached.{vm_in}
@@ -29,7 +29,7 @@ use Rattle.worker_model.specs.Room.{Room}
 use Rattle.worker_model.specs.Rooms.{is_dead, next_of, next_part, moves_or, frees_or, ends_or, begins_or_rests, has_move, is_any, is_over, is_released}
 use Rattle.worker_model.specs.Settling.{is_rest, settling, settling_none, settling_rest, settling_step}
 use Rattle.worker_model.specs.Steps.{Both, both, create_filter, may_stream, step, with_stream}
-use Rattle.worker_model.specs.Turn.{agenda_of, at_moment, deadline_jobs, first_vms, happening, is_due_now, is_of, notice_of, notices_of, registers_at, room_for_event, roots_from, start_jobs, start_of, starts_of, ticks_due, ticks_in, ticks_of, vms_in, with_agenda, without_sent, comes_if, Outcome, outcome_of, most_steps, turn, turn_by}
+use Rattle.worker_model.specs.Turn.{agenda_of, at_moment, deadline_jobs, fail_jobs, calls_due, first_vms, happening, is_due_now, is_of, notice_of, notices_of, registers_at, room_for_event, roots_from, start_jobs, start_of, starts_of, ticks_due, ticks_in, ticks_of, vms_in, with_agenda, without_sent, comes_if, Outcome, outcome_of, most_steps, turn, turn_by}
 use Rattle.worker_model.specs.declared.types.Job.{Job}
 use Rattle.worker_model.specs.declared.types.Job.TheVariants as jobs
 use Rattle.worker_model.specs.declared.types.Next.{Next}
@@ -176,14 +176,19 @@ happening_plain what room = pick ArePlain (is_of_call (line_in what)) (comes_if 
     comes None = tt
     comes (Some c) = (tt, tt)
 
+fails_plain : (ids : List ℕ) → ArePlain (fail_jobs ids)
+fails_plain [] = tt
+fails_plain (id ∷ ids) = (tt, fails_plain ids)
+
 abbrev behind_starts : Plan → What → Room → List Job
-behind_starts plan what room = ticks_due room ++ (deadline_jobs plan ++ (happening what room ++ notices_of plan (vms_in room)))
+behind_starts plan what room = ticks_due room ++ (deadline_jobs plan ++ (calls_due room ++ (happening what room ++ notices_of plan (vms_in room))))
 
 behind_plain : (plan : Plan) (what : What) (room : Room) → ArePlain (behind_starts plan what room)
 behind_plain plan what room =
-    plain_join (ticks_due room) (deadline_jobs plan ++ (happening what room ++ notices_of plan (vms_in room))) (all_ticks room.hub.moment (vms_in room) room.hub.contexts)
-    (plain_join (deadline_jobs plan) (happening what room ++ notices_of plan (vms_in room)) (pick ArePlain (plan.deadline == 0) [] (jobs.Expire ∷ []) tt (tt, tt))
-    (plain_join (happening what room) (notices_of plan (vms_in room)) (happening_plain what room) (notices_plain plan (vms_in room))))
+    plain_join (ticks_due room) (deadline_jobs plan ++ (calls_due room ++ (happening what room ++ notices_of plan (vms_in room)))) (all_ticks room.hub.moment (vms_in room) room.hub.contexts)
+    (plain_join (deadline_jobs plan) (calls_due room ++ (happening what room ++ notices_of plan (vms_in room))) (pick ArePlain (plan.deadline == 0) [] (jobs.Expire ∷ []) tt (tt, tt))
+    (plain_join (calls_due room) (happening what room ++ notices_of plan (vms_in room)) (fails_plain (due_at room.hub.moment room.calls))
+    (plain_join (happening what room) (notices_of plan (vms_in room)) (happening_plain what room) (notices_plain plan (vms_in room)))))
 
 start_jobs_start : (room : Room) → AreStarts (start_jobs room)
 start_jobs_start room = pick AreStarts room.is_begun [] (starts_of (vms_in room) room.hub.contexts.plugins) tt (all_start (vms_in room) room.hub.contexts.plugins)

@@ -29,13 +29,30 @@ use Rattle.law_flow.specs.Rooms.{IsOn, Leaves, IsAsked, asked_exchange, question
 use Rattle.law_body.proofs.Apart.{Holds, Chained, same, next, by_vms, alien_at, continues, pauses_by}
 use Rattle.law_chain.proofs.Asks.{Took, TookFor, Taken, took_head, took_piece, took_trailers, took}
 use Rattle.law_body.proofs.Deeds.{passed_is, puts_is, goes_is}
-use Rattle.law_chain.proofs.Holding.{hold_all, hold_then, hold_other, there_other}
+use Rattle.law_chain.proofs.Holding.{hold_all, hold_then, hold_by_vms, there_by_vms, hold_other, there_other}
 use Rattle.law_flow.proofs.Lines.{with_exchange, on_set, on_number_is, on_context_is, marking_vms, place_set}
 
 -- ---- a room with the same lines
 
 pub stays : (response : Bool) (n : ℕ) (x : Exchange) (room : Room) → IsOn n room x → IsWhole response x room → Leaves response n x room x room
 stays response n x room on whole = record { on = on; chain = refl; holds = hold_all room.hub.contexts (chain_of response x); there = whole }
+
+-- the lines are the same, and what the VMs have among the contexts
+pub alike : (response : Bool) (n : ℕ) (x : Exchange) (room after : Room) → IsOn n room x → IsWhole response x room → after.lines ≡ room.lines → after.hub.contexts.vms ≡ room.hub.contexts.vms
+    → Leaves response n x room x after
+alike response n x room after on whole is vms = record {
+  on = record {
+    place = on.place;
+    line = on.line;
+    stands = ap (place_in n) is ∙ on.stands;
+    at = ap (λ (lines : List Line). slice_get lines on.place) is ∙ on.at;
+    number = on.number;
+    exchange = on.exchange;
+  };
+  chain = refl;
+  holds = hold_by_vms room.hub.contexts after.hub.contexts (chain_of response x) vms;
+  there = there_by_vms room.hub.contexts after.hub.contexts (chain_of response x) vms whole;
+}
 
 leaves_as : (response : Bool) (n : ℕ) (x y : Exchange) (room after other : Room) → after ≡ other → Leaves response n x room y other → Leaves response n x room y after
 leaves_as response n x y room after other is l = subst (λ (q : Room). Leaves response n x room y q) (sym is) l

@@ -2,6 +2,12 @@
 use Rattle.std.proofs.Common.{◌≡◌, ℕ, Bool, true, false, not, ◌||◌, ◌==◌, List, [], ◌∷◌, ◌++◌, ap, ◌∙◌, sym, refl, subst}
 use Rattle.std.proofs.lemmas.List.{append_assoc, append-nil}
 use Rattle.std.specs.Prelude.{Option, None, Some, nat_lt, slice_get}
+use Rattle.callouts.specs.Callouts.{callout_in, after_heard as after_part_heard}
+use Rattle.callouts.specs.Steps.{after_event, after_read}
+use Rattle.callouts.specs.declared.types.Callout.{Callout}
+use Rattle.callouts.specs.declared.types.CallStep.{CallStep}
+use Rattle.callouts.specs.declared.types.CallStep.TheVariants as steps
+use Rattle.contexts.specs.declared.parts.CallAnswer.{CallAnswer}
 use Rattle.filter_host.proofs.Holds.{AllEnds, all_then, all_reached}
 use Rattle.filter_host.specs.Called.{Called, Calling, called_back}
 use Rattle.filter_host.specs.Course.{Course, ends, asks, measures, hears, runs_then}
@@ -19,15 +25,19 @@ use Rattle.worker_model.specs.declared.types.Line.{Line}
 use Rattle.worker_model.specs.declared.types.NewContext.{NewContext}
 use Rattle.worker_model.specs.declared.types.Next.{Next}
 use Rattle.worker_model.specs.declared.types.Next.TheVariants as next
+use Rattle.worker_model.specs.declared.types.OtherStep.{OtherStep}
+use Rattle.worker_model.specs.declared.types.OtherStep.TheVariants as others
 use Rattle.worker_model.specs.declared.types.Owner.{Owner}
 use Rattle.worker_model.specs.declared.types.Owner.TheVariants as owns
 use Rattle.worker_model.specs.declared.types.ReadBatch.{ReadBatch}
+use Rattle.worker_model.specs.Calls.{answer_if, put_call_answer, has_listener, close_call}
 use Rattle.worker_model.specs.Moves.{asks_at}
 use Rattle.worker_model.specs.Plan.{Plan}
 use Rattle.worker_model.specs.Rooms.{is_dead, next_of, with_lines, with_contexts, room_with_sent, without_effects, lose_vm_in, take_callback_end, value_of_end}
-use Rattle.worker_model.specs.Steps.{Both, both, Answered, callback_result, Then, continue_with, called_in, called_live, calls_live, apply_stage_action, moved, moved_with, tells, made_with, ticks_with, tells_ready, notice_step, works, works_first, reads_in, reads_next, reading_on, nothing_more, unless_zero, finish_context, delete_context, create_root, create_context, tick_root, may_stream, callback_of, number_of, vm_length, plugin_length, step, is_zero, is_drawn_out, may_root}
+use Rattle.worker_model.specs.Steps.{Both, both, Answered, callback_result, Then, continue_with, called_in, called_live, calls_live, apply_stage_action, moved, moved_with, tells, made_with, ticks_with, tells_ready, reads_call, drop_answer, tells_call, ends_call, works_call, works_other, notice_step, works, works_first, reads_in, reads_next, reading_on, nothing_more, unless_zero, finish_context, delete_context, create_root, create_context, tick_root, may_stream, callback_of, number_of, vm_length, plugin_length, step, is_zero, is_drawn_out, may_root}
 use Rattle.worker_model.specs.Turn.{without_sent, room_for_event}
 use Rattle.law_body.proofs.Spent.{of_if, not_both}
+use Rattle.law_flow.proofs.Callouts.{after_kept, close_kept, answer_kept}
 use Rattle.law_flow.proofs.DeadRooms.{AllGood, RoomGood, Kept, kept_then, here_kept, answered_kept, zero_kept, done_kept, deletes_kept, acts_kept, rooting_kept, creating_kept, ticked_kept, noticed_kept, quietly_kept, begins_kept, frees_kept, ends_kept, heard_kept, AsksSo, asks_so, died_dead}
 use Rattle.law_flow.specs.Dead.{Watched, watching, noted_by, watch_callbacks, Runs, no_step, one_step, next_turn, NoneIs, CalledOthers, TheDeadAreCalledNoMore, VmsDie, UncalledExample, begins, started, passed_by}
 
@@ -139,13 +149,42 @@ module _ {H : Type 0} (calling : Calling H) (plan : Plan) where
       of_if (λ (c : Course (Both (Watched H))). Does host room c) ((left == 0 || is_dead vm room) || not (nat_lt vm plan.vms)) _ _ (λ is. quiet host room room (here_kept room good))
       (λ is. λ reply. quiet host room _ (noticed_kept vm left reply room good))
 
+  reads_call_so : (id : ℕ) (o : Option Callout) (host : Watched H) (room : Room) → RoomGood room → Does host room (reads_call id o host room)
+  reads_call_so id None host room good = quiet host room room (here_kept room good)
+  reads_call_so id (Some c) host room good = λ h heard. quiet host room _ (after_kept (after_read id (after_part_heard h c) room.calls) room good)
+
+  tells_call_so : (a : Option CallAnswer) (c : Callout) (host : Watched H) (room : Room) → RoomGood room → Does host room (tells_call (watch_callbacks calling) a c host room)
+  tells_call_so a c host room good =
+      let mid : Room = put_call_answer a c.vm c.context room in
+      let told : Course (Both (Watched H)) = calls_live (watch_callbacks calling) c.vm callbacks.CallAnswered c.context c.id 0 (drop_answer c.vm c.context) host mid in
+      of_if (λ (k : Course (Both (Watched H))). Does host room k) (has_listener c room) told (ends (both host room))
+      (λ is. after_change host room mid told (answer_kept a c.vm c.context room good)
+      (live_so c.vm callbacks.CallAnswered c.context c.id 0 (drop_answer c.vm c.context) host mid good (λ value r here. answer_kept None c.vm c.context r here)))
+      (λ is. quiet host room room (here_kept room good))
+
+  ends_call_so : (is_answered : Bool) (id : ℕ) (o : Option Callout) (host : Watched H) (room : Room) → RoomGood room → Does host room (ends_call (watch_callbacks calling) is_answered id o host room)
+  ends_call_so is_answered id None host room good = quiet host room room (here_kept room good)
+  ends_call_so is_answered id (Some c) host room good =
+      after_change host room (close_call id room) (tells_call (watch_callbacks calling) (answer_if is_answered c) c host (close_call id room)) (close_kept id room good)
+      (tells_call_so (answer_if is_answered c) c host (close_call id room) good)
+
+  works_call_so : (step : CallStep) (host : Watched H) (room : Room) → RoomGood room → Does host room (works_call (watch_callbacks calling) step host room)
+  works_call_so (steps.Comes what) host room good = quiet host room _ (after_kept (after_event what room.calls) room good)
+  works_call_so (steps.Read id) host room good = reads_call_so id (callout_in id room.calls) host room good
+  works_call_so (steps.Fail id) host room good = ends_call_so false id (callout_in id room.calls) host room good
+  works_call_so (steps.Answer id) host room good = ends_call_so true id (callout_in id room.calls) host room good
+
+  works_other_so : (step : OtherStep) (host : Watched H) (room : Room) → RoomGood room → Does host room (works_other (watch_callbacks calling) step host room)
+  works_other_so (others.Call step) host room good = works_call_so step host room good
+  works_other_so (others.Tcp step) host room good = quiet host room room (here_kept room good)
+
   works_so : (job : Job) (host : Watched H) (room : Room) → RoomGood room → Does host room (works (watch_callbacks calling) plan job host room)
   works_so (jobs.Root vm plugin first) host room good = made_so host room (create_root vm plugin first room) (rooting_kept vm plugin first room good)
   works_so (jobs.Create number k) host room good = made_so host room (create_context number k room) (creating_kept number k room good)
   works_so (jobs.Tick vm root) host room good = ticks_so vm root host room (tick_root vm root room) (ticked_kept vm root room good)
   works_so (jobs.Notice vm left) host room good = notices_so vm left host room good
   works_so (jobs.Ready vm root queue) host room good = ready_so vm root queue host room good
-  works_so (jobs.Other step) host room good = quiet host room room (here_kept room good)
+  works_so (jobs.Other step) host room good = works_other_so step host room good
   works_so (jobs.Begin vm) host room good = tells_so vm callbacks.Begin 0 0 host room good
   works_so (jobs.Start vm root) host room good =
       live_so vm callbacks.VmStart root (vm_length vm room.hub.contexts) 0 (unless_zero vm deaths.Start) host room good (λ value r here. zero_kept vm deaths.Start value r here)

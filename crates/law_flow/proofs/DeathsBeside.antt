@@ -1,6 +1,11 @@
 -- Why steps whose callback died leave a direction as it was, where the exchange has no stage of its VM.
 use Rattle.std.proofs.Common.{◌≡◌, ℕ, Bool, true, false, not, ◌||◌, ◌==◌, List, [], ◌∷◌, ap, ◌∙◌, sym, refl, subst, eq-eqb}
 use Rattle.std.specs.Prelude.{Option, None, Some, slice_get, if◌then◌else◌}
+use Rattle.callouts.specs.Callouts.{callout_in}
+use Rattle.callouts.specs.declared.types.Callout.{Callout}
+use Rattle.callouts.specs.declared.types.CallStep.{CallStep}
+use Rattle.callouts.specs.declared.types.CallStep.TheVariants as steps
+use Rattle.contexts.specs.declared.parts.CallAnswer.{CallAnswer}
 use Rattle.contexts.specs.Creating.{plugin_in}
 use Rattle.filter_host.specs.Called.{Called, Calling}
 use Rattle.filter_host.specs.Course.{Course, ends, runs_then, then_do, Met, Reaches}
@@ -22,20 +27,24 @@ use Rattle.worker_model.specs.declared.types.Job.TheVariants as jobs
 use Rattle.worker_model.specs.declared.types.Line.{Line}
 use Rattle.worker_model.specs.declared.types.NewContext.{NewContext}
 use Rattle.worker_model.specs.declared.types.Next.TheVariants as next
+use Rattle.worker_model.specs.declared.types.OtherStep.{OtherStep}
+use Rattle.worker_model.specs.declared.types.OtherStep.TheVariants as others
 use Rattle.worker_model.specs.declared.types.Owner.TheVariants as owns
+use Rattle.worker_model.specs.Calls.{answer_if, put_call_answer, has_listener, close_call}
 use Rattle.worker_model.specs.Moves.{asks_at}
 use Rattle.worker_model.specs.Plan.{Plan}
 use Rattle.worker_model.specs.Rooms.{place_in, take_callback_end, lose_vm_in, is_dead, value_of_end, with_lines}
-use Rattle.worker_model.specs.Steps.{Answered, Both, Then, callback_result, both, called_in, calls_live, create_context, create_filter, delete_context, finish_context, filter_at, continue_with, with_jobs_first, is_drawn_out, last_jobs, made_with, may_root, may_stream, nothing_more, plugin_length, create_root, step, create_stream, tells, tick_root, ticks_with, unless_zero, vm_length, with_stream, works}
+use Rattle.worker_model.specs.Steps.{Answered, Both, Then, callback_result, both, called_in, calls_live, create_context, create_filter, delete_context, finish_context, filter_at, continue_with, with_jobs_first, is_drawn_out, last_jobs, made_with, may_root, may_stream, nothing_more, plugin_length, create_root, step, create_stream, tells, drop_answer, tells_call, ends_call, works_call, works_other, tick_root, ticks_with, unless_zero, vm_length, with_stream, works}
 use Rattle.law_chain.specs.Acts.{HoldSame, AreThere, NotOf}
 use Rattle.law_flow.specs.Besides.{OthersAreAlien, IsWhole}
 use Rattle.law_flow.specs.Deaths.{NoneOf}
-use Rattle.law_flow.specs.Dying.{Callee, callee, live_callee, made_callee, ticked_callee, job_callee, program_of}
+use Rattle.law_flow.specs.Dying.{Callee, callee, live_callee, made_callee, ticked_callee, told_callee, ended_callee, call_callee, other_callee, job_callee, program_of}
 use Rattle.law_flow.specs.Elsewhere.{asked_program}
 use Rattle.law_flow.specs.Rooms.{IsOn, Leaves, leaves, quiet_room, Meanwhile, nothing, other}
 use Rattle.law_flow.specs.Stepping.{DiesBeside}
 use Rattle.law_body.proofs.Spent.{of_if, not_both}
 use Rattle.law_flow.proofs.Besides.{stays}
+use Rattle.law_flow.proofs.Callouts.{closes_call, puts_answer}
 use Rattle.law_flow.proofs.Contexts.{contexts_leave}
 use Rattle.law_flow.proofs.Deaths.{all_lines_leave}
 use Rattle.law_flow.proofs.Effects.{quietly, asking_elsewhere}
@@ -218,6 +227,47 @@ module _ {H : Type 0} (calling : Calling H) (plan : Plan) (response : Bool) (n c
   ticked_died x host room vm root (true, mid) b ms q l is may reaches = behind_leaving l (tells_died x host mid vm callbacks.Tick root 0 b ms q l.on is may reaches)
   ticked_died x host room vm root (false, mid) b ms q l is may reaches = absurd (none_some q is)
 
+  -- ---- the end of a callout
+
+  told_died : (x : Exchange) (host : H) (room : Room) (a : Option CallAnswer) (c : Callout) (b : Both H) (ms : List Met) (q : Callee) → IsOn n room x → IsWhole response x room
+      → told_callee a c room ≡ Some q
+      → ((d : Called H) (y : Exchange) → Reaches (runs_then (program_of calling host q) ends) ms (ends d) → IsOn n q.room y → DiesBeside response n q.vm d y q.room)
+      → Reaches (tells_call calling a c host room) ms (ends b) → Comes response n count x room b.room
+  told_died x host room a c b ms q on whole is may reaches = by_listener (has_listener c room) is reaches
+    where
+      by_listener : (there : Bool) → (if there then live_callee c.vm callbacks.CallAnswered c.context c.id 0 (put_call_answer a c.vm c.context room) else None) ≡ Some q
+          → Reaches (if there then calls_live calling c.vm callbacks.CallAnswered c.context c.id 0 (drop_answer c.vm c.context) host (put_call_answer a c.vm c.context room) else ends (both host room)) ms (ends b)
+          → Comes response n count x room b.room
+      by_listener true some r =
+          let l : Leaves response n x room x (put_call_answer a c.vm c.context room) = puts_answer a c.vm c.context response n x room on whole in
+          behind_leaving l
+          (live_died x host (put_call_answer a c.vm c.context room) c.vm callbacks.CallAnswered c.context c.id 0 (drop_answer c.vm c.context) b ms q l.on some may
+          (λ free after there full. puts_answer None c.vm c.context response n x after there full) r)
+      by_listener false none r = absurd (none_some q none)
+
+  ended_died : (x : Exchange) (host : H) (room : Room) (is_answered : Bool) (id : ℕ) (o : Option Callout) (b : Both H) (ms : List Met) (q : Callee) → IsOn n room x → IsWhole response x room
+      → ended_callee is_answered id o room ≡ Some q
+      → ((d : Called H) (y : Exchange) → Reaches (runs_then (program_of calling host q) ends) ms (ends d) → IsOn n q.room y → DiesBeside response n q.vm d y q.room)
+      → Reaches (ends_call calling is_answered id o host room) ms (ends b) → Comes response n count x room b.room
+  ended_died x host room is_answered id None b ms q on whole is may reaches = absurd (none_some q is)
+  ended_died x host room is_answered id (Some c) b ms q on whole is may reaches =
+      let l : Leaves response n x room x (close_call id room) = closes_call id response n x room on whole in
+      behind_leaving l (told_died x host (close_call id room) (answer_if is_answered c) c b ms q l.on l.there is may reaches)
+
+  call_died : (x : Exchange) (host : H) (room : Room) (step_ : CallStep) (b : Both H) (ms : List Met) (q : Callee) → IsOn n room x → IsWhole response x room → call_callee step_ room ≡ Some q
+      → ((d : Called H) (y : Exchange) → Reaches (runs_then (program_of calling host q) ends) ms (ends d) → IsOn n q.room y → DiesBeside response n q.vm d y q.room)
+      → Reaches (works_call calling step_ host room) ms (ends b) → Comes response n count x room b.room
+  call_died x host room (steps.Comes what) b ms q on whole is may reaches = absurd (none_some q is)
+  call_died x host room (steps.Read id) b ms q on whole is may reaches = absurd (none_some q is)
+  call_died x host room (steps.Fail id) b ms q on whole is may reaches = ended_died x host room false id (callout_in id room.calls) b ms q on whole is may reaches
+  call_died x host room (steps.Answer id) b ms q on whole is may reaches = ended_died x host room true id (callout_in id room.calls) b ms q on whole is may reaches
+
+  other_died : (x : Exchange) (host : H) (room : Room) (step_ : OtherStep) (b : Both H) (ms : List Met) (q : Callee) → IsOn n room x → IsWhole response x room → other_callee step_ room ≡ Some q
+      → ((d : Called H) (y : Exchange) → Reaches (runs_then (program_of calling host q) ends) ms (ends d) → IsOn n q.room y → DiesBeside response n q.vm d y q.room)
+      → Reaches (works_other calling step_ host room) ms (ends b) → Comes response n count x room b.room
+  other_died x host room (others.Call step_) b ms q on whole is may reaches = call_died x host room step_ b ms q on whole is may reaches
+  other_died x host room (others.Tcp step_) b ms q on whole is may reaches = absurd (none_some q is)
+
   -- ---- the job in hand
 
   pub job_died : (x : Exchange) (host : H) (room : Room) (job : Job) (q : Callee) (b : Both H) (ms : List Met) → IsOn n room x → IsWhole response x room → job_callee job room ≡ Some q
@@ -250,7 +300,7 @@ module _ {H : Type 0} (calling : Calling H) (plan : Plan) (response : Bool) (n c
           → Reaches (if m then tells calling vm callbacks.QueueReady root queue host room else ends (both host room)) ms (ends b) → Comes response n count x room b.room
       by_may true some r = tells_died x host room vm callbacks.QueueReady root queue b ms q on some may r
       by_may false none r = absurd (none_some q none)
-  job_died x host room (jobs.Other step) q b ms on whole is may reaches = absurd (none_some q is)
+  job_died x host room (jobs.Other step_) q b ms on whole is may reaches = other_died x host room step_ b ms q on whole is may reaches
   job_died x host room jobs.Expire q b ms on whole is may reaches = absurd (none_some q is)
   job_died x host room (jobs.Happen w) q b ms on whole is may reaches = absurd (none_some q is)
   job_died x host room (jobs.Enter number) q b ms on whole is may reaches = absurd (none_some q is)

@@ -2,6 +2,12 @@
 use Rattle.std.proofs.Common.{◌≡◌, ◌⊎◌, inl, inr, ℕ, Bool, true, false, not, ◌||◌, ◌==◌, List, [], ◌∷◌, ◌++◌, ap, ◌∙◌, sym, refl, subst, eqb-true}
 use Rattle.std.specs.List.{list_any}
 use Rattle.std.specs.Prelude.{Option, None, Some, nat_lt, slice_get, if◌then◌else◌}
+use Rattle.callouts.specs.Callouts.{callout_in, after_heard as after_part_heard}
+use Rattle.callouts.specs.Steps.{after_event, after_read}
+use Rattle.callouts.specs.declared.types.Callout.{Callout}
+use Rattle.callouts.specs.declared.types.CallStep.{CallStep}
+use Rattle.callouts.specs.declared.types.CallStep.TheVariants as steps
+use Rattle.contexts.specs.declared.parts.CallAnswer.{CallAnswer}
 use Rattle.contexts.specs.Creating.{next_id, plugin_in, root_created}
 use Rattle.filter_host.proofs.Holds.{AllEnds, all_reached}
 use Rattle.filter_host.proofs.Once.{once}
@@ -24,21 +30,25 @@ use Rattle.worker_model.specs.declared.types.Line.{Line}
 use Rattle.worker_model.specs.declared.types.NewContext.{NewContext}
 use Rattle.worker_model.specs.declared.types.Next.{Next}
 use Rattle.worker_model.specs.declared.types.Next.TheVariants as next
+use Rattle.worker_model.specs.declared.types.OtherStep.{OtherStep}
+use Rattle.worker_model.specs.declared.types.OtherStep.TheVariants as others
 use Rattle.worker_model.specs.declared.types.Owner.{Owner}
 use Rattle.worker_model.specs.declared.types.Owner.TheVariants as owns
 use Rattle.worker_model.specs.declared.types.ReadBatch.{ReadBatch}
+use Rattle.worker_model.specs.Calls.{take_call_event, answer_if, put_call_answer, has_listener, close_call}
 use Rattle.worker_model.specs.Moves.{asks_at}
 use Rattle.worker_model.specs.Plan.{Plan}
 use Rattle.worker_model.specs.Rooms.{take_callback_end, lose_vm_in, is_dead, next_of, room_with_sent, value_of_end, with_contexts, with_lines, without_effects}
-use Rattle.worker_model.specs.Steps.{Answered, Both, Then, apply_stage_action, callback_result, both, called_in, callback_of, calls_live, create_context, create_filter, delete_context, finish_context, filter_at, continue_with, with_jobs_first, is_drawn_out, is_zero, made_with, may_root, may_stream, moved_with, nothing_more, notice_step, number_of, plugin_length, reading_on, reads_in, reads_next, root_jobs, create_root, step, create_stream, tells, tells_ready, tick_root, ticks_with, unless_zero, vm_length, with_stream, works, works_first}
+use Rattle.worker_model.specs.Steps.{Answered, Both, Then, apply_stage_action, callback_result, both, called_in, callback_of, calls_live, create_context, create_filter, delete_context, finish_context, filter_at, continue_with, with_jobs_first, is_drawn_out, is_zero, made_with, may_root, may_stream, moved_with, nothing_more, notice_step, number_of, plugin_length, reading_on, reads_in, reads_next, root_jobs, create_root, step, create_stream, tells, tells_ready, reads_call, drop_answer, tells_call, ends_call, works_call, works_other, tick_root, ticks_with, unless_zero, vm_length, with_stream, works, works_first}
 use Rattle.worker_model.specs.Turn.{without_sent, room_for_event}
 use Rattle.law_body.proofs.Spent.{of_if, not_both}
+use Rattle.law_flow.proofs.Callouts.{after_same}
 use Rattle.law_flow.proofs.DeadLives.{vms_die}
 use Rattle.law_flow.proofs.DeadRooms.{died_dead}
 use Rattle.law_flow.proofs.DyingRooms.{Same, effects_same, done_same, deletes_same, ticked_same, noticed_same, quietly_same, begins_same, frees_same, ends_same, heard_same}
 use Rattle.law_flow.proofs.Moving.{then_runs, Ran, ran}
 use Rattle.law_flow.specs.Dead.{Runs, no_step, one_step, next_turn, begins}
-use Rattle.law_flow.specs.Dying.{Callee, callee, live_callee, made_callee, ticked_callee, ready_callee, job_callee, first_callee, asked_callee, step_callee, program_of, CallsBack, nothing, callback, CallbackEnds, Kills, by_callback, by_start, by_configuration, by_root, by_filter, DeadBehind, none_died, one_died, DeathsHaveCauses, KilledIn, by_this, by_later, in_turn, DeathsAreKillings, DyingExample}
+use Rattle.law_flow.specs.Dying.{Callee, callee, live_callee, made_callee, ticked_callee, ready_callee, told_callee, ended_callee, call_callee, other_callee, job_callee, first_callee, asked_callee, step_callee, program_of, CallsBack, nothing, callback, CallbackEnds, Kills, by_callback, by_start, by_configuration, by_root, by_filter, DeadBehind, none_died, one_died, DeathsHaveCauses, KilledIn, by_this, by_later, in_turn, DeathsAreKillings, DyingExample}
 
 -- ---- lists of the dead
 
@@ -249,6 +259,42 @@ module _ {H : Type 0} (calling : Calling H) where
       by_reading None reached = all_reached (AsBefore host room) ms (reads_in plan r None host room) m (refl, refl) reached
       by_reading (Some reading) reached = all_reached (AsBefore host room) ms (reads_in plan r (Some reading) host room) m (λ h hears_. (refl, heard_same plan r h room)) reached
 
+  -- ---- callouts
+
+  told_goes : (a : Option CallAnswer) (c : Callout) (host : H) (room : Room) (ms : List Met) (m : Both H) → Reaches (tells_call calling a c host room) ms (ends m)
+      → Goes No Never calling (told_callee a c room) host room.dead ms m
+  told_goes a c host room ms m reaches = by_listener (has_listener c room) reaches
+    where
+      by_listener : (there : Bool)
+          → Reaches (if there then calls_live calling c.vm callbacks.CallAnswered c.context c.id 0 (drop_answer c.vm c.context) host (put_call_answer a c.vm c.context room) else ends (both host room)) ms (ends m)
+          → Goes No Never calling (if there then live_callee c.vm callbacks.CallAnswered c.context c.id 0 (put_call_answer a c.vm c.context room) else None) host room.dead ms m
+      by_listener true r =
+          live_goes No Never c.vm callbacks.CallAnswered c.context c.id 0 (drop_answer c.vm c.context) host (put_call_answer a c.vm c.context room) ms m
+          (same_behind c.vm (drop_answer c.vm c.context) (λ value q. refl)) r
+      by_listener false r = silent_goes No Never host room room ms m refl r
+
+  ended_goes : (is_answered : Bool) (id : ℕ) (o : Option Callout) (host : H) (room : Room) (ms : List Met) (m : Both H) → Reaches (ends_call calling is_answered id o host room) ms (ends m)
+      → Goes No Never calling (ended_callee is_answered id o room) host room.dead ms m
+  ended_goes is_answered id None host room ms m reaches = silent_goes No Never host room room ms m refl reaches
+  ended_goes is_answered id (Some c) host room ms m reaches = told_goes (answer_if is_answered c) c host (close_call id room) ms m reaches
+
+  heard_goes : (id : ℕ) (o : Option Callout) (host : H) (room : Room) (ms : List Met) (m : Both H) → Reaches (reads_call id o host room) ms (ends m) → AsBefore host room m
+  heard_goes id None host room ms m reaches = all_reached (AsBefore host room) ms (reads_call id None host room) m (refl, refl) reaches
+  heard_goes id (Some c) host room ms m reaches =
+      all_reached (AsBefore host room) ms (reads_call id (Some c) host room) m (λ h hears_. (refl, after_same (after_read id (after_part_heard h c) room.calls) room)) reaches
+
+  call_goes : (step_ : CallStep) (host : H) (room : Room) (ms : List Met) (m : Both H) → Reaches (works_call calling step_ host room) ms (ends m)
+      → Goes No Never calling (call_callee step_ room) host room.dead ms m
+  call_goes (steps.Comes what) host room ms m reaches = silent_goes No Never host room (take_call_event what room) ms m (after_same (after_event what room.calls) room) reaches
+  call_goes (steps.Read id) host room ms m reaches = let so : AsBefore host room m = heard_goes id (callout_in id room.calls) host room ms m reaches in silent refl so.0 so.1
+  call_goes (steps.Fail id) host room ms m reaches = ended_goes false id (callout_in id room.calls) host room ms m reaches
+  call_goes (steps.Answer id) host room ms m reaches = ended_goes true id (callout_in id room.calls) host room ms m reaches
+
+  other_goes : (step_ : OtherStep) (host : H) (room : Room) (ms : List Met) (m : Both H) → Reaches (works_other calling step_ host room) ms (ends m)
+      → Goes No Never calling (other_callee step_ room) host room.dead ms m
+  other_goes (others.Call step_) host room ms m reaches = call_goes step_ host room ms m reaches
+  other_goes (others.Tcp step_) host room ms m reaches = silent_goes No Never host room room ms m refl reaches
+
   -- ---- the cause
 
   module _ (nx : Next) (b : Both H) (ms : List Met) (m : Both H) where
@@ -336,7 +382,7 @@ module _ {H : Type 0} (calling : Calling H) where
       by_job (jobs.Notice vm left) here r =
           let so : AsBefore b.host room m = notice_goes plan vm left b.host room ms m r in plain (jobs.Notice vm left) here (silent refl so.0 so.1)
       by_job (jobs.Ready vm root queue) here r = plain (jobs.Ready vm root queue) here (ready_goes vm root queue b.host room ms m r)
-      by_job (jobs.Other step) here r = quiet (jobs.Other step) here refl _ (quietly_same (jobs.Other step) room) r
+      by_job (jobs.Other step_) here r = plain (jobs.Other step_) here (other_goes step_ b.host room ms m r)
       by_job (jobs.Begin vm) here r = plain (jobs.Begin vm) here (tells_goes No vm callbacks.Begin 0 0 b.host room ms m r)
       by_job (jobs.Start vm root) here r =
           conv No (Zero vm) (jobs.Start vm root) here (λ v why. absurd why)

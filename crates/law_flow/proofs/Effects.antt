@@ -29,13 +29,14 @@ use Rattle.worker_model.specs.declared.types.Line.{Line}
 use Rattle.worker_model.specs.declared.types.Owner.{Owner}
 use Rattle.worker_model.specs.Changes.{apply_change}
 use Rattle.worker_model.specs.Moves.{asks_chain, asks_response, asks_exchange, asks_in, asks_back, asks_at}
-use Rattle.worker_model.specs.Rooms.{place_of, with_lines, on_context, apply_effect, effects_of, is_own, with_marks}
+use Rattle.worker_model.specs.Rooms.{place_of, with_lines, on_context, begin_call, apply_effect, effects_of, is_own, with_marks}
 use Rattle.law_chain.specs.Acts.{HoldSame, AreThere}
 use Rattle.law_body.specs.Apart.{AreAliens, IsAlien, PassesBy}
 use Rattle.law_flow.specs.Effects.{MayResume, IsMild, MildEffectsAreOthers, CallbacksAreRuns, AskingElsewhereLeaves}
 use Rattle.law_flow.specs.Rooms.{IsOn, Leaves, Other, wakes, leaves, Others, quiet_room, Meanwhile, nothing, other}
 use Rattle.law_body.proofs.Apart.{Holds, same, by_vms, alien_at, alien_set, alien_with, alien_chain, passed_on_by, and_then, held_by, exchanges_pass_by}
 use Rattle.law_flow.proofs.Besides.{stays, on_other, other_lines, other_direction}
+use Rattle.law_flow.proofs.Callouts.{begins_call}
 use Rattle.law_chain.proofs.Holding.{hold_all, hold_then, hold_by_vms, there_by_vms, hold_other, there_other}
 use Rattle.law_flow.proofs.Lines.{marking_vms}
 use Rattle.law_flow.proofs.Rooms.{other_on}
@@ -95,7 +96,7 @@ effect_seen response n count due vm own context what.Close x room m =
     (λ (away : place_of vm context room.lines ≡ Some m.on.place → ⊥).
     aside response n count due x room (on_context close_exchange vm context room) (other_lines.by_context close_exchange exchanges_pass_by.closing response n vm context x room m.on m.alien m.whole away))
     (here_or_not (place_of vm context room.lines) m.on.place)
-effect_seen response n count due vm own context (what.Call request) x room m = aside response n count due x room room (stays response n x room m.on m.whole)
+effect_seen response n count due vm own context (what.Call request) x room m = aside response n count due x room (begin_call request room) (begins_call request response n x room m.on m.whole)
 effect_seen response n count due vm own context (what.Answer status fields body) x room m =
     ⊎_elim
     (λ (here : place_of vm context room.lines ≡ Some m.on.place). absurd (m.may here))

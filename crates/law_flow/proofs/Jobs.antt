@@ -20,7 +20,7 @@ use Rattle.worker_model.specs.Room.{Room}
 use Rattle.worker_model.specs.declared.types.Line.{Line}
 use Rattle.worker_model.specs.declared.types.Owner.TheVariants as owns
 use Rattle.worker_model.specs.Moves.{ended_in, ended_back, ended_at}
-use Rattle.worker_model.specs.Rooms.{place_in, with_contexts, is_dead, take_callback_end, value_of_end}
+use Rattle.worker_model.specs.Rooms.{with_contexts, is_dead, take_callback_end, value_of_end}
 use Rattle.worker_model.specs.Steps.{Both, both, Answered, callback_result, continue_with, nothing_more, called_in, take_notice_reply, end_with, end_at, is_due_tick, next_tick, has_vm, with_tick, tick_of}
 use Rattle.worker_model.specs.Turn.{without_sent, room_for_event}
 use Rattle.law_flow.specs.Besides.{OthersAreAlien, IsWhole}
@@ -31,31 +31,14 @@ use Rattle.law_chain.specs.Acts.{HoldSame}
 use Rattle.law_body.specs.Deaths.{HoldNothing, AreDropped}
 use Rattle.law_body.proofs.Deaths.{dropping_drops}
 use Rattle.law_body.proofs.Apart.{Holds, next, by_vms, drops}
-use Rattle.law_flow.proofs.Besides.{stays, on_other}
+use Rattle.law_flow.proofs.Besides.{stays, alike, on_other}
 use Rattle.law_flow.proofs.Elsewhere.{Beside, beside}
-use Rattle.law_chain.proofs.Holding.{hold_all, hold_then, hold_by_vms, there_by_vms, hold_kept, there_kept, kept_many}
+use Rattle.law_chain.proofs.Holding.{hold_all, hold_then, hold_by_vms, hold_kept, there_kept, kept_many}
 use Rattle.law_flow.proofs.Moving.{then_runs, Ran, ran}
 
 by_bool : {A : Type 0} (P : A → Type 0) (b : Bool) (a c : A) → (b ≡ true → P a) → (b ≡ false → P c) → P (if b then a else c)
 by_bool P true a c here there = here refl
 by_bool P false a c here there = there refl
-
--- the lines are the same, and what the VMs have among the contexts
-alike : (response : Bool) (n : ℕ) (x : Exchange) (room after : Room) → IsOn n room x → IsWhole response x room → after.lines ≡ room.lines → after.hub.contexts.vms ≡ room.hub.contexts.vms
-    → Leaves response n x room x after
-alike response n x room after on whole is vms = record {
-  on = record {
-    place = on.place;
-    line = on.line;
-    stands = ap (place_in n) is ∙ on.stands;
-    at = ap (λ (lines : List Line). slice_get lines on.place) is ∙ on.at;
-    number = on.number;
-    exchange = on.exchange;
-  };
-  chain = refl;
-  holds = hold_by_vms room.hub.contexts after.hub.contexts (chain_of response x) vms;
-  there = there_by_vms room.hub.contexts after.hub.contexts (chain_of response x) vms whole;
-}
 
 -- ---- notices
 

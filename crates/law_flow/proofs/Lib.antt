@@ -3,6 +3,7 @@ pub mod Lines
 pub mod Rooms
 pub mod Moving
 pub mod Besides
+pub mod Callouts
 pub mod Effects
 pub mod Readings
 pub mod Elsewhere

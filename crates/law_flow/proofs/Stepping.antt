@@ -1,5 +1,10 @@
 -- Why steps that are none of a direction resume stages of it, or leave it as it was.
 use Rattle.std.proofs.Common.{◌≡◌, ℕ, Bool, true, false, not, ◌||◌, ◌==◌, List, [], ◌∷◌, ap, ◌∙◌, sym, refl, subst}
+use Rattle.callouts.specs.Callouts.{callout_in, after_heard as after_part_heard}
+use Rattle.callouts.specs.Steps.{after_event, after_read}
+use Rattle.callouts.specs.declared.types.Callout.{Callout}
+use Rattle.contexts.specs.declared.parts.CallAnswer.{CallAnswer}
+use Rattle.filter_host.proofs.Holds.{all_reached}
 use Rattle.filter_host.specs.Called.{Calling}
 use Rattle.std.specs.Prelude.{Option, None, Some, slice_get, nat_lt, if◌then◌else◌}
 use Rattle.filter_host.specs.Course.{Course, ends, Met, called, measured, heard, Reaches}
@@ -16,17 +21,19 @@ use Rattle.worker_model.specs.declared.types.Job.TheVariants as jobs
 use Rattle.worker_model.specs.declared.types.NewContext.{NewContext}
 use Rattle.worker_model.specs.declared.types.Next.{Next}
 use Rattle.worker_model.specs.declared.types.Owner.TheVariants as owns
+use Rattle.worker_model.specs.Calls.{take_call_event, answer_if, put_call_answer, has_listener, close_call}
 use Rattle.worker_model.specs.Plan.{Plan}
 use Rattle.worker_model.specs.Rooms.{place_in, on_number, lose_vm_in, is_dead}
-use Rattle.worker_model.specs.Steps.{Both, both, starts, finishes, forgets, end_at, begin_first_job, release as free_one, is_zero, with_jobs_first, unless_zero, last_jobs, await_done, finish_context, delete_context, vm_length, plugin_length, tick_root, may_stream, create_root, create_context, run_silent_job, take_notice_reply, ask_notice, made_one, tells, works, works_first, step}
+use Rattle.worker_model.specs.Steps.{Both, both, starts, finishes, forgets, end_at, begin_first_job, release as free_one, is_zero, with_jobs_first, unless_zero, last_jobs, await_done, finish_context, delete_context, vm_length, plugin_length, tick_root, may_stream, create_root, create_context, run_silent_job, take_notice_reply, ask_notice, made_one, calls_live, tells, reads_call, drop_answer, tells_call, ends_call, works, works_first, step}
 use Rattle.law_chain.specs.Acts.{AreThere, HoldSame}
 use Rattle.law_flow.specs.Besides.{IsWhole}
 use Rattle.law_chain.specs.Acts.{NotOf}
 use Rattle.law_flow.specs.Elsewhere.{behind_effects}
 use Rattle.law_flow.specs.Rooms.{IsOn, Leaves, leaves, Meanwhile, nothing, other}
-use Rattle.law_flow.specs.Stepping.{in_hand, Tells, TellsThen, OutlivesBeside, TellsZero, MayJob, begin, root, start, configure, tick, expire, happen, create, enter, put_across, put_elsewhere, refuse, done, log, delete, close, notice, ready, other_step, dies_at_work, start_refused, configure_refused, MayWork, no_job, first_job, MayBeside, reads, moves_across, moves_elsewhere, dies_elsewhere, works as works_on, frees, ends_other, begins, stops, StepsBeside}
+use Rattle.law_flow.specs.Stepping.{in_hand, Tells, TellsThen, OutlivesBeside, TellsZero, TellsCall, MayJob, begin, root, start, configure, tick, expire, happen, create, enter, put_across, put_elsewhere, refuse, done, log, delete, close, notice, ready, call_comes, call_read, call_fails, call_answered, tcp_step, dies_at_work, start_refused, configure_refused, MayWork, no_job, first_job, MayBeside, reads, moves_across, moves_elsewhere, dies_elsewhere, works as works_on, frees, ends_other, begins, stops, StepsBeside}
 use Rattle.law_body.proofs.Apart.{exchanges_pass_by}
 use Rattle.law_flow.proofs.Besides.{stays, other_lines, other_direction, quiet_steps}
+use Rattle.law_flow.proofs.Callouts.{takes_after, closes_call, puts_answer}
 use Rattle.law_flow.proofs.Contexts.{contexts_leave, calls_are}
 use Rattle.law_flow.proofs.Deaths.{all_lines_leave}
 use Rattle.law_flow.proofs.DeathsBeside.{Comes, moved_died, job_died}
@@ -164,6 +171,43 @@ module _ {H : Type 0} (calling : Calling H) (plan : Plan) (response : Bool) (n c
   noticed_so x host room vm left b (measured c ∷ ms) on whole reaches = absurd reaches
   noticed_so x host room vm left b (heard h ∷ ms) on whole reaches = absurd reaches
 
+  -- what was heard of a callout
+  heard_so : (x : Exchange) (host : H) (room : Room) (id : ℕ) (o : Option Callout) (b : Both H) (ms : List Met) → IsOn n room x → IsWhole response x room
+      → Reaches (reads_call id o host room) ms (ends b) → Comes response n count x room b.room
+  heard_so x host room id None b ms on whole reaches = ended_as x x room room host b ms (stays response n x room on whole) reaches
+  heard_so x host room id (Some c) b ms on whole reaches =
+      all_reached (λ (d : Both H). Comes response n count x room d.room) ms (reads_call id (Some c) host room) b
+      (λ h hears_. (x, left_so (takes_after (after_read id (after_part_heard h c) room.calls) response n x room on whole))) reaches
+
+  -- its end
+  told_end : (x : Exchange) (host : H) (room : Room) (a : Option CallAnswer) (c : Callout) (b : Both H) (ms : List Met) → IsOn n room x → IsWhole response x room
+      → (has_listener c room ≡ true → TellsThen calling response n count x host ms (put_call_answer a c.vm c.context room) c.vm callbacks.CallAnswered c.context c.id (λ value z r. Unit {0}))
+      → Reaches (tells_call calling a c host room) ms (ends b) → Comes response n count x room b.room
+  told_end x host room a c b ms on whole may reaches =
+      let mid : Room = put_call_answer a c.vm c.context room in
+      let l : Leaves response n x room x mid = puts_answer a c.vm c.context response n x room on whole in
+      by_bool (λ (k : Course (Both H)). Reaches k ms (ends b) → Comes response n count x room b.room) (has_listener c room)
+      (calls_live calling c.vm callbacks.CallAnswered c.context c.id 0 (drop_answer c.vm c.context) host mid) (ends (both host room))
+      (λ e r. behind l
+      (calls_are H calling response n count c.vm callbacks.CallAnswered c.context c.id 0 (drop_answer c.vm c.context) x mid l.on host ms b
+      (x, puts_answer None c.vm c.context response n x mid l.on l.there)
+      (λ d reached.
+      let both_ = may e d reached in
+      (both_.0, λ z z_on. (z, puts_answer None c.vm c.context response n z (behind_effects c.vm owns.Nobody d mid) z_on (both_.1 z z_on).0)))
+      r))
+      (λ e r. ended_as x x room room host b ms (stays response n x room on whole) r) reaches
+
+  call_ended : (x : Exchange) (host : H) (room : Room) (is_answered : Bool) (id : ℕ) (b : Both H) (ms : List Met) → IsOn n room x → IsWhole response x room
+      → TellsCall calling response n count x host ms room is_answered id
+      → Reaches (ends_call calling is_answered id (callout_in id room.calls) host room) ms (ends b) → Comes response n count x room b.room
+  call_ended x host room is_answered id b ms on whole may reaches = by_callout (callout_in id room.calls) refl reaches
+    where
+      by_callout : (o : Option Callout) → callout_in id room.calls ≡ o → Reaches (ends_call calling is_answered id o host room) ms (ends b) → Comes response n count x room b.room
+      by_callout None is r = ended_as x x room room host b ms (stays response n x room on whole) r
+      by_callout (Some c) is r =
+          let l : Leaves response n x room x (close_call id room) = closes_call id response n x room on whole in
+          behind l (told_end x host (close_call id room) (answer_if is_answered c) c b ms l.on l.there (λ e. may c is e) r)
+
   job_comes : (x : Exchange) (host : H) (room : Room) (job : Job) (b : Both H) (ms : List Met) → IsOn n room x → IsWhole response x room → MayJob calling response n count x host ms room job
       → Reaches (works calling plan job host room) ms (ends b) → Comes response n count x room b.room
   job_comes x host room _ b ms on whole (begin vm may) reaches = told x host room vm callbacks.Begin 0 0 b ms on may reaches
@@ -208,7 +252,12 @@ module _ {H : Type 0} (calling : Calling H) (plan : Plan) (response : Bool) (n c
       by_bool (λ (k : Course (Both H)). Reaches k ms (ends b) → Comes response n count x room b.room) (may_stream vm at room.hub.contexts)
       (tells calling vm callbacks.QueueReady at queue host room) (ends (both host room)) (λ e r. told x host room vm callbacks.QueueReady at queue b ms on may r)
       (λ e r. ended_as x x room room host b ms (stays response n x room on whole) r) reaches
-  job_comes x host room _ b ms on whole (other_step s) reaches = ended_as x x room room host b ms (stays response n x room on whole) reaches
+  job_comes x host room _ b ms on whole (call_comes w) reaches =
+      ended_as x x room (take_call_event w room) host b ms (takes_after (after_event w room.calls) response n x room on whole) reaches
+  job_comes x host room _ b ms on whole (call_read id) reaches = heard_so x host room id (callout_in id room.calls) b ms on whole reaches
+  job_comes x host room _ b ms on whole (call_fails id may) reaches = call_ended x host room false id b ms on whole (λ c is e. may c is e) reaches
+  job_comes x host room _ b ms on whole (call_answered id may) reaches = call_ended x host room true id b ms on whole (λ c is e. may c is e) reaches
+  job_comes x host room _ b ms on whole (tcp_step s) reaches = ended_as x x room room host b ms (stays response n x room on whole) reaches
   job_comes x host room _ b ms on whole (dies_at_work job q is may) reaches =
       job_died calling plan response n count x host room job q b ms on whole is (λ c y reached there. may c y reached there) reaches
   job_comes x host room _ b ms on whole (start_refused vm at may) reaches =

@@ -1,5 +1,10 @@
 -- WHY VMS DIE: a VM that is dead after a step and was not before it died in that step, by one of the causes that are told here, and no other VM did.
 use Rattle.std.specs.Prelude.{◌≡◌, ℕ, Bool, true, false, List, [], ◌∷◌, ◌++◌, Option, None, Some, slice_get, if◌then◌else◌}
+use Rattle.callouts.specs.Callouts.{callout_in}
+use Rattle.callouts.specs.declared.types.Callout.{Callout}
+use Rattle.callouts.specs.declared.types.CallStep.{CallStep}
+use Rattle.callouts.specs.declared.types.CallStep.TheVariants as steps
+use Rattle.contexts.specs.declared.parts.CallAnswer.{CallAnswer}
 use Rattle.contexts.specs.Creating.{plugin_in}
 use Rattle.filter_host.specs.Called.{Called, Calling}
 use Rattle.filter_host.specs.Course.{ends, runs_then, Met, Reaches}
@@ -20,6 +25,9 @@ use Rattle.worker_model.specs.declared.types.Line.{Line}
 use Rattle.worker_model.specs.declared.types.NewContext.{NewContext}
 use Rattle.worker_model.specs.declared.types.Next.{Next}
 use Rattle.worker_model.specs.declared.types.Next.TheVariants as next
+use Rattle.worker_model.specs.declared.types.OtherStep.{OtherStep}
+use Rattle.worker_model.specs.declared.types.OtherStep.TheVariants as others
+use Rattle.worker_model.specs.Calls.{answer_if, put_call_answer, has_listener, close_call}
 use Rattle.worker_model.specs.Moves.{asks_at}
 use Rattle.worker_model.specs.Plan.{Plan}
 use Rattle.worker_model.specs.Rooms.{is_dead, next_of, with_lines}
@@ -56,6 +64,27 @@ ticked_callee vm root (due, room) = if due then live_callee vm callbacks.Tick ro
 abbrev pub ready_callee : ℕ → ℕ → ℕ → Room → Option Callee
 ready_callee vm root queue room = if may_stream vm root room.hub.contexts then live_callee vm callbacks.QueueReady root queue 0 room else None
 
+-- the context of a callout is told of its end, if it is there
+abbrev pub told_callee : Option CallAnswer → Callout → Room → Option Callee
+told_callee a c room = if has_listener c room then live_callee c.vm callbacks.CallAnswered c.context c.id 0 (put_call_answer a c.vm c.context room) else None
+
+-- first its connection is closed
+abbrev pub ended_callee : (is_answered : Bool) → ℕ → Option Callout → Room → Option Callee
+ended_callee is_answered id None room = None
+ended_callee is_answered id (Some c) room = told_callee (answer_if is_answered c) c (close_call id room)
+
+-- of a step for a callout: only its end is told
+abbrev pub call_callee : CallStep → Room → Option Callee
+call_callee (steps.Comes what) room = None
+call_callee (steps.Read id) room = None
+call_callee (steps.Fail id) room = ended_callee false id (callout_in id room.calls) room
+call_callee (steps.Answer id) room = ended_callee true id (callout_in id room.calls) room
+
+-- of a step for other connections than those of HTTP exchanges
+abbrev pub other_callee : OtherStep → Room → Option Callee
+other_callee (others.Call step) room = call_callee step room
+other_callee (others.Tcp step) room = None
+
 abbrev pub job_callee : Job → Room → Option Callee
 job_callee (jobs.Begin vm) room = live_callee vm callbacks.Begin 0 0 0 room
 job_callee (jobs.Root vm plugin first) room = made_callee (create_root vm plugin first room)
@@ -74,7 +103,7 @@ job_callee (jobs.Delete c) room = live_callee c.vm callbacks.Delete c.context 0 
 job_callee (jobs.Close number stays) room = None
 job_callee (jobs.Notice vm left) room = None
 job_callee (jobs.Ready vm root queue) room = ready_callee vm root queue room
-job_callee (jobs.Other step) room = None
+job_callee (jobs.Other step) room = other_callee step room
 
 -- of the first job, which is in hand no more then
 abbrev pub first_callee : List Job → Room → Option Callee

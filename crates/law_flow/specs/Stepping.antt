@@ -1,5 +1,8 @@
 -- THE STEPS OF A WORKER, as a direction sees them.
 use Rattle.std.specs.Prelude.{◌≡◌, ℕ, Bool, true, false, not, List, [], ◌∷◌, map, Option, None, Some, slice_get}
+use Rattle.callouts.specs.Callouts.{callout_in}
+use Rattle.callouts.specs.declared.types.Callout.{Callout}
+use Rattle.callouts.specs.declared.types.CallStep.TheVariants as steps
 use Rattle.filter_host.specs.Called.{Called, Calling}
 use Rattle.filter_host.specs.Course.{ends, runs_then, Met, Reaches}
 use Rattle.filter_host.specs.Heard.{Heard, Hears}
@@ -23,9 +26,11 @@ use Rattle.worker_model.specs.declared.types.Line.{Line}
 use Rattle.worker_model.specs.declared.types.NewContext.{NewContext}
 use Rattle.worker_model.specs.declared.types.Next.{Next}
 use Rattle.worker_model.specs.declared.types.Next.TheVariants as next
-use Rattle.worker_model.specs.declared.types.OtherStep.{OtherStep}
+use Rattle.worker_model.specs.declared.types.OtherStep.TheVariants as others
 use Rattle.worker_model.specs.declared.types.Owner.TheVariants as owns
 use Rattle.worker_model.specs.declared.types.ReadBatch.{ReadBatch}
+use Rattle.worker_model.specs.declared.types.TcpStep.{TcpStep}
+use Rattle.worker_model.specs.Calls.{answer_if, put_call_answer, has_listener, close_call}
 use Rattle.worker_model.specs.Moves.{asks_at}
 use Rattle.worker_model.specs.Plan.{Plan}
 use Rattle.worker_model.specs.Rooms.{place_in, with_lines}
@@ -88,6 +93,13 @@ TellsZero calling response n count x host ms room vm name context first =
     × (is_zero e.value ≡ true)
     × ((z : Exchange) (on : IsOn n (behind_effects vm owns.Nobody c room) z) → OutlivesBeside response n vm z (behind_effects vm owns.Nobody c room) on)
 
+-- THE END OF A CALLOUT: once its connection is closed, and its answer put where its context finds it, every end of that callback is one that may be. Where none is under way with
+-- that id, or its context is there no more, nobody is told.
+abbrev pub TellsCall : {H : Type 0} → Calling H → Bool → ℕ → ℕ → Exchange → H → List Met → Room → (is_answered : Bool) → ℕ → Type 0
+TellsCall calling response n count x host ms room is_answered id =
+    (c : Callout) → callout_in id room.calls ≡ Some c → has_listener c (close_call id room) ≡ true
+    → TellsThen calling response n count x host ms (put_call_answer (answer_if is_answered c) c.vm c.context (close_call id room)) c.vm callbacks.CallAnswered c.context c.id (λ value z r. Unit {0})
+
 -- A JOB that is none of the direction
 pub data MayJob {H : Type 0} (calling : Calling H) (response : Bool) (n count : ℕ) (x : Exchange) (host : H) (ms : List Met) (room : Room) : Job → Type 0 where
   begin : (vm : ℕ) → Tells calling response n count x host ms room vm callbacks.Begin 0 0 → MayJob calling response n count x host ms room (jobs.Begin vm)
@@ -120,7 +132,12 @@ pub data MayJob {H : Type 0} (calling : Calling H) (response : Bool) (n count : 
   close : (number : ℕ) (stays : Bool) → (number ≡ n → ⊥) → MayJob calling response n count x host ms room (jobs.Close number stays)
   notice : (vm left : ℕ) → MayJob calling response n count x host ms room (jobs.Notice vm left)
   ready : (vm at queue : ℕ) → Tells calling response n count x host ms room vm callbacks.QueueReady at queue → MayJob calling response n count x host ms room (jobs.Ready vm at queue)
-  other_step : (s : OtherStep) → MayJob calling response n count x host ms room (jobs.Other s)
+  -- what comes of the line of a callout, and what its reader says
+  call_comes : (w : What) → MayJob calling response n count x host ms room (jobs.Other (others.Call (steps.Comes w)))
+  call_read : (id : ℕ) → MayJob calling response n count x host ms room (jobs.Other (others.Call (steps.Read id)))
+  call_fails : (id : ℕ) → TellsCall calling response n count x host ms room false id → MayJob calling response n count x host ms room (jobs.Other (others.Call (steps.Fail id)))
+  call_answered : (id : ℕ) → TellsCall calling response n count x host ms room true id → MayJob calling response n count x host ms room (jobs.Other (others.Call (steps.Answer id)))
+  tcp_step : (s : TcpStep) → MayJob calling response n count x host ms room (jobs.Other (others.Tcp s))
   -- any one whose callback died
   dies_at_work : (job : Job) (q : Callee) → job_callee job room ≡ Some q
       → ((c : Called H) (y : Exchange) → Reaches (runs_then (program_of calling host q) ends) ms (ends c) → IsOn n q.room y → DiesBeside response n q.vm c y q.room)

@@ -95,7 +95,8 @@ pub fn reading_leaves_directions<H>()
 {}
 
 /// A worker's step that is none of a direction resumes stages of it, or leaves it as it was; be it a move of another line or a job whose callback dies, or a
-/// start or a configuration that answers 0, where the exchange has no stage of its VM and no filter that fails closed by it.
+/// start or a configuration that answers 0, where the exchange has no stage of its VM and no filter that fails closed by it. So is what is done about a callout: what comes
+/// of its line, what its reader says, and its end, of which its context is told.
 pub fn steps_beside<H>()
     ensures { StepsBeside H }
 {}

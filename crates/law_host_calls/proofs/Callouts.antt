@@ -2,7 +2,7 @@
 use Rattle.std.proofs.Common.{refl}
 use Rattle.http_header.specs.Token.{is_token_byte}
 use Rattle.wasm_syntax.specs.ReductionRuns.{walk, walk_hosted}
-use Rattle.law_host_calls.specs.Callouts.{AnswerExamples, HttpCallExamples}
+use Rattle.law_host_calls.specs.Callouts.{AnswerExamples}
 
 pub answer_examples : AnswerExamples
 unfolding is_token_byte walk walk_hosted
@@ -15,6 +15,9 @@ answer_examples = record {
   trailers = refl;
   no_fields = refl;
   no_trailers = refl;
+  trailers_pairs = refl;
+  no_pairs = refl;
+  fields_size = refl;
   trailers_size = refl;
   body_is_kept = refl;
   none_is_kept = refl;
@@ -28,19 +31,4 @@ answer_examples = record {
   set_nowhere = refl;
   no_map = refl;
   no_such_map = refl;
-}
-
-pub http_call_examples : HttpCallExamples
-unfolding is_token_byte walk walk_hosted
-http_call_examples = record {
-  not_built = refl;
-  upstream = refl;
-  headers = refl;
-  body = refl;
-  trailers = refl;
-  upstream_outside = refl;
-  headers_outside = refl;
-  body_outside = refl;
-  trailers_outside = refl;
-  place_outside = refl;
 }

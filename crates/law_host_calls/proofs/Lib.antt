@@ -3,6 +3,7 @@ mod Buffers
 mod MapRows
 mod Streams
 mod Callouts
+mod HttpCalls
 mod Connections
 mod Stores
 mod Metrics

@@ -4,6 +4,7 @@ pub mod Buffers
 pub mod MapRows
 pub mod Streams
 pub mod Callouts
+pub mod HttpCalls
 pub mod Connections
 pub mod Stores
 pub mod Metrics

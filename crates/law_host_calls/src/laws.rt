@@ -3,7 +3,8 @@ ghost use Rattle.law_host_calls.specs.Giving.{GivingExamples};
 ghost use Rattle.law_host_calls.specs.Buffers.{BufferReads, BufferSizes, BufferWrites};
 ghost use Rattle.law_host_calls.specs.MapRows.{MapReads, MapWrites, MapChanges};
 ghost use Rattle.law_host_calls.specs.Streams.{StreamExamples, ResponseExamples};
-ghost use Rattle.law_host_calls.specs.Callouts.{AnswerExamples, HttpCallExamples};
+ghost use Rattle.law_host_calls.specs.Callouts.{AnswerExamples};
+ghost use Rattle.law_host_calls.specs.HttpCalls.{CallsMade, CallsRefused, CallBounds};
 ghost use Rattle.law_host_calls.specs.Connections.{ConnectionBuffers, ConnectionStreams};
 ghost use Rattle.law_host_calls.specs.Stores.{DataExamples, QueueExamples, ItemExamples};
 ghost use Rattle.law_host_calls.specs.Metrics.{MetricNames, MetricWords};
@@ -66,9 +67,19 @@ pub fn worked_answer()
     ensures { AnswerExamples }
 {}
 
-/// The call for a callout: its ranges, and that it is not built.
+/// The call for a callout: its id, and what it asks for.
 pub fn worked_http_call()
-    ensures { HttpCallExamples }
+    ensures { CallsMade }
+{}
+
+/// Why there is no callout.
+pub fn worked_refusals()
+    ensures { CallsRefused }
+{}
+
+/// How many fields and bytes a callout may have.
+pub fn worked_call_bounds()
+    ensures { CallBounds }
 {}
 
 /// Buffers where lines are streams of bytes.

@@ -4,10 +4,17 @@ use Rattle.filter_host.specs.Called.{Calling}
 use Rattle.std.proofs.lemmas.List.{append-nil}
 use Rattle.std.specs.Prelude.{Option, None, Some, is_some, slice_get, slice_set, nat_lt}
 use Rattle.std.specs.List.{list_any}
+use Rattle.callouts.specs.Callouts.{callout_in, is_call_line, after_heard as after_part_heard}
+use Rattle.callouts.specs.Steps.{After, after_event, after_read}
+use Rattle.callouts.specs.declared.types.Callout.{Callout}
+use Rattle.callouts.specs.declared.types.CallStep.{CallStep}
+use Rattle.callouts.specs.declared.types.CallStep.TheVariants as steps
+use Rattle.contexts.specs.declared.parts.CallAnswer.{CallAnswer}
 use Rattle.contexts.specs.declared.parts.Tick.{Tick}
 use Rattle.contexts.specs.Creating.{plugin_in, next_id, root_created}
 use Rattle.contexts.specs.Reached.{vm_in, tick_in}
 use Rattle.filter_host.specs.Course.{Course, ends, asks, measures, hears}
+use Rattle.filter_host.specs.Heard.{Heard}
 use Rattle.filter_host.proofs.Holds.{AllEnds, all_then}
 use Rattle.filter_host.specs.declared.host.Callback.{Callback}
 use Rattle.filter_host.specs.declared.host.Callback.TheVariants as callbacks
@@ -37,19 +44,23 @@ use Rattle.gate_io.specs.declared.event.Side.TheVariants.{Down}
 use Rattle.h1_model.specs.Fields.{Pair}
 use Rattle.store_model.specs.declared.call.Reply.{Reply}
 use Rattle.store_model.specs.declared.call.Reply.TheVariants as replies
+use Rattle.worker_model.specs.Calls.{call_job, with_call_step, answer_if, put_call_answer, has_listener, close_call}
 use Rattle.worker_model.specs.Room.{Room}
 use Rattle.worker_model.specs.declared.types.Asked.{Asked}
 use Rattle.worker_model.specs.declared.types.Job.{Job}
 use Rattle.worker_model.specs.declared.types.Job.TheVariants as jobs
 use Rattle.worker_model.specs.declared.types.Line.{Line}
 use Rattle.worker_model.specs.declared.types.NewContext.{NewContext}
+use Rattle.worker_model.specs.declared.types.OtherStep.{OtherStep}
+use Rattle.worker_model.specs.declared.types.OtherStep.TheVariants as others
 use Rattle.worker_model.specs.declared.types.Owner.{Owner}
 use Rattle.worker_model.specs.declared.types.Owner.TheVariants.{Nobody, Stage}
 use Rattle.worker_model.specs.Moves.{asks_at, asks_line, asks_in, asks_exchange, asks_chain, asks_as, asks_response}
 use Rattle.worker_model.specs.Plan.{Plan}
 use Rattle.worker_model.specs.Rooms.{exchange_moves, has_move, with_marks, all_lines, with_lines, place_in, with_contexts, lose_vm_in, is_dead}
-use Rattle.worker_model.specs.Steps.{Both, both, Answered, callback_result, Then, continue_with, nothing_more, called_in, called_live, calls_live, with_jobs_first, unless_zero, has_vm, finish_context, delete_context, apply_stage_action, is_drawn_out, may_root, root_jobs, create_root, with_filter, may_stream, with_stream, create_stream, create_filter, filter_at, create_context, is_live, new_stage, exchange_with_stages, tick_of, tick_root, is_due_tick, is_late, expire_all, take_notice_reply, moved, move_at, tells, made_one, made_with, roots, streams, ticks, tells_ready, ask_notice, notice_step, works, callback_of, number_of, vm_length, plugin_length}
+use Rattle.worker_model.specs.Steps.{Both, both, Answered, callback_result, Then, continue_with, nothing_more, called_in, called_live, calls_live, with_jobs_first, unless_zero, has_vm, finish_context, delete_context, apply_stage_action, is_drawn_out, may_root, root_jobs, create_root, with_filter, may_stream, with_stream, create_stream, create_filter, filter_at, create_context, is_live, new_stage, exchange_with_stages, tick_of, tick_root, is_due_tick, is_late, expire_all, take_notice_reply, moved, move_at, tells, made_one, made_with, roots, streams, ticks, tells_ready, ask_notice, notice_step, reads_call, drop_answer, tells_call, ends_call, works_call, works_other, works, callback_of, number_of, vm_length, plugin_length}
 use Rattle.law_lines.specs.Logs.{WriteLogs}
+use Rattle.law_lines.proofs.Callouts.{close_beside}
 use Rattle.law_lines.proofs.Finding.{IsOnce}
 use Rattle.law_lines.proofs.Kept.{Kept, Staid, over_told, by_bool, kept_itself, passed_on_kept}
 use Rattle.law_lines.proofs.Upward.{Keeps, keeps_then, Still as UpStill, still_itself as up_still_itself, still_then as up_still_then, still_keeps, aside_still, answer_still, directly_still, response_still, asked_keeps}
@@ -310,14 +321,14 @@ IsCalm (jobs.Notice vm left) = Unit {0}
 IsCalm (jobs.Ready vm root queue) = Unit {0}
 IsCalm (jobs.Other step) = Unit {0}
 
-module _ {H : Type 0} (calling : Calling H) (logs : WriteLogs calling) (n : ℕ) where
+module _ {H : Type 0} (calling : Calling H) (logs : WriteLogs calling) (n : ℕ) (low : is_call_line n ≡ false) where
   -- ---- callbacks
 
   called_in_calm : (vm : ℕ) (name : Callback) (context first second : ℕ) (own : Owner) (host : H) (room : Room) → Once n room
       → AllEnds (λ (a : Answered H). Calm n room a.both.room) (called_in calling vm name context first second own host room)
   called_in_calm vm name context first second own host room once =
       logs_then (λ (a : Answered H). Calm n room a.both.room) (calling host vm name context first second room.hub.moment room.hub.contexts) _ (logs host vm name context first second room.hub.moment room.hub.contexts)
-      (λ c are. answered_calm n vm own c.end c.lines c.contexts room once are)
+      (λ c are. answered_calm n low vm own c.end c.lines c.contexts room once are)
 
   calls_live_calm : (vm : ℕ) (name : Callback) (context first second : ℕ) (behind : Then) (host : H) (room : Room) → Once n room → CalmThen n behind
       → Calmly n room (calls_live calling vm name context first second behind host room)
@@ -445,6 +456,60 @@ module _ {H : Type 0} (calling : Calling H) (logs : WriteLogs calling) (n : ℕ)
       by_bool (Calm n room) (list_any (is_late room.hub.moment) room.lines) (with_lines room (all_lines passing.expire_exchange room.lines room.hub)) room
       (λ e. calm_all n passing.expire_exchange room once (does_deed passing.expire_exchange expires tt (λ m x hub. refl))) (λ e. calm_itself n room once)
 
+  -- ---- callouts
+
+  -- they are others now, and this comes next for one of them, if anything
+  call_step_calm : (calls : List Callout) (step : Option CallStep) (room : Room) → Once n room → Calm n room (with_call_step step (record room { calls = calls }))
+  call_step_calm calls None room once = calm_beside n room (record room { calls = calls }) once refl (beside_itself n room.hub) refl refl refl
+  call_step_calm calls (Some step) room once = record {
+    still = still_aside n room.lines room.hub room.hub once (beside_itself n room.hub);
+    reading = refl;
+    front = call_job step ∷ [];
+    free = (tt, tt);
+    jobs = refl;
+    parts = λ o. o;
+  }
+
+  closes_call_calm : (id : ℕ) (room : Room) → Once n room → Calm n room (close_call id room)
+  closes_call_calm id room once = calm_beside n room (close_call id room) once refl (close_beside n id room.hub (close_call id room).hub low refl) refl refl refl
+
+  answer_calm : (answer : Option CallAnswer) (vm e : ℕ) (room : Room) → Once n room → Calm n room (put_call_answer answer vm e room)
+  answer_calm answer vm e room once = calm_beside n room (put_call_answer answer vm e room) once refl (same_sent n room.hub (put_call_answer answer vm e room).hub refl) refl refl refl
+
+  drops_answer_calm : (vm e : ℕ) → CalmThen n (drop_answer vm e)
+  drops_answer_calm vm e value room once = answer_calm None vm e room once
+
+  reads_call_calm : (id : ℕ) (o : Option Callout) (host : H) (room : Room) → Once n room → Calmly n room (reads_call id o host room)
+  reads_call_calm id None host room once = calm_itself n room once
+  reads_call_calm id (Some c) host room once =
+      let after : Heard → After = λ h. after_read id (after_part_heard h c) room.calls in
+      λ h heard. call_step_calm (after h).calls (after h).next room once
+
+  tells_call_calm : (answer : Option CallAnswer) (c : Callout) (host : H) (room : Room) → Once n room → Calmly n room (tells_call calling answer c host room)
+  tells_call_calm answer c host room once =
+      let mid : Room = put_call_answer answer c.vm c.context room in
+      let one : Calm n room mid = answer_calm answer c.vm c.context room once in
+      by_bool (Calmly n room) (has_listener c room) (calls_live calling c.vm callbacks.CallAnswered c.context c.id 0 (drop_answer c.vm c.context) host mid) (ends (both host room))
+      (λ e. calm_first room mid _ one (calls_live_calm c.vm callbacks.CallAnswered c.context c.id 0 (drop_answer c.vm c.context) host mid one.still.once (drops_answer_calm c.vm c.context)))
+      (λ e. calm_itself n room once)
+
+  ends_call_calm : (answered : Bool) (id : ℕ) (o : Option Callout) (host : H) (room : Room) → Once n room → Calmly n room (ends_call calling answered id o host room)
+  ends_call_calm answered id None host room once = calm_itself n room once
+  ends_call_calm answered id (Some c) host room once =
+      let mid : Room = close_call id room in
+      let one : Calm n room mid = closes_call_calm id room once in
+      calm_first room mid (tells_call calling (answer_if answered c) c host mid) one (tells_call_calm (answer_if answered c) c host mid one.still.once)
+
+  works_call_calm : (step : CallStep) (host : H) (room : Room) → Once n room → Calmly n room (works_call calling step host room)
+  works_call_calm (steps.Comes what) host room once = let a : After = after_event what room.calls in call_step_calm a.calls a.next room once
+  works_call_calm (steps.Read id) host room once = reads_call_calm id (callout_in id room.calls) host room once
+  works_call_calm (steps.Fail id) host room once = ends_call_calm false id (callout_in id room.calls) host room once
+  works_call_calm (steps.Answer id) host room once = ends_call_calm true id (callout_in id room.calls) host room once
+
+  works_other_calm : (step : OtherStep) (host : H) (room : Room) → Once n room → Calmly n room (works_other calling step host room)
+  works_other_calm (others.Call step) host room once = works_call_calm step host room once
+  works_other_calm (others.Tcp step) host room once = calm_itself n room once
+
   pub works_calm : (plan : Plan) (job : Job) (host : H) (room : Room) → IsCalm job → Once n room → Calmly n room (works calling plan job host room)
   works_calm plan (jobs.Begin vm) host room is once = tells_calm vm callbacks.Begin 0 0 host room once
   works_calm plan (jobs.Root vm plugin first) host room is once = roots_calm vm plugin first host room once
@@ -464,4 +529,4 @@ module _ {H : Type 0} (calling : Calling H) (logs : WriteLogs calling) (n : ℕ)
   works_calm plan (jobs.Close number stays) host room is once = absurd is
   works_calm plan (jobs.Notice vm left) host room is once = notices_calm plan vm left host room once
   works_calm plan (jobs.Ready vm root queue) host room is once = ready_calm vm root queue host room once
-  works_calm plan (jobs.Other step) host room is once = calm_itself n room once
+  works_calm plan (jobs.Other step) host room is once = works_other_calm step host room once

@@ -1,14 +1,22 @@
 -- Steps that are not of a line without filters leave it untouched.
 use Rattle.std.proofs.Common.{◌≡◌, ℕ, ◌==◌, Bool, true, false, not, ◌||◌, cond, List, [], ◌∷◌, ◌++◌, refl, ap, ◌∙◌, sym, subst, if◌then◌else◌}
 use Rattle.std.specs.Prelude.{Option, None, Some, is_some, nat_lt, slice_get, position, filter, find}
+use Rattle.callouts.specs.Callouts.{callout_in, after_heard as after_part_heard}
+use Rattle.callouts.specs.Steps.{After, after_event, after_read}
+use Rattle.callouts.specs.declared.types.Callout.{Callout}
+use Rattle.callouts.specs.declared.types.CallStep.{CallStep}
+use Rattle.callouts.specs.declared.types.CallStep.TheVariants as steps
+use Rattle.contexts.specs.declared.parts.CallAnswer.{CallAnswer}
 use Rattle.filter_host.specs.Called.{Calling}
 use Rattle.filter_host.specs.Course.{Course, ends, asks, measures, hears, Met, Reaches}
+use Rattle.filter_host.specs.Heard.{Heard}
 use Rattle.filter_host.proofs.Holds.{AllEnds, all_then, all_reached}
 use Rattle.filter_host.specs.declared.host.Callback.{Callback}
 use Rattle.filter_host.specs.declared.host.Callback.TheVariants as callbacks
 use Rattle.filter_host.specs.declared.host.Death.TheVariants as deaths
 use Rattle.exchange.specs.declared.types.Hub.{Hub}
 use Rattle.h1_model.specs.Unread.{Reading}
+use Rattle.worker_model.specs.Calls.{answer_if, put_call_answer, has_listener, close_call}
 use Rattle.worker_model.specs.Room.{Room}
 use Rattle.worker_model.specs.declared.types.Asked.{Asked}
 use Rattle.worker_model.specs.declared.types.Job.{Job}
@@ -17,19 +25,22 @@ use Rattle.worker_model.specs.declared.types.Line.{Line}
 use Rattle.worker_model.specs.declared.types.NewContext.{NewContext}
 use Rattle.worker_model.specs.declared.types.Next.{Next}
 use Rattle.worker_model.specs.declared.types.Next.TheVariants as next
+use Rattle.worker_model.specs.declared.types.OtherStep.{OtherStep}
+use Rattle.worker_model.specs.declared.types.OtherStep.TheVariants as others
 use Rattle.worker_model.specs.declared.types.Owner.{Owner}
 use Rattle.worker_model.specs.declared.types.Owner.TheVariants.{Nobody, Stage}
 use Rattle.worker_model.specs.declared.types.ReadBatch.{ReadBatch}
 use Rattle.worker_model.specs.Moves.{asks_at}
 use Rattle.worker_model.specs.Plan.{Plan}
 use Rattle.worker_model.specs.Rooms.{next_of, next_part, has_move, moves_or, frees_or, ends_or, begins_or_rests, is_any, is_over, is_released, is_dead, with_lines}
-use Rattle.worker_model.specs.Steps.{Both, both, line_in, Answered, callback_result, Then, continue_with, nothing_more, called_in, called_live, calls_live, apply_stage_action, unless_zero, finish_context, delete_context, create_root, create_context, tick_root, may_stream, reads_in, reads_next, reading_on, moved, move_at, tells, made_one, made_with, ticks_with, tells_ready, notice_step, works, works_first, callback_of, number_of, vm_length, plugin_length, step}
+use Rattle.worker_model.specs.Steps.{Both, both, line_in, Answered, callback_result, Then, continue_with, nothing_more, called_in, called_live, calls_live, apply_stage_action, unless_zero, finish_context, delete_context, create_root, create_context, tick_root, may_stream, reads_in, reads_next, reading_on, moved, move_at, tells, made_one, made_with, ticks_with, tells_ready, notice_step, reads_call, drop_answer, tells_call, ends_call, works_call, works_other, works, works_first, callback_of, number_of, vm_length, plugin_length, step}
 use Rattle.law_lines.specs.Isolation.{IsFree, is_job_of, is_read_of, is_at, is_work_of, is_first_of, is_step_of, lines_on, IsUntouched, StepsOfOthers, no_step, one_step, OthersLeaveTheLine}
 use Rattle.law_lines.specs.Logs.{WriteLogs}
+use Rattle.law_lines.proofs.Callouts.{seen_is}
 use Rattle.law_lines.proofs.Kept.{by_bool}
 use Rattle.law_lines.proofs.Looks.{is_n, line_in_is}
 use Rattle.law_lines.proofs.Rooms.{logs_then}
-use Rattle.law_lines.proofs.Spared.{Free, Spared, spared_then, spared_itself, SparedThen, answered_spared, zero_spared, done_spared, deletes_spared, acts_spared, rooting_spared, creating_spared, ticked_spared, noticed_spared, quietly_spared, begins_spared, frees_spared, ends_spared, unread_spared, heard_spared, AsksBeside, asks_beside}
+use Rattle.law_lines.proofs.Spared.{Free, Spared, spared_then, spared_itself, SparedThen, answered_spared, zero_spared, done_spared, deletes_spared, acts_spared, call_step_spared, closes_call_spared, answer_spared, drops_answer_spared, rooting_spared, creating_spared, ticked_spared, noticed_spared, quietly_spared, begins_spared, frees_spared, ends_spared, unread_spared, heard_spared, AsksBeside, asks_beside}
 use Rattle.law_lines.proofs.Untouched.{aside_itself}
 
 nothing_spared : (n : ℕ) → SparedThen n nothing_more
@@ -105,6 +116,39 @@ module _ {H : Type 0} (calling : Calling H) (logs : WriteLogs calling) (plan : P
       by_bool (Spares room) ((left == 0 || is_dead vm room) || not (nat_lt vm plan.vms)) (ends (both host room)) _ (λ e. spared_itself n room free)
       (λ e. λ r. noticed_spared n vm left r room free)
 
+  -- ---- callouts
+
+  reads_call_spares : (id : ℕ) (o : Option Callout) (host : H) (room : Room) → Free n room → Spares room (reads_call id o host room)
+  reads_call_spares id None host room free = spared_itself n room free
+  reads_call_spares id (Some c) host room free =
+      let after : Heard → After = λ h. after_read id (after_part_heard h c) room.calls in
+      λ h heard. call_step_spared n (after h).calls (after h).next room free
+
+  tells_call_spares : (answer : Option CallAnswer) (c : Callout) (host : H) (room : Room) → Free n room → Spares room (tells_call calling answer c host room)
+  tells_call_spares answer c host room free =
+      let mid : Room = put_call_answer answer c.vm c.context room in
+      let one : Spared n room mid = answer_spared n answer c.vm c.context room free in
+      by_bool (Spares room) (has_listener c room) (calls_live calling c.vm callbacks.CallAnswered c.context c.id 0 (drop_answer c.vm c.context) host mid) (ends (both host room))
+      (λ e. spares_first room mid _ one (live_spares c.vm callbacks.CallAnswered c.context c.id 0 (drop_answer c.vm c.context) host mid one.lines.free (drops_answer_spared n c.vm c.context)))
+      (λ e. spared_itself n room free)
+
+  ends_call_spares : (answered : Bool) (id : ℕ) (o : Option Callout) (host : H) (room : Room) → Free n room → Spares room (ends_call calling answered id o host room)
+  ends_call_spares answered id None host room free = spared_itself n room free
+  ends_call_spares answered id (Some c) host room free =
+      let mid : Room = close_call id room in
+      let one : Spared n room mid = closes_call_spared n id room free in
+      spares_first room mid (tells_call calling (answer_if answered c) c host mid) one (tells_call_spares (answer_if answered c) c host mid one.lines.free)
+
+  works_call_spares : (step : CallStep) (host : H) (room : Room) → Free n room → Spares room (works_call calling step host room)
+  works_call_spares (steps.Comes what) host room free = let a : After = after_event what room.calls in call_step_spared n a.calls a.next room free
+  works_call_spares (steps.Read id) host room free = reads_call_spares id (callout_in id room.calls) host room free
+  works_call_spares (steps.Fail id) host room free = ends_call_spares false id (callout_in id room.calls) host room free
+  works_call_spares (steps.Answer id) host room free = ends_call_spares true id (callout_in id room.calls) host room free
+
+  works_other_spares : (step : OtherStep) (host : H) (room : Room) → Free n room → Spares room (works_other calling step host room)
+  works_other_spares (others.Call step) host room free = works_call_spares step host room free
+  works_other_spares (others.Tcp step) host room free = spared_itself n room free
+
   works_spare : (job : Job) (host : H) (room : Room) → is_work_of n room job ≡ false → Free n room → Spares room (works calling plan job host room)
   works_spare (jobs.Begin vm) host room other free = tells_spares vm callbacks.Begin 0 0 host room free
   works_spare (jobs.Root vm plugin is_first) host room other free = made_spares host room (create_root vm plugin is_first room) (rooting_spared n vm plugin is_first room free)
@@ -124,7 +168,7 @@ module _ {H : Type 0} (calling : Calling H) (logs : WriteLogs calling) (plan : P
   works_spare (jobs.Close m stays) host room other free = quietly_spared n (jobs.Close m stays) room other free
   works_spare (jobs.Notice vm left) host room other free = notices_spare vm left host room free
   works_spare (jobs.Ready vm root queue) host room other free = ready_spares vm root queue host room free
-  works_spare (jobs.Other step) host room other free = spared_itself n room free
+  works_spare (jobs.Other step) host room other free = works_other_spares step host room free
 
   -- one that is not of the line is not among its jobs
   work_is : (room : Room) (job : Job) → is_work_of n room job ≡ false → is_job_of n job ≡ false
@@ -246,21 +290,21 @@ untouched_by n before after s quiet = record {
   line = s.lines.found;
   found = found_same n before.lines after.lines s.lines.found;
   free = s.lines.free;
-  sent = s.lines.sent;
+  sent = λ low. sym (seen_is n low after.hub.sent) ∙ (s.lines.sent ∙ seen_is n low before.hub.sent);
   jobs = s.jobs;
   reading = s.unread quiet ∙ sym quiet;
   moment = s.lines.moment;
 }
 
 pub untouched_itself : (n : ℕ) (room : Room) → Free n room → IsUntouched n room room
-untouched_itself n room free = record { line = refl; found = refl; free = free; sent = refl; jobs = refl; reading = refl; moment = refl }
+untouched_itself n room free = record { line = refl; found = refl; free = free; sent = λ low. refl; jobs = refl; reading = refl; moment = refl }
 
 pub untouched_then : (n : ℕ) (a b c : Room) → IsUntouched n a b → IsUntouched n b c → IsUntouched n a c
 untouched_then n a b c p q = record {
   line = q.line ∙ p.line;
   found = q.found ∙ p.found;
   free = q.free;
-  sent = q.sent ∙ p.sent;
+  sent = λ low. q.sent low ∙ p.sent low;
   jobs = q.jobs ∙ p.jobs;
   reading = q.reading ∙ p.reading;
   moment = q.moment ∙ p.moment;

@@ -5,6 +5,7 @@ pub mod Kept
 pub mod Finding
 pub mod Reader
 pub mod Looks
+pub mod Callouts
 pub mod Rooms
 pub mod Calls
 pub mod Hearing
@@ -42,6 +43,7 @@ pub mod Spared
 pub mod Isolation
 pub mod OwnSteps
 pub mod OtherTurns
+pub mod Unused
 pub mod IsolationExamples
 pub mod Depends
 pub mod AlikeRooms

@@ -2,6 +2,7 @@
 use Rattle.std.proofs.Common.{◌≡◌, ℕ, zero, suc, ◌+◌, ◌==◌, Bool, true, false, ◌||◌, cond, List, [], ◌∷◌, ◌++◌, refl, ap, ◌∙◌, sym, subst, if◌then◌else◌}
 use Rattle.std.specs.List.{list_any}
 use Rattle.std.specs.Prelude.{Option, None, Some, is_some, slice_get, position, filter, find}
+use Rattle.callouts.specs.Callouts.{is_call_line, is_of_call, line_in as event_line}
 use Rattle.contexts.specs.declared.parts.Context.{Context}
 use Rattle.contexts.specs.declared.parts.Contexts.{Contexts}
 use Rattle.contexts.specs.declared.parts.Plugin.{Plugin}
@@ -26,8 +27,8 @@ use Rattle.worker_model.specs.Plan.{Plan}
 use Rattle.worker_model.specs.Rooms.{next_of, next_part, has_move, moves_or, frees_or, ends_or, begins_or_rests, is_any, is_over, is_released}
 use Rattle.worker_model.specs.Settling.{settling, settling_none, settling_rest, settling_step, is_rest}
 use Rattle.worker_model.specs.Steps.{Both, is_late, step}
-use Rattle.worker_model.specs.Turn.{is_of, roots_from, start_of, starts_of, vms_in, start_jobs, is_due_now, ticks_in, ticks_of, ticks_due, deadline_jobs, registers_at, notice_of, notices_of, happening, agenda_of, at_moment, room_for_event, most_steps, Outcome, outcome_of, turned, turn_by, turn}
-use Rattle.worker_model.proofs.Events.{by_event}
+use Rattle.worker_model.specs.Turn.{is_of, roots_from, start_of, starts_of, vms_in, start_jobs, is_due_now, ticks_in, ticks_of, ticks_due, deadline_jobs, registers_at, notice_of, notices_of, calls_due, happening, agenda_of, at_moment, room_for_event, most_steps, Outcome, outcome_of, turned, turn_by, turn}
+use Rattle.worker_model.proofs.Events.{by_event, by_due}
 use Rattle.law_lines.specs.Isolation.{lines_on, IsFree, is_event_of, is_job_of, jobs_on, is_read_of, is_sent_on, sent_on, is_at, is_late_on, is_work_of, is_first_of, is_step_of, IsUntouched, IsAsBefore, TurnsOfOthersLeaveTheLine}
 use Rattle.law_lines.specs.Logs.{WriteLogs}
 use Rattle.law_lines.proofs.Finding.{Seeks, missing, first, seeks}
@@ -68,15 +69,20 @@ module _ (n : ℕ) where
   notices_else plan (suc k) =
       else_join n (notices_of plan k) (notice_of plan k) (notices_else plan k) (by_bool (AllElse n) (registers_at (slice_get plan.registers k)) (jobs.Notice k 16 ∷ []) [] (λ e. (refl, tt)) (λ e. tt))
 
-  event_else : (what : What) (room : Room) → is_event_of n what ≡ false → AllElse n (happening what room)
-  event_else what room other = by_event (AllElse n) what room (λ e. (other, tt)) (λ e. tt) (λ e. (refl, tt))
+  -- where the event is of the line of a callout, nothing happens on the lines
+  event_else : (what : What) (room : Room) → (is_of_call (event_line what) ≡ false → is_event_of n what ≡ false) → AllElse n (happening what room)
+  event_else what room other = by_event (AllElse n) what room (λ e. (other e, tt)) (λ e. tt) (λ e. (refl, tt))
 
-  agenda_else : (plan : Plan) (what : What) (room : Room) → is_event_of n what ≡ false → AllElse n (agenda_of plan what room)
+  calls_else : (room : Room) → AllElse n (calls_due room)
+  calls_else room = by_due (AllElse n) room tt (λ id later e. (refl, e))
+
+  pub agenda_else : (plan : Plan) (what : What) (room : Room) → (is_of_call (event_line what) ≡ false → is_event_of n what ≡ false) → AllElse n (agenda_of plan what room)
   agenda_else plan what room other =
       else_join n (start_jobs room) _ (by_bool (AllElse n) room.is_begun [] (starts_of (vms_in room) room.hub.contexts.plugins) (λ e. tt) (λ e. starts_else (vms_in room) room.hub.contexts.plugins))
       (else_join n (ticks_due room) _ (all_ticks_else room.hub.moment (vms_in room) room.hub.contexts)
       (else_join n (deadline_jobs plan) _ (by_bool (AllElse n) (plan.deadline == 0) [] (jobs.Expire ∷ []) (λ e. tt) (λ e. (refl, tt)))
-      (else_join n (happening what room) (notices_of plan (vms_in room)) (event_else what room other) (notices_else plan (vms_in room)))))
+      (else_join n (calls_due room) _ (calls_else room)
+      (else_join n (happening what room) (notices_of plan (vms_in room)) (event_else what room other) (notices_else plan (vms_in room))))))
 
 -- ---- what is sent, with neighbours joined
 
@@ -137,14 +143,14 @@ any_in p n (x ∷ xs) (suc k) l at is passes = by_test (x.number == n) (any_in p
         or_true false = refl
     by_test false more = more
 
-record Idle (n : ℕ) (room : Room) : Type 0 where
-  free : Free n room
-  unread : is_read_of n room.reading ≡ false
-  jobless : jobs_on n room ≡ []
-  unended : list_any is_over (lines_on n room.lines) ≡ false
-  in_time : is_late_on n room ≡ false
+pub record Idle (n : ℕ) (room : Room) : Type 0 where
+  pub free : Free n room
+  pub unread : is_read_of n room.reading ≡ false
+  pub jobless : jobs_on n room ≡ []
+  pub unended : list_any is_over (lines_on n room.lines) ≡ false
+  pub in_time : is_late_on n room ≡ false
 
-idle_then : (n : ℕ) (a b : Room) → Idle n a → IsUntouched n a b → Idle n b
+pub idle_then : (n : ℕ) (a b : Room) → Idle n a → IsUntouched n a b → Idle n b
 idle_then n a b idle u = record {
   free = u.free;
   unread = u.reading ∙ idle.unread;
@@ -154,7 +160,7 @@ idle_then n a b idle u = record {
 }
 
 -- so the next step is not of it
-idle_step : (n : ℕ) (room : Room) → Idle n room → is_step_of n (next_of room) room ≡ false
+pub idle_step : (n : ℕ) (room : Room) → Idle n room → is_step_of n (next_of room) room ≡ false
 idle_step n room idle = by_reading (is_some room.reading)
   where
     Goal : Next → Type 0
@@ -291,7 +297,7 @@ facing_idle n plan event room free r other in_time = record {
   unread = ap (is_read_of n) r.reading;
   jobless =
       ap (λ (js : List Job). filter (is_job_of n) (js ++ agenda_of plan event.what (at_moment event.now room))) r.jobs
-      ∙ else_none n (agenda_of plan event.what (at_moment event.now room)) (agenda_else n plan event.what (at_moment event.now room) other);
+      ∙ else_none n (agenda_of plan event.what (at_moment event.now room)) (agenda_else n plan event.what (at_moment event.now room) (λ e. other));
   unended = none_of is_over n room.lines (nowhere is_over room.lines r.over);
   in_time = in_time;
 }
@@ -329,7 +335,7 @@ module _ {H : Type 0} (calling : Calling H) (logs : WriteLogs calling) (plan : P
 
   -- what is said of a turn
   abbrev LeavesSo : Both H → Outcome H → Type 0
-  LeavesSo state out = IsAsBefore n state.room out.state.room × (sent_on n out.sent ≡ [])
+  LeavesSo state out = IsAsBefore n state.room out.state.room × (is_call_line n ≡ false → sent_on n out.sent ≡ [])
 
   turned_leaves : (state : Both H) (event : Event) → IsFree n state.room.lines → next_of state.room ≡ next.Rest → sent_on n state.room.hub.sent ≡ [] → is_event_of n event.what ≡ false
       → is_late_on n (at_moment event.now state.room) ≡ false → AllEnds (LeavesSo state) (turned calling plan state event)
@@ -337,14 +343,14 @@ module _ {H : Type 0} (calling : Calling H) (logs : WriteLogs calling) (plan : P
       let start : Room = room_for_event plan event state.room in
       all_then (λ (b : Both H). IsUntouched n start b.room) (LeavesSo state) (settling calling plan most_steps state.host start) (λ b. ends (outcome_of b))
       (settles most_steps state.host start (facing_idle n plan event state.room free (at_rest state.room is) other in_time))
-      (λ b u. (record { line = u.line; found = u.found; free = u.free }, joined_none n b.room.hub.sent (u.sent ∙ unsent)))
+      (λ b u. (record { line = u.line; found = u.found; free = u.free }, (λ low. joined_none n b.room.hub.sent (u.sent low ∙ unsent))))
 
   turn_leaves : (stop : Bool) (state : Both H) (event : Event) → IsFree n state.room.lines → next_of state.room ≡ next.Rest → sent_on n state.room.hub.sent ≡ [] → is_event_of n event.what ≡ false
       → is_late_on n (at_moment event.now state.room) ≡ false → AllEnds (LeavesSo state) (turn_by calling plan stop state event)
-  turn_leaves true state event free is unsent other in_time = (record { line = refl; found = refl; free = free }, refl)
+  turn_leaves true state event free is unsent other in_time = (record { line = refl; found = refl; free = free }, (λ low. refl))
   turn_leaves false state event free is unsent other in_time = turned_leaves state event free is unsent other in_time
 
 pub turns_leave : (H : Type 0) → TurnsOfOthersLeaveTheLine H
 turns_leave H calling plan n state event ms out logs free is unsent other in_time reaches =
-    all_reached (λ (o : Outcome H). IsAsBefore n state.room o.state.room × (sent_on n o.sent ≡ [])) ms (turn calling plan state event) out
+    all_reached (λ (o : Outcome H). IsAsBefore n state.room o.state.room × (is_call_line n ≡ false → sent_on n o.sent ≡ [])) ms (turn calling plan state event) out
     (turn_leaves calling logs plan n (is_stop event.what) state event free is unsent other in_time) reaches

@@ -129,16 +129,16 @@ module _ (plan : Plan) (past : List Sent) (room : Room) where
                 more_heard (hands p new) says = part_said plan n past still l k.once k.parts jobless refl resting at asked_none b x some ok p new says
                 more_heard (halts why new) says = stop_said plan n past still l k.once k.parts jobless refl resting at asked_none b x some ok why new says
 
-    side_known : (r : ReadBatch) → room.reading ≡ Some r → ((m : ℕ) → Known plan m past room) → Goal (reads_in plan r (reading_on r room) host room)
-    side_known r is all = by_test (r.line == n) r.up refl refl
+    side_known : (r : ReadBatch) → room.reading ≡ Some r → Known plan n past room → Known plan r.line past room → Goal (reads_in plan r (reading_on r room) host room)
+    side_known r is k km = by_test (r.line == n) r.up refl refl
       where
         by_test : (a u : Bool) → (r.line == n) ≡ a → r.up ≡ u → Goal (reads_in plan r (reading_on r room) host room)
         by_test true false here down =
             let same : r ≡ client n r.batch = λ i. record { line = equal_by r.line n here i; up = down i; batch = r.batch } in
-            subst (λ (q : ReadBatch). Goal (reads_in plan q (reading_on q room) host room)) (sym same) (client_known r.batch (is ∙ ap Some same) (all n))
-        by_test true true here up = others_known r is (all n) (all r.line) (λ e down. let never : ◌≡◌ {A = Bool} true false = sym up ∙ down in absurd (cc))
-        by_test false u here up = others_known r is (all n) (all r.line) (λ e down. let never : ◌≡◌ {A = Bool} false true = sym here ∙ e in absurd (cc))
+            subst (λ (q : ReadBatch). Goal (reads_in plan q (reading_on q room) host room)) (sym same) (client_known r.batch (is ∙ ap Some same) k)
+        by_test true true here up = others_known r is k km (λ e down. let never : ◌≡◌ {A = Bool} true false = sym up ∙ down in absurd (cc))
+        by_test false u here up = others_known r is k km (λ e down. let never : ◌≡◌ {A = Bool} false true = sym here ∙ e in absurd (cc))
 
-    -- A READING LEAVES KNOWN what is known
-    pub reading_known : (r : ReadBatch) → room.reading ≡ Some r → ((m : ℕ) → Known plan m past room) → Goal (reads_next plan room.reading host room)
-    reading_known r is all = subst (λ (q : Option ReadBatch). Goal (reads_next plan q host room)) (sym is) (side_known r is all)
+    -- A READING LEAVES KNOWN what is known, where it is known of the line that is read too
+    pub reading_known : (r : ReadBatch) → room.reading ≡ Some r → Known plan n past room → Known plan r.line past room → Goal (reads_next plan room.reading host room)
+    reading_known r is k km = subst (λ (q : Option ReadBatch). Goal (reads_next plan q host room)) (sym is) (side_known r is k km)

@@ -3,6 +3,8 @@ use Rattle.std.proofs.Common.{◌≡◌, ℕ, false, ◌&&◌, List, [], ◌∷�
 use Rattle.std.proofs.lemmas.List.{append-nil, append_assoc}
 use Rattle.std.proofs.lemmas.Grind.{flat_map-append}
 use Rattle.std.specs.Prelude.{Option, None, Some}
+use Rattle.callouts.specs.Callouts.{is_call_line}
+use Rattle.callouts.specs.Requests.{request_wire}
 use Rattle.contexts.specs.declared.parts.Contexts.{Contexts}
 use Rattle.contexts.specs.declared.parts.Effect.{Effect}
 use Rattle.contexts.specs.declared.parts.EffectKind.{EffectKind}
@@ -34,10 +36,11 @@ use Rattle.worker_model.specs.declared.types.Job.{Job}
 use Rattle.worker_model.specs.declared.types.Job.TheVariants as jobs
 use Rattle.worker_model.specs.declared.types.Line.{Line}
 use Rattle.worker_model.specs.declared.types.Owner.{Owner}
-use Rattle.worker_model.specs.Rooms.{Changes, all_lines, with_lines, place_in, place_of, on_number, on_context, with_contexts, room_with_sent, is_own, apply_effect, effects_of, without_effects, lose_vm_in, death_text, after_callback, take_callback_end}
+use Rattle.worker_model.specs.Rooms.{Changes, all_lines, with_lines, place_in, place_of, on_number, on_context, with_contexts, room_with_sent, is_own, next_call, begin_call, apply_effect, effects_of, without_effects, lose_vm_in, death_text, after_callback, take_callback_end}
 use Rattle.worker_model.specs.Steps.{Both, Then, nothing_more, is_zero, action_of, with_jobs_first, unless_zero, has_vm, await_done, last_jobs, finish_context, delete_context, apply_stage_action}
 use Rattle.law_lines.specs.Clients.{client_traffic, client_of}
 use Rattle.law_lines.specs.Logs.{AreLogs, OnlyLogs}
+use Rattle.law_lines.proofs.Callouts.{begin_beside}
 use Rattle.law_lines.proofs.Finding.{IsOnce}
 use Rattle.law_lines.proofs.Kept.{by_bool}
 use Rattle.law_lines.proofs.Looks.{is_n, Beside, beside_itself, Still, still_aside, still_then, Does, does_deed, place_still, all_still}
@@ -176,22 +179,23 @@ logs_beside n more hub after are is = record {
 
 -- ---- effects
 
-does_calm : (n vm : ℕ) (own : Owner) (context : ℕ) (w : EffectKind) (room : Room) → Once n room → Calm n room (apply_effect vm own context w room)
-does_calm n vm own context (what.Continue response) room once =
+does_calm : (n : ℕ) → is_call_line n ≡ false → (vm : ℕ) (own : Owner) (context : ℕ) (w : EffectKind) (room : Room) → Once n room → Calm n room (apply_effect vm own context w room)
+does_calm n low vm own context (what.Continue response) room once =
     by_bool (Calm n room) (is_own own context response) room (on_context (passing.resume_context vm context response) vm context room) (λ e. calm_itself n room once)
     (λ e. calm_context n (passing.resume_context vm context response) vm context room once (does_deed (passing.resume_context vm context response) (resumes vm context response) tt (λ m x hub. refl)))
-does_calm n vm own context what.Close room once = calm_context n passing.close_exchange vm context room once (does_deed passing.close_exchange closes tt (λ m x hub. refl))
-does_calm n vm own context (what.Call request) room once = calm_itself n room once
-does_calm n vm own context (what.Answer status fields body) room once =
+does_calm n low vm own context what.Close room once = calm_context n passing.close_exchange vm context room once (does_deed passing.close_exchange closes tt (λ m x hub. refl))
+does_calm n low vm own context (what.Call request) room once =
+    calm_beside n room (begin_call request room) once refl (begin_beside n (next_call room) (request_wire request) room.hub (begin_call request room).hub low refl) refl refl refl
+does_calm n low vm own context (what.Answer status fields body) room once =
     calm_context n (apply_change (changes.Answer status fields body)) vm context room once
     (does_deed (apply_change (changes.Answer status fields body)) (answers false status fields.pairs body) tt (λ m x hub. refl))
 
-effects_calm : (n vm : ℕ) (own : Owner) (es : List Effect) (room : Room) → Once n room → Calm n room (effects_of vm own es room)
-effects_calm n vm own [] room once = calm_itself n room once
-effects_calm n vm own (e ∷ es) room once =
+effects_calm : (n : ℕ) → is_call_line n ≡ false → (vm : ℕ) (own : Owner) (es : List Effect) (room : Room) → Once n room → Calm n room (effects_of vm own es room)
+effects_calm n low vm own [] room once = calm_itself n room once
+effects_calm n low vm own (e ∷ es) room once =
     let mid : Room = apply_effect vm own e.context e.what room in
-    let one : Calm n room mid = does_calm n vm own e.context e.what room once in
-    calm_then n room mid (effects_of vm own es mid) one (effects_calm n vm own es mid one.still.once)
+    let one : Calm n room mid = does_calm n low vm own e.context e.what room once in
+    calm_then n room mid (effects_of vm own es mid) one (effects_calm n low vm own es mid one.still.once)
 
 pub died_calm : (n vm : ℕ) (death : Death) (room : Room) → Once n room → Calm n room (lose_vm_in vm death room)
 died_calm n vm death room once =
@@ -201,15 +205,15 @@ died_calm n vm death room once =
     (still_then n room.lines room.lines p.0 room.hub told.hub p.1 (still_aside n room.lines room.hub told.hub once (logs_beside n _ room.hub told.hub (tt, tt) refl))
     (all_still n (passing.lose_vm vm) room.lines told.hub once (does_deed (passing.lose_vm vm) (dies vm) tt (λ m x hub. refl)))) refl refl refl
 
-behind_calm : (n vm : ℕ) (own : Owner) (end : CallbackEnd) (es : List Effect) (room : Room) → Once n room → Calm n room (after_callback vm own end es room)
-behind_calm n vm own (call_ends.Returned value) es room once = effects_calm n vm own es room once
-behind_calm n vm own (call_ends.Died death) es room once = died_calm n vm death room once
+behind_calm : (n : ℕ) → is_call_line n ≡ false → (vm : ℕ) (own : Owner) (end : CallbackEnd) (es : List Effect) (room : Room) → Once n room → Calm n room (after_callback vm own end es room)
+behind_calm n low vm own (call_ends.Returned value) es room once = effects_calm n low vm own es room once
+behind_calm n low vm own (call_ends.Died death) es room once = died_calm n vm death room once
 
-pub answered_calm : (n vm : ℕ) (own : Owner) (end : CallbackEnd) (lines : List Sent) (h : Contexts) (room : Room) → Once n room → AreLogs lines → Calm n room (take_callback_end vm own end lines h room)
-answered_calm n vm own end lines h room once are =
+pub answered_calm : (n : ℕ) → is_call_line n ≡ false → (vm : ℕ) (own : Owner) (end : CallbackEnd) (lines : List Sent) (h : Contexts) (room : Room) → Once n room → AreLogs lines → Calm n room (take_callback_end vm own end lines h room)
+answered_calm n low vm own end lines h room once are =
     let mid : Room = without_effects (room_with_sent lines (with_contexts h room)) in
     calm_then n room mid (take_callback_end vm own end lines h room) (calm_beside n room mid once refl (logs_beside n lines room.hub mid.hub are refl) refl refl refl)
-    (behind_calm n vm own end h.effects mid once)
+    (behind_calm n low vm own end h.effects mid once)
 
 -- ---- callbacks
 

@@ -1,9 +1,15 @@
 -- A room in which something is done beside a line that has no filters.
 use Rattle.std.proofs.Common.{◌≡◌, ℕ, ◌==◌, Bool, true, false, not, ◌||◌, ◌&&◌, cond, List, [], ◌∷◌, ◌++◌, length, refl, ap, ◌∙◌, sym, subst}
+use Rattle.std.proofs.lemmas.Bool.{and_left}
 use Rattle.std.proofs.lemmas.List.{append-nil, append_assoc}
 use Rattle.std.proofs.lemmas.List.Elements.{filter-append}
 use Rattle.std.specs.List.{list_any}
 use Rattle.std.specs.Prelude.{Option, None, Some, is_some, nat_lt, slice_get, slice_set, filter}
+use Rattle.callouts.specs.Callouts.{is_call_line, line_of}
+use Rattle.callouts.specs.Requests.{request_wire}
+use Rattle.callouts.specs.declared.types.Callout.{Callout}
+use Rattle.callouts.specs.declared.types.CallStep.{CallStep}
+use Rattle.contexts.specs.declared.parts.CallAnswer.{CallAnswer}
 use Rattle.contexts.specs.declared.parts.Contexts.{Contexts}
 use Rattle.contexts.specs.declared.parts.Effect.{Effect}
 use Rattle.contexts.specs.declared.parts.Tick.{Tick}
@@ -45,6 +51,7 @@ use Rattle.h1_model.specs.Messages.{Stop, rest, over, refusal}
 use Rattle.h1_model.specs.Unread.{Part, head_part, interim_part, piece, trailer_part, Reading}
 use Rattle.store_model.specs.declared.call.Reply.{Reply}
 use Rattle.store_model.specs.declared.call.Reply.TheVariants as replies
+use Rattle.worker_model.specs.Calls.{call_job, with_call_step, close_call, put_call_answer}
 use Rattle.worker_model.specs.Changes.{apply_change}
 use Rattle.worker_model.specs.Room.{Room}
 use Rattle.worker_model.specs.declared.types.Asked.{Asked}
@@ -58,17 +65,18 @@ use Rattle.worker_model.specs.declared.types.Owner.{Owner}
 use Rattle.worker_model.specs.declared.types.ReadBatch.{ReadBatch}
 use Rattle.worker_model.specs.Moves.{asks_stage, asks_as, asks_exchange, asks_response, asks_in, asks_back, asks_at, count_of, ended_in, ended_back, ended_at}
 use Rattle.worker_model.specs.Plan.{Plan}
-use Rattle.worker_model.specs.Rooms.{Changes, all_lines, place_in, with_lines, on_number, on_context, with_contexts, room_with_sent, is_own, is_dead, apply_effect, effects_of, without_effects, death_text, lose_vm_in, take_callback_end}
-use Rattle.worker_model.specs.Steps.{Then, is_zero, action_of, with_jobs_first, unless_zero, has_vm, await_done, last_jobs, finish_context, delete_context, apply_stage_action, is_drawn_out, may_root, root_jobs, create_root, with_filter, change_exchange, change_line, exchange_of_line, line_in, exchange_on, may_stream, with_stream, create_stream, create_filter, filter_at, create_context, enter_stages, with_exchange, exchange_for, free_place, begin_exchange_on, line_reading, read_on, with_reader, is_last, with_read_mark, on_lines, jobs_of, end_reading, with_item, add_read_item, take_read_item, with_response_head, in_contexts, head_item, interim_of, put_trailers, take_part, end_of_read, after_heard, drop_line, close_line, read_side, end_line, fixed_answer, refusal_sent, refuse_in, refuse_line, most_lines, new_line, place_for, accept_line, with_further, side_with_more, is_open, is_answered_in, is_read_in, receive_on, exchange_without_client, line_without_client, lose_client, is_missed, lose_server, take_event, done_jobs, close_up, end_exchange_of, end_with, end_at, is_due_tick, tick_of, tick_root, is_late, expire_all, take_notice_reply, run_silent_job, begin_first_job, release_at, release}
-use Rattle.law_lines.specs.Isolation.{lines_on, IsFree, is_event_of, is_job_of, jobs_on, is_read_of, sent_on, is_at, is_late_on, is_work_of}
+use Rattle.worker_model.specs.Rooms.{Changes, all_lines, place_in, with_lines, on_number, on_context, with_contexts, room_with_sent, is_own, is_dead, next_call, begin_call, apply_effect, effects_of, without_effects, death_text, lose_vm_in, take_callback_end}
+use Rattle.worker_model.specs.Steps.{Then, is_zero, action_of, with_jobs_first, unless_zero, has_vm, await_done, last_jobs, finish_context, delete_context, drop_answer, apply_stage_action, is_drawn_out, may_root, root_jobs, create_root, with_filter, change_exchange, change_line, exchange_of_line, line_in, exchange_on, may_stream, with_stream, create_stream, create_filter, filter_at, create_context, enter_stages, with_exchange, exchange_for, free_place, begin_exchange_on, line_reading, read_on, with_reader, is_last, with_read_mark, on_lines, jobs_of, end_reading, with_item, add_read_item, take_read_item, with_response_head, in_contexts, head_item, interim_of, put_trailers, take_part, end_of_read, after_heard, drop_line, close_line, read_side, end_line, fixed_answer, refusal_sent, refuse_in, refuse_line, most_lines, new_line, place_for, accept_line, with_further, side_with_more, is_open, is_answered_in, is_read_in, receive_on, exchange_without_client, line_without_client, lose_client, is_missed, lose_server, take_event, done_jobs, close_up, end_exchange_of, end_with, end_at, is_due_tick, tick_of, tick_root, is_late, expire_all, take_notice_reply, run_silent_job, begin_first_job, release_at, release}
+use Rattle.law_lines.specs.Isolation.{lines_on, IsFree, is_event_of, is_job_of, jobs_on, is_read_of, is_at, is_late_on, is_work_of}
 use Rattle.law_lines.specs.Logs.{AreLogs}
+use Rattle.law_lines.proofs.Callouts.{seen_on, begin_unseen, close_unseen}
 use Rattle.law_lines.proofs.Calls.{asks_on}
 use Rattle.law_lines.proofs.Kept.{by_bool}
 use Rattle.law_lines.proofs.Moments.{passed_on_at}
 use Rattle.law_lines.proofs.OnLines.{Numbered, OfLine, AllOfLine, jobs_of_line}
 use Rattle.law_lines.proofs.Untouched.{not_both, none_on, logs_on, adds_nothing, Aside, aside_then, aside_itself, set_aside, OnItsLine, by_deed, number_aside, context_aside, all_aside, all_outlive, all_in_time, on_line_aside, drops_aside, inserts_aside}
 
--- the line of the number is as it was, nothing was sent on it, and what is to be done of it is what was
+-- the line of the number is as it was, nothing was sent on it (on that of a callout, nothing down), and what is to be done of it is what was
 pub record Spared (n : ℕ) (room after : Room) : Type 0 where
   pub lines : Aside n room.lines room.hub after.lines after.hub
   pub jobs : jobs_on n after ≡ jobs_on n room
@@ -96,7 +104,7 @@ spared_lines n room after lines js agenda reading = record {
 }
 
 -- what all have in common changed, and nothing was sent on the line
-spared_hub : (n : ℕ) (room after : Room) → Free n room → after.lines ≡ room.lines → sent_on n after.hub.sent ≡ sent_on n room.hub.sent → after.hub.moment ≡ room.hub.moment
+spared_hub : (n : ℕ) (room after : Room) → Free n room → after.lines ≡ room.lines → seen_on n after.hub.sent ≡ seen_on n room.hub.sent → after.hub.moment ≡ room.hub.moment
     → after.jobs ≡ room.jobs → after.agenda ≡ room.agenda → after.reading ≡ room.reading → Spared n room after
 spared_hub n room after free lines sent moment js agenda reading =
     spared_lines n room after
@@ -160,8 +168,14 @@ context_spared : (n vm context : ℕ) (change : Changes) (room : Room) → Free 
 context_spared n vm context change room free on = spared_lines n room (on_context change vm context room) (context_aside n vm context change room.lines room.hub free on) refl refl refl
 
 -- something is sent that is not of the line
-sent_spared : (n : ℕ) (more : List Sent) (room : Room) → Free n room → sent_on n more ≡ [] → Spared n room (room_with_sent more room)
+sent_spared : (n : ℕ) (more : List Sent) (room : Room) → Free n room → seen_on n more ≡ [] → Spared n room (room_with_sent more room)
 sent_spared n more room free none = spared_hub n room (room_with_sent more room) free refl (adds_nothing n room.hub.sent more (room_with_sent more room).hub.sent refl none) refl refl refl refl
+
+-- and the contexts and the callouts may be others
+sending_spared : (n : ℕ) (more : List Sent) (room after : Room) → Free n room → after.lines ≡ room.lines → after.hub.sent ≡ room.hub.sent ++ more → seen_on n more ≡ [] → after.hub.moment ≡ room.hub.moment
+    → after.jobs ≡ room.jobs → after.agenda ≡ room.agenda → after.reading ≡ room.reading → Spared n room after
+sending_spared n more room after free lines sends none moment js agenda reading =
+    spared_hub n room after free lines (adds_nothing n room.hub.sent more after.hub.sent sends none) moment js agenda reading
 
 contexts_spared : (n : ℕ) (h : Contexts) (room : Room) → Free n room → Spared n room (with_contexts h room)
 contexts_spared n h room free = spared_hub n room (with_contexts h room) free refl refl refl refl refl refl
@@ -183,7 +197,9 @@ does_spared n vm own context (what.Continue response) room free =
     by_bool (Spared n room) (is_own own context response) room (on_context (passing.resume_context vm context response) vm context room) (λ e. spared_itself n room free)
     (λ e. context_spared n vm context (passing.resume_context vm context response) room free (by_deed (resumes vm context response) tt))
 does_spared n vm own context what.Close room free = context_spared n vm context passing.close_exchange room free (by_deed closes tt)
-does_spared n vm own context (what.Call request) room free = spared_itself n room free
+does_spared n vm own context (what.Call request) room free =
+    sending_spared n (to.Connect (line_of (next_call room)) ∷ to.Bytes (line_of (next_call room)) Up (request_wire request) ∷ []) room (begin_call request room) free refl refl
+    (begin_unseen n (next_call room) (request_wire request)) refl refl refl refl
 does_spared n vm own context (what.Answer status fields body) room free =
     context_spared n vm context (apply_change (changes.Answer status fields body)) room free (by_deed (answers false status fields.pairs body) tt)
 
@@ -243,6 +259,22 @@ pub acts_spared : (n : ℕ) (a : Asked) → (a.line == n) ≡ false → SparedTh
 acts_spared n a other None room free = spared_itself n room free
 acts_spared n a other (Some value) room free =
     number_spared n a.line (passing.apply_action a.response a.ask.stage (action_of value)) room other free (by_deed (acts a.response a.ask.stage (action_of value)) tt)
+
+-- ---- callouts
+
+-- they are others now, and this comes next for one of them, if anything
+pub call_step_spared : (n : ℕ) (calls : List Callout) (step : Option CallStep) (room : Room) → Free n room → Spared n room (with_call_step step (record room { calls = calls }))
+call_step_spared n calls None room free = spared_hub n room (record room { calls = calls }) free refl refl refl refl refl refl
+call_step_spared n calls (Some step) room free = record { lines = aside_itself n room.lines room.hub free; jobs = jobs_front n (call_job step ∷ []) room (refl, tt); unread = λ e. e }
+
+pub closes_call_spared : (n id : ℕ) (room : Room) → Free n room → Spared n room (close_call id room)
+closes_call_spared n id room free = sending_spared n (to.Close (line_of id) Up ∷ []) room (close_call id room) free refl refl (close_unseen n id) refl refl refl refl
+
+pub answer_spared : (n : ℕ) (answer : Option CallAnswer) (vm e : ℕ) (room : Room) → Free n room → Spared n room (put_call_answer answer vm e room)
+answer_spared n answer vm e room free = contexts_spared n _ room free
+
+pub drops_answer_spared : (n vm e : ℕ) → SparedThen n (drop_answer vm e)
+drops_answer_spared n vm e value room free = answer_spared n None vm e room free
 
 -- ---- contexts are made
 
@@ -313,12 +345,17 @@ noticed_spared n vm left replies.NoneOwed room free = spared_itself n room free
 
 -- ---- other lines come and go
 
-sending_on : (n m : ℕ) (side : Side) (bytes : List ℕ) → (m == n) ≡ false → sent_on n (sending_to m side bytes) ≡ []
-sending_on n m side [] other = refl
-sending_on n m side (b ∷ bytes) other = ap (λ (c : Bool). cond c (to.Bytes m side (b ∷ bytes) ∷ []) []) other
+up_unseen : (n m : ℕ) → (m == n) ≡ false → ((m == n) && not (is_call_line n)) ≡ false
+up_unseen n m other = and_left (m == n) (not (is_call_line n)) other
 
-close_on : (n m : ℕ) (side : Side) → (m == n) ≡ false → sent_on n (to.Close m side ∷ []) ≡ []
-close_on n m side other = ap (λ (c : Bool). cond c (to.Close m side ∷ []) []) other
+sending_on : (n m : ℕ) (side : Side) (bytes : List ℕ) → (m == n) ≡ false → seen_on n (sending_to m side bytes) ≡ []
+sending_on n m side [] other = refl
+sending_on n m Down (b ∷ bytes) other = ap (λ (c : Bool). cond c (to.Bytes m Down (b ∷ bytes) ∷ []) []) other
+sending_on n m Up (b ∷ bytes) other = ap (λ (c : Bool). cond c (to.Bytes m Up (b ∷ bytes) ∷ []) []) (up_unseen n m other)
+
+close_on : (n m : ℕ) (side : Side) → (m == n) ≡ false → seen_on n (to.Close m side ∷ []) ≡ []
+close_on n m Down other = ap (λ (c : Bool). cond c (to.Close m Down ∷ []) []) other
+close_on n m Up other = ap (λ (c : Bool). cond c (to.Close m Up ∷ []) []) (up_unseen n m other)
 
 drops_spared : (n m : ℕ) (room : Room) → (m == n) ≡ false → Free n room → Spared n room (drop_line m room)
 drops_spared n m room other free = spared_lines n room (drop_line m room) (drops_aside n m room.lines room.hub room.hub other free refl refl) refl refl refl
@@ -453,7 +490,7 @@ done_else : (n : ℕ) (fs : List Filter) → AllElse n (done_jobs fs)
 done_else n [] = tt
 done_else n (f ∷ fs) = by_bool (AllElse n) f.created (jobs.Done (record { vm = f.vm; context = f.context }) ∷ done_jobs fs) (done_jobs fs) (λ e. (refl, done_else n fs)) (λ e. done_else n fs)
 
-close_up_on : (n m : ℕ) (o : Option Reading) → (m == n) ≡ false → sent_on n (close_up m o) ≡ []
+close_up_on : (n m : ℕ) (o : Option Reading) → (m == n) ≡ false → seen_on n (close_up m o) ≡ []
 close_up_on n m None other = refl
 close_up_on n m (Some reading) other = close_on n m Up other
 
@@ -505,7 +542,7 @@ begun_spared n plan m h room other free =
     let x : Exchange = exchange_for plan (free_place room.hub.contexts) room.hub.moment room.dead h (route_in plan.routes (path_of h.fields)) in
     spared_lines n room (begin_exchange_on plan m h room) (on_line_aside n m (with_exchange x) room.lines room.hub (begin_exchange_on plan m h room).hub (λ l. refl) other free refl refl) refl refl refl
 
-interim_on : (n m : ℕ) (o : Option Exchange) (h : Head) → (m == n) ≡ false → sent_on n (sending_to m Down (interim_of o h)) ≡ []
+interim_on : (n m : ℕ) (o : Option Exchange) (h : Head) → (m == n) ≡ false → seen_on n (sending_to m Down (interim_of o h)) ≡ []
 interim_on n m o h other = sending_on n m Down (interim_of o h) other
 
 part_spared : (n : ℕ) (plan : Plan) (r : ReadBatch) (p : Part) (room : Room) → (r.line == n) ≡ false → Free n room → Spared n room (take_part plan r p room)
@@ -566,13 +603,13 @@ heard_spared n plan r (halts why new) room other free =
 asks_there : (n : ℕ) (x : Exchange) (hub : Hub) (a : Asked) → (asks_exchange n x hub).0 ≡ Some a → a.line ≡ n
 asks_there n x hub a is = by_asking (asks_response x) (asked hub.contexts (chain_of (asks_response x) x)).0 (with_chain (asks_response x) (asked hub.contexts (chain_of (asks_response x) x)).1 x) (with_held (asked hub.contexts (chain_of (asks_response x) x)).2 hub) is
   where
-    line_of : ℕ → Option Asked → ℕ
-    line_of k None = k
-    line_of k (Some b) = b.line
+    line_asked : ℕ → Option Asked → ℕ
+    line_asked k None = k
+    line_asked k (Some b) = b.line
 
     by_stage : (response : Bool) (asks : _) (count : ℕ) (o : Option (ℕ × ℕ)) → asks_stage response n asks count o ≡ Some a → a.line ≡ n
     by_stage response asks count None e = absurd (cc)
-    by_stage response asks count (Some s) e = sym (ap (line_of n) e)
+    by_stage response asks count (Some s) e = sym (ap (line_asked n) e)
 
     by_asking : (response : Bool) (t : Asking) (y : Exchange) (after : Hub) → (asks_as response n t y after).0 ≡ Some a → a.line ≡ n
     by_asking response Nothing y after e = absurd (cc)

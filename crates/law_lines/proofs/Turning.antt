@@ -5,6 +5,7 @@ use Rattle.std.proofs.lemmas.Grind.{flat_map-append}
 use Rattle.std.proofs.lemmas.List.{append-nil, append_assoc}
 use Rattle.std.specs.Prelude.{Option, None, Some, is_some, option_map, slice_get}
 use Rattle.std.specs.List.{list_any}
+use Rattle.callouts.specs.Callouts.{is_call_line}
 use Rattle.contexts.specs.declared.parts.Context.{Context}
 use Rattle.contexts.specs.declared.parts.Contexts.{Contexts}
 use Rattle.contexts.specs.declared.parts.Plugin.{Plugin}
@@ -37,8 +38,8 @@ use Rattle.worker_model.specs.declared.types.ReadBatch.{ReadBatch}
 use Rattle.worker_model.specs.Plan.{Plan}
 use Rattle.worker_model.specs.Settling.{settling}
 use Rattle.worker_model.specs.Steps.{Both, both, exchange_of_line, exchange_on, line_in, line_reading}
-use Rattle.worker_model.specs.Turn.{Outcome, turn, turn_by, room_for_event, happening, agenda_of, start_jobs, starts_of, start_of, roots_from, vms_in, is_of, ticks_in, ticks_of, ticks_due, deadline_jobs, notice_of, notices_of, is_due_now, registers_at, most_steps, outcome_of, without_sent}
-use Rattle.worker_model.proofs.Events.{by_event}
+use Rattle.worker_model.specs.Turn.{Outcome, turn, turn_by, room_for_event, calls_due, happening, agenda_of, start_jobs, starts_of, start_of, roots_from, vms_in, is_of, ticks_in, ticks_of, ticks_due, deadline_jobs, notice_of, notices_of, is_due_now, registers_at, most_steps, outcome_of, without_sent}
+use Rattle.worker_model.proofs.Events.{by_event, by_due}
 use Rattle.law_lines.specs.Laws.{ExchangesLive, RequestsGoUpOneByOne}
 use Rattle.law_lines.specs.Logs.{WriteLogs}
 use Rattle.law_lines.specs.Living.{requests_in, request_in, LivesBy}
@@ -53,9 +54,10 @@ use Rattle.law_lines.proofs.Lives.{came_of, came_join, lives_with}
 use Rattle.law_lines.proofs.Looks.{look, line_in_is, lives_join}
 use Rattle.law_lines.proofs.Readable.{readable}
 use Rattle.law_lines.proofs.Rooms.{AllParts}
-use Rattle.law_lines.proofs.Stepping.{settling_keeps}
+use Rattle.law_lines.proofs.Stepping.{KnownAll, settling_keeps}
 use Rattle.law_lines.proofs.Parts.{bare_wire, heard_bare, goes_of, all_of, came_front, all_came, read_whole, no_parts}
 use Rattle.law_lines.proofs.Story.{Stream, Passage, Story, Tale, plainly, filtered, Idle, ExOk, LineOk, Known}
+use Rattle.law_lines.proofs.Unused.{facing_unused, emptied_unused, new_unused, no_exchange}
 
 -- ---- the parts of a turn
 
@@ -91,12 +93,16 @@ notices_parts plan (suc k) =
 event_parts : (what : What) (room : Room) → AllParts (happening what room)
 event_parts what room = by_event AllParts what room (λ e. (tt, tt)) (λ e. tt) (λ e. (tt, tt))
 
+calls_parts : (room : Room) → AllParts (calls_due room)
+calls_parts room = by_due AllParts room tt (λ id later e. (tt, e))
+
 agenda_parts : (plan : Plan) (what : What) (room : Room) → AllParts (agenda_of plan what room)
 agenda_parts plan what room =
     parts_join (start_jobs room) _ (by_bool AllParts room.is_begun [] (starts_of (vms_in room) room.hub.contexts.plugins) (λ e. tt) (λ e. all_start_parts (vms_in room) room.hub.contexts.plugins))
     (parts_join (ticks_due room) _ (all_ticks_parts room.hub.moment (vms_in room) room.hub.contexts)
     (parts_join (deadline_jobs plan) _ (by_bool AllParts (plan.deadline == 0) [] (jobs.Expire ∷ []) (λ e. tt) (λ e. (tt, tt)))
-    (parts_join (happening what room) (notices_of plan (vms_in room)) (event_parts what room) (notices_parts plan (vms_in room)))))
+    (parts_join (calls_due room) _ (calls_parts room)
+    (parts_join (happening what room) (notices_of plan (vms_in room)) (event_parts what room) (notices_parts plan (vms_in room))))))
 
 -- ---- what was sent is counted otherwise
 
@@ -185,24 +191,31 @@ emptied_known plan n past room k =
       line = line_past plan n past (past ++ join_neighbours room.hub.sent) room.hub (record room.hub { sent = [] }) same refl room.reading room.jobs room.lines (look n room.lines) k.line;
     }
 
+-- of all lines
+pub facing_all : (plan : Plan) (past : List Sent) (event : Event) (room : Room) → KnownAll plan past room → KnownAll plan past (room_for_event plan event room)
+facing_all plan past event room all = ((λ n low. facing_known plan n past event room (all.0 n low)), facing_unused plan event room all.1)
+
+pub emptied_all : (plan : Plan) (past : List Sent) (room : Room) → KnownAll plan past room → KnownAll plan (past ++ join_neighbours room.hub.sent) (without_sent room)
+emptied_all plan past room all = ((λ n low. emptied_known plan n past room (all.0 n low)), emptied_unused room all.1)
+
 module _ {H : Type 0} (calling : Calling H) (logs : WriteLogs calling) (plan : Plan) where
   abbrev Comes : List Sent → Outcome H → Type 0
-  Comes past o = (n : ℕ) → Known plan n (past ++ o.sent) o.state.room
+  Comes past o = KnownAll plan (past ++ o.sent) o.state.room
 
-  turn_keeps : (past : List Sent) (state : Both H) (event : Event) → ((n : ℕ) → Known plan n past state.room) → AllEnds (Comes past) (turn calling plan state event)
+  turn_keeps : (past : List Sent) (state : Both H) (event : Event) → KnownAll plan past state.room → AllEnds (Comes past) (turn calling plan state event)
   turn_keeps past state event all = by_stop (is_stop event.what)
     where
       by_stop : (b : Bool) → AllEnds (Comes past) (turn_by calling plan b state event)
-      by_stop true = λ n. subst (λ l. Known plan n l state.room) (sym (append-nil past)) (all n)
+      by_stop true = subst (λ l. KnownAll plan l state.room) (sym (append-nil past)) all
       by_stop false =
-          all_then (λ (b : Both H). (n : ℕ) → Known plan n past b.room) (Comes past) (settling calling plan most_steps state.host (room_for_event plan event state.room)) (λ b. ends (outcome_of b))
-          (settling_keeps calling logs plan past most_steps state.host (room_for_event plan event state.room) (λ n. facing_known plan n past event state.room (all n))) (λ b k n. emptied_known plan n past b.room (k n))
+          all_then (λ (b : Both H). KnownAll plan past b.room) (Comes past) (settling calling plan most_steps state.host (room_for_event plan event state.room)) (λ b. ends (outcome_of b))
+          (settling_keeps calling logs plan past most_steps state.host (room_for_event plan event state.room) (facing_all plan past event state.room all)) (λ b k. emptied_all plan past b.room k)
 
-  pub turns_keep : (past : List Sent) (from : Both H) (ts : List (Done H)) (to : Both H) → ((n : ℕ) → Known plan n past from.room) → Turns calling plan from ts to → (n : ℕ) → Known plan n (past ++ sent_in ts) to.room
-  turns_keep past from [] to all turned n = subst (λ (b : Both H). Known plan n (past ++ []) b.room) (sym turned) (subst (λ l. Known plan n l from.room) (sym (append-nil past)) (all n))
-  turns_keep past from (t ∷ ts) to all turned n =
+  pub turns_keep : (past : List Sent) (from : Both H) (ts : List (Done H)) (to : Both H) → KnownAll plan past from.room → Turns calling plan from ts to → KnownAll plan (past ++ sent_in ts) to.room
+  turns_keep past from [] to all turned = subst (λ (b : Both H). KnownAll plan (past ++ []) b.room) (sym turned) (subst (λ l. KnownAll plan l from.room) (sym (append-nil past)) all)
+  turns_keep past from (t ∷ ts) to all turned =
       let one : Comes past t.end = all_reached (Comes past) t.met (turn calling plan from t.event) t.end (turn_keeps past from t.event all) turned.0 in
-      subst (λ l. Known plan n l to.room) (append_assoc past t.end.sent (sent_in ts)) (turns_keep (past ++ t.end.sent) t.end.state ts to one turned.1 n)
+      subst (λ l. KnownAll plan l to.room) (append_assoc past t.end.sent (sent_in ts)) (turns_keep (past ++ t.end.sent) t.end.state ts to one turned.1)
 
   -- nothing is left to be sent after a turn
   any_end : {A : Type 0} (p : Course A) → AllEnds (λ (a : A). Unit {0}) p
@@ -236,6 +249,9 @@ new_known plan contexts n = record {
   phase = tt;
   line = (refl, no_parts plan);
 }
+
+pub new_all : (plan : Plan) (contexts : Contexts) → KnownAll plan [] (new_room contexts)
+new_all plan contexts = ((λ n low. new_known plan contexts n), new_unused contexts)
 
 -- ---- what went up
 
@@ -367,11 +383,18 @@ lived plan n past room x k on none = by_line (look n room.lines) k.line (sym (ap
     by_line (Some l) ok is = by_exchange l.requests.due l.exchange ok.1 is
 
 pub exchanges_live : (H : Type 0) → ExchangesLive H
-exchanges_live H calling plan contexts host ts to n x logs turned on none =
-    lived plan n (sent_in ts) to.room x (turns_keep calling logs plan [] (both host (new_room contexts)) ts to (new_known plan contexts) turned n) on none
+exchanges_live H calling plan contexts host ts to n x logs turned on none = by_line (is_call_line n) refl
+  where
+    all : KnownAll plan (sent_in ts) to.room
+    all = turns_keep calling logs plan [] (both host (new_room contexts)) ts to (new_all plan contexts) turned
+
+    -- on the line of a callout there is none
+    by_line : (b : Bool) → is_call_line n ≡ b → HasLived plan n x (behind (sent_in ts) to.room.hub)
+    by_line false low = lived plan n (sent_in ts) to.room x (all.0 n low) on none
+    by_line true high = let never : ◌≡◌ {A = Option Exchange} None (Some x) = sym (no_exchange n to.room (all.1 n high)) ∙ on in absurd (cc)
 
 pub all_go_up_one_by_one : (H : Type 0) → RequestsGoUpOneByOne H
-all_go_up_one_by_one H calling plan contexts host ts to n logs turned =
-    let k : Known plan n (sent_in ts) to.room = turns_keep calling logs plan [] (both host (new_room contexts)) ts to (new_known plan contexts) turned n in
+all_go_up_one_by_one H calling plan contexts host ts to n low logs turned =
+    let k : Known plan n (sent_in ts) to.room = (turns_keep calling logs plan [] (both host (new_room contexts)) ts to (new_all plan contexts) turned).0 n low in
     let none : to.room.hub.sent ≡ [] = turns_empty calling logs plan (both host (new_room contexts)) ts to refl turned in
     subst (GoesUpBy plan n to.room (exchange_on n to.room)) (ap (up_traffic n) (append-nil (sent_in ts))) (subst (λ l. GoesUpBy plan n to.room (exchange_on n to.room) (up_traffic n (sent_in ts ++ l))) none (goes_up_by plan n (sent_in ts) to.room k))

@@ -1,9 +1,11 @@
 -- What is done beside a line that has no filters leaves that as it was: of lines and of rooms.
 use Rattle.std.proofs.Common.{◌≡◌, ℕ, zero, suc, ◌==◌, Bool, true, false, not, ◌||◌, ◌&&◌, cond, List, [], ◌∷◌, ◌++◌, length, refl, ap, ◌∙◌, sym, subst}
+use Rattle.std.proofs.lemmas.Bool.{and_left}
 use Rattle.std.proofs.lemmas.List.{append-nil}
 use Rattle.std.proofs.lemmas.List.Elements.{filter-append}
 use Rattle.std.specs.List.{list_any}
 use Rattle.std.specs.Prelude.{Option, None, Some, slice_get, slice_set, remove, insert, filter, position}
+use Rattle.callouts.specs.Callouts.{is_call_line}
 use Rattle.exchange.specs.declared.types.Exchange.{Exchange}
 use Rattle.exchange.specs.declared.types.Filter.{Filter}
 use Rattle.exchange.specs.declared.types.Hub.{Hub}
@@ -17,11 +19,13 @@ use Rattle.law_exchange.proofs.Own.{own_line}
 use Rattle.filter_chain.specs.declared.stage.Stage.{Stage}
 use Rattle.gate_io.specs.declared.event.Sent.{Sent}
 use Rattle.gate_io.specs.declared.event.Sent.TheVariants as to
+use Rattle.gate_io.specs.declared.event.Side.TheVariants.{Down, Up}
 use Rattle.worker_model.specs.declared.types.Line.{Line}
 use Rattle.worker_model.specs.Rooms.{Changes, in_exchange, in_line, at_some, at_place, all_lines, place_in, place_of, has_open}
 use Rattle.worker_model.specs.Steps.{is_late, on_line, line_at, line_at_place, without_place}
-use Rattle.law_lines.specs.Isolation.{IsUnfiltered, lines_on, IsFree, is_sent_on, sent_on}
+use Rattle.law_lines.specs.Isolation.{IsUnfiltered, lines_on, IsFree}
 use Rattle.law_lines.specs.Logs.{AreLogs}
+use Rattle.law_lines.proofs.Callouts.{is_seen_on, seen_on}
 use Rattle.law_lines.proofs.Finding.{Seeks, missing, first, seeks}
 use Rattle.law_lines.proofs.Kept.{by_bool}
 use Rattle.law_lines.proofs.Looks.{is_n, equal_by, equal_is, other_by}
@@ -33,26 +37,30 @@ not_both b is other = let never : ◌≡◌ {A = Bool} true false = sym is ∙ o
 
 -- ---- what is sent
 
-pub none_on : (n m : ℕ) (more : List Sent) → (m == n) ≡ false → AreOn m more → sent_on n more ≡ []
+pub none_on : (n m : ℕ) (more : List Sent) → (m == n) ≡ false → AreOn m more → seen_on n more ≡ []
 none_on n m [] other on = refl
-none_on n m (s ∷ more) other on = ap (λ (b : Bool). cond b (s ∷ sent_on n more) (sent_on n more)) (one s on.0) ∙ none_on n m more other on.1
+none_on n m (s ∷ more) other on = ap (λ (b : Bool). cond b (s ∷ seen_on n more) (seen_on n more)) (one s on.0) ∙ none_on n m more other on.1
   where
-    one : (s : Sent) → IsOn m s → is_sent_on n s ≡ false
-    one (to.Connect k) is = ap (λ (a : ℕ). a == n) is ∙ other
-    one (to.Bytes k side bytes) is = ap (λ (a : ℕ). a == n) is ∙ other
+    away : (k : ℕ) → k ≡ m → (k == n) ≡ false
+    away k is = ap (λ (a : ℕ). a == n) is ∙ other
+
+    one : (s : Sent) → IsOn m s → is_seen_on n s ≡ false
+    one (to.Connect k) is = and_left (k == n) (not (is_call_line n)) (away k is)
+    one (to.Bytes k Down bytes) is = away k is
+    one (to.Bytes k Up bytes) is = and_left (k == n) (not (is_call_line n)) (away k is)
     one (to.Close k side) is = absurd is
     one (to.Log level text) is = absurd is
 
-pub logs_on : (n : ℕ) (more : List Sent) → AreLogs more → sent_on n more ≡ []
+pub logs_on : (n : ℕ) (more : List Sent) → AreLogs more → seen_on n more ≡ []
 logs_on n [] are = refl
 logs_on n (to.Connect m ∷ more) are = absurd are.0
 logs_on n (to.Bytes m side bytes ∷ more) are = absurd are.0
 logs_on n (to.Close m side ∷ more) are = absurd are.0
 logs_on n (to.Log level text ∷ more) are = logs_on n more are.1
 
-pub adds_nothing : (n : ℕ) (old more new : List Sent) → new ≡ old ++ more → sent_on n more ≡ [] → sent_on n new ≡ sent_on n old
+pub adds_nothing : (n : ℕ) (old more new : List Sent) → new ≡ old ++ more → seen_on n more ≡ [] → seen_on n new ≡ seen_on n old
 adds_nothing n old more new is none =
-    ap (sent_on n) is ∙ (filter-append (is_sent_on n) old more ∙ (ap (λ (t : List Sent). sent_on n old ++ t) none ∙ append-nil (sent_on n old)))
+    ap (seen_on n) is ∙ (filter-append (is_seen_on n) old more ∙ (ap (λ (t : List Sent). seen_on n old ++ t) none ∙ append-nil (seen_on n old)))
 
 -- ---- free lines
 
@@ -108,7 +116,7 @@ insert_beside p (z ∷ xs) (suc k) x is = ap (λ ys. cond (p z) (z ∷ ys) ys) (
 pub record Aside (n : ℕ) (lines : List Line) (hub : Hub) (later : List Line) (after : Hub) : Type 0 where
   pub found : lines_on n later ≡ lines_on n lines
   pub free : IsFree n later
-  pub sent : sent_on n after.sent ≡ sent_on n hub.sent
+  pub sent : seen_on n after.sent ≡ seen_on n hub.sent
   pub moment : after.moment ≡ hub.moment
 
 pub aside_then : (n : ℕ) (a b c : List Line) (hub mid after : Hub) → Aside n a hub b mid → Aside n b mid c after → Aside n a hub c after
@@ -121,7 +129,7 @@ aside_itself n lines hub free = record { found = refl; free = free; sent = refl;
 pub record LineAside (n : ℕ) (l : Line) (hub : Hub) (m : Line) (after : Hub) : Type 0 where
   pub number : m.number ≡ l.number
   pub same : (l.number == n) ≡ true → m ≡ l
-  pub sent : sent_on n after.sent ≡ sent_on n hub.sent
+  pub sent : seen_on n after.sent ≡ seen_on n hub.sent
   pub moment : after.moment ≡ hub.moment
 
 pub set_aside : (n : ℕ) (lines : List Line) (k : ℕ) (l m : Line) (hub after : Hub) → slice_get lines k ≡ Some l → IsFree n lines → LineAside n l hub m after
@@ -184,8 +192,8 @@ line_aside n change l hub on leaves = by_exchange l.exchange refl
       moment = on.moment l.number x hub;
     }
       where
-        by_test : (b : Bool) → (l.number == n) ≡ b → sent_on n (change l.number x hub).1.sent ≡ sent_on n hub.sent
-        by_test true is = ap (λ (q : Exchange × Hub). sent_on n q.1.sent) (leaves x is there)
+        by_test : (b : Bool) → (l.number == n) ≡ b → seen_on n (change l.number x hub).1.sent ≡ seen_on n hub.sent
+        by_test true is = ap (λ (q : Exchange × Hub). seen_on n q.1.sent) (leaves x is there)
         by_test false is =
             let s : SendsOn l.number hub (change l.number x hub).1 = on.sends l.number x hub in
             adds_nothing n hub.sent s.more (change l.number x hub).1.sent s.adds (none_on n l.number s.more is s.own)
@@ -288,7 +296,7 @@ all_in_time n now (l ∷ lines) none = by_test (l.number == n) refl none (all_in
 -- ---- lines that change by themselves, come and go
 
 pub on_line_aside : (n m : ℕ) (f : Line → Line) (lines : List Line) (hub after : Hub) → Numbered f → (m == n) ≡ false → IsFree n lines
-    → sent_on n after.sent ≡ sent_on n hub.sent → after.moment ≡ hub.moment → Aside n lines hub (on_line f m lines) after
+    → seen_on n after.sent ≡ seen_on n hub.sent → after.moment ≡ hub.moment → Aside n lines hub (on_line f m lines) after
 on_line_aside n m f lines hub after numbered other free sends moment = by_seek (seeks (is_n m) lines)
   where
     by_seek : Seeks (is_n m) lines → Aside n lines hub (on_line f m lines) after
@@ -300,7 +308,7 @@ on_line_aside n m f lines hub after numbered other free sends moment = by_seek (
         (set_aside n lines k l (f l) hub after there free (record { number = numbered l; same = λ e. not_both (l.number == n) e away; sent = sends; moment = moment }))
 
 pub drops_aside : (n m : ℕ) (lines : List Line) (hub after : Hub) → (m == n) ≡ false → IsFree n lines
-    → sent_on n after.sent ≡ sent_on n hub.sent → after.moment ≡ hub.moment → Aside n lines hub (without_place lines (place_in m lines)) after
+    → seen_on n after.sent ≡ seen_on n hub.sent → after.moment ≡ hub.moment → Aside n lines hub (without_place lines (place_in m lines)) after
 drops_aside n m lines hub after other free sends moment = by_seek (seeks (is_n m) lines)
   where
     by_seek : Seeks (is_n m) lines → Aside n lines hub (without_place lines (place_in m lines)) after

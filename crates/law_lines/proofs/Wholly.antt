@@ -34,9 +34,9 @@ worked_run calling performs from to sent (a_turn stop s t old new f mid l more w
     }
 
 pub workers_go_up : (H S : Type 0) (performs : S → List Made → S → Type 0) → WorkersGoUpOneByOne H S performs
-workers_go_up H S performs calling exported registering config who seed host sent to n logs worked =
+workers_go_up H S performs calling exported registering config who seed host sent to n low logs worked =
     let from : Standing H = new_worker exported registering config who seed host in
     let r : Run calling from sent to = worked_run calling performs from to sent worked in
     subst (λ (plan : Plan). GoesUpBy plan n to.state.room (exchange_on n to.state.room) (up_traffic n sent)) (sym (ap rules_of r.setting))
     (subst (λ (l : List Sent). GoesUpBy (rules_of from.setting) n to.state.room (exchange_on n to.state.room) (up_traffic n l)) r.sends
-    (all_go_up_one_by_one H calling (rules_of from.setting) (contexts_of config seed) host r.turns to.state n logs r.run))
+    (all_go_up_one_by_one H calling (rules_of from.setting) (contexts_of config seed) host r.turns to.state n low logs r.run))

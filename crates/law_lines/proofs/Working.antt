@@ -1,5 +1,6 @@
 -- A step in which the next job in hand is worked.
 use Rattle.std.proofs.Common.{◌≡◌, ◌⊎◌, inl, inr, ℕ, ◌==◌, Bool, true, false, not, ◌||◌, ◌&&◌, List, [], ◌∷◌, ◌++◌, refl, ap, ◌∙◌, sym, subst}
+use Rattle.callouts.specs.Callouts.{is_call_line}
 use Rattle.filter_host.specs.Called.{Calling}
 use Rattle.std.proofs.lemmas.List.{append-nil, append_assoc}
 use Rattle.std.specs.Prelude.{Option, None, Some, slice_get, nat_lt, if◌then◌else◌}
@@ -89,10 +90,10 @@ module _ {H : Type 0} (calling : Calling H) (logs : WriteLogs calling) (plan : P
   known_all job mid pop (measures vm call k) is on calm = λ r. known_all job mid pop (k r) is on (calm r)
   known_all job mid pop (hears t k) is on calm = λ h says. known_all job mid pop (k h) is on (calm h says)
 
-  pub simple_works : (job : Job) (host : H) (mid : Room) → Popped plan n past job mid → IsSimple job → Leaves (works calling plan job host mid)
-  simple_works job host mid pop is =
+  pub simple_works : is_call_line n ≡ false → (job : Job) (host : H) (mid : Room) → Popped plan n past job mid → IsSimple job → Leaves (works calling plan job host mid)
+  simple_works low job host mid pop is =
       known_all job mid pop (works calling plan job host mid) (simple_calm job is) (λ later calm l m x y fields at some behind there p place asked f rests map proper. absurd (not_fresh n job mid.jobs is f))
-      (works_calm calling logs n plan job host mid (simple_calm job is) pop.once)
+      (works_calm calling logs n low plan job host mid (simple_calm job is) pop.once)
 
 -- ---- stages are made
 

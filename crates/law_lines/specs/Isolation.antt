@@ -2,6 +2,7 @@
 -- there is one, has no filters.
 use Rattle.std.specs.List.{list_any}
 use Rattle.std.specs.Prelude.{◌≡◌, ℕ, ◌==◌, Bool, true, false, List, [], ◌∷◌, ◌++◌, filter, slice_get, Option, None, Some}
+use Rattle.callouts.specs.Callouts.{is_call_line}
 use Rattle.filter_host.specs.Called.{Calling}
 use Rattle.filter_host.specs.Course.{Course, ends, asks, measures, hears, Met, Reaches}
 use Rattle.filter_host.specs.Heard.{Heard, hands, Hears}
@@ -128,12 +129,13 @@ is_step_of n next.Rest room = false
 -- ---- STEPS OF OTHERS
 
 -- NOTHING OF IT IS TO BE SEEN ON THE LINE: that is as it was, at whatever place it stands now, or there is none, as before; it is free still; nothing was sent
--- on it; the jobs of it that are to be done are those that were, in order; it is read or not as before; and the moment is the same.
+-- on it, where it is a line of a client (those from 2^31 on are of callouts); the jobs of it that are to be done are those that were, in order; it is read or not
+-- as before; and the moment is the same.
 pub record IsUntouched (n : ℕ) (before after : Room) : Type 0 where
   pub line : lines_on n after.lines ≡ lines_on n before.lines
   pub found : line_in n after.lines ≡ line_in n before.lines
   pub free : IsFree n after.lines
-  pub sent : sent_on n after.hub.sent ≡ sent_on n before.hub.sent
+  pub sent : is_call_line n ≡ false → sent_on n after.hub.sent ≡ sent_on n before.hub.sent
   pub jobs : jobs_on n after ≡ jobs_on n before
   pub reading : is_read_of n after.reading ≡ is_read_of n before.reading
   pub moment : after.hub.moment ≡ before.hub.moment
@@ -186,9 +188,9 @@ pub record IsAsBefore (n : ℕ) (before after : Room) : Type 0 where
 
 -- A WHOLE TURN at the event of another line, or of none, from a room that is at rest as each turn leaves it, where the line's response is not due at the event's
 -- moment: whatever the machines do but that they send nothing but logs, and whatever the stores reply, all that is sent in the turn is sent on other lines or into
--- the log, and the line is as it was.
+-- the log, where the line is one of a client, and the line is as it was.
 abbrev pub TurnsOfOthersLeaveTheLine : Type 0 → Type 0
 TurnsOfOthersLeaveTheLine H =
     (calling : Calling H) (plan : Plan) (n : ℕ) (state : Both H) (event : Event) (ms : List Met) (out : Outcome H) → WriteLogs calling → IsFree n state.room.lines
     → next_of state.room ≡ next.Rest → sent_on n state.room.hub.sent ≡ [] → is_event_of n event.what ≡ false → is_late_on n (at_moment event.now state.room) ≡ false
-    → Reaches (turn calling plan state event) ms (ends out) → IsAsBefore n state.room out.state.room × (sent_on n out.sent ≡ [])
+    → Reaches (turn calling plan state event) ms (ends out) → IsAsBefore n state.room out.state.room × (is_call_line n ≡ false → sent_on n out.sent ≡ [])

@@ -22,7 +22,7 @@ pub fn exchanges_live<H>()
     ensures { ExchangesLive H }
 {}
 
-/// Over the turns of a new worker, as they are defined: all that goes up on a line can be cut into what exchanges sent, one after the other. Of each,
+/// Over the turns of a new worker, as they are defined: all that goes up on a line of a client can be cut into what exchanges sent, one after the other. Of each,
 /// whatever filters it has, nothing goes up, or one connection is opened with the whole head of one request and items of a body as far as they went,
 /// framed as the exchange frames it, and then that connection is closed; so no close comes without a connection. What came of it to its chain is a front
 /// of what a reader handed on where its head was due: of the one that is open, the reader of the line's client, as it reads now. Where its last item
@@ -56,10 +56,10 @@ pub fn worked_lines()
 
 /// Isolation of lines without filters. A line is free where the exchange on it, if there is one, has neither filters nor stages. Whatever machines do but that
 /// they send nothing but logs, whatever stores reply and whatever is read, a step that is not of a free line (a callback of any VM, whether it answers, closes,
-/// goes on or dies, a tick, a notice, a start, the end of a context, and whatever happens on other lines) leaves the line as it was, sends nothing on it and puts
-/// nothing of it in hand. A step of the line calls no machine and no store, is the same whatever the machines are, and leaves it free where no request
-/// for a route with filters comes. And a whole turn at the event of another line, from a room at rest, sends nothing on a free line whose response is not due, and
-/// leaves that as it was.
+/// goes on or dies, a tick, a notice, a start, the end of a context, whatever comes of callouts, and whatever happens on other lines) leaves the line as it was,
+/// sends nothing on it, where it is a line of a client, and puts nothing of it in hand. A step of the line calls no machine and no store, is the same whatever the machines are, and leaves it free where no request
+/// for a route with filters comes. And a whole turn at the event of another line, from a room at rest, sends nothing on a free line of a client whose response is
+/// not due, and leaves that as it was.
 pub fn lines_without_filters_are_isolated<H>()
     ensures others { OthersLeaveTheLine H }
     ensures own { OwnStepsCallNothing H }

@@ -1,10 +1,9 @@
 -- The host calls of machines keep the maps of requests lists.
 use Rattle.std.proofs.Common.{◌≡◌, ℕ, ◌==◌, Bool, true, false, ◌||◌, ◌&&◌, List, length, refl, subst}
-use Rattle.std.specs.Prelude.{Option, None, Some, Result, Ok, Err, cond, nat_lt, if◌then◌else◌}
+use Rattle.std.specs.Prelude.{Option, None, Some, Result, Ok, Err, bytes_eq, cond, nat_lt, if◌then◌else◌}
 use Rattle.abi_calls.specs.Hosting.{Hosted, hosting, wasi_hosting, of_called, asking}
 use Rattle.abi_maps.specs.Maps.{map_at, map_in, there, on_map, with_map, mapped, no_change, changing_map, added_to, replaced_in, removed_from, set_from, own_get_header_map_pairs, own_get_header_map_size, own_get_header_map_value, own_set_header_map_pairs, own_add_header_map_value, own_replace_header_map_value, own_remove_header_map_value}
 use Rattle.abi_maps.specs.Buffers.{own_get_buffer_bytes, own_get_buffer_status, own_set_buffer_bytes, buffer_no, buffered, held_after}
-use Rattle.abi_maps.specs.Callouts.{own_http_call}
 use Rattle.abi_maps.specs.Streams.{continuing, closing, on_stream, is_stream, stream_no, is_too_late, fields_from, refusing, answering, answering_in, answering_with, answer_changes, own_continue_stream, own_close_stream, own_send_local_response}
 use Rattle.abi_model.specs.Asking.{Asking, asks}
 use Rattle.abi_model.specs.Calls as model
@@ -18,6 +17,7 @@ use Rattle.abi_model.specs.declared.table.Param.{Param}
 use Rattle.abi_model.specs.declared.table.WasiCall.{WasiCall}
 use Rattle.abi_model.specs.declared.table.WasiCall.TheVariants as wasi
 use Rattle.abi_types.specs.GuestAt.{GuestAt}
+use Rattle.abi_services.specs.Callouts.{upstream, refusal_of, has_no_room, request_for, begun_unless, calling_of, calling_by, own_http_call}
 use Rattle.abi_services.specs.Data.{own_get_shared_data, own_set_shared_data}
 use Rattle.abi_services.specs.Local.{own_get_log_level, own_get_current_time, own_set_tick_period, own_set_effective_context, own_done, ticked, setting_effective, done_of}
 use Rattle.abi_services.specs.Metrics.{own_define_metric, own_increment_metric, own_record_metric, own_get_metric}
@@ -29,9 +29,16 @@ use Rattle.contexts.specs.declared.parts.Contexts.{Contexts}
 use Rattle.contexts.specs.declared.parts.ExchangeView.{ExchangeView}
 use Rattle.contexts.specs.declared.parts.Maps.{Maps}
 use Rattle.contexts.specs.declared.parts.Own.{Own as OwnParts}
+use Rattle.contexts.specs.declared.parts.Request.{Request}
 use Rattle.contexts.specs.Reached.{Seen, Reach, seen, effective_of, no_changes, contains}
 use Rattle.filter_host.specs.Called as course
+use Rattle.header_maps.specs.Faults.{set_fault}
 use Rattle.header_maps.specs.Headers.{Headers}
+use Rattle.header_maps.specs.Operations.{all_set}
+use Rattle.header_maps.specs.Pairs.{Pair}
+use Rattle.header_maps.specs.declared.kind.ListKind.TheVariants as kinds
+use Rattle.pair_codec.specs.Lists.{with_scheme}
+use Rattle.pair_codec.specs.Reading.{pairs_in}
 use Rattle.store_model.specs.Program.{Program, done, ask, measure}
 use Rattle.vm_host.specs.HostStates.{HostState}
 use Rattle.vm_host.specs.declared.slots.Vms.{Vms}
@@ -139,6 +146,26 @@ property_leaves path value r (Some o) p =
     by_bool (λ (m : Made). LeavesView m.changes.exchange p) (is_fixed path r) (model.answers 2) _ (λ e. tt)
     (λ e. by_bool (λ (m : Made). LeavesView m.changes.exchange p) (is_past_limit path value o) (model.answers 10) _ (λ d. tt) (λ d. tt))
 
+call_leaves : (vm : ℕ) (inputs : Inputs) (timeout : ℕ) (s : Seen) → MadeLeaves s (calling_by vm inputs timeout s.reach.own s)
+call_leaves vm inputs timeout s = by_own s.reach.own
+  where
+    by_refusal : (r : Option ℕ) (q : Request) → MadeLeaves s (begun_unless r q s)
+    by_refusal (Some status) q = tt
+    by_refusal None q = tt
+
+    by_pairs : (headers trailers : Option (List Pair)) → MadeLeaves s (calling_of vm headers inputs.third trailers timeout s)
+    by_pairs None trailers = tt
+    by_pairs (Some headers) None = tt
+    by_pairs (Some headers) (Some trailers) =
+        by_refusal (refusal_of (set_fault kinds.Request (with_scheme headers)) (set_fault kinds.Plain trailers) (has_no_room inputs.third s))
+        (request_for vm (all_set kinds.Request (with_scheme headers)) inputs.third (all_set kinds.Plain trailers) timeout s)
+
+    by_own : (o : Option OwnParts) → MadeLeaves s (calling_by vm inputs timeout o s)
+    by_own None = tt
+    by_own (Some o) =
+        by_bool (MadeLeaves s) (bytes_eq inputs.first upstream) (calling_of vm (pairs_in inputs.second) inputs.third (pairs_in inputs.fourth) timeout s) (model.answers 2)
+        (λ e. by_pairs (pairs_in inputs.second) (pairs_in inputs.fourth)) (λ e. tt)
+
 buffer_leaves : (n : ℕ) (o : Option OwnParts) (r : Result (List ℕ) ℕ) (p : Option ExchangeView) → LeavesView (buffered n o r).changes.exchange p
 buffer_leaves n o (Err status) p = tt
 buffer_leaves n None (Ok bytes) p = tt
@@ -179,7 +206,7 @@ hosted_leaves call.RemoveHeaderMapValue now vm args g s =
 hosted_leaves call.ContinueStream now vm args g s = does_leaves 6 (row_of call.ContinueStream) own_continue_stream args g s (λ inputs. continuing_leaves (stream_no s.common.is_tcp (arg args 0)) s)
 hosted_leaves call.CloseStream now vm args g s = does_leaves 6 (row_of call.CloseStream) own_close_stream args g s (λ inputs. closing_leaves (stream_no s.common.is_tcp (arg args 0)) s)
 hosted_leaves call.SendLocalResponse now vm args g s = does_leaves 6 (row_of call.SendLocalResponse) own_send_local_response args g s (λ inputs. answering_leaves (arg args 0) inputs.second inputs.third s)
-hosted_leaves call.HttpCall now vm args g s = does_leaves 6 (row_of call.HttpCall) own_http_call args g s (λ inputs. tt)
+hosted_leaves call.HttpCall now vm args g s = does_leaves 6 (row_of call.HttpCall) (own_http_call vm) args g s (λ inputs. call_leaves vm inputs (arg args 8) s)
 hosted_leaves call.GetSharedData now vm args g s = asking_leaves (row_of call.GetSharedData) own_get_shared_data vm args g s
 hosted_leaves call.SetSharedData now vm args g s = asking_leaves (row_of call.SetSharedData) own_set_shared_data vm args g s
 hosted_leaves call.RegisterSharedQueue now vm args g s = asking_leaves (row_of call.RegisterSharedQueue) own_register_shared_queue vm args g s

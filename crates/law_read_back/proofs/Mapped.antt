@@ -1,5 +1,5 @@
 -- Worked: the maps of the turns of a filter, and what is refused.
-use Rattle.std.proofs.Common.{◌≡◌, ℕ, ◌≤◌, zero, suc, true, false, List, [], ◌∷◌, ◌++◌, map, length, arith, length-append}
+use Rattle.std.proofs.Common.{◌≡◌, ℕ, ◌≤◌, zero, suc, true, false, List, [], ◌∷◌, ◌++◌, map, length, arith, length-append, refl}
 use Rattle.std.specs.Prelude.{codes}
 use Rattle.contexts.specs.declared.parts.StageBuffer as parts
 use Rattle.filter_host.specs.declared.host.Callback.TheVariants as callbacks
@@ -60,7 +60,7 @@ pub map_examples : MapExamples
 map_examples = record {
   keeps = rewriting_keeps;
   run = filter_run;
-  kept = maps_stay_lists ℕ rewriting filter_plan filter_contexts 0 filter_run.turns filter_run.to 1 filter_run.logs rewriting_keeps filter_lists filter_run.run;
+  kept = maps_stay_lists ℕ rewriting filter_plan filter_contexts 0 filter_run.turns filter_run.to 1 refl filter_run.logs rewriting_keeps filter_lists filter_run.run;
   bare = λ e. none_bare e.0;
   closed = λ e. none_closed e.0;
   smuggled = none_smuggled;

@@ -3,13 +3,22 @@ use Rattle.std.proofs.Common.{◌≡◌, ℕ, zero, suc, ◌==◌, Bool, true, f
 use Rattle.std.proofs.lemmas.List.{append-nil}
 use Rattle.std.specs.Prelude.{Option, None, Some, is_some, slice_get, slice_set, remove, insert, nat_lt}
 use Rattle.std.specs.List.{list_any}
+use Rattle.callouts.specs.Callouts.{begun, callout_in, is_call_line, line_of, without, after_heard as after_part_heard}
+use Rattle.callouts.specs.Requests.{request_wire}
+use Rattle.callouts.specs.Steps.{After, after_event, after_read}
+use Rattle.callouts.specs.declared.types.Callout.{Callout}
+use Rattle.callouts.specs.declared.types.CallStep.{CallStep}
+use Rattle.callouts.specs.declared.types.CallStep.TheVariants as steps
+use Rattle.contexts.specs.declared.parts.CallAnswer.{CallAnswer}
 use Rattle.contexts.specs.declared.parts.Contexts.{Contexts}
 use Rattle.contexts.specs.declared.parts.Effect.{Effect}
+use Rattle.contexts.specs.declared.parts.Own.{Own}
 use Rattle.contexts.specs.declared.parts.Tick.{Tick}
 use Rattle.contexts.specs.declared.parts.EffectKind.{EffectKind as EffectWhat}
 use Rattle.contexts.specs.declared.parts.EffectKind.TheVariants as what
 use Rattle.contexts.specs.Creating.{next_id, plugin_in}
 use Rattle.contexts.specs.Making.{no_contexts, with_vm, with_plugin}
+use Rattle.contexts.specs.Stages.{own_at}
 use Rattle.contexts.specs.Reached.{vm_in, tick_in, contains, seen, effective_of, no_changes, put}
 use Rattle.filter_host.specs.Called.{Called, Calling}
 use Rattle.filter_host.specs.Course.{Course, ends, asks, measures, hears, runs_then}
@@ -57,14 +66,16 @@ use Rattle.store_model.specs.declared.call.Reply.{Reply}
 use Rattle.store_model.specs.declared.call.Reply.TheVariants as replies
 use Rattle.vm_host.specs.Slots as slots
 use Rattle.vm_host.specs.declared.slots.Vms.{Vms}
+use Rattle.worker_model.specs.Calls as callouts
+use Rattle.worker_model.specs.Calls.{with_call_step, answer_if, put_call_answer, has_listener, close_call}
 use Rattle.worker_model.specs.Changes.{apply_change}
 use Rattle.worker_model.specs.Making.{with_vms, with_plugins, contexts_of, new_worker}
 use Rattle.worker_model.specs.Moves.{asks_as, asks_response, asks_exchange, asks_in, asks_at, ended_in, ended_back, ended_at}
 use Rattle.worker_model.specs.Plan.{Plan}
-use Rattle.worker_model.specs.Rooms.{Changes, in_exchange, in_line, at_some, at_place, all_lines, with_lines, place_in, place_of, on_number, on_context, with_contexts, room_with_sent, is_own, apply_effect, effects_of, without_effects, is_dead, lose_vm_in, death_text, after_callback, take_callback_end, next_of, with_marks}
+use Rattle.worker_model.specs.Rooms.{Changes, in_exchange, in_line, at_some, at_place, all_lines, with_lines, place_in, place_of, on_number, on_context, with_contexts, room_with_sent, is_own, with_calls, add_call, next_call, apply_effect, effects_of, without_effects, is_dead, lose_vm_in, death_text, after_callback, take_callback_end, next_of, with_marks}
 use Rattle.worker_model.specs.Settling.{settling, is_rest, settling_step, settling_rest, settling_none}
 use Rattle.worker_model.specs.State.{Standing, rules_of}
-use Rattle.worker_model.specs.Steps.{Both as BothOf, both, Answered, callback_result, Then, continue_with, nothing_more, called_in, called_live, calls_live, is_zero, action_of, with_jobs_first, unless_zero, has_vm, await_done, last_jobs, finish_context, delete_context, apply_stage_action, is_drawn_out, may_root, create_root, may_stream, create_stream, create_filter, filter_at, create_context, begin_exchange_on, line_in, line_reading, reading_on, on_lines, change_line, with_response_head, in_contexts, put_trailers, take_part, take_read_item, head_item, is_last, end_of_read, after_heard, read_on, exchange_on, interim_of, drop_line, close_line, end_line, refusal_sent, fixed_answer, refuse_in, refuse_line, most_lines, accept_line, is_open, is_answered_in, is_read_in, exchange_of_line, receive_on, lose_client, is_missed, lose_server, take_event, close_up, end_exchange_of, end_with, end_at, is_due_tick, next_tick, tick_of, tick_root, is_late, expire_all, take_notice_reply, begin_first_job, release_at, enter_stages, reads_in, reads_next, callback_of, number_of, vm_length, plugin_length, moved, move_at, tells, made_one, ask_notice, notice_step, works, works_first, step, with_filter, change_exchange, line_at, line_at_place, on_line, without_place, side_with_more, with_further, line_without_client, exchange_without_client, place_for, new_line, free_place, exchange_for, with_exchange, with_reader, with_read_mark}
+use Rattle.worker_model.specs.Steps.{Both as BothOf, both, Answered, callback_result, Then, continue_with, nothing_more, called_in, called_live, calls_live, is_zero, action_of, with_jobs_first, unless_zero, has_vm, await_done, last_jobs, finish_context, delete_context, apply_stage_action, is_drawn_out, may_root, create_root, may_stream, create_stream, create_filter, filter_at, create_context, begin_exchange_on, line_in, line_reading, reading_on, on_lines, change_line, with_response_head, in_contexts, put_trailers, take_part, take_read_item, head_item, is_last, end_of_read, after_heard, read_on, exchange_on, interim_of, drop_line, close_line, end_line, refusal_sent, fixed_answer, refuse_in, refuse_line, most_lines, accept_line, is_open, is_answered_in, is_read_in, exchange_of_line, receive_on, lose_client, is_missed, lose_server, take_event, close_up, end_exchange_of, end_with, end_at, is_due_tick, next_tick, tick_of, tick_root, is_late, expire_all, take_notice_reply, begin_first_job, release_at, enter_stages, reads_in, reads_next, callback_of, number_of, vm_length, plugin_length, moved, move_at, tells, made_one, ask_notice, notice_step, reads_call, drop_answer, tells_call, ends_call, works_call, works_other, works, works_first, step, with_filter, change_exchange, line_at, line_at_place, on_line, without_place, side_with_more, with_further, line_without_client, exchange_without_client, place_for, new_line, free_place, exchange_for, with_exchange, with_reader, with_read_mark}
 use Rattle.worker_model.specs.Turn.{Outcome, turn, turn_by, room_for_event, most_steps, outcome_of}
 use Rattle.worker_model.specs.Room.{Room}
 use Rattle.worker_model.specs.declared.types.Asked.{Asked}
@@ -76,21 +87,25 @@ use Rattle.worker_model.specs.declared.types.Line.{Line}
 use Rattle.worker_model.specs.declared.types.NewContext.{NewContext}
 use Rattle.worker_model.specs.declared.types.Next.{Next}
 use Rattle.worker_model.specs.declared.types.Next.TheVariants as next
+use Rattle.worker_model.specs.declared.types.OtherStep.{OtherStep}
+use Rattle.worker_model.specs.declared.types.OtherStep.TheVariants as others
 use Rattle.worker_model.specs.declared.types.Owner.{Owner}
 use Rattle.worker_model.specs.declared.types.Owner.TheVariants.{Nobody, Stage}
 use Rattle.worker_model.specs.declared.types.ReadBatch.{ReadBatch}
 use Rattle.law_lines.specs.Logs.{AreLogs, OnlyLogs, WriteLogs}
 use Rattle.law_lines.specs.Requests.{IsJudged}
 use Rattle.law_lines.specs.Turns.{Done, Turns, new_room, sent_in}
+use Rattle.law_lines.proofs.Callouts.{begin_up, close_up as call_close_up}
 use Rattle.law_lines.proofs.Joining.{ups_joined}
 use Rattle.law_lines.proofs.Kept.{by_bool}
 use Rattle.law_lines.proofs.Looks.{look, line_in_is}
 use Rattle.law_lines.proofs.Machines.{machines_write_logs}
 use Rattle.law_lines.proofs.Reader.{head_next, body_next, done_next}
 use Rattle.law_lines.proofs.Rooms.{logs_beside}
-use Rattle.law_lines.proofs.Stepping.{step_keeps}
-use Rattle.law_lines.proofs.Story.{LineOk, Known}
-use Rattle.law_lines.proofs.Turning.{facing_known, emptied_known, new_known}
+use Rattle.law_lines.proofs.Stepping.{KnownAll, steps_keep}
+use Rattle.law_lines.proofs.Story.{LineOk}
+use Rattle.law_lines.proofs.Turning.{facing_all, emptied_all, new_all}
+use Rattle.law_lines.proofs.Unused.{reads_clients}
 use Rattle.law_lines.proofs.Wholly.{Run, worked_run}
 use Rattle.law_read_back.specs.Maps.{AreLists, LeavesLists, KeepLists, AreHeaded, KeptLists, MapsStayLists, MapsOfWorkersStayLists, MapsOfTheProductStayLists}
 use Rattle.law_read_back.proofs.Calling.{machines_keep_lists}
@@ -196,32 +211,35 @@ module _ (n : ℕ) where
 
   -- ---- the effects of a callback, and deaths
 
-  does_fine : (vm : ℕ) (own : Owner) (context : ℕ) (w : EffectWhat) (room : Room) → Good room → Good (apply_effect vm own context w room)
-  does_fine vm own context (what.Continue response) room fine =
+  does_fine : is_call_line n ≡ false → (vm : ℕ) (own : Owner) (context : ℕ) (w : EffectWhat) (room : Room) → Good room → Good (apply_effect vm own context w room)
+  does_fine low vm own context (what.Continue response) room fine =
       by_bool Good (is_own own context response) room (on_context (passing.resume_context vm context response) vm context room) (λ e. fine)
       (λ e. context_fine (passing.resume_context vm context response) vm context room (λ m x hub f. deed_fine n m (resumes vm context response) x hub tt f) fine)
-  does_fine vm own context what.Close room fine = context_fine passing.close_exchange vm context room (λ m x hub f. deed_fine n m closes x hub tt f) fine
-  does_fine vm own context (what.Call request) room fine = fine
-  does_fine vm own context (what.Answer status fields body) room fine =
+  does_fine low vm own context what.Close room fine = context_fine passing.close_exchange vm context room (λ m x hub f. deed_fine n m closes x hub tt f) fine
+  does_fine low vm own context (what.Call request) room fine =
+      let id : ℕ = next_call room in
+      let f : Fine n (add_call (begun id room.hub.moment request) room).hub = record { maps = fine.0.maps; heads = fine.0.heads } in
+      (sends_fine n (to.Connect (line_of id) ∷ to.Bytes (line_of id) Up (request_wire request) ∷ []) (add_call (begun id room.hub.moment request) room).hub (subst AreHeaded (sym (begin_up n id (request_wire request) low)) tt) f, fine.1)
+  does_fine low vm own context (what.Answer status fields body) room fine =
       context_fine (apply_change (changes.Answer status fields body)) vm context room (λ m x hub f. deed_fine n m (answers false status fields.pairs body) x hub tt f) fine
 
-  effects_fine : (vm : ℕ) (own : Owner) (es : List Effect) (room : Room) → Good room → Good (effects_of vm own es room)
-  effects_fine vm own [] room fine = fine
-  effects_fine vm own (e ∷ es) room fine = effects_fine vm own es (apply_effect vm own e.context e.what room) (does_fine vm own e.context e.what room fine)
+  effects_fine : is_call_line n ≡ false → (vm : ℕ) (own : Owner) (es : List Effect) (room : Room) → Good room → Good (effects_of vm own es room)
+  effects_fine low vm own [] room fine = fine
+  effects_fine low vm own (e ∷ es) room fine = effects_fine low vm own es (apply_effect vm own e.context e.what room) (does_fine low vm own e.context e.what room fine)
 
   died_fine : (vm : ℕ) (death : Death) (room : Room) → Good room → Good (lose_vm_in vm death room)
   died_fine vm death room fine =
       let told : Room = room_with_sent (to.Log _ (death_text (vm_in room.hub.contexts vm).name death) ∷ []) room in
       all_lines_fine (passing.lose_vm vm) room.lines told.hub (λ m x hub f. deed_fine n m (dies vm) x hub tt f) (sends_fine n _ room.hub tt fine.0) fine.1
 
-  behind_fine : (vm : ℕ) (own : Owner) (end : CallbackEnd) (es : List Effect) (room : Room) → Good room → Good (after_callback vm own end es room)
-  behind_fine vm own (call_ends.Returned value) es room fine = effects_fine vm own es room fine
-  behind_fine vm own (call_ends.Died death) es room fine = died_fine vm death room fine
+  behind_fine : is_call_line n ≡ false → (vm : ℕ) (own : Owner) (end : CallbackEnd) (es : List Effect) (room : Room) → Good room → Good (after_callback vm own end es room)
+  behind_fine low vm own (call_ends.Returned value) es room fine = effects_fine low vm own es room fine
+  behind_fine low vm own (call_ends.Died death) es room fine = died_fine vm death room fine
 
-  answered_fine : (vm : ℕ) (own : Owner) (end : CallbackEnd) (lines : List Sent) (h : Contexts) (room : Room) → AreLogs lines → AreLists h → Good room → Good (take_callback_end vm own end lines h room)
-  answered_fine vm own end lines h room logs are fine =
+  answered_fine : is_call_line n ≡ false → (vm : ℕ) (own : Owner) (end : CallbackEnd) (lines : List Sent) (h : Contexts) (room : Room) → AreLogs lines → AreLists h → Good room → Good (take_callback_end vm own end lines h room)
+  answered_fine low vm own end lines h room logs are fine =
       let mid : Room = without_effects (room_with_sent lines (with_contexts h room)) in
-      behind_fine vm own end h.effects mid (record { maps = are; heads = subst AreHeaded (sym (logs_beside n lines room.hub mid.hub logs refl).up) fine.0.heads }, fine.1)
+      behind_fine low vm own end h.effects mid (record { maps = are; heads = subst AreHeaded (sym (logs_beside n lines room.hub mid.hub logs refl).up) fine.0.heads }, fine.1)
 
   -- ---- what comes behind callbacks
 
@@ -242,6 +260,25 @@ module _ (n : ℕ) where
   deletes_fine c value room fine =
       by_bool Good (has_vm c.vm room.hub.contexts && contains c.context (seen room.hub.contexts c.vm).common.ids) _ room
       (λ e. (held_fine n _ room.hub (deleted_lists c.vm c.context room.hub.contexts fine.0.maps) fine.0, fine.1)) (λ e. fine)
+
+  -- ---- callouts
+
+  closes_call_fine : is_call_line n ≡ false → (id : ℕ) (room : Room) → Good room → Good (close_call id room)
+  closes_call_fine low id room fine =
+      let f : Fine n (with_calls (without id room.calls) room).hub = record { maps = fine.0.maps; heads = fine.0.heads } in
+      (sends_fine n (to.Close (line_of id) Up ∷ []) (with_calls (without id room.calls) room).hub (subst AreHeaded (sym (call_close_up n id low)) tt) f, fine.1)
+
+  answer_fine : (answer : Option CallAnswer) (vm e : ℕ) (room : Room) → Good room → Good (put_call_answer answer vm e room)
+  answer_fine answer vm e room fine = (record { maps = by_own (own_at room.hub.contexts vm e); heads = fine.0.heads }, fine.1)
+    where
+      by_own : (o : Option Own) → AreLists (callouts.with_call_answer answer o vm e room.hub.contexts)
+      by_own None = fine.0.maps
+      by_own (Some o) = put_lists (record no_changes { own = Some (record o { answer = answer }) }) vm e room.hub.contexts fine.0.maps tt
+
+  -- they are others now, and this comes next for one of them, if anything
+  call_step_fine : (calls : List Callout) (step : Option CallStep) (room : Room) → Good room → Good (with_call_step step (record room { calls = calls }))
+  call_step_fine calls None room fine = fine
+  call_step_fine calls (Some step) room fine = fine
 
   acts_on_fine : (a : Asked) → ThenFine (apply_stage_action a)
   acts_on_fine a None room fine = fine
@@ -485,7 +522,7 @@ judged_head reading h new none says = by_due reading.due (subst (λ (o : Option 
 
 -- ---- a step
 
-module _ {H : Type 0} (calling : Calling H) (logs : WriteLogs calling) (keeps : KeepLists calling) (plan : Plan) (n : ℕ) where
+module _ {H : Type 0} (calling : Calling H) (logs : WriteLogs calling) (keeps : KeepLists calling) (plan : Plan) (n : ℕ) (low : is_call_line n ≡ false) where
   abbrev Finely : Course (BothOf H) → Type 0
   Finely course = AllEnds (λ (b : BothOf H). Good n b.room) course
 
@@ -498,7 +535,7 @@ module _ {H : Type 0} (calling : Calling H) (logs : WriteLogs calling) (keeps : 
       → AllEnds (λ (a : Answered H). Good n a.both.room) (called_in calling vm name context first second own host room)
   called_in_fine vm name context first second own host room fine =
       lists_then (λ (a : Answered H). Good n a.both.room) (calling host vm name context first second room.hub.moment room.hub.contexts) _ (logs host vm name context first second room.hub.moment room.hub.contexts)
-      (keeps host vm name context first second room.hub.moment room.hub.contexts fine.0.maps) (λ c only are. answered_fine n vm own c.end c.lines c.contexts room only are fine)
+      (keeps host vm name context first second room.hub.moment room.hub.contexts fine.0.maps) (λ c only are. answered_fine n low vm own c.end c.lines c.contexts room only are fine)
 
   calls_live_fine : (vm : ℕ) (name : Callback) (context first second : ℕ) (goes : Then) (host : H) (room : Room) → ThenFine n goes → Good n room → Finely (calls_live calling vm name context first second goes host room)
   calls_live_fine vm name context first second goes host room later fine =
@@ -534,6 +571,33 @@ module _ {H : Type 0} (calling : Calling H) (logs : WriteLogs calling) (keeps : 
   notices_fine vm more host room fine =
       by_bool Finely ((more == 0 || is_dead vm room) || not (nat_lt vm plan.vms)) (ends (both host room)) (ask_notice vm more host room) (λ e. fine) (λ e. λ r. noticed_fine n vm more r room fine)
 
+  reads_call_fine : (id : ℕ) (o : Option Callout) (host : H) (room : Room) → Good n room → Finely (reads_call id o host room)
+  reads_call_fine id None host room fine = fine
+  reads_call_fine id (Some c) host room fine =
+      let after : Heard → After = λ h. after_read id (after_part_heard h c) room.calls in
+      λ h heard. call_step_fine n (after h).calls (after h).next room fine
+
+  tells_call_fine : (answer : Option CallAnswer) (c : Callout) (host : H) (room : Room) → Good n room → Finely (tells_call calling answer c host room)
+  tells_call_fine answer c host room fine =
+      let mid : Room = put_call_answer answer c.vm c.context room in
+      by_bool Finely (has_listener c room) (calls_live calling c.vm callbacks.CallAnswered c.context c.id 0 (drop_answer c.vm c.context) host mid) (ends (both host room))
+      (λ e. calls_live_fine c.vm callbacks.CallAnswered c.context c.id 0 (drop_answer c.vm c.context) host mid (λ value r f. answer_fine n None c.vm c.context r f) (answer_fine n answer c.vm c.context room fine))
+      (λ e. fine)
+
+  ends_call_fine : (answered : Bool) (id : ℕ) (o : Option Callout) (host : H) (room : Room) → Good n room → Finely (ends_call calling answered id o host room)
+  ends_call_fine answered id None host room fine = fine
+  ends_call_fine answered id (Some c) host room fine = tells_call_fine (answer_if answered c) c host (close_call id room) (closes_call_fine n low id room fine)
+
+  works_call_fine : (step : CallStep) (host : H) (room : Room) → Good n room → Finely (works_call calling step host room)
+  works_call_fine (steps.Comes w) host room fine = let a : After = after_event w room.calls in call_step_fine n a.calls a.next room fine
+  works_call_fine (steps.Read id) host room fine = reads_call_fine id (callout_in id room.calls) host room fine
+  works_call_fine (steps.Fail id) host room fine = ends_call_fine false id (callout_in id room.calls) host room fine
+  works_call_fine (steps.Answer id) host room fine = ends_call_fine true id (callout_in id room.calls) host room fine
+
+  works_other_fine : (step : OtherStep) (host : H) (room : Room) → Good n room → Finely (works_other calling step host room)
+  works_other_fine (others.Call step) host room fine = works_call_fine step host room fine
+  works_other_fine (others.Tcp step) host room fine = fine
+
   works_fine : (job : Job) (host : H) (room : Room) → Good n room → Finely (works calling plan job host room)
   works_fine (jobs.Begin vm) host room fine = tells_fine vm callbacks.Begin 0 0 host room fine
   works_fine (jobs.Root vm plugin first) host room fine = made_fine (create_root vm plugin first room).0 host (create_root vm plugin first room).1 (rooting_fine n vm plugin first room fine)
@@ -556,7 +620,7 @@ module _ {H : Type 0} (calling : Calling H) (logs : WriteLogs calling) (keeps : 
   works_fine (jobs.Notice vm more) host room fine = notices_fine vm more host room fine
   works_fine (jobs.Ready vm root queue) host room fine =
       by_bool Finely (may_stream vm root room.hub.contexts) (tells calling vm callbacks.QueueReady root queue host room) (ends (both host room)) (λ e. tells_fine vm callbacks.QueueReady root queue host room fine) (λ e. fine)
-  works_fine (jobs.Other step) host room fine = fine
+  works_fine (jobs.Other step) host room fine = works_other_fine step host room fine
 
   -- where no reader of a client awaits a response
   abbrev Awaits : Room → Type 0
@@ -605,20 +669,20 @@ module _ {H : Type 0} (calling : Calling H) (logs : WriteLogs calling) (keeps : 
 
   module _ (past : List Sent) where
     abbrev Whole : Room → Type 0
-    Whole room = ((m : ℕ) → Known plan m past room) × Good n room
+    Whole room = KnownAll plan past room × Good n room
 
-    known_awaits : (room : Room) → ((m : ℕ) → Known plan m past room) → Awaits room
-    known_awaits room all r is down reading at = by_line (look r.line room.lines) (all r.line).line (sym (ap (line_reading false) (line_in_is r.line room.lines)) ∙ (ap (λ u. line_reading u (line_in r.line room.lines)) (sym down) ∙ at))
+    known_awaits : (room : Room) → KnownAll plan past room → Awaits room
+    known_awaits room all r is down reading at = by_line (look r.line room.lines) (all.0 r.line (reads_clients room all.1 r is)).line (sym (ap (line_reading false) (line_in_is r.line room.lines)) ∙ (ap (λ u. line_reading u (line_in r.line room.lines)) (sym down) ∙ at))
       where
         by_line : (o : Option Line) → LineOk plan r.line past room.reading room.jobs room.lines o room.hub → line_reading false o ≡ Some reading → reading.asked ≡ None
         by_line None ok there = absurd (cc)
         by_line (Some l) ok there = let same : l.requests ≡ reading = cc in ap (λ (q : Reading). q.asked) (sym same) ∙ ok.0
 
-    both_ends : (p : Course (BothOf H)) → ((m : ℕ) → AllEnds (λ (b : BothOf H). Known plan m past b.room) p) → Finely p → AllEnds (λ (b : BothOf H). Whole b.room) p
+    both_ends : (p : Course (BothOf H)) → AllEnds (λ (b : BothOf H). KnownAll plan past b.room) p → Finely p → AllEnds (λ (b : BothOf H). Whole b.room) p
     both_ends (ends b) all fine = (all, fine)
-    both_ends (asks vm call k) all fine = λ r. both_ends (k r) (λ m. all m r) (fine r)
-    both_ends (measures vm call k) all fine = λ r. both_ends (k r) (λ m. all m r) (fine r)
-    both_ends (hears t k) all fine = λ h says. both_ends (k h) (λ m. all m h says) (fine h says)
+    both_ends (asks vm call k) all fine = λ r. both_ends (k r) (all r) (fine r)
+    both_ends (measures vm call k) all fine = λ r. both_ends (k r) (all r) (fine r)
+    both_ends (hears t k) all fine = λ h says. both_ends (k h) (all h says) (fine h says)
 
     abbrev Wholly : Course (BothOf H) → Type 0
     Wholly course = AllEnds (λ (b : BothOf H). Whole b.room) course
@@ -632,25 +696,25 @@ module _ {H : Type 0} (calling : Calling H) (logs : WriteLogs calling) (keeps : 
         by_rest go false is =
             subst Wholly (sym (settling_step calling plan k (next_of room) host room refl is))
             (all_then (λ (b : BothOf H). Whole b.room) (λ (b : BothOf H). Whole b.room) (step calling plan (next_of room) host room) (λ b. settling calling plan k b.host b.room)
-            (both_ends (step calling plan (next_of room) host room) (λ m. step_keeps calling logs plan past host room m all.0) (step_fine (next_of room) host room (known_awaits room all.0) all.1)) (λ b e. go b.host b.room e))
+            (both_ends (step calling plan (next_of room) host room) (steps_keep calling logs plan past host room all.0) (step_fine (next_of room) host room (known_awaits room all.0) all.1)) (λ b e. go b.host b.room e))
 
     abbrev Comes : Outcome H → Type 0
-    Comes o = ((m : ℕ) → Known plan m (past ++ o.sent) o.state.room) × (AreLists o.state.room.hub.contexts × AllLim o.state.room.lines) × (AreHeaded (up_traffic n o.sent) × (o.state.room.hub.sent ≡ []))
+    Comes o = KnownAll plan (past ++ o.sent) o.state.room × (AreLists o.state.room.hub.contexts × AllLim o.state.room.lines) × (AreHeaded (up_traffic n o.sent) × (o.state.room.hub.sent ≡ []))
 
-    turn_whole : (state : BothOf H) (event : Event) → ((m : ℕ) → Known plan m past state.room) → AreLists state.room.hub.contexts × AllLim state.room.lines → state.room.hub.sent ≡ [] → AllEnds Comes (turn calling plan state event)
+    turn_whole : (state : BothOf H) (event : Event) → KnownAll plan past state.room → AreLists state.room.hub.contexts × AllLim state.room.lines → state.room.hub.sent ≡ [] → AllEnds Comes (turn calling plan state event)
     turn_whole state event all are none = by_stop (is_stop event.what)
       where
         fine : Good n (room_for_event plan event state.room)
         fine = (record { maps = are.0; heads = subst (λ (l : List Sent). AreHeaded (up_traffic n l)) (sym none) tt }, are.1)
 
         by_stop : (b : Bool) → AllEnds Comes (turn_by calling plan b state event)
-        by_stop true = ((λ m. subst (λ l. Known plan m l state.room) (sym (append-nil past)) (all m)), are, (tt, none))
+        by_stop true = (subst (λ l. KnownAll plan l state.room) (sym (append-nil past)) all, are, (tt, none))
         by_stop false =
             all_then (λ (b : BothOf H). Whole b.room) Comes (settling calling plan most_steps state.host (room_for_event plan event state.room)) (λ b. ends (outcome_of b))
-            (settling_whole most_steps state.host (room_for_event plan event state.room) ((λ m. facing_known plan m past event state.room (all m)), fine))
-            (λ b k. ((λ m. emptied_known plan m past b.room (k.0 m)), (k.1.0.maps, k.1.1), (subst AreHeaded (sym (ups_joined n b.room.hub.sent)) k.1.0.heads, refl)))
+            (settling_whole most_steps state.host (room_for_event plan event state.room) (facing_all plan past event state.room all, fine))
+            (λ b k. (emptied_all plan past b.room k.0, (k.1.0.maps, k.1.1), (subst AreHeaded (sym (ups_joined n b.room.hub.sent)) k.1.0.heads, refl)))
 
-  turns_whole : (past : List Sent) (from : BothOf H) (ts : List (Done H)) (to : BothOf H) → ((m : ℕ) → Known plan m past from.room) → AreLists from.room.hub.contexts × AllLim from.room.lines → from.room.hub.sent ≡ [] → Turns calling plan from ts to
+  turns_whole : (past : List Sent) (from : BothOf H) (ts : List (Done H)) (to : BothOf H) → KnownAll plan past from.room → AreLists from.room.hub.contexts × AllLim from.room.lines → from.room.hub.sent ≡ [] → Turns calling plan from ts to
       → KeptLists n to.room.hub.contexts (sent_in ts)
   turns_whole past from [] to all are none turned = record { maps = subst (λ (b : BothOf H). AreLists b.room.hub.contexts) (sym turned) are.0; heads = tt }
   turns_whole past from (t ∷ ts) to all are none turned =
@@ -659,8 +723,8 @@ module _ {H : Type 0} (calling : Calling H) (logs : WriteLogs calling) (keeps : 
       record { maps = later.maps; heads = subst AreHeaded (sym (ups_join n t.end.sent (sent_in ts))) (headed_join (up_traffic n t.end.sent) (up_traffic n (sent_in ts)) one.2.0 later.heads) }
 
 pub maps_stay_lists : (H : Type 0) → MapsStayLists H
-maps_stay_lists H calling plan contexts host ts to n logs keeps are turned =
-    turns_whole calling logs keeps plan n [] (both host (new_room contexts)) ts to (new_known plan contexts) (are, tt) refl turned
+maps_stay_lists H calling plan contexts host ts to n low logs keeps are turned =
+    turns_whole calling logs keeps plan n low [] (both host (new_room contexts)) ts to (new_all plan contexts) (are, tt) refl turned
 
 -- ---- a worker that was made
 
@@ -677,13 +741,13 @@ plugins_lists h [] are = are
 plugins_lists h (p ∷ plugins) are = plugins_lists (with_plugin p.vm p.name p.configuration h) plugins are
 
 pub maps_of_workers : (H S : Type 0) (performs : S → List Made → S → Type 0) → MapsOfWorkersStayLists H S performs
-maps_of_workers H S performs calling exported registering config who seed host sent to n logs keeps worked =
+maps_of_workers H S performs calling exported registering config who seed host sent to n low logs keeps worked =
     let from : Standing H = new_worker exported registering config who seed host in
     let r : Run calling from sent to = worked_run calling performs from to sent worked in
     subst (KeptLists n to.state.room.hub.contexts) r.sends
-    (maps_stay_lists H calling (rules_of from.setting) (contexts_of config seed) host r.turns to.state n logs keeps
+    (maps_stay_lists H calling (rules_of from.setting) (contexts_of config seed) host r.turns to.state n low logs keeps
     (plugins_lists (with_vms (no_contexts config.log_level seed) config.vms) config.plugins (vms_lists (no_contexts config.log_level seed) config.vms (none_lists config.log_level seed))) r.run)
 
 pub maps_of_the_product : (S : Type 0) (performs : S → List Made → S → Type 0) → MapsOfTheProductStayLists S performs
-maps_of_the_product S performs config who seed host sent to n worked =
-    maps_of_workers Vms S performs slots.calling slots.exported_in slots.registering_in config who seed host sent to n machines_write_logs machines_keep_lists worked
+maps_of_the_product S performs config who seed host sent to n low worked =
+    maps_of_workers Vms S performs slots.calling slots.exported_in slots.registering_in config who seed host sent to n low machines_write_logs machines_keep_lists worked

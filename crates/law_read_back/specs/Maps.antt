@@ -1,5 +1,6 @@
 -- The maps of requests, whatever filters call, and the heads that are written of them.
-use Rattle.std.specs.Prelude.{◌≡◌, ◌⊎◌, ℕ, Bool, List, [], ◌∷◌, ◌++◌, map, length, codes, Option, None, Some}
+use Rattle.std.specs.Prelude.{◌≡◌, ◌⊎◌, ℕ, Bool, false, List, [], ◌∷◌, ◌++◌, map, length, codes, Option, None, Some}
+use Rattle.callouts.specs.Callouts.{is_call_line}
 use Rattle.contexts.specs.declared.parts.Contexts.{Contexts}
 use Rattle.contexts.specs.declared.parts.ExchangeView.{ExchangeView}
 use Rattle.contexts.specs.Reached.{view_at}
@@ -115,24 +116,24 @@ pub record KeptLists (n : ℕ) (contexts : Contexts) (sent : List Sent) : Type 0
   pub heads : AreHeaded (up_traffic n sent)
 
 -- WHATEVER TURNS a new worker has had, of machines that write logs and keep lists: each map of a request among its contexts is such a list, and each connection
--- that went up begins with a head of such fields, framed and with the tail of a request whose head was judged. (That this is the head of the exchange that sent
--- it, and these are the fields of `IsMadeOf` of `law_lines`, is not said.)
+-- that went up on a line of a client (those from 2^31 on are of callouts) begins with a head of such fields, framed and with the tail of a request whose head was
+-- judged. (That this is the head of the exchange that sent it, and these are the fields of `IsMadeOf` of `law_lines`, is not said.)
 abbrev pub MapsStayLists : (H : Type 0) → Type 0
 MapsStayLists H =
-    (calling : Calling H) (plan : Plan) (contexts : Contexts) (host : H) (turns : List (Done H)) (to : Both H) (n : ℕ) → WriteLogs calling → KeepLists calling → AreLists contexts
+    (calling : Calling H) (plan : Plan) (contexts : Contexts) (host : H) (turns : List (Done H)) (to : Both H) (n : ℕ) → is_call_line n ≡ false → WriteLogs calling → KeepLists calling → AreLists contexts
     → Turns calling plan (both host (new_room contexts)) turns to → KeptLists n to.room.hub.contexts (sent_in turns)
 
 -- the same of a worker that was made of a configuration, by the whole turns that its code takes, over shared stores of any kind
 abbrev pub MapsOfWorkersStayLists : (H S : Type 0) → (performs : S → List Made → S → Type 0) → Type 0
 MapsOfWorkersStayLists H S performs =
     (calling : Calling H) (exported : H → ℕ → Callback → Bool) (registering : H → ℕ → Bool) (config : Config) (who : ℕ) (seed : List ℕ) (host : H)
-    (sent : List Sent) (to : Standing H) (n : ℕ) → WriteLogs calling → KeepLists calling → Worked calling performs (new_worker exported registering config who seed host) sent to
+    (sent : List Sent) (to : Standing H) (n : ℕ) → is_call_line n ≡ false → WriteLogs calling → KeepLists calling → Worked calling performs (new_worker exported registering config who seed host) sent to
     → KeptLists n to.state.room.hub.contexts sent
 
 -- and with the machines of its VMs, whatever these are
 abbrev pub MapsOfTheProductStayLists : (S : Type 0) → (performs : S → List Made → S → Type 0) → Type 0
 MapsOfTheProductStayLists S performs =
-    (config : Config) (who : ℕ) (seed : List ℕ) (host : Vms) (sent : List Sent) (to : Standing Vms) (n : ℕ)
+    (config : Config) (who : ℕ) (seed : List ℕ) (host : Vms) (sent : List Sent) (to : Standing Vms) (n : ℕ) → is_call_line n ≡ false
     → Worked slots.calling performs (new_worker slots.exported_in slots.registering_in config who seed host) sent to
     → KeptLists n to.state.room.hub.contexts sent
 

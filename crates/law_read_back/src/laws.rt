@@ -71,8 +71,8 @@ pub fn machines_keep_lists()
 {}
 
 /// Over the turns of a new worker whose machines write logs and keep such lists: each map of a request among its contexts is one, and each connection that went up
-/// on a line begins with the whole head of a request, of the fields of one, framed and with the tail of a request whose head was judged; or of no fields at all,
-/// which is what would be written of an exchange that the contexts have no more.
+/// on a line of a client begins with the whole head of a request, of the fields of one, framed and with the tail of a request whose head was judged; or of no
+/// fields at all, which is what would be written of an exchange that the contexts have no more.
 pub fn maps_stay_lists<H>()
     ensures { MapsStayLists H }
 {}

@@ -3,6 +3,7 @@ pub mod Alike
 pub mod Lines
 pub mod Every
 pub mod Quiet
+pub mod Callouts
 pub mod Events
 pub mod Steps
 pub mod Settles

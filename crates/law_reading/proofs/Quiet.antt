@@ -114,7 +114,7 @@ does_quiet vm own context (what.Continue response) room =
     by_bool (Quiet room) (is_own own context response) room (on_context (passing.resume_context vm context response) vm context room) (λ e. quiet_itself room)
     (λ e. quiet_context (passing.resume_context vm context response) vm context room (λ n x hub. resumes_kept vm context response n x hub))
 does_quiet vm own context what.Close room = quiet_context passing.close_exchange vm context room (λ n x hub. closed_kept n x hub)
-does_quiet vm own context (what.Call request) room = quiet_itself room
+does_quiet vm own context (what.Call request) room = record { lines = are_itself room.lines; jobs = refl; agenda = refl }
 does_quiet vm own context (what.Answer status fields body) room =
     quiet_context (apply_change (changes.Answer status fields body)) vm context room (λ n x hub. answer_kept n false status fields.pairs body x hub)
 

@@ -3,7 +3,7 @@ use Rattle.std.proofs.Common.{◌≡◌, ℕ, zero, suc, ◌+◌, ◌==◌, Bool
 use Rattle.std.proofs.lemmas.List.{append-nil}
 use Rattle.std.specs.Prelude.{Option, None, Some, is_some, slice_get, position, nat_lt, length, insert, if◌then◌else◌}
 use Rattle.std.specs.List.{list_any}
-use Rattle.callouts.specs.Callouts.{is_of_call, line_in as event_line}
+use Rattle.callouts.specs.Callouts.{is_of_call, due_at, line_in as event_line}
 use Rattle.contexts.specs.declared.parts.Context.{Context}
 use Rattle.contexts.specs.declared.parts.Contexts.{Contexts}
 use Rattle.contexts.specs.declared.parts.Plugin.{Plugin}
@@ -29,7 +29,7 @@ use Rattle.worker_model.specs.Plan.{Plan}
 use Rattle.worker_model.specs.Rooms.{next_of, next_part, has_move, moves_or, frees_or, ends_or, begins_or_rests, is_any, is_released, is_over, place_in, on_number, room_with_sent}
 use Rattle.worker_model.specs.Settling.{settling, settling_none, settling_more, goes, is_rest}
 use Rattle.worker_model.specs.Steps.{Both, step, works, works_first, move_at, release, end_at, begin_first_job, take_event, receive, on_lines, side_with_more, read_side, is_open, is_read_in, is_answered_in, line_reading, line_in, exchange_of_line, exchange_on, accept_line, most_lines, new_line, place_for, lose_client, lose_server, line_without_client, drop_line, is_missed}
-use Rattle.worker_model.specs.Turn.{Outcome, turn, turn_by, room_for_event, happening, agenda_of, start_jobs, starts_of, start_of, roots_from, vms_in, is_of, ticks_in, ticks_of, ticks_due, deadline_jobs, notice_of, notices_of, is_due_now, registers_at, most_steps, outcome_of, without_sent}
+use Rattle.worker_model.specs.Turn.{Outcome, turn, turn_by, room_for_event, fail_jobs, calls_due, happening, agenda_of, start_jobs, starts_of, start_of, roots_from, vms_in, is_of, ticks_in, ticks_of, ticks_due, deadline_jobs, notice_of, notices_of, is_due_now, registers_at, most_steps, outcome_of, without_sent}
 use Rattle.law_reading.specs.Turns.{IsAtRest}
 use Rattle.law_reading.proofs.Readers.{by_bool}
 use Rattle.law_reading.proofs.Alike.{AreAlike, are_itself}
@@ -134,6 +134,11 @@ notices_none plan zero = refl
 notices_none plan (suc k) =
     both_none (notices_of plan k) (notice_of plan k) (notices_none plan k) (by_bool (λ (js : List Job). happens_in js ≡ []) (registers_at (slice_get plan.registers k)) (jobs.Notice k 16 ∷ []) [] (λ e. refl) (λ e. refl))
 
+-- the callouts that are due
+fails_none : (ids : List ℕ) → happens_in (fail_jobs ids) ≡ []
+fails_none [] = refl
+fails_none (id ∷ ids) = fails_none ids
+
 -- its event, and none where that is of a callout
 event_one : (w : What) (room : Room) → is_of_call (event_line w) ≡ false → happens_in (happening w room) ≡ w ∷ []
 event_one w room low =
@@ -148,7 +153,8 @@ agenda_hand plan w room ws is =
     none_in_front (start_jobs room) _ (by_bool (λ (js : List Job). happens_in js ≡ []) room.is_begun [] (starts_of (vms_in room) room.hub.contexts.plugins) (λ e. refl) (λ e. starts_none (vms_in room) room.hub.contexts.plugins))
     ∙ (none_in_front (ticks_due room) _ (all_ticks_none room.hub.moment (vms_in room) room.hub.contexts)
     ∙ (none_in_front (deadline_jobs plan) _ (by_bool (λ (js : List Job). happens_in js ≡ []) (plan.deadline == 0) [] (jobs.Expire ∷ []) (λ e. refl) (λ e. refl))
-    ∙ (happens_join (happening w room) (notices_of plan (vms_in room)) ∙ ((λ i. is i ++ notices_none plan (vms_in room) i) ∙ append-nil ws))))
+    ∙ (none_in_front (calls_due room) _ (fails_none (due_at room.hub.moment room.calls))
+    ∙ (happens_join (happening w room) (notices_of plan (vms_in room)) ∙ ((λ i. is i ++ notices_none plan (vms_in room) i) ∙ append-nil ws)))))
 
 pub facing_hand : (plan : Plan) (event : Event) (room : Room) (ws : List What) → room.jobs ≡ [] → happens_in (happening event.what (record room { hub = record room.hub { moment = event.now } })) ≡ ws
     → in_hand (room_for_event plan event room) ≡ ws

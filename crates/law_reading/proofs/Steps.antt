@@ -37,6 +37,7 @@ use Rattle.law_reading.proofs.Readers.{by_bool, ReaderGoes, put_in_kept, refused
 use Rattle.law_reading.proofs.Alike.{AreAlike, are_itself, are_then, alike_itself, alike_set, change_on, on_alike}
 use Rattle.law_reading.proofs.Lines.{found_in, set_in, without, line_in_found, on_line_set, drops_without}
 use Rattle.law_reading.proofs.Every.{reading_in}
+use Rattle.law_reading.proofs.Callouts.{other_quiet}
 use Rattle.law_reading.proofs.Quiet.{happen_of, happens_in, happens_join, none_in_front, Quiet, Quietly, quiet_itself, quiet_then, quiet_number, quiet_hub, in_front_quiet, unless_zero_quiet, done_quiet, deletes_quiet, entering_kept, calls_live_quiet, tells_quiet, roots_quiet, streams_quiet, ticks_quiet, ready_quiet, notices_quiet, expire_quiet}
 
 -- ---- what is done to the lines
@@ -237,7 +238,7 @@ works_lead calling plan (jobs.Delete c) host room none = quiet_leads room _ (cal
 works_lead calling plan (jobs.Close number stays) host room none = close_goes number stays (line_in number room.lines) room
 works_lead calling plan (jobs.Notice vm left) host room none = quiet_leads room _ (notices_quiet calling plan vm left host room)
 works_lead calling plan (jobs.Ready vm root queue) host room none = quiet_leads room _ (ready_quiet calling vm root queue host room)
-works_lead calling plan (jobs.Other step) host room none = goes_quiet room room (quiet_itself room)
+works_lead calling plan (jobs.Other step) host room none = quiet_leads room _ (other_quiet calling step host room)
 
 -- ---- a context is free, an exchange ends
 

@@ -7,6 +7,7 @@ pub mod Lines
 pub mod Rooms
 pub mod Moving
 pub mod Jobs
+mod Callouts
 pub mod Works
 pub mod Hearing
 pub mod Steps

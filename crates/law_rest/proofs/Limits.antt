@@ -39,4 +39,4 @@ limits_are_small room fit keeps =
     let l = lines_few room.lines fit keeps.lines in
     let v = vms_few (vms_in room) room.hub.contexts keeps.contexts in
     let n = few_vms (length room.hub.contexts.vms) in
-    omega (arith, keeps.count, keeps.waits, keeps.plugins)
+    omega (arith, keeps.count, keeps.waits, keeps.plugins, keeps.calls, keeps.unread)

@@ -11,12 +11,12 @@ use Rattle.worker_model.specs.Plan.{Plan}
 use Rattle.worker_model.specs.Settling.{settling}
 use Rattle.worker_model.specs.State.{Setting, rules_of}
 use Rattle.worker_model.specs.Steps.{Both, both}
-use Rattle.worker_model.specs.Turn.{vms_in, start_jobs, starts_of, ticks_due, deadline_jobs, notices_of, happening, agenda_of, at_moment, Outcome, outcome, outcome_of, turn, turn_by, turned, most_steps}
+use Rattle.worker_model.specs.Turn.{vms_in, start_jobs, starts_of, ticks_due, deadline_jobs, notices_of, calls_due, happening, agenda_of, at_moment, Outcome, outcome, outcome_of, turn, turn_by, turned, most_steps}
 use Rattle.law_rest.specs.Left.{work_left, byte_cost, jobs_left, parts_left, reading_left, bytes_of}
 use Rattle.law_rest.specs.Paid.{starting, brought, all_brought, TakesBy, TakeAll, LivesArePaid}
 use Rattle.law_rest.specs.Sizes.{OneTurn, first_state, turn_start, IsReady, Follow}
 use Rattle.law_rest.proofs.Settling.{rest_is_rest}
-use Rattle.law_rest.proofs.Sizes.{bytes_small, starts_small, times_16, few_vms, ticks_small, deadlines_small, notices_small, event_small, parts_left-append, turn_ready, first_ready}
+use Rattle.law_rest.proofs.Sizes.{starts_small, times_16, few_vms, ticks_small, deadlines_small, notices_small, event_small, calls_small, parts_left-append, turn_ready, first_ready}
 use Rattle.law_rest.proofs.Turns.{splits, pays, setting_fits}
 
 starting_small : (room : Room) → parts_left 16 (start_jobs room) ≤ starting room
@@ -35,14 +35,15 @@ agenda_paid plan event room =
     let a = starting_small (at_moment event.now room) in
     let b = ticks_small event.now (vms_in room) room.hub.contexts in
     let c = deadlines_small plan in
-    let d = bytes_small (byte_cost 16) (bytes_of event.what) (omega arith) in
     let e = notices_small plan (vms_in room) in
     let f = times_16 (vms_in room) 50 (few_vms (length room.hub.contexts.vms)) in
     let g = event_small event.what (at_moment event.now room) in
-    let p = parts_left-append 16 (start_jobs (at_moment event.now room)) (ticks_due (at_moment event.now room) ++ (deadline_jobs plan ++ (happening event.what (at_moment event.now room) ++ notices_of plan (vms_in room)))) in
-    let q = parts_left-append 16 (ticks_due (at_moment event.now room)) (deadline_jobs plan ++ (happening event.what (at_moment event.now room) ++ notices_of plan (vms_in room))) in
-    let r = parts_left-append 16 (deadline_jobs plan) (happening event.what (at_moment event.now room) ++ notices_of plan (vms_in room)) in
+    let p = parts_left-append 16 (start_jobs (at_moment event.now room)) (ticks_due (at_moment event.now room) ++ (deadline_jobs plan ++ (calls_due (at_moment event.now room) ++ (happening event.what (at_moment event.now room) ++ notices_of plan (vms_in room))))) in
+    let q = parts_left-append 16 (ticks_due (at_moment event.now room)) (deadline_jobs plan ++ (calls_due (at_moment event.now room) ++ (happening event.what (at_moment event.now room) ++ notices_of plan (vms_in room)))) in
+    let r = parts_left-append 16 (deadline_jobs plan) (calls_due (at_moment event.now room) ++ (happening event.what (at_moment event.now room) ++ notices_of plan (vms_in room))) in
     let s = parts_left-append 16 (happening event.what (at_moment event.now room)) (notices_of plan (vms_in room)) in
+    let x = parts_left-append 16 (calls_due (at_moment event.now room)) (happening event.what (at_moment event.now room) ++ notices_of plan (vms_in room)) in
+    let y = calls_small (at_moment event.now room) in
     omega arith
 
 start_paid : {H : Type 0} (setting : Setting) (state : Both H) (event : Event) → IsReady state → work_left 16 (turn_start setting state event) ≤ work_left 16 state.room + brought state.room event

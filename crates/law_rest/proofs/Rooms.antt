@@ -1,6 +1,8 @@
 -- WHAT IS LEFT IN A ROOM, after what is done there: the effects of callbacks, and deaths, leave no more to do, whatever the machines did.
-use Rattle.std.proofs.Common.{ℕ, ◌+◌, ◌<◌, ◌≤◌, false, List, [], ◌∷◌, arith}
+use Rattle.std.proofs.Common.{◌≡◌, ℕ, ◌+◌, ◌<◌, ◌≤◌, false, List, [], ◌∷◌, ◌++◌, length, arith}
 use Rattle.std.specs.Prelude.{Option, false}
+use Rattle.callouts.specs.Callouts.{begun}
+use Rattle.callouts.specs.declared.types.Callout.{Callout}
 use Rattle.contexts.specs.declared.parts.Contexts.{Contexts}
 use Rattle.contexts.specs.declared.parts.Effect.{Effect}
 use Rattle.contexts.specs.declared.parts.EffectKind.{EffectKind}
@@ -26,9 +28,9 @@ use Rattle.worker_model.specs.declared.types.Change.TheVariants as changes
 use Rattle.worker_model.specs.declared.types.Line.{Line}
 use Rattle.worker_model.specs.declared.types.Owner.{Owner}
 use Rattle.worker_model.specs.declared.types.Owner.TheVariants.{Nobody}
-use Rattle.worker_model.specs.Rooms.{Changes, at_place, place_in, place_of, with_lines, on_number, on_context, with_contexts, room_with_sent, is_own, apply_effect, effects_of, without_effects, lose_vm_in, after_callback, take_callback_end, is_dead, death_text}
+use Rattle.worker_model.specs.Rooms.{Changes, at_place, place_in, place_of, with_lines, on_number, on_context, with_contexts, room_with_sent, is_own, next_call, apply_effect, effects_of, without_effects, lose_vm_in, after_callback, take_callback_end, is_dead, death_text}
 use Rattle.worker_model.specs.Steps.{Both, Answered, Then, called_in, called_live, calls_live}
-use Rattle.law_rest.specs.Left.{work_left, AllFit}
+use Rattle.law_rest.specs.Left.{work_left, calls_left, AllFit}
 use Rattle.law_rest.proofs.Exchanges.{Adds, answer_adds, resumes_adds, closed_adds, dies_adds}
 use Rattle.law_rest.proofs.Lines.{LeavesBy, adds_leaves, AllLeave, at_place_leaves, all_lines_leave}
 use Rattle.law_rest.proofs.Tests.{of_if}
@@ -64,6 +66,13 @@ on_context_same s m change vm context room a adds =
     (with_lines_most s m 0 room (at_place change room.lines (place_of vm context room.lines) room.hub) a
     (at_place_leaves s 0 change room.lines (place_of vm context room.lines) room.hub (λ n x hub fits. adds_leaves s 0 x (change n x hub).0 (adds n x hub) fits) a.fit))
 
+-- ---- callouts
+
+-- of one that has begun nothing is unread
+calls_left-append : (calls : List Callout) (c : Callout) → calls_left (calls ++ c ∷ []) ≡ calls_left calls + length c.reader.unread
+calls_left-append [] c = omega arith
+calls_left-append (d ∷ calls) c = let e = calls_left-append calls c in omega arith
+
 -- ---- the effects of a callback
 
 does_most : (s m vm : ℕ) (own : Owner) (context : ℕ) (w : EffectKind) (room : Room) → AtMost s m room → AtMost s m (apply_effect vm own context w room)
@@ -71,7 +80,8 @@ does_most s m vm own context (what.Continue response) room a =
     of_if (λ (r : Room). AtMost s m r) (is_own own context response) _ _ (λ is. a)
     (λ is. on_context_same s m (resume_context vm context response) vm context room a (λ n x hub. resumes_adds vm context response n x hub))
 does_most s m vm own context what.Close room a = on_context_same s m close_exchange vm context room a (λ n x hub. closed_adds n x hub)
-does_most s m vm own context (what.Call request) room a = a
+does_most s m vm own context (what.Call request) room a =
+    record { fit = a.fit; few = omega (arith, a.few, calls_left-append room.calls (begun (next_call room) room.hub.moment request)) }
 does_most s m vm own context (what.Answer status fields body) room a =
     on_context_same s m (apply_change (changes.Answer status fields body)) vm context room a (λ n x hub. answer_adds n false status fields.pairs body x hub)
 

@@ -3,7 +3,8 @@ use Rattle.std.proofs.Common.{◌≡◌, ℕ, zero, suc, ◌+◌, ◌*◌, ◌^�
 use Rattle.filter_host.specs.Called.{Calling}
 use Rattle.std.proofs.lemmas.Bool.{leb-true}
 use Rattle.std.specs.List.{list_any}
-use Rattle.std.specs.Prelude.{Option, None, Some, slice_get, nat_le, ◌==◌}
+use Rattle.std.specs.Prelude.{filter, Option, None, Some, slice_get, nat_le, ◌==◌}
+use Rattle.callouts.specs.Callouts.{id_of, is_due, due_at}
 use Rattle.contexts.specs.declared.parts.Context.{Context}
 use Rattle.contexts.specs.declared.parts.Contexts.{Contexts}
 use Rattle.contexts.specs.declared.parts.Plugin.{Plugin}
@@ -29,12 +30,13 @@ use Rattle.store_model.specs.Made.{Made}
 use Rattle.worker_model.specs.Settling.{settling}
 use Rattle.worker_model.specs.State.{Setting, rules_of}
 use Rattle.worker_model.specs.Steps.{Both, both}
-use Rattle.worker_model.specs.Turn.{is_of, roots_from, start_of, starts_of, first_vms, vms_in, start_jobs, is_due_now, ticks_in, ticks_of, ticks_due, deadline_jobs, registers_at, notice_of, notices_of, happening, agenda_of, at_moment, Outcome, outcome, turn, turn_by, most_steps}
+use Rattle.worker_model.specs.Turn.{is_of, roots_from, start_of, starts_of, first_vms, vms_in, start_jobs, is_due_now, ticks_in, ticks_of, ticks_due, deadline_jobs, registers_at, notice_of, notices_of, fail_jobs, calls_due, happening, agenda_of, at_moment, Outcome, outcome, turn, turn_by, most_steps}
 use Rattle.worker_model.proofs.Events.{by_event}
 use Rattle.law_rest.specs.Left.{byte_cost, work_left, lines_left, open_left, reader_left, jobs_left, parts_left, reading_left, bytes_of, OpenFits, AllFit}
 use Rattle.law_rest.specs.Moves.{for_each, moves_of, spare, spare_of, chains_left}
 use Rattle.law_rest.specs.Sizes.{stages_size, reader_size, open_size, lines_size, vms_size, OneTurn, first_state, turn_start, start_size, IsReady, Follow, WorkersComeToRest, WholeTurnsComeToRest}
 use Rattle.law_rest.proofs.Settling.{Settled, rest_is_rest}
+use Rattle.law_rest.proofs.Sums.{filter_fewer, length_map}
 use Rattle.law_rest.proofs.Tests.{of_if}
 use Rattle.law_rest.proofs.Turns.{turn_rests, turns_come_to_rest, fewer_steps, setting_fits}
 use Rattle.worker_model.proofs.Resting.{whole_rests}
@@ -179,25 +181,40 @@ notices_small plan (suc n) =
     let a = parts_left-append 16 (notices_of plan n) (notice_of plan n) in
     omega arith
 
--- an event that is no line's brings less
-pub event_small : (what : What) (room : Room) → parts_left 16 (happening what room) ≤ parts_left 16 (jobs.Happen what ∷ [])
-event_small what room = by_event (λ (js : List Job). parts_left 16 js ≤ parts_left 16 (jobs.Happen what ∷ [])) what room (λ e. omega arith) (λ e. omega arith) (λ e. omega arith)
+-- an event that is of no client's line brings less
+pub event_small : (what : What) (room : Room) → parts_left 16 (happening what room) ≤ 119 + 248 * length (bytes_of what)
+event_small what room =
+    let d = bytes_small (byte_cost 16) (bytes_of what) (omega arith) in
+    by_event (λ (js : List Job). parts_left 16 js ≤ 119 + 248 * length (bytes_of what)) what room (λ e. omega arith) (λ e. omega arith) (λ e. omega arith)
+
+-- the callouts that are due
+fails_small : (ids : List ℕ) → parts_left 16 (fail_jobs ids) ≤ 2 * length ids
+fails_small [] = omega arith
+fails_small (id ∷ ids) = let e = fails_small ids in omega arith
+
+pub calls_small : (room : Room) → parts_left 16 (calls_due room) ≤ 2 * length room.calls
+calls_small room =
+    let a = fails_small (due_at room.hub.moment room.calls) in
+    let b = length_map id_of (filter (is_due room.hub.moment) room.calls) in
+    let c = filter_fewer (is_due room.hub.moment) room.calls in
+    omega arith
 
 agenda_small : (plan : Plan) (what : What) (room : Room)
     → parts_left 16 (agenda_of plan what room)
-    ≤ 953 + 64 * length room.hub.contexts.plugins + 2 * vms_size (vms_in room) room.hub.contexts + 248 * length (bytes_of what)
+    ≤ 953 + 64 * length room.hub.contexts.plugins + 2 * vms_size (vms_in room) room.hub.contexts + 2 * length room.calls + 248 * length (bytes_of what)
 agenda_small plan what room =
     let a = all_starts_small room in
     let b = ticks_small room.hub.moment (vms_in room) room.hub.contexts in
     let c = deadlines_small plan in
-    let d = bytes_small (byte_cost 16) (bytes_of what) (omega arith) in
     let e = notices_small plan (vms_in room) in
     let f = times_16 (vms_in room) 50 (few_vms (length room.hub.contexts.vms)) in
-    let p = parts_left-append 16 (start_jobs room) (ticks_due room ++ (deadline_jobs plan ++ (happening what room ++ notices_of plan (vms_in room)))) in
-    let q = parts_left-append 16 (ticks_due room) (deadline_jobs plan ++ (happening what room ++ notices_of plan (vms_in room))) in
-    let r = parts_left-append 16 (deadline_jobs plan) (happening what room ++ notices_of plan (vms_in room)) in
+    let p = parts_left-append 16 (start_jobs room) (ticks_due room ++ (deadline_jobs plan ++ (calls_due room ++ (happening what room ++ notices_of plan (vms_in room))))) in
+    let q = parts_left-append 16 (ticks_due room) (deadline_jobs plan ++ (calls_due room ++ (happening what room ++ notices_of plan (vms_in room)))) in
+    let r = parts_left-append 16 (deadline_jobs plan) (calls_due room ++ (happening what room ++ notices_of plan (vms_in room))) in
     let s = parts_left-append 16 (happening what room) (notices_of plan (vms_in room)) in
     let t = event_small what room in
+    let x = parts_left-append 16 (calls_due room) (happening what room ++ notices_of plan (vms_in room)) in
+    let y = calls_small room in
     omega arith
 
 -- ---- the whole

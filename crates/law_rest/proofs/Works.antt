@@ -2,6 +2,7 @@
 use Rattle.std.proofs.Common.{ℕ, suc, ◌+◌, ◌*◌, ◌≤◌, Bool, true, false, [], ◌∷◌, ◌++◌, arith}
 use Rattle.std.proofs.lemmas.Bool.{eqb-false}
 use Rattle.std.specs.Prelude.{Option, None, Some, not, nat_lt, ◌==◌, ◌&&◌, ◌||◌}
+use Rattle.callouts.specs.declared.types.CallStep.TheVariants as steps
 use Rattle.contexts.specs.Creating.{delete_id}
 use Rattle.contexts.specs.declared.parts.Contexts.{Contexts}
 use Rattle.contexts.specs.declared.parts.Tick.{Tick}
@@ -19,12 +20,14 @@ use Rattle.worker_model.specs.declared.types.ContextAt.{ContextAt}
 use Rattle.worker_model.specs.declared.types.Job.{Job}
 use Rattle.worker_model.specs.declared.types.Job.TheVariants as jobs
 use Rattle.worker_model.specs.declared.types.NewContext.{NewContext}
+use Rattle.worker_model.specs.declared.types.OtherStep.TheVariants as others
 use Rattle.worker_model.specs.Plan.{Plan}
 use Rattle.worker_model.specs.Rooms.{is_dead}
 use Rattle.worker_model.specs.Steps.{Both, nothing_more, with_jobs_first, is_zero, unless_zero, has_vm, await_done, last_jobs, finish_context, delete_context, create_root, line_in, may_stream, create_context, enter_stages, is_due_tick, next_tick, with_tick, tick_of, tick_root, tells, starts, made_with, ticks_with, tells_ready, notice_step, works, vm_length, plugin_length}
 use Rattle.exchange.specs.Passing.{put_read_items}
 use Rattle.law_rest.specs.Moves.{for_each}
 use Rattle.law_rest.specs.Left.{job_left, jobs_left}
+use Rattle.law_rest.proofs.Callouts.{works_call_most}
 use Rattle.law_rest.proofs.Jobs.{in_front_most, rooting_most, creating_most, entered_leaves, put_leaves, refuses_line_most, expires_most, line_ends_most, happens_most, noticed_most}
 use Rattle.law_rest.proofs.Rooms.{AtMost, at_most_more, on_number_most, contexts_most, died_most, calls_live_most}
 use Rattle.law_rest.proofs.Sums.{for_each-append}
@@ -105,7 +108,8 @@ module _ {H : Type 0} (calling : H → ℕ → Callback → ℕ → ℕ → ℕ 
       ticks_most n vm root host (tick_root vm root room) (at_most_more s m n (tick_root vm root room).1 (omega arith) (ticked_most s m vm root (tick_in (vm_in room.hub.contexts vm).contexts root) room a))
   works_most plan m n (jobs.Notice vm more) host room less a = notices_most plan m n vm more host room less a
   works_most plan m n (jobs.Ready vm root queue) host room less a = ready_most n vm root queue host room (at_most_more s m n room (omega arith) a)
-  works_most plan m n (jobs.Other step) host room less a = at_most_more s m n room (omega arith) a
+  works_most plan m n (jobs.Other (others.Call step)) host room less a = works_call_most calling s m n step host room less a
+  works_most plan m n (jobs.Other (others.Tcp step)) host room less a = at_most_more s m n room (omega arith) a
   works_most plan m n (jobs.Begin vm) host room less a = tells_most n vm callbacks.Begin 0 0 host room (at_most_more s m n room (omega arith) a)
   works_most plan m n (jobs.Start vm root) host room less a =
       starts_most n vm callbacks.VmStart root (vm_length vm room.hub.contexts) deaths.Start host room (at_most_more s m n room (omega arith) a)
@@ -147,4 +151,8 @@ job_some s (jobs.Close number true) = omega arith
 job_some s (jobs.Close number false) = omega arith
 job_some s (jobs.Notice vm more) = omega arith
 job_some s (jobs.Ready vm root queue) = omega arith
-job_some s (jobs.Other step) = omega arith
+job_some s (jobs.Other (others.Call (steps.Comes what))) = omega arith
+job_some s (jobs.Other (others.Call (steps.Read id))) = omega arith
+job_some s (jobs.Other (others.Call (steps.Fail id))) = omega arith
+job_some s (jobs.Other (others.Call (steps.Answer id))) = omega arith
+job_some s (jobs.Other (others.Tcp step)) = omega arith

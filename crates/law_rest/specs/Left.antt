@@ -1,6 +1,9 @@
 -- HOW MUCH IS LEFT TO DO in the room of a worker: a number that each step makes less, whatever the machines do. It is told of rooms whose
 -- exchanges have at most `s` filters, and at most as many stages in each direction.
 use Rattle.std.specs.Prelude.{◌≡◌, ◌≤◌, ℕ, ◌+◌, ◌*◌, true, List, [], ◌∷◌, length, Option, None, Some, if◌then◌else◌}
+use Rattle.callouts.specs.declared.types.Callout.{Callout}
+use Rattle.callouts.specs.declared.types.CallStep.{CallStep}
+use Rattle.callouts.specs.declared.types.CallStep.TheVariants as steps
 use Rattle.exchange.specs.declared.types.Exchange.{Exchange}
 use Rattle.gate_config.specs.declared.entries.RouteEntry.{RouteEntry}
 use Rattle.gate_io.specs.declared.event.What.{What}
@@ -10,6 +13,8 @@ use Rattle.worker_model.specs.Room.{Room}
 use Rattle.worker_model.specs.declared.types.Job.{Job}
 use Rattle.worker_model.specs.declared.types.Job.TheVariants as jobs
 use Rattle.worker_model.specs.declared.types.Line.{Line}
+use Rattle.worker_model.specs.declared.types.OtherStep.{OtherStep}
+use Rattle.worker_model.specs.declared.types.OtherStep.TheVariants as others
 use Rattle.worker_model.specs.declared.types.ReadBatch.{ReadBatch}
 use Rattle.law_rest.specs.Moves.{for_each, moves_left}
 
@@ -65,6 +70,23 @@ bytes_of (whats.Room number side) = []
 bytes_of whats.Clock = []
 bytes_of whats.Stop = []
 
+-- About callouts: a context is told of the end of one in a step; after a part that is read the next one is, or its context is told; and an event
+-- brings bytes, which are read. (What its callback begins is read in later turns.)
+abbrev pub call_step_left : CallStep → ℕ
+call_step_left (steps.Comes what) = 3 + length (bytes_of what)
+call_step_left (steps.Read id) = 2
+call_step_left (steps.Fail id) = 1
+call_step_left (steps.Answer id) = 1
+
+abbrev pub other_left : OtherStep → ℕ
+other_left (others.Call step) = call_step_left step
+other_left (others.Tcp step) = 1
+
+-- what is unread of the responses to callouts
+abbrev pub calls_left : List Callout → ℕ
+calls_left [] = 0
+calls_left (c ∷ calls) = length c.reader.unread + calls_left calls
+
 -- Each is one step, and what comes of it: after the making of a root a VM starts and a plug-in is configured; an event brings bytes, which are
 -- read; stages that are made may be passed by an answer, at 4 each, and an item costs 2 at each stage; a context that is done with
 -- waits (3), and then gets log and delete; after an exchange what is unread of a line that stays open is read; after a notice a root is told
@@ -87,7 +109,7 @@ job_left s (jobs.Delete c) = 1
 job_left s (jobs.Close number stays) = if stays then 1 + reading_cost s else 1
 job_left s (jobs.Notice vm work_left) = 1 + 3 * work_left
 job_left s (jobs.Ready vm root queue) = 1
-job_left s (jobs.Other step) = 1
+job_left s (jobs.Other step) = other_left step
 
 abbrev pub jobs_left : ℕ → List Job → ℕ
 jobs_left s [] = 0
@@ -108,7 +130,7 @@ reading_left s (Some r) = reading_cost s + for_each (s + s) r.batch
 -- (a context that waits for `proxy_done` may get log and delete, in a step before those)
 abbrev pub work_left : ℕ → Room → ℕ
 work_left s room =
-    lines_left s room.lines + jobs_left s room.jobs + parts_left s room.agenda + for_each 3 room.waits + reading_left s room.reading
+    lines_left s room.lines + jobs_left s room.jobs + parts_left s room.agenda + for_each 3 room.waits + reading_left s room.reading + calls_left room.calls
 
 -- ---- the rooms of which it is told
 

@@ -13,13 +13,13 @@ use Rattle.worker_model.specs.Turn.{outcome_of, vms_in}
 use Rattle.law_rest.specs.Left.{work_left, bytes_of}
 use Rattle.law_rest.specs.Sizes.{vms_size, OneTurn, first_state, turn_start, Follow}
 
--- What an event brings at most: 248 steps for each of its bytes, 2 for each VM and each context (whose tick may be due), and 921; and at the first
--- event 64 for each plug-in, and 32.
+-- What an event brings at most: 248 steps for each of its bytes, 2 for each VM, each context (whose tick may be due) and each callout (which may be
+-- due), and 921; and at the first event 64 for each plug-in, and 32.
 abbrev pub starting : Room → ℕ
 starting room = if room.is_begun then 0 else 32 + 64 * length room.hub.contexts.plugins
 
 abbrev pub brought : Room → Event → ℕ
-brought room event = 248 * length (bytes_of event.what) + 2 * vms_size (vms_in room) room.hub.contexts + 921 + starting room
+brought room event = 248 * length (bytes_of event.what) + 2 * vms_size (vms_in room) room.hub.contexts + 2 * length room.calls + 921 + starting room
 
 -- all that is brought by turns one after the other
 abbrev pub all_brought : {H : Type 0} → Both H → List (OneTurn H) → ℕ

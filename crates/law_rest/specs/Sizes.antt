@@ -22,7 +22,7 @@ use Rattle.worker_model.specs.Steps.{Both, both}
 use Rattle.worker_model.specs.Turn.{Outcome, turn, room_for_event, most_steps, vms_in}
 use Rattle.worker_model.specs.Turned.{Whole}
 use Rattle.law_rest.specs.Laws.{IsAtRest}
-use Rattle.law_rest.specs.Left.{work_left, bytes_of, AllFit}
+use Rattle.law_rest.specs.Left.{work_left, bytes_of, calls_left, AllFit}
 
 -- the stages of a chain, and the items that wait at them
 abbrev pub stages_size : List Stage → ℕ
@@ -47,9 +47,11 @@ abbrev pub vms_size : ℕ → Contexts → ℕ
 vms_size zero h = 0
 vms_size (suc n) h = vms_size n h + (1 + length (vm_in h n).contexts)
 
--- with the contexts that wait for `proxy_done`, and the plug-ins
+-- with the contexts that wait for `proxy_done`, the plug-ins, and the callouts with what is unread of their responses
 abbrev pub room_size : Room → ℕ
-room_size room = lines_size room.lines + length room.waits + vms_size (vms_in room) room.hub.contexts + length room.hub.contexts.plugins
+room_size room =
+    lines_size room.lines + length room.waits + vms_size (vms_in room) room.hub.contexts + length room.hub.contexts.plugins
+    + (length room.calls + calls_left room.calls)
 
 -- ---- turns
 

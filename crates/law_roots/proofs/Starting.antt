@@ -5,7 +5,7 @@ use Rattle.std.specs.List.{list_any}
 use Rattle.std.proofs.lemmas.Bool.{cases_Bool, cases_eq}
 use Rattle.std.proofs.lemmas.List.Elements.{Contains-append_left, Contains-append_right, Contains-push}
 use Rattle.contexts.specs.declared.parts.Plugin.{Plugin}
-use Rattle.worker_model.specs.Turn.{deadline_jobs, happening, is_of, notices_of, roots_from, start_of, start_jobs, starts_of, ticks_due, vms_in}
+use Rattle.worker_model.specs.Turn.{calls_due, deadline_jobs, happening, is_of, notices_of, roots_from, start_of, start_jobs, starts_of, ticks_due, vms_in}
 use Rattle.worker_model.specs.declared.types.Job.{Job}
 use Rattle.worker_model.specs.declared.types.Job.TheVariants as jobs
 use Rattle.law_roots.specs.Roots.{StartsHaveRoots}
@@ -89,7 +89,7 @@ pub starts_have_roots : StartsHaveRoots
 starts_have_roots plan what room p q begun at low =
     let plugins = room.hub.contexts.plugins in
     let far = starts_have (vms_in room) plugins q.vm p low (start_has plugins q.vm p q at refl) in
-    let all : List Job = ticks_due room ++ (deadline_jobs plan ++ (happening what room ++ notices_of plan (vms_in room))) in (
+    let all : List Job = ticks_due room ++ (deadline_jobs plan ++ (calls_due room ++ (happening what room ++ notices_of plan (vms_in room)))) in (
       far.0,
       Contains-append_left (start_jobs room) all (jobs.Root q.vm p far.0)
           (subst (λ (b : Bool). Contains (if b then [] else starts_of (vms_in room) plugins) (jobs.Root q.vm p far.0)) (sym begun) far.1),

@@ -1,6 +1,11 @@
 -- The steps and the turns of a worker are those in which no machine is passed over.
 use Rattle.std.proofs.Common.{◌≡◌, ℕ, zero, suc, Bool, true, false, List, [], ◌∷◌, length, refl, ap, ◌∙◌, sym, subst}
 use Rattle.std.specs.Prelude.{Option, None, Some, slice_get, if◌then◌else◌}
+use Rattle.callouts.specs.Callouts.{callout_in, without}
+use Rattle.callouts.specs.declared.types.Callout.{Callout}
+use Rattle.callouts.specs.declared.types.CallStep.{CallStep}
+use Rattle.callouts.specs.declared.types.CallStep.TheVariants as steps
+use Rattle.contexts.specs.declared.parts.CallAnswer.{CallAnswer}
 use Rattle.contexts.specs.declared.parts.Contexts.{Contexts}
 use Rattle.filter_host.specs.Called.{Called}
 use Rattle.filter_host.specs.Course.{Course, ends, asks, measures, hears, then_do, runs_then}
@@ -26,20 +31,23 @@ use Rattle.worker_model.specs.declared.types.Line.{Line}
 use Rattle.worker_model.specs.declared.types.NewContext.{NewContext}
 use Rattle.worker_model.specs.declared.types.Next.{Next}
 use Rattle.worker_model.specs.declared.types.Next.TheVariants as next
+use Rattle.worker_model.specs.declared.types.OtherStep.{OtherStep}
+use Rattle.worker_model.specs.declared.types.OtherStep.TheVariants as others
 use Rattle.worker_model.specs.declared.types.Owner.{Owner}
 use Rattle.worker_model.specs.declared.types.Owner.TheVariants as owns
+use Rattle.worker_model.specs.Calls.{answer_if, put_call_answer, has_listener, close_call}
 use Rattle.worker_model.specs.Moves.{asks_at}
 use Rattle.worker_model.specs.Plan.{Plan}
 use Rattle.worker_model.specs.Rooms.{is_dead, next_of, with_lines, take_callback_end, value_of_end}
 use Rattle.worker_model.specs.Settling.{settling, settling_step, settling_rest, settling_none, is_rest}
-use Rattle.worker_model.specs.Steps.{Both, both, Answered, callback_result, Then, continue_with, called_in, calls_live, apply_stage_action, moved, moved_with, tells, made_with, ticks_with, tells_ready, works, works_first, nothing_more, unless_zero, finish_context, delete_context, create_root, create_context, tick_root, may_stream, callback_of, number_of, vm_length, plugin_length, step}
+use Rattle.worker_model.specs.Steps.{Both, both, Answered, callback_result, Then, continue_with, called_in, calls_live, apply_stage_action, moved, moved_with, tells, made_with, ticks_with, tells_ready, drop_answer, tells_call, ends_call, works_call, works_other, works, works_first, nothing_more, unless_zero, finish_context, delete_context, create_root, create_context, tick_root, may_stream, callback_of, number_of, vm_length, plugin_length, step}
 use Rattle.worker_model.specs.Turn.{outcome_of, room_for_event, most_steps, turn_by, turn}
 use Rattle.law_runs.specs.Bare.{run_if, always, RunsAllItAsks}
 use Rattle.law_runs.specs.Homes.{made_worker, IsHome}
 use Rattle.law_runs.specs.Runs.{AreAtHome}
 use Rattle.law_runs.proofs.Counted.{Counted, counted}
 use Rattle.law_runs.proofs.Homes.{Nobody, fine_of, begins_at_home, stays_at_home}
-use Rattle.law_runs.proofs.Rooms.{InThird, in_asks_at, to_lines, StandsThere, to_root, to_stream, StandsDue, to_tick}
+use Rattle.law_runs.proofs.Rooms.{InThird, in_asks_at, to_lines, StandsThere, to_root, to_stream, StandsDue, to_tick, to_calls, to_answer}
 use Rattle.law_runs.proofs.Runs.{runs_what_is_asked}
 use Rattle.law_runs.proofs.Steps.{AllEnds, Gone, Fine, FineBoth, step_fine}
 
@@ -99,6 +107,29 @@ module _ (dead : DeadVmsAreSilent) (apart : CallbacksAreApart) (change : Callbac
   ready_same vm root queue host room is =
       ap (λ (c : Course (Both Vms)). if may_stream vm root room.hub.contexts then c else ends (both host room)) (tells_same vm callbacks.QueueReady root queue host room is)
 
+  -- ---- callouts
+
+  tells_call_same : (answer : Option CallAnswer) (c : Callout) (host : Vms) (room : Room) → At host room → tells_call calling answer c host room ≡ tells_call always answer c host room
+  tells_call_same answer c host room is =
+      ap (λ (k : Course (Both Vms)). if has_listener c room then k else ends (both host room))
+      (live_same c.vm callbacks.CallAnswered c.context c.id 0 (drop_answer c.vm c.context) host (put_call_answer answer c.vm c.context room)
+      (to_answer Counted counted m (Gone Nobody host) answer c.vm c.context room is.0, is.1, is.2))
+
+  ends_call_same : (answered : Bool) (id : ℕ) (o : Option Callout) (host : Vms) (room : Room) → At host room → ends_call calling answered id o host room ≡ ends_call always answered id o host room
+  ends_call_same answered id None host room is = refl
+  ends_call_same answered id (Some c) host room is =
+      tells_call_same (answer_if answered c) c host (close_call id room) (to_calls Counted counted m (Gone Nobody host) (without id room.calls) room is.0, is.1, is.2)
+
+  works_call_same : (step : CallStep) (host : Vms) (room : Room) → At host room → works_call calling step host room ≡ works_call always step host room
+  works_call_same (steps.Comes what) host room is = refl
+  works_call_same (steps.Read id) host room is = refl
+  works_call_same (steps.Fail id) host room is = ends_call_same false id (callout_in id room.calls) host room is
+  works_call_same (steps.Answer id) host room is = ends_call_same true id (callout_in id room.calls) host room is
+
+  works_other_same : (step : OtherStep) (host : Vms) (room : Room) → At host room → works_other calling step host room ≡ works_other always step host room
+  works_other_same (others.Call step) host room is = works_call_same step host room is
+  works_other_same (others.Tcp step) host room is = refl
+
   works_same : (plan : Plan) (job : Job) (host : Vms) (room : Room) → At host room → works calling plan job host room ≡ works always plan job host room
   works_same plan (jobs.Root vm plugin first) host room is = made_same host (create_root vm plugin first room) (to_root Counted counted m (Gone Nobody host) vm plugin first room is.0) (is.1, is.2)
   works_same plan (jobs.Create number k) host room is = made_same host (create_context number k room) (to_stream Counted counted m (Gone Nobody host) number k room is.0) (is.1, is.2)
@@ -111,7 +142,7 @@ module _ (dead : DeadVmsAreSilent) (apart : CallbacksAreApart) (change : Callbac
   works_same plan (jobs.Done c) host room is = live_same c.vm callbacks.Done c.context 0 0 (finish_context c) host room is
   works_same plan (jobs.Log c) host room is = tells_same c.vm callbacks.Log c.context 0 host room is
   works_same plan (jobs.Delete c) host room is = live_same c.vm callbacks.Delete c.context 0 0 (delete_context c) host room is
-  works_same plan (jobs.Other step) host room is = refl
+  works_same plan (jobs.Other step) host room is = works_other_same step host room is
   works_same plan jobs.Expire host room is = refl
   works_same plan (jobs.Happen what) host room is = refl
   works_same plan (jobs.Enter number) host room is = refl

@@ -6,6 +6,8 @@ use Rattle.contexts.specs.Creating.{next_id, root_context, stream_context, with_
 use Rattle.contexts.specs.Lending.{stage_in, with_stage}
 use Rattle.contexts.specs.Reached.{Changes, no_changes, vm_in, context_in, exchange_at, view_at, exchange_of, put_of}
 use Rattle.contexts.specs.Stages.{own_at, stage_after, stage_changed, without_buffer, let_go, returned}
+use Rattle.contexts.specs.declared.parts.CallAnswer.{CallAnswer}
+use Rattle.contexts.specs.declared.parts.Calls.{Calls}
 use Rattle.contexts.specs.declared.parts.Contexts.{Contexts}
 use Rattle.contexts.specs.declared.parts.Effect.{Effect}
 use Rattle.contexts.specs.declared.parts.Plugin.{Plugin}
@@ -30,6 +32,7 @@ use Rattle.filter_chain.specs.declared.item.PassOutcome.{PassOutcome}
 use Rattle.filter_chain.specs.declared.item.PassOutcome.TheVariants as passed
 use Rattle.filter_chain.specs.declared.stage.Stage.{Stage}
 use Rattle.h1_model.specs.Fields.{Pair}
+use Rattle.worker_model.specs.Calls as callouts
 
 pub pick : {A : Type 0} (P : A → Type 0) (b : Bool) (x y : A) → P x → P y → P (if b then x else y)
 pick P true x y here there = here
@@ -48,6 +51,7 @@ pub record IsClosed (Has : ℕ → Contexts → Type 0) : Type 0 where
   pub vm : (m n : ℕ) (v : VmContexts) (h : Contexts) → Has m h → Has m (record h { vms = slice_set h.vms n v })
   pub plugins : (m : ℕ) (ps : List Plugin) (h : Contexts) → Has m h → Has m (record h { plugins = ps })
   pub effects : (m : ℕ) (es : List Effect) (h : Contexts) → Has m h → Has m (record h { effects = es })
+  pub calls : (m : ℕ) (c : Calls) (h : Contexts) → Has m h → Has m (record h { calls = c })
 
 abbrev pub In : (ℕ → Contexts → Type 0) → ℕ → Hub → Type 0
 In Has m hub = Has m hub.contexts
@@ -67,6 +71,11 @@ module _ (Has : ℕ → Contexts → Type 0) (closed : IsClosed Has) where
 
   pub has_changed : (m : ℕ) (f : parts.StageBuffer → parts.StageBuffer) (h : Contexts) (vm e : ℕ) (r : Bool) → Has m h → Has m (stage_changed f h vm e r)
   has_changed m f h vm e r is = has_stage m f h vm e r (own_at h vm e) is
+
+  -- what a context has of a callout's answer
+  pub has_answer : (m : ℕ) (answer : Option CallAnswer) (o : Option Own) (vm e : ℕ) (h : Contexts) → Has m h → Has m (callouts.with_call_answer answer o vm e h)
+  has_answer m answer None vm e h is = is
+  has_answer m answer (Some o) vm e h is = closed.put m (record no_changes { own = Some (record o { answer = answer }) }) vm e h refl is
 
   has_freed : (m n : ℕ) (h : Contexts) → Has m h → Has m (freed n h)
   has_freed m n h is = pick (Has m) (has_ended (exchange_at h.exchanges n) && not (is_referred n h.vms)) (record h { exchanges = slice_set h.exchanges n None }) h (closed.free m n h is) is

@@ -24,4 +24,5 @@ counted = record {
   vm = λ m n v h is. length-set h.vms n v ∙ is;
   plugins = λ m ps h is. is;
   effects = λ m es h is. is;
+  calls = λ m c h is. is;
 }

@@ -4,6 +4,12 @@ use Rattle.std.proofs.lemmas.Option.{none-some}
 use Rattle.std.specs.Prelude.{Option, None, Some, nat_lt, slice_get, slice_set}
 use Rattle.contexts.proofs.Places.{from_some}
 use Rattle.contexts.specs.Reached.{view_at}
+use Rattle.callouts.specs.Callouts.{callout_in, without, after_heard as after_part_heard}
+use Rattle.callouts.specs.Steps.{after_event, after_read}
+use Rattle.callouts.specs.declared.types.Callout.{Callout}
+use Rattle.callouts.specs.declared.types.CallStep.{CallStep}
+use Rattle.callouts.specs.declared.types.CallStep.TheVariants as steps
+use Rattle.contexts.specs.declared.parts.CallAnswer.{CallAnswer}
 use Rattle.contexts.specs.declared.parts.Contexts.{Contexts}
 use Rattle.contexts.specs.declared.parts.ExchangeView.{ExchangeView}
 use Rattle.filter_host.proofs.Holds.{all_reached}
@@ -25,16 +31,19 @@ use Rattle.worker_model.specs.declared.types.Line.{Line}
 use Rattle.worker_model.specs.declared.types.NewContext.{NewContext}
 use Rattle.worker_model.specs.declared.types.Next.{Next}
 use Rattle.worker_model.specs.declared.types.Next.TheVariants as next
+use Rattle.worker_model.specs.declared.types.OtherStep.{OtherStep}
+use Rattle.worker_model.specs.declared.types.OtherStep.TheVariants as others
 use Rattle.worker_model.specs.declared.types.Owner.{Owner}
 use Rattle.worker_model.specs.declared.types.Owner.TheVariants as owns
 use Rattle.worker_model.specs.declared.types.ReadBatch.{ReadBatch}
+use Rattle.worker_model.specs.Calls.{answer_if, put_call_answer, has_listener, close_call}
 use Rattle.worker_model.specs.Moves.{asks_at}
 use Rattle.worker_model.specs.Plan.{Plan}
 use Rattle.worker_model.specs.Rooms.{Changes, with_marks, in_exchange, in_line, at_some, at_place, all_lines, place_in, place_of, is_dead, with_lines, take_callback_end, value_of_end}
-use Rattle.worker_model.specs.Steps.{Both, both, Answered, callback_result, Then, continue_with, called_in, called_live, calls_live, apply_stage_action, moved, moved_with, tells, made_with, ticks_with, tells_ready, notice_step, works, works_first, reads_in, reads_next, reading_on, nothing_more, unless_zero, finish_context, delete_context, create_root, create_context, tick_root, may_stream, callback_of, number_of, vm_length, plugin_length, step}
+use Rattle.worker_model.specs.Steps.{Both, both, Answered, callback_result, Then, continue_with, called_in, called_live, calls_live, apply_stage_action, moved, moved_with, tells, made_with, ticks_with, tells_ready, notice_step, reads_call, drop_answer, tells_call, ends_call, works_call, works_other, works, works_first, reads_in, reads_next, reading_on, nothing_more, unless_zero, finish_context, delete_context, create_root, create_context, tick_root, may_stream, callback_of, number_of, vm_length, plugin_length, step}
 use Rattle.law_runs.specs.Marks.{IsUnasked, IsTold, DeathsDropMarks, ChangesAreTold, AskNone, WorkersRaiseNone}
 use Rattle.law_runs.proofs.Changing.{pick, Keeping, dies_keeps}
-use Rattle.law_runs.proofs.Rooms.{Stands, in_all, to_answered, KeepsThen, nothing_keeps, unless_zero_keeps, done_keeps, deletes_keeps, acts_on_keeps, InThird, in_asks_at, to_lines, StandsThere, to_root, to_stream, StandsDue, to_tick, to_notice, to_heard, to_quietly, to_ends_at, to_begun, to_frees}
+use Rattle.law_runs.proofs.Rooms.{Stands, in_all, to_answered, KeepsThen, nothing_keeps, unless_zero_keeps, done_keeps, deletes_keeps, to_calls, to_after, to_answer, answer_keeps_none, acts_on_keeps, InThird, in_asks_at, to_lines, StandsThere, to_root, to_stream, StandsDue, to_tick, to_notice, to_heard, to_quietly, to_ends_at, to_begun, to_frees}
 use Rattle.law_runs.proofs.Steps.{AllEnds, all_then, as_heard, runs_so}
 use Rattle.law_runs.proofs.Unasked.{unasked, lowered, told}
 
@@ -164,6 +173,32 @@ module _ {H : Type 0} (calling : Calling H) (n : ℕ) (none : AskNone calling n)
   notices_still plan vm left host room is =
       pick Keeps ((left == 0 || is_dead vm room) || not (nat_lt vm plan.vms)) _ _ is (λ reply. to_notice IsUnasked unasked n Nobody vm left reply room is)
 
+  -- ---- callouts
+
+  reads_call_still : (id : ℕ) (o : Option Callout) (host : H) (room : Room) → Still room → Keeps (reads_call id o host room)
+  reads_call_still id None host room is = is
+  reads_call_still id (Some c) host room is = λ h. to_after IsUnasked unasked n Nobody (after_read id (after_part_heard h c) room.calls) room is
+
+  tells_call_still : (answer : Option CallAnswer) (c : Callout) (host : H) (room : Room) → Still room → Keeps (tells_call calling answer c host room)
+  tells_call_still answer c host room is =
+      pick Keeps (has_listener c room) (calls_live calling c.vm callbacks.CallAnswered c.context c.id 0 (drop_answer c.vm c.context) host (put_call_answer answer c.vm c.context room)) (ends (both host room))
+      (live_still c.vm callbacks.CallAnswered c.context c.id 0 (drop_answer c.vm c.context) (answer_keeps_none IsUnasked unasked n Nobody c.vm c.context) host
+      (put_call_answer answer c.vm c.context room) (to_answer IsUnasked unasked n Nobody answer c.vm c.context room is)) is
+
+  ends_call_still : (answered : Bool) (id : ℕ) (o : Option Callout) (host : H) (room : Room) → Still room → Keeps (ends_call calling answered id o host room)
+  ends_call_still answered id None host room is = is
+  ends_call_still answered id (Some c) host room is = tells_call_still (answer_if answered c) c host (close_call id room) (to_calls IsUnasked unasked n Nobody (without id room.calls) room is)
+
+  works_call_still : (step : CallStep) (host : H) (room : Room) → Still room → Keeps (works_call calling step host room)
+  works_call_still (steps.Comes what) host room is = to_after IsUnasked unasked n Nobody (after_event what room.calls) room is
+  works_call_still (steps.Read id) host room is = reads_call_still id (callout_in id room.calls) host room is
+  works_call_still (steps.Fail id) host room is = ends_call_still false id (callout_in id room.calls) host room is
+  works_call_still (steps.Answer id) host room is = ends_call_still true id (callout_in id room.calls) host room is
+
+  works_other_still : (step : OtherStep) (host : H) (room : Room) → Still room → Keeps (works_other calling step host room)
+  works_other_still (others.Call step) host room is = works_call_still step host room is
+  works_other_still (others.Tcp step) host room is = is
+
   works_still : (plan : Plan) (job : Job) (host : H) (room : Room) → Still room → Keeps (works calling plan job host room)
   works_still plan (jobs.Root vm plugin first) host room is = made_still host (create_root vm plugin first room) (to_root IsUnasked unasked n Nobody vm plugin first room is)
   works_still plan (jobs.Create number k) host room is = made_still host (create_context number k room) (to_stream IsUnasked unasked n Nobody number k room is)
@@ -178,7 +213,7 @@ module _ {H : Type 0} (calling : Calling H) (n : ℕ) (none : AskNone calling n)
   works_still plan (jobs.Done c) host room is = live_still c.vm callbacks.Done c.context 0 0 (finish_context c) (done_keeps IsUnasked unasked n Nobody c) host room is
   works_still plan (jobs.Log c) host room is = tells_still c.vm callbacks.Log c.context 0 host room is
   works_still plan (jobs.Delete c) host room is = live_still c.vm callbacks.Delete c.context 0 0 (delete_context c) (deletes_keeps IsUnasked unasked n Nobody c) host room is
-  works_still plan (jobs.Other step) host room is = to_quietly IsUnasked unasked n Nobody (jobs.Other step) room is
+  works_still plan (jobs.Other step) host room is = works_other_still step host room is
   works_still plan jobs.Expire host room is = to_quietly IsUnasked unasked n Nobody jobs.Expire room is
   works_still plan (jobs.Happen what) host room is = to_quietly IsUnasked unasked n Nobody (jobs.Happen what) room is
   works_still plan (jobs.Enter number) host room is = to_quietly IsUnasked unasked n Nobody (jobs.Enter number) room is

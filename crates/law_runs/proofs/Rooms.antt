@@ -6,12 +6,16 @@ use Rattle.std.specs.List.{list_any}
 use Rattle.std.specs.Prelude.{Option, None, Some, is_some, slice_get, nat_lt, nat_le}
 use Rattle.contexts.specs.Creating.{plugin_in, await_done_of, delete_id}
 use Rattle.contexts.specs.Reached.{Changes as Kept, vm_in, contains, seen, tick_in, no_changes, put, effective_of}
+use Rattle.callouts.specs.Steps.{After}
+use Rattle.callouts.specs.declared.types.Callout.{Callout}
+use Rattle.callouts.specs.declared.types.CallStep.{CallStep}
+use Rattle.contexts.specs.declared.parts.CallAnswer.{CallAnswer}
 use Rattle.contexts.specs.declared.parts.Contexts.{Contexts}
 use Rattle.contexts.specs.declared.parts.Effect.{Effect}
 use Rattle.contexts.specs.declared.parts.Tick.{Tick}
 use Rattle.contexts.specs.declared.parts.EffectKind.{EffectKind}
 use Rattle.contexts.specs.declared.parts.EffectKind.TheVariants as what
-use Rattle.contexts.specs.Stages.{with_bytes}
+use Rattle.contexts.specs.Stages.{with_bytes, own_at}
 use Rattle.filter_host.specs.Heard.{Heard, hands, halts}
 use Rattle.filter_host.specs.declared.host.CallbackEnd.{CallbackEnd}
 use Rattle.filter_host.specs.declared.host.CallbackEnd.TheVariants as call_ends
@@ -41,12 +45,13 @@ use Rattle.h1_model.specs.Messages.{Stop, rest, over, refusal}
 use Rattle.h1_model.specs.Unread.{Part, head_part, interim_part, piece, trailer_part}
 use Rattle.store_model.specs.declared.call.Reply.{Reply}
 use Rattle.store_model.specs.declared.call.Reply.TheVariants as replies
+use Rattle.worker_model.specs.Calls as callouts
 use Rattle.worker_model.specs.Changes.{apply_change}
 use Rattle.worker_model.specs.declared.types.Change.TheVariants as changes
 use Rattle.worker_model.specs.Moves.{asks_as, asks_chain, asks_exchange, asks_in, asks_line, asks_with, asks_back, asks_at, asks_response, ended_at, with_none}
 use Rattle.worker_model.specs.Plan.{Plan}
-use Rattle.worker_model.specs.Rooms.{Changes, with_marks, in_exchange, in_line, at_some, at_place, all_lines, with_lines, place_in, place_of, on_number, on_context, with_contexts, room_with_sent, is_own, apply_effect, effects_of, without_effects, lose_vm_in, after_callback, take_callback_end, is_dead}
-use Rattle.worker_model.specs.Steps.{Then, nothing_more, is_zero, action_of, with_jobs_first, unless_zero, has_vm, await_done, last_jobs, finish_context, delete_context, apply_stage_action, is_drawn_out, may_root, create_root, with_stream, may_stream, create_stream, create_filter, filter_at, create_context, enter_stages, begin_exchange_on, head_item, with_response_head, change_line, exchange_on, in_contexts, put_trailers, take_read_item, take_part, end_of_read, after_heard, on_lines, read_on, end_reading, is_last, line_in, line_reading, exchange_of_line, end_line, refusal_sent, refuse_in, refuse_line, most_lines, accept_line, receive_on, receive, is_open, is_answered_in, is_read_in, lose_client, is_missed, lose_server, take_event, end_exchange_of, end_with, end_at, with_tick, next_tick, tick_of, tick_root, is_due_tick, is_late, expire_all, take_notice_reply, begin_first_job, release_at, run_silent_job}
+use Rattle.worker_model.specs.Rooms.{Changes, with_marks, in_exchange, in_line, at_some, at_place, all_lines, with_lines, place_in, place_of, on_number, on_context, with_contexts, with_calls, room_with_sent, is_own, apply_effect, effects_of, without_effects, lose_vm_in, after_callback, take_callback_end, is_dead}
+use Rattle.worker_model.specs.Steps.{Then, nothing_more, drop_answer, is_zero, action_of, with_jobs_first, unless_zero, has_vm, await_done, last_jobs, finish_context, delete_context, apply_stage_action, is_drawn_out, may_root, create_root, with_stream, may_stream, create_stream, create_filter, filter_at, create_context, enter_stages, begin_exchange_on, head_item, with_response_head, change_line, exchange_on, in_contexts, put_trailers, take_read_item, take_part, end_of_read, after_heard, on_lines, read_on, end_reading, is_last, line_in, line_reading, exchange_of_line, end_line, refusal_sent, refuse_in, refuse_line, most_lines, accept_line, receive_on, receive, is_open, is_answered_in, is_read_in, lose_client, is_missed, lose_server, take_event, end_exchange_of, end_with, end_at, with_tick, next_tick, tick_of, tick_root, is_due_tick, is_late, expire_all, take_notice_reply, begin_first_job, release_at, run_silent_job}
 use Rattle.worker_model.specs.Room.{Room}
 use Rattle.worker_model.specs.declared.types.Asked.{Asked}
 use Rattle.worker_model.specs.declared.types.ContextAt.{ContextAt}
@@ -56,7 +61,7 @@ use Rattle.worker_model.specs.declared.types.Line.{Line}
 use Rattle.worker_model.specs.declared.types.NewContext.{NewContext}
 use Rattle.worker_model.specs.declared.types.Owner.{Owner}
 use Rattle.worker_model.specs.declared.types.ReadBatch.{ReadBatch}
-use Rattle.law_runs.proofs.Changing.{pick, IsClosed, In, InBoth, Keeping, has_changed, has_ended_one, has_awaited, has_deleted, has_root, has_stream, in_none, in_passed_on, put_in_keeps, resumes_keeps, closed_keeps, acts_keeps, dies_keeps, refused_keeps, expires_keeps, answer_keeps}
+use Rattle.law_runs.proofs.Changing.{pick, IsClosed, In, InBoth, Keeping, has_changed, has_ended_one, has_awaited, has_deleted, has_root, has_stream, has_answer, in_none, in_passed_on, put_in_keeps, resumes_keeps, closed_keeps, acts_keeps, dies_keeps, refused_keeps, expires_keeps, answer_keeps}
 
 -- so it is of the contexts, and of these VMs all are dead
 abbrev pub Stands : (ℕ → Contexts → Type 0) → ℕ → (ℕ → Type 0) → Room → Type 0
@@ -160,7 +165,7 @@ module _ (Has : ℕ → Contexts → Type 0) (closed : IsClosed Has) (m : ℕ) (
   to_does vm own context (what.Continue response) room s =
       pick (Stands Has m D) (is_own own context response) room (on_context (passing.resume_context vm context response) vm context room) s
       (to_context (passing.resume_context vm context response) (resumes_keeps Has closed vm context response) vm context room s)
-  to_does vm own context (what.Call request) room s = s
+  to_does vm own context (what.Call request) room s = (closed.calls m _ room.hub.contexts s.0, s.1)
   to_does vm own context what.Close room s = to_context passing.close_exchange (closed_keeps Has closed) vm context room s
   to_does vm own context (what.Answer status fields body) room s =
       to_context (apply_change (changes.Answer status fields body)) (answer_keeps Has closed status fields.pairs body) vm context room s
@@ -206,6 +211,24 @@ module _ (Has : ℕ → Contexts → Type 0) (closed : IsClosed Has) (m : ℕ) (
   deletes_keeps c value room s =
       pick (Stands Has m D) (has_vm c.vm room.hub.contexts && contains c.context (seen room.hub.contexts c.vm).common.ids) (with_contexts (delete_id c.vm c.context room.hub.contexts) room) room
       (has_deleted Has closed m c.vm c.context room.hub.contexts s.0, s.1) s
+
+  -- ---- callouts
+
+  pub to_calls : (calls : List Callout) (room : Room) → Stands Has m D room → Stands Has m D (with_calls calls room)
+  to_calls calls room s = (closed.calls m _ room.hub.contexts s.0, s.1)
+
+  to_call_step : (step : Option CallStep) (room : Room) → Stands Has m D room → Stands Has m D (callouts.with_call_step step room)
+  to_call_step None room s = s
+  to_call_step (Some step) room s = s
+
+  pub to_after : (a : After) (room : Room) → Stands Has m D room → Stands Has m D (callouts.take_after a room)
+  to_after a room s = to_call_step a.next (record room { calls = a.calls }) s
+
+  pub to_answer : (answer : Option CallAnswer) (vm e : ℕ) (room : Room) → Stands Has m D room → Stands Has m D (callouts.put_call_answer answer vm e room)
+  to_answer answer vm e room s = (has_answer Has closed m answer (own_at room.hub.contexts vm e) vm e room.hub.contexts s.0, s.1)
+
+  pub answer_keeps_none : (vm e : ℕ) → KeepsThen (drop_answer vm e)
+  answer_keeps_none vm e value room s = to_answer None vm e room s
 
   pub acts_on_keeps : (a : Asked) → KeepsThen (apply_stage_action a)
   acts_on_keeps a None room s = s

@@ -1,6 +1,12 @@
 -- Each step and each turn leaves the machines and the contexts at home, and a machine that is gone is of a VM that is held for dead.
 use Rattle.std.proofs.Common.{◌≡◌, inl, inr, ⊎_elim, ℕ, zero, suc, ◌==◌, Bool, true, false, not, ◌||◌, List, [], ◌∷◌, length, refl, ◌∙◌, sym, subst}
 use Rattle.std.specs.Prelude.{Option, None, Some, nat_lt, slice_get}
+use Rattle.callouts.specs.Callouts.{callout_in, without, after_heard as after_part_heard}
+use Rattle.callouts.specs.Steps.{after_event, after_read}
+use Rattle.callouts.specs.declared.types.Callout.{Callout}
+use Rattle.callouts.specs.declared.types.CallStep.{CallStep}
+use Rattle.callouts.specs.declared.types.CallStep.TheVariants as steps
+use Rattle.contexts.specs.declared.parts.CallAnswer.{CallAnswer}
 use Rattle.filter_host.proofs.Holds as holds
 use Rattle.filter_host.specs.Course.{Course, ends, asks, measures, hears, then_do, runs_then}
 use Rattle.filter_host.specs.declared.host.Callback.{Callback}
@@ -27,19 +33,22 @@ use Rattle.worker_model.specs.declared.types.Line.{Line}
 use Rattle.worker_model.specs.declared.types.NewContext.{NewContext}
 use Rattle.worker_model.specs.declared.types.Next.{Next}
 use Rattle.worker_model.specs.declared.types.Next.TheVariants as next
+use Rattle.worker_model.specs.declared.types.OtherStep.{OtherStep}
+use Rattle.worker_model.specs.declared.types.OtherStep.TheVariants as others
 use Rattle.worker_model.specs.declared.types.Owner.{Owner}
 use Rattle.worker_model.specs.declared.types.Owner.TheVariants as owns
 use Rattle.worker_model.specs.declared.types.ReadBatch.{ReadBatch}
+use Rattle.worker_model.specs.Calls.{answer_if, put_call_answer, has_listener, close_call}
 use Rattle.worker_model.specs.Moves.{asks_at}
 use Rattle.worker_model.specs.Plan.{Plan}
 use Rattle.worker_model.specs.Rooms.{is_dead, next_of, with_lines, take_callback_end, value_of_end}
 use Rattle.worker_model.specs.Settling.{settling, settling_step, settling_rest, settling_none, is_rest}
-use Rattle.worker_model.specs.Steps.{Both, both, Answered, callback_result, Then, continue_with, called_in, called_live, calls_live, apply_stage_action, moved, moved_with, tells, made_with, ticks_with, tells_ready, notice_step, works, works_first, reads_in, reads_next, reading_on, nothing_more, unless_zero, finish_context, delete_context, create_root, create_context, tick_root, may_stream, callback_of, number_of, vm_length, plugin_length, run_silent_job, step}
+use Rattle.worker_model.specs.Steps.{Both, both, Answered, callback_result, Then, continue_with, called_in, called_live, calls_live, apply_stage_action, moved, moved_with, tells, made_with, ticks_with, tells_ready, notice_step, reads_call, drop_answer, tells_call, ends_call, works_call, works_other, works, works_first, reads_in, reads_next, reading_on, nothing_more, unless_zero, finish_context, delete_context, create_root, create_context, tick_root, may_stream, callback_of, number_of, vm_length, plugin_length, run_silent_job, step}
 use Rattle.worker_model.specs.Turn.{Outcome, outcome_of, room_for_event, most_steps, turn_by, turn}
 use Rattle.law_runs.proofs.Callbacks.{LeavesAll, leaves_all}
 use Rattle.law_runs.proofs.Counted.{Counted, counted}
 use Rattle.law_runs.proofs.Changing.{pick}
-use Rattle.law_runs.proofs.Rooms.{Stands, IsDeath, to_answered, KeepsThen, nothing_keeps, unless_zero_keeps, done_keeps, deletes_keeps, acts_on_keeps, InThird, in_asks_at, to_lines, StandsThere, to_root, to_stream, StandsDue, to_tick, to_notice, to_heard, to_quietly, to_ends_at, to_begun, to_frees}
+use Rattle.law_runs.proofs.Rooms.{Stands, IsDeath, to_answered, KeepsThen, nothing_keeps, unless_zero_keeps, done_keeps, deletes_keeps, to_calls, to_after, to_answer, answer_keeps_none, acts_on_keeps, InThird, in_asks_at, to_lines, StandsThere, to_root, to_stream, StandsDue, to_tick, to_notice, to_heard, to_quietly, to_ends_at, to_begun, to_frees}
 
 -- so is each end of a course, whatever is replied and whatever is heard, also what no text spells
 abbrev pub AllEnds : {A : Type 0} → (A → Type 0) → Course A → Type 0
@@ -140,6 +149,33 @@ module _ (apart : CallbacksAreApart) (change : CallbacksChangeTheirOwn) (stay : 
   quiet_fine : (job : Job) (host : Vms) (room : Room) → Fine m Had host room → FineBoth (both host (run_silent_job job room))
   quiet_fine job host room is = (to_quietly Counted counted m (Gone Had host) job room is.0, is.1, is.2)
 
+  -- ---- callouts
+
+  reads_call_fine : (id : ℕ) (o : Option Callout) (host : Vms) (room : Room) → Fine m Had host room → Keeps (reads_call id o host room)
+  reads_call_fine id None host room is = is
+  reads_call_fine id (Some c) host room is = λ h. (to_after Counted counted m (Gone Had host) (after_read id (after_part_heard h c) room.calls) room is.0, is.1, is.2)
+
+  tells_call_fine : (answer : Option CallAnswer) (c : Callout) (host : Vms) (room : Room) → Fine m Had host room → Keeps (tells_call calling answer c host room)
+  tells_call_fine answer c host room is =
+      pick Keeps (has_listener c room) (calls_live calling c.vm callbacks.CallAnswered c.context c.id 0 (drop_answer c.vm c.context) host (put_call_answer answer c.vm c.context room)) (ends (both host room))
+      (live_fine c.vm callbacks.CallAnswered c.context c.id 0 (drop_answer c.vm c.context) (λ D. answer_keeps_none Counted counted m D c.vm c.context) host
+      (put_call_answer answer c.vm c.context room) (to_answer Counted counted m (Gone Had host) answer c.vm c.context room is.0, is.1, is.2)) is
+
+  ends_call_fine : (answered : Bool) (id : ℕ) (o : Option Callout) (host : Vms) (room : Room) → Fine m Had host room → Keeps (ends_call calling answered id o host room)
+  ends_call_fine answered id None host room is = is
+  ends_call_fine answered id (Some c) host room is =
+      tells_call_fine (answer_if answered c) c host (close_call id room) (to_calls Counted counted m (Gone Had host) (without id room.calls) room is.0, is.1, is.2)
+
+  works_call_fine : (step : CallStep) (host : Vms) (room : Room) → Fine m Had host room → Keeps (works_call calling step host room)
+  works_call_fine (steps.Comes what) host room is = (to_after Counted counted m (Gone Had host) (after_event what room.calls) room is.0, is.1, is.2)
+  works_call_fine (steps.Read id) host room is = reads_call_fine id (callout_in id room.calls) host room is
+  works_call_fine (steps.Fail id) host room is = ends_call_fine false id (callout_in id room.calls) host room is
+  works_call_fine (steps.Answer id) host room is = ends_call_fine true id (callout_in id room.calls) host room is
+
+  works_other_fine : (step : OtherStep) (host : Vms) (room : Room) → Fine m Had host room → Keeps (works_other calling step host room)
+  works_other_fine (others.Call step) host room is = works_call_fine step host room is
+  works_other_fine (others.Tcp step) host room is = is
+
   works_fine : (plan : Plan) (job : Job) (host : Vms) (room : Room) → Fine m Had host room → Keeps (works calling plan job host room)
   works_fine plan (jobs.Root vm plugin first) host room is = made_fine host (create_root vm plugin first room) (to_root Counted counted m (Gone Had host) vm plugin first room is.0) (is.1, is.2)
   works_fine plan (jobs.Create number k) host room is = made_fine host (create_context number k room) (to_stream Counted counted m (Gone Had host) number k room is.0) (is.1, is.2)
@@ -154,7 +190,7 @@ module _ (apart : CallbacksAreApart) (change : CallbacksChangeTheirOwn) (stay : 
   works_fine plan (jobs.Done c) host room is = live_fine c.vm callbacks.Done c.context 0 0 (finish_context c) (λ D. done_keeps Counted counted m D c) host room is
   works_fine plan (jobs.Log c) host room is = tells_fine c.vm callbacks.Log c.context 0 host room is
   works_fine plan (jobs.Delete c) host room is = live_fine c.vm callbacks.Delete c.context 0 0 (delete_context c) (λ D. deletes_keeps Counted counted m D c) host room is
-  works_fine plan (jobs.Other step) host room is = quiet_fine (jobs.Other step) host room is
+  works_fine plan (jobs.Other step) host room is = works_other_fine step host room is
   works_fine plan jobs.Expire host room is = quiet_fine jobs.Expire host room is
   works_fine plan (jobs.Happen what) host room is = quiet_fine (jobs.Happen what) host room is
   works_fine plan (jobs.Enter number) host room is = quiet_fine (jobs.Enter number) host room is

@@ -75,6 +75,7 @@ unasked = record {
   vm = λ n k v h is. is;
   plugins = λ n ps h is. is;
   effects = λ n es h is. is;
+  calls = λ n c h is. is;
 }
 
 -- ---- and what is marked has no mark

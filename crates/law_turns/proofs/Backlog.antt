@@ -1,6 +1,6 @@
 -- How much waits and is unread when bytes come.
 use Rattle.std.proofs.Common.{◌≡◌, ℕ, zero, suc, ◌+◌, ◌<◌, ◌≤◌, Bool, true, false, ◌&&◌, List, [], ◌∷◌, ◌++◌, length, map, filter, refl, sym, ap, ◌∙◌, subst, arith}
-use Rattle.std.proofs.lemmas.Bool.{and_parts, ltb-true}
+use Rattle.std.proofs.lemmas.Bool.{and_parts, ltb-true, le-leb, false≢true}
 use Rattle.std.proofs.lemmas.List.{length-append, length-drop}
 use Rattle.std.specs.Prelude.{◌==◌, Contains, Option, None, Some, codes, nat_lt, if◌then◌else◌}
 use Rattle.gate_io.specs.declared.event.Sent.{Sent}
@@ -8,6 +8,8 @@ use Rattle.gate_io.specs.declared.event.Sent.TheVariants as to
 use Rattle.gate_io.specs.declared.event.Side.{Side}
 use Rattle.gate_io.specs.declared.event.Side.TheVariants.{Down, Up}
 use Rattle.gate_io.specs.declared.event.What.TheVariants.{Opened, Bytes, End, Gone, Joined, Refused, Room, Clock, Stop}
+use Rattle.callouts.specs.Callouts.{is_call_line, line_of}
+use Rattle.callouts.specs.declared.types.Callout.{Callout}
 use Rattle.gate_io.specs.declared.passed.Wants.{Wants}
 use Rattle.h1_model.specs.Chunks.{sought, section_taken}
 use Rattle.h1_model.specs.Lines.{empty_line_bytes}
@@ -17,7 +19,7 @@ use Rattle.send_queue.proofs.Marks.{octets_in-append, octets_in-map}
 use Rattle.send_queue.specs.Places.{Mark, octet, opening, closing, marks_of, marks_at, octets_in, is_same_side}
 use Rattle.send_queue.specs.declared.place.Destination.TheVariants.{Peer}
 use Rattle.worker_model.specs.Steps.{line_in, line_reading}
-use Rattle.worker_model.specs.Wants.{has_room, reads_more, is_wanted, is_up}
+use Rattle.worker_model.specs.Wants.{has_room, reads_more, reads_call_more, call_line, call_lines, is_wanted, is_up}
 use Rattle.worker_model.specs.declared.types.Line.{Line}
 use Rattle.law_turns.specs.Backlog.{open_line, one, two, backlog_wants, wants, RoomExamples, TextExamples, LineExamples, bytes_to, backlog, BacklogIsBounded, AreApart, HasUnread, UnreadIsBounded, IsAsked, DoesAsked, ReaderIsBounded}
 
@@ -29,8 +31,9 @@ kept b line lines = if b then line ∷ lines else lines
 abbrev numbers : List Line → List ℕ
 numbers lines = map (λ (l : Line). l.number) lines
 
+-- (no callout is under way)
 abbrev by_lines : List Line → List Line → Wants
-by_lines down up = wants (numbers down) (numbers up)
+by_lines down up = wants (numbers down) (numbers up ++ [])
 
 octets_of : (bytes : List ℕ) → octets_in (map octet bytes ++ []) ≡ length bytes
 octets_of bytes = octets_in-append (map octet bytes) [] ∙ omega (arith, octets_in-map bytes)
@@ -135,6 +138,27 @@ has_backlog waiting side line number is roomy =
     subst (λ (n : ℕ). backlog n side waiting < 65536) is
     (omega (arith, ltb-true (octets_in (marks_at (Peer line.number side) waiting)) 65536 roomy, waits line.number side waiting))
 
+-- the lines of callouts are those from 2^31 on
+high : (id : ℕ) → is_call_line (line_of id) ≡ true
+high id = le-leb 2147483648 (2147483648 + id) (omega arith)
+
+call_lines_high : (calls : List Callout) (n : ℕ) → Contains (call_lines calls) n → is_call_line n ≡ true
+call_lines_high [] n (k, below, is) = let never : ⊥ = omega (arith, below) in absurd never
+call_lines_high (c ∷ calls) n there = by_test (λ later. call_lines_high calls n later) (reads_call_more c) there
+  where
+    by_test : (Contains (call_lines calls) n → is_call_line n ≡ true) → (b : Bool) → Contains (map call_line (if b then c ∷ filter reads_call_more calls else filter reads_call_more calls)) n → is_call_line n ≡ true
+    by_test more true (zero, below, is) = subst (λ (m : ℕ). is_call_line m ≡ true) is (high c.id)
+    by_test more true (suc k, below, is) = more (k, omega (arith, below), is)
+    by_test more false later = more later
+
+-- a client's line that is asked for is one of those that are wanted
+of_clients : (lines : List ℕ) (calls : List Callout) (n : ℕ) → is_call_line n ≡ false → Contains (lines ++ call_lines calls) n → Contains lines n
+of_clients [] calls n low there = absurd (false≢true (sym low ∙ call_lines_high calls n there))
+of_clients (l ∷ lines) calls n low (zero, below, is) = (zero, omega arith, is)
+of_clients (l ∷ lines) calls n low (suc k, below, is) =
+    let later = of_clients lines calls n low (k, omega (arith, below), is) in
+    (suc later.0, omega (arith, later.1), later.2)
+
 pub backlog_is_bounded : BacklogIsBounded
 backlog_is_bounded plan r waiting (Opened line) obeys = tt
 backlog_is_bounded plan r waiting (Bytes number Down bytes) obeys =
@@ -142,8 +166,8 @@ backlog_is_bounded plan r waiting (Bytes number Down bytes) obeys =
     let roomy = (and_parts (has_room waiting Down p.line && has_room waiting Up p.line) (reads_more (line_reading false (Some p.line))) p.passes).0 in
     let each = and_parts (has_room waiting Down p.line) (has_room waiting Up p.line) roomy in
     (has_backlog waiting Down p.line number p.is each.0, has_backlog waiting Up p.line number p.is each.1)
-backlog_is_bounded plan r waiting (Bytes number Up bytes) obeys =
-    let p = picked (is_wanted Up waiting) r.lines number obeys in
+backlog_is_bounded plan r waiting (Bytes number Up bytes) obeys = λ low.
+    let p = picked (is_wanted Up waiting) r.lines number (of_clients (numbers (filter (is_wanted Up waiting) r.lines)) r.calls number low obeys) in
     has_backlog waiting Down p.line number p.is (and_parts (has_room waiting Down p.line) (reads_more (line_reading true (Some p.line))) p.passes).0
 backlog_is_bounded plan r waiting (End line side) obeys = tt
 backlog_is_bounded plan r waiting (Gone line side) obeys = tt
@@ -169,12 +193,12 @@ line_there : (lines : List Line) (number : ℕ) (line : Line) → AreApart lines
 line_there lines number line apart stands is = subst (λ (n : ℕ). line_in n lines ≡ Some line) is (apart line stands)
 
 pub unread_is_bounded : UnreadIsBounded
-unread_is_bounded plan r waiting number Down bytes apart obeys sized =
+unread_is_bounded plan r waiting number Down bytes low apart obeys sized =
     let p = picked (is_wanted Down waiting) r.lines number obeys in
     has_unread r.lines number Down bytes (line_reading false (Some p.line)) (ap (line_reading false) (line_there r.lines number p.line apart p.stands p.is))
     (and_parts (has_room waiting Down p.line && has_room waiting Up p.line) (reads_more (line_reading false (Some p.line))) p.passes).1 sized.1
-unread_is_bounded plan r waiting number Up bytes apart obeys sized =
-    let p = picked (is_wanted Up waiting) r.lines number obeys in
+unread_is_bounded plan r waiting number Up bytes low apart obeys sized =
+    let p = picked (is_wanted Up waiting) r.lines number (of_clients (numbers (filter (is_wanted Up waiting) r.lines)) r.calls number low obeys) in
     has_unread r.lines number Up bytes (line_reading true (Some p.line)) (ap (line_reading true) (line_there r.lines number p.line apart p.stands p.is))
     (and_parts (has_room waiting Down p.line) (reads_more (line_reading true (Some p.line))) p.passes).1 sized.1
 

@@ -74,7 +74,7 @@ module _ {H S : Type 0} (calling : Calling H) (performs : S → List Made → S 
       → ((line : ℕ) (side : Side) → backlog line side to.waiting ≤ backlog line side from.waiting + backlog line side sent) → WaitsSince sent to.waiting what
   since_of (Opened line) from to sent fits less = tt
   since_of (Bytes line Down bytes) from to sent fits less = (omega (arith, fits.0, less line Down), omega (arith, fits.1, less line Up))
-  since_of (Bytes line Up bytes) from to sent fits less = omega (arith, fits, less line Down)
+  since_of (Bytes line Up bytes) from to sent fits less = λ low. omega (arith, fits low, less line Down)
   since_of (End line side) from to sent fits less = tt
   since_of (Gone line side) from to sent fits less = tt
   since_of (Joined line) from to sent fits less = tt

@@ -72,7 +72,7 @@ old_is_read = record {
   is = refl;
 }
 
-interim_is_read : Hears down.coming (hands (interim_part worked_interim) down.behind_interim)
+pub interim_is_read : Hears down.coming (hands (interim_part worked_interim) down.behind_interim)
 interim_is_read = record {
   used = 25;
   due = head;
@@ -80,7 +80,7 @@ interim_is_read = record {
   is = refl;
 }
 
-download_is_read : Hears down.behind_interim (hands (head_part download_head) down.behind_download)
+pub download_is_read : Hears down.behind_interim (hands (head_part download_head) down.behind_download)
 download_is_read = record {
   used = 47;
   due = body (coded [] size_line);
@@ -88,7 +88,7 @@ download_is_read = record {
   is = refl;
 }
 
-data_is_read : Hears down.behind_download (hands (piece (codes "abcde") false) down.behind_data)
+pub data_is_read : Hears down.behind_download (hands (piece (codes "abcde") false) down.behind_data)
 unfolding httparse_on_literals run_of
 data_is_read = record {
   used = 8;
@@ -121,7 +121,7 @@ data_is_read = record {
   is = refl;
 }
 
-trailers_are_read : Hears down.behind_data (hands (trailer_part ((codes "x-sum", codes "1") ∷ [])) down.behind_trailers)
+pub trailers_are_read : Hears down.behind_data (hands (trailer_part ((codes "x-sum", codes "1") ∷ [])) down.behind_trailers)
 unfolding httparse_on_literals run_of
 trailers_are_read = record {
   used = 17;

@@ -2,6 +2,7 @@
 use Rattle.std.proofs.Common.{◌≡◌, ℕ, zero, suc, ◌+◌, ◌<◌, ◌≤◌, Bool, true, false, not, ◌&&◌, ◌||◌, List, [], ◌∷◌, refl, sym, ap, ◌∙◌, subst, arith, ⊎_elim, nat_le, slice_get, if◌then◌else◌}
 use Rattle.std.proofs.lemmas.Bool.{cases_eq, false≢true, leb-false, leb-true, or_left, or_right}
 use Rattle.std.specs.Prelude.{Contains, Option, None, Some}
+use Rattle.callouts.specs.declared.types.Callout.{Callout}
 use Rattle.contexts.specs.declared.parts.Context.{Context}
 use Rattle.contexts.specs.declared.parts.Tick.{Tick}
 use Rattle.contexts.specs.Reached.{vm_in}
@@ -10,7 +11,7 @@ use Rattle.worker_model.specs.Plan.{Plan}
 use Rattle.worker_model.specs.Rooms.{is_dead}
 use Rattle.worker_model.specs.Steps.{at_most_last}
 use Rattle.worker_model.specs.Turn.{registers_at, vms_in}
-use Rattle.worker_model.specs.Wants.{due_in, due_of, due_on, looks, looks_one, ticks_up_to, with_lines, with_notices, with_ticks}
+use Rattle.worker_model.specs.Wants.{due_in, due_of, due_on, looks, looks_one, ticks_up_to, with_call_dues, with_lines, with_notices, with_ticks}
 use Rattle.worker_model.specs.Wants.{earlier}
 use Rattle.worker_model.specs.Room.{Room}
 use Rattle.worker_model.specs.declared.types.Line.{Line}
@@ -160,6 +161,18 @@ lines_have due (m ∷ lines) l n (zero, below, is) falls =
     lines_keep (earlier due (due_on m.exchange)) lines n (earlier_second due (due_on m.exchange) n (subst (λ (o : Option ℕ). IsBy o n) (sym own) here))
 lines_have due (m ∷ lines) l n (suc k, below, is) falls = lines_have (earlier due (due_on m.exchange)) lines l n (k, omega (arith, below), is) falls
 
+calls_keep : (due : Option ℕ) (calls : List Callout) (n : ℕ) → IsBy due n → IsBy (with_call_dues due calls) n
+calls_keep due [] n by = by
+calls_keep due (c ∷ calls) n by = calls_keep (earlier due (Some c.due)) calls n (earlier_first due (Some c.due) n by)
+
+calls_have : (due : Option ℕ) (calls : List Callout) (c : Callout) → Contains calls c → IsBy (with_call_dues due calls) c.due
+calls_have due [] c (k, below, is) = let never : ⊥ = omega (arith, below) in absurd never
+calls_have due (d ∷ calls) c (zero, below, is) =
+    let own : d.due ≡ c.due = ap (λ (e : Callout). e.due) is in
+    let here : d.due ≤ c.due = omega (arith, own) in
+    calls_keep (earlier due (Some d.due)) calls c.due (earlier_second due (Some d.due) c.due here)
+calls_have due (d ∷ calls) c (suc k, below, is) = calls_have (earlier due (Some d.due)) calls c (k, omega (arith, below), is)
+
 looks_have : (plan : Plan) (r : Room) (n vm : ℕ) → vm < n → looks_one plan r vm ≡ true → looks plan r n ≡ true
 looks_have plan r zero vm less is = let never : ⊥ = omega (arith, less) in absurd never
 looks_have plan r (suc n) vm less is =
@@ -176,8 +189,8 @@ capped n = which (nat_le n 18446744073709551615) refl
     which false e = omega (arith, leb-false n 18446744073709551615 e)
 
 -- where it has begun
-begun_by : (plan : Plan) (r : Room) (n : ℕ) → r.is_begun ≡ true → IsBy (with_notices plan r (with_lines (ticks_up_to r (vms_in r)) r.lines)) n → IsBy (due_in plan r) n
-begun_by plan r n begun by = if_true (λ (o : Option ℕ). IsBy o n) r.is_begun (with_notices plan r (with_lines (ticks_up_to r (vms_in r)) r.lines)) None begun by
+begun_by : (plan : Plan) (r : Room) (n : ℕ) → r.is_begun ≡ true → IsBy (with_notices plan r (with_call_dues (with_lines (ticks_up_to r (vms_in r)) r.lines) r.calls)) n → IsBy (due_in plan r) n
+begun_by plan r n begun by = if_true (λ (o : Option ℕ). IsBy o n) r.is_begun (with_notices plan r (with_call_dues (with_lines (ticks_up_to r (vms_in r)) r.lines) r.calls)) None begun by
 
 notices_keep : (plan : Plan) (r : Room) (due : Option ℕ) (n : ℕ) → IsBy due n → IsBy (with_notices plan r due) n
 notices_keep plan r due n by =
@@ -196,13 +209,16 @@ pub nothing_is_due_before : NothingIsDueBefore
 nothing_is_due_before = record {
   ticks = λ plan r vm c t begun less lives there ticks.
       begun_by plan r t.due begun
-      (notices_keep plan r (with_lines (ticks_up_to r (vms_in r)) r.lines) t.due
-      (lines_keep (ticks_up_to r (vms_in r)) r.lines t.due (ticks_to r (vms_in r) vm c t less lives there ticks)));
+      (notices_keep plan r (with_call_dues (with_lines (ticks_up_to r (vms_in r)) r.lines) r.calls) t.due
+      (calls_keep (with_lines (ticks_up_to r (vms_in r)) r.lines) r.calls t.due (lines_keep (ticks_up_to r (vms_in r)) r.lines t.due (ticks_to r (vms_in r) vm c t less lives there ticks))));
   responses = λ plan r l x due begun there stands is headed answered.
       begun_by plan r due begun
-      (notices_keep plan r (with_lines (ticks_up_to r (vms_in r)) r.lines) due
-      (lines_have (ticks_up_to r (vms_in r)) r.lines l due there (ap due_on stands ∙ open_due x due is headed answered)));
+      (notices_keep plan r (with_call_dues (with_lines (ticks_up_to r (vms_in r)) r.lines) r.calls) due
+      (calls_keep (with_lines (ticks_up_to r (vms_in r)) r.lines) r.calls due (lines_have (ticks_up_to r (vms_in r)) r.lines l due there (ap due_on stands ∙ open_due x due is headed answered))));
+  callouts = λ plan r c begun there.
+      begun_by plan r c.due begun
+      (notices_keep plan r (with_call_dues (with_lines (ticks_up_to r (vms_in r)) r.lines) r.calls) c.due (calls_have (with_lines (ticks_up_to r (vms_in r)) r.lines) r.calls c there));
   notices = λ plan r vm begun less lives registers.
       begun_by plan r (r.hub.moment + 50000000) begun
-      (notices_have plan r (with_lines (ticks_up_to r (vms_in r)) r.lines) (looks_have plan r (vms_in r) vm less (looks_where plan r vm lives registers)));
+      (notices_have plan r (with_call_dues (with_lines (ticks_up_to r (vms_in r)) r.lines) r.calls) (looks_have plan r (vms_in r) vm less (looks_where plan r vm lives registers)));
 }

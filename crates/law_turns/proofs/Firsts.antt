@@ -21,7 +21,7 @@ use Rattle.exchange.specs.Passing.{expire_exchange}
 use Rattle.worker_model.specs.Rooms.{all_lines, with_lines, is_any, is_over, is_released, has_move, next_of, moves_or, frees_or, ends_or, begins_or_rests}
 use Rattle.worker_model.specs.Settling.{is_rest, settling, settling_step}
 use Rattle.worker_model.specs.Steps.{Both, works, take_event, is_late, expire_all}
-use Rattle.worker_model.specs.Turn.{Outcome, turn_by, room_for_event, at_moment, outcome_of, deadline_jobs, most_steps, notices_of, starts_of, vms_in, comes_if}
+use Rattle.worker_model.specs.Turn.{Outcome, turn_by, room_for_event, at_moment, outcome_of, fail_jobs, deadline_jobs, most_steps, notices_of, starts_of, vms_in, comes_if}
 use Rattle.worker_model.specs.Room.{Room}
 use Rattle.worker_model.specs.declared.types.Job.{Job}
 use Rattle.worker_model.specs.declared.types.Job.TheVariants as jobs
@@ -118,7 +118,7 @@ module _ {H : Type 0} (calling : Calling H) (plan : Plan) where
       let facing_is : room_for_event plan e room ≡ record calm { jobs = []; agenda = deadline_jobs plan ++ (jobs.Happen e.what ∷ later) } =
       (λ i. record calm {
         jobs = no_jobs room.jobs r.works_none i;
-        agenda = (if none.begun i then [] else starts_of (vms_in room) room.hub.contexts.plugins) ++ (none.no_tick i ++ (deadline_jobs plan ++ ((if low i then comes_if (callout_at (line_in e.what) room.calls) e.what else jobs.Happen e.what ∷ []) ++ later)));
+        agenda = (if none.begun i then [] else starts_of (vms_in room) room.hub.contexts.plugins) ++ (none.no_tick i ++ (deadline_jobs plan ++ (fail_jobs (none.no_call i) ++ ((if low i then comes_if (callout_at (line_in e.what) room.calls) e.what else jobs.Happen e.what ∷ []) ++ later))));
       }) in
       let l : Left calm from.host e later (settling calling plan most_steps from.host (record calm { jobs = []; agenda = deadline_jobs plan ++ (jobs.Happen e.what ∷ later) })) =
       with_deadlines (plan.deadline == 0) calm is_calm none.no_deadline from.host e later in
@@ -175,7 +175,7 @@ first_leaves = refl
 
 first_due : NothingIsDue 1000000001 (end_by (heard (hands (head_part worked_head) behind_head) ∷ []) first).state.room
 unfolding settling matchit_on_literals is_token_byte
-first_due = record { begun = refl; at_rest = refl; no_tick = refl; no_deadline = refl }
+first_due = record { begun = refl; at_rest = refl; no_tick = refl; no_deadline = refl; no_call = refl }
 
 -- the turn after that one
 abbrev then_late : Course (Outcome (List Call))

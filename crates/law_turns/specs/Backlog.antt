@@ -10,6 +10,7 @@ use Rattle.gate_io.specs.declared.event.Side.{Side}
 use Rattle.gate_io.specs.declared.event.Side.TheVariants.{Down, Up}
 use Rattle.gate_io.specs.declared.event.What.{What}
 use Rattle.gate_io.specs.declared.event.What.TheVariants.{Opened, Bytes, End, Gone, Joined, Refused, Room, Clock, Stop}
+use Rattle.callouts.specs.Callouts.{is_call_line}
 use Rattle.gate_io.specs.declared.passed.Wants.{Wants}
 use Rattle.h1_model.specs.Unread.{Reading, new_reading, reading_with_bytes, Act, feeds, ends, hands, halts, Does}
 use Rattle.send_queue.specs.Places.{is_same_side}
@@ -108,11 +109,12 @@ abbrev pub backlog : ℕ → Side → List Sent → ℕ
 backlog line side [] = 0
 backlog line side (member ∷ waiting) = bytes_to line side member + backlog line side waiting
 
--- Bytes of a client come where fewer than 65,536 wait for it and for the server on its line; bytes of a server, where fewer wait for its client.
+-- Bytes of a client come where fewer than 65,536 wait for it and for the server on its line; bytes of a server, where fewer wait for its client. (Those that come for
+-- a callout, on a line from 2^31 on, go to nobody.)
 abbrev pub FitsBacklog : List Sent → What → Type 0
 FitsBacklog waiting (Opened line) = Unit {0}
 FitsBacklog waiting (Bytes line Down bytes) = (backlog line Down waiting < 65536) × (backlog line Up waiting < 65536)
-FitsBacklog waiting (Bytes line Up bytes) = backlog line Down waiting < 65536
+FitsBacklog waiting (Bytes line Up bytes) = is_call_line line ≡ false → backlog line Down waiting < 65536
 FitsBacklog waiting (End line side) = Unit {0}
 FitsBacklog waiting (Gone line side) = Unit {0}
 FitsBacklog waiting (Joined line) = Unit {0}
@@ -140,7 +142,7 @@ pub record HasUnread (lines : List Line) (number : ℕ) (side : Side) (bytes : L
 
 abbrev pub UnreadIsBounded : Type 0
 UnreadIsBounded =
-    (plan : Plan) (r : rooms.Room) (waiting : List Sent) (number : ℕ) (side : Side) (bytes : List ℕ) → AreApart r.lines
+    (plan : Plan) (r : rooms.Room) (waiting : List Sent) (number : ℕ) (side : Side) (bytes : List ℕ) → is_call_line number ≡ false → AreApart r.lines
     → Obeys (wants_of plan r waiting) (Bytes number side bytes) → IsSized (Bytes number side bytes) → HasUnread r.lines number side bytes
 
 -- what is done with a reader is what a worker asks for: text comes only where more is wanted, in pieces of at most 16,384 bytes

@@ -1,5 +1,6 @@
 -- HOW MUCH WAITS FROM TURN TO TURN, by whole turns that a worker's code takes, where its world gives only what it was asked for.
-use Rattle.std.specs.Prelude.{ℕ, ◌+◌, ◌<◌, ◌≤◌, Bool, true, List, [], ◌∷◌, Option}
+use Rattle.std.specs.Prelude.{◌≡◌, ℕ, ◌+◌, ◌<◌, ◌≤◌, Bool, true, false, List, [], ◌∷◌, Option}
+use Rattle.callouts.specs.Callouts.{is_call_line}
 use Rattle.filter_host.specs.Called.{Calling}
 use Rattle.gate_io.specs.Events.{Last}
 use Rattle.gate_io.specs.declared.event.Event.{Event}
@@ -29,7 +30,7 @@ pub record KeepsBacklog {H : Type 0} (from : Standing H) (event : Event) (sent :
 abbrev pub WaitsSince : List Sent → List Sent → What → Type 0
 WaitsSince sent waiting (Opened line) = Unit {0}
 WaitsSince sent waiting (Bytes line Down bytes) = (backlog line Down waiting < 65536 + backlog line Down sent) × (backlog line Up waiting < 65536 + backlog line Up sent)
-WaitsSince sent waiting (Bytes line Up bytes) = backlog line Down waiting < 65536 + backlog line Down sent
+WaitsSince sent waiting (Bytes line Up bytes) = is_call_line line ≡ false → backlog line Down waiting < 65536 + backlog line Down sent
 WaitsSince sent waiting (End line side) = Unit {0}
 WaitsSince sent waiting (Gone line side) = Unit {0}
 WaitsSince sent waiting (Joined line) = Unit {0}

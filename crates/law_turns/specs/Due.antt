@@ -1,5 +1,6 @@
 -- WHAT FALLS DUE, worked: the moment at which a worker wants to be called, responses that are due, ticks, and which VMs take notices.
 use Rattle.std.specs.Prelude.{◌≡◌, ℕ, ◌+◌, ◌<◌, ◌≤◌, true, false, Bool, List, [], ◌∷◌, Option, Some, None, Contains, slice_get}
+use Rattle.callouts.specs.declared.types.Callout.{Callout}
 use Rattle.contexts.specs.declared.parts.Context.{Context}
 use Rattle.contexts.specs.declared.parts.Contexts.{Contexts}
 use Rattle.contexts.specs.declared.parts.Tick.{Tick}
@@ -163,12 +164,13 @@ abbrev pub IsBy : Option ℕ → ℕ → Type 0
 IsBy None n = ⊥
 IsBy (Some due) n = due ≤ n
 
--- of a worker that has begun: by the tick of each root of each VM that lives, by each response that is waited for, and where a VM that lives registers
+-- of a worker that has begun: by the tick of each root of each VM that lives, by each response that is waited for, by each callout, and where a VM that lives registers
 -- queues, by 50 milliseconds from its moment
 pub record NothingIsDueBefore : Type 0 where
   pub ticks : (plan : Plan) (r : Room) (vm : ℕ) (c : Context) (t : Tick) → r.is_begun ≡ true → vm < vms_in r → is_dead vm r ≡ false
       → Contains (vm_in r.hub.contexts vm).contexts c → c.tick ≡ Some t → IsBy (due_in plan r) t.due
   pub responses : (plan : Plan) (r : Room) (l : Line) (x : Exchange) (due : ℕ) → r.is_begun ≡ true → Contains r.lines l → l.exchange ≡ Some x → x.due ≡ Some due
       → x.is_headed ≡ false → x.is_answered ≡ false → IsBy (due_in plan r) due
+  pub callouts : (plan : Plan) (r : Room) (c : Callout) → r.is_begun ≡ true → Contains r.calls c → IsBy (due_in plan r) c.due
   pub notices : (plan : Plan) (r : Room) (vm : ℕ) → r.is_begun ≡ true → vm < vms_in r → is_dead vm r ≡ false → slice_get plan.registers vm ≡ Some true
       → IsBy (due_in plan r) (r.hub.moment + 50000000)

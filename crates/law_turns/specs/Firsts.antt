@@ -1,7 +1,7 @@
 -- What an event finds: its line as the turn before it left it, where nothing is due at its moment; and what else it may find.
 use Rattle.std.specs.Prelude.{◌≡◌, ℕ, ◌+◌, ◌≤◌, true, false, List, [], ◌∷◌, ◌++◌, Some, codes}
 use Rattle.std.specs.List.{list_any}
-use Rattle.callouts.specs.Callouts.{is_of_call, line_in}
+use Rattle.callouts.specs.Callouts.{is_of_call, line_in, due_at as due_calls_at}
 use Rattle.contexts.specs.Creating.{open_exchange}
 use Rattle.filter_host.specs.Called.{Calling}
 use Rattle.filter_host.specs.Course.{Course, ends, then_do, Met, heard}
@@ -29,12 +29,13 @@ use Rattle.law_turns.specs.Scenes.{line_of, get_map, contexts_with_roots, filter
 
 -- ---- nothing is due
 
--- a worker that has begun, and is at rest; at this moment no tick is due, and no response
+-- a worker that has begun, and is at rest; at this moment no tick is due, no response, and no callout
 pub record NothingIsDue (now : ℕ) (room : rooms.Room) : Type 0 where
   pub begun : room.is_begun ≡ true
   pub at_rest : is_rest (next_of room) ≡ true
   pub no_tick : ticks_due (at_moment now room) ≡ []
   pub no_deadline : list_any (is_late now) room.lines ≡ false
+  pub no_call : due_calls_at now room.calls ≡ []
 
 -- the room that its event finds: it is as it was, at the event's moment, and what is left of the turn are notices
 abbrev pub found_by : Plan → Event → rooms.Room → rooms.Room

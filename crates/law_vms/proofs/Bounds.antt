@@ -5,7 +5,6 @@ use Rattle.std.specs.Prelude.{◌&&◌}
 use Rattle.abi_calls.specs.Hosting.{Hosted, hosting, wasi_hosting, of_called, asking}
 use Rattle.abi_maps.specs.Buffers.{own_get_buffer_bytes, own_get_buffer_status, own_set_buffer_bytes}
 use Rattle.abi_maps.specs.Maps.{own_get_header_map_pairs, own_set_header_map_pairs, own_get_header_map_size, own_get_header_map_value, own_add_header_map_value, own_replace_header_map_value, own_remove_header_map_value}
-use Rattle.abi_maps.specs.Callouts.{own_http_call}
 use Rattle.abi_maps.specs.Streams.{own_continue_stream, own_close_stream, own_send_local_response}
 use Rattle.abi_memory.specs.Giving.{Gave, gave, refused, no_allocator, gave_trapped, gave_spent, gave_open, has_place, numbered, numbering, has_room, placed, placing, placing_at, giving_by, giving}
 use Rattle.abi_memory.specs.declared.give.Place.{Place}
@@ -24,6 +23,7 @@ use Rattle.abi_model.specs.declared.table.HostCall.TheVariants as call
 use Rattle.abi_model.specs.declared.table.Param.{Param}
 use Rattle.abi_model.specs.declared.table.WasiCall.{WasiCall}
 use Rattle.abi_model.specs.declared.table.WasiCall.TheVariants as wasi
+use Rattle.abi_services.specs.Callouts.{own_http_call}
 use Rattle.abi_services.specs.Data.{own_get_shared_data, own_set_shared_data}
 use Rattle.abi_services.specs.Files.{are_inside, fd_writes, file_written, pieces}
 use Rattle.abi_services.specs.Local.{own_get_log_level, own_get_current_time, own_set_tick_period, own_set_effective_context, own_done}
@@ -222,7 +222,7 @@ hosting_same call.RemoveHeaderMapValue now vm args g s = locally_same 6 (row_of 
 hosting_same call.ContinueStream now vm args g s = locally_same 6 (row_of call.ContinueStream) own_continue_stream args g s
 hosting_same call.CloseStream now vm args g s = locally_same 6 (row_of call.CloseStream) own_close_stream args g s
 hosting_same call.SendLocalResponse now vm args g s = locally_same 6 (row_of call.SendLocalResponse) own_send_local_response args g s
-hosting_same call.HttpCall now vm args g s = locally_same 6 (row_of call.HttpCall) own_http_call args g s
+hosting_same call.HttpCall now vm args g s = locally_same 6 (row_of call.HttpCall) (own_http_call vm) args g s
 hosting_same call.GetSharedData now vm args g s = asking_same (row_of call.GetSharedData) own_get_shared_data vm args g s
 hosting_same call.SetSharedData now vm args g s = asking_same (row_of call.SetSharedData) own_set_shared_data vm args g s
 hosting_same call.RegisterSharedQueue now vm args g s = asking_same (row_of call.RegisterSharedQueue) own_register_shared_queue vm args g s

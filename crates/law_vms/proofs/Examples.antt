@@ -11,7 +11,7 @@ use Rattle.contexts.specs.Reached.{no_vm, common_of, reach_by, seen_of, exchange
 use Rattle.contexts.specs.Creating.{root_context, stream_context}
 use Rattle.contexts.specs.declared.parts.Context.{Context}
 use Rattle.contexts.specs.declared.parts.VmContexts.{VmContexts}
-use Rattle.law_vms.specs.Examples.{together, separate, closes, IsolationExamples}
+use Rattle.law_vms.specs.Examples.{together, separate, closes, calls, IsolationExamples}
 use Rattle.law_vms.specs.OwnChanges.{HasNoneAt, ChangesItsOwn}
 use Rattle.law_vms.specs.OwnEffects.{IsEffectOf}
 use Rattle.law_vms.specs.OwnStores.{IsRootOf}
@@ -92,6 +92,12 @@ of_root is =
 of_another : IsEffectOf host 1 (closes 3) → ⊥
 of_another is = none-some is.0 is.1
 
+call_for_another : IsEffectOf host 0 (calls 1 1 1) → ⊥
+call_for_another is = (let same : 1 ≡ 0 = is.2.0 in omega (arith, same))
+
+call_for_a_stream : IsEffectOf host 0 (calls 1 0 2) → ⊥
+call_for_a_stream is = (let same : 2 ≡ 1 = is.2.1 in omega (arith, same))
+
 -- one of three
 of_three : (P : Context → Type 0) (b d f : Bool) (x y z c : Context) → cond b (Some x) (cond d (Some y) (cond f (Some z) None)) ≡ Some c → P x → P y → P z → P c
 of_three P true d f x y z c is px py pz = subst P (from_some is) px
@@ -138,6 +144,9 @@ isolation_examples = record {
   of_stream = (stream_context 3 0 1 (Some 1), refl, (1, refl));
   of_root = of_root;
   of_another = of_another;
+  call_of_root = (root_context 1 0, refl, (refl, refl));
+  call_for_another = call_for_another;
+  call_for_a_stream = call_for_a_stream;
   marks = refl;
   line = (omega arith, omega arith);
   above = (omega arith, omega arith);

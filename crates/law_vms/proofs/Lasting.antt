@@ -1,6 +1,11 @@
 -- What all callbacks keep of the machines, whatever these are, each step and each turn keeps.
 use Rattle.std.proofs.Common.{◌≡◌, ℕ, zero, suc, ◌==◌, Bool, true, false, not, ◌||◌, List, [], ◌∷◌, sym, refl, subst}
 use Rattle.std.specs.Prelude.{Option, None, Some, nat_lt, slice_get, if◌then◌else◌}
+use Rattle.callouts.specs.Callouts.{callout_in}
+use Rattle.callouts.specs.declared.types.Callout.{Callout}
+use Rattle.callouts.specs.declared.types.CallStep.{CallStep}
+use Rattle.callouts.specs.declared.types.CallStep.TheVariants as steps
+use Rattle.contexts.specs.declared.parts.CallAnswer.{CallAnswer}
 use Rattle.contexts.specs.declared.parts.Contexts.{Contexts}
 use Rattle.filter_host.proofs.Holds.{AllEnds, all_then}
 use Rattle.filter_host.specs.Called.{Called, Calling}
@@ -23,14 +28,17 @@ use Rattle.worker_model.specs.declared.types.Line.{Line}
 use Rattle.worker_model.specs.declared.types.NewContext.{NewContext}
 use Rattle.worker_model.specs.declared.types.Next.{Next}
 use Rattle.worker_model.specs.declared.types.Next.TheVariants as next
+use Rattle.worker_model.specs.declared.types.OtherStep.{OtherStep}
+use Rattle.worker_model.specs.declared.types.OtherStep.TheVariants as others
 use Rattle.worker_model.specs.declared.types.Owner.{Owner}
 use Rattle.worker_model.specs.declared.types.Owner.TheVariants as owns
 use Rattle.worker_model.specs.declared.types.ReadBatch.{ReadBatch}
+use Rattle.worker_model.specs.Calls.{answer_if, put_call_answer, has_listener, close_call}
 use Rattle.worker_model.specs.Moves.{asks_at}
 use Rattle.worker_model.specs.Plan.{Plan}
 use Rattle.worker_model.specs.Rooms.{is_dead, next_of, with_lines, take_callback_end, value_of_end}
 use Rattle.worker_model.specs.Settling.{settling, settling_step, settling_rest, settling_none, is_rest}
-use Rattle.worker_model.specs.Steps.{Both, both, Answered, callback_result, Then, continue_with, called_in, called_live, calls_live, apply_stage_action, moved, moved_with, tells, made_with, ticks_with, tells_ready, notice_step, works, works_first, reads_in, reads_next, reading_on, nothing_more, unless_zero, finish_context, delete_context, create_root, create_context, tick_root, may_stream, callback_of, number_of, vm_length, plugin_length, step}
+use Rattle.worker_model.specs.Steps.{Both, both, Answered, callback_result, Then, continue_with, called_in, called_live, calls_live, apply_stage_action, moved, moved_with, tells, made_with, ticks_with, tells_ready, notice_step, reads_call, drop_answer, tells_call, ends_call, works_call, works_other, works, works_first, reads_in, reads_next, reading_on, nothing_more, unless_zero, finish_context, delete_context, create_root, create_context, tick_root, may_stream, callback_of, number_of, vm_length, plugin_length, step}
 use Rattle.worker_model.specs.Turn.{Outcome, outcome_of, room_for_event, most_steps, turn_by, turn}
 
 -- so is each end of a program
@@ -97,6 +105,29 @@ module _ {H : Type 0} (calling : Calling H) (P : H → Type 0) (kept : KeptBy ca
   notices_so : (plan : Plan) (vm left : ℕ) (host : H) (room : Room) → P host → Keeps (notice_step plan vm left host room)
   notices_so plan vm left host room is = by_bool Keeps ((left == 0 || is_dead vm room) || not (nat_lt vm plan.vms)) _ _ is (λ reply. is)
 
+  reads_call_so : (id : ℕ) (o : Option Callout) (host : H) (room : Room) → P host → Keeps (reads_call id o host room)
+  reads_call_so id None host room is = is
+  reads_call_so id (Some c) host room is = λ h heard_so. is
+
+  tells_call_so : (answer : Option CallAnswer) (c : Callout) (host : H) (room : Room) → P host → Keeps (tells_call calling answer c host room)
+  tells_call_so answer c host room is =
+      by_bool Keeps (has_listener c room) _ (ends (both host room))
+      (live_so c.vm callbacks.CallAnswered c.context c.id 0 (drop_answer c.vm c.context) host (put_call_answer answer c.vm c.context room) is) is
+
+  ends_call_so : (answered : Bool) (id : ℕ) (o : Option Callout) (host : H) (room : Room) → P host → Keeps (ends_call calling answered id o host room)
+  ends_call_so answered id None host room is = is
+  ends_call_so answered id (Some c) host room is = tells_call_so (answer_if answered c) c host (close_call id room) is
+
+  works_call_so : (step : CallStep) (host : H) (room : Room) → P host → Keeps (works_call calling step host room)
+  works_call_so (steps.Comes what) host room is = is
+  works_call_so (steps.Read id) host room is = reads_call_so id (callout_in id room.calls) host room is
+  works_call_so (steps.Fail id) host room is = ends_call_so false id (callout_in id room.calls) host room is
+  works_call_so (steps.Answer id) host room is = ends_call_so true id (callout_in id room.calls) host room is
+
+  works_other_so : (step : OtherStep) (host : H) (room : Room) → P host → Keeps (works_other calling step host room)
+  works_other_so (others.Call step) host room is = works_call_so step host room is
+  works_other_so (others.Tcp step) host room is = is
+
   works_so : (plan : Plan) (job : Job) (host : H) (room : Room) → P host → Keeps (works calling plan job host room)
   works_so plan (jobs.Root vm plugin first) host room is = made_so host (create_root vm plugin first room) is
   works_so plan (jobs.Create number k) host room is = made_so host (create_context number k room) is
@@ -109,7 +140,7 @@ module _ {H : Type 0} (calling : Calling H) (P : H → Type 0) (kept : KeptBy ca
   works_so plan (jobs.Done c) host room is = live_so c.vm callbacks.Done c.context 0 0 (finish_context c) host room is
   works_so plan (jobs.Log c) host room is = live_so c.vm callbacks.Log c.context 0 0 nothing_more host room is
   works_so plan (jobs.Delete c) host room is = live_so c.vm callbacks.Delete c.context 0 0 (delete_context c) host room is
-  works_so plan (jobs.Other step) host room is = is
+  works_so plan (jobs.Other step) host room is = works_other_so step host room is
   works_so plan jobs.Expire host room is = is
   works_so plan (jobs.Happen what) host room is = is
   works_so plan (jobs.Enter number) host room is = is

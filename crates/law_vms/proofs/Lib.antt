@@ -2,10 +2,12 @@ mod Ends
 mod Apart
 mod Silent
 mod MadeVms
+mod Numbers
 mod Whole
 mod OwnChanges
 mod Fitting
 mod OwnEffects
+mod OwnCalls
 mod Looking
 mod Stepping
 mod SeesItsOwn

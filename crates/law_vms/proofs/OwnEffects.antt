@@ -1,17 +1,19 @@
 -- What a callback asks of its worker is for its own VM.
-use Rattle.std.proofs.Common.{◌≡◌, ℕ, zero, suc, ◌<◌, Bool, true, false, length, Option, None, Some, refl, ap, ◌∙◌, subst, sym, nat_lt, nat_le, ◌++◌, if◌then◌else◌, List, [], ◌∷◌, All, get_or, append_assoc, append-nil}
+use Rattle.std.proofs.Common.{◌≡◌, ℕ, zero, suc, ◌<◌, Bool, true, false, length, Option, None, Some, refl, ap, ◌∙◌, subst, sym, nat_lt, nat_le, arith, ◌++◌, if◌then◌else◌, List, [], ◌∷◌, All, get_or, append_assoc, append-nil}
 use Rattle.std.proofs.lemmas.Bool.{ltb-true, eqb-false, false≢true}
 use Rattle.std.proofs.lemmas.List.Elements.{All-nil, All-append}
 use Rattle.std.proofs.lemmas.Option.{none-some}
 use Rattle.std.specs.Option.{option_map}
 use Rattle.std.specs.Prelude.{slice_set, is_some, not, ◌==◌}
 use Rattle.abi_calls.specs.Hosting.{Hosted, hosting, wasi_hosting}
-use Rattle.abi_maps.specs.Streams.{is_other}
+use Rattle.abi_maps.specs.Streams.{is_other, is_stream}
 use Rattle.contexts.proofs.Places.{from_some}
 use Rattle.contexts.specs.Reached.{Changes, seen, no_changes, vm_in, context_in, exchange_at, view_at, view_in, with_view, effective_of, level_no, reach_by, viewed_by, exchanges_by, exchanges_after, put}
 use Rattle.contexts.specs.declared.parts.Context.{Context}
 use Rattle.contexts.specs.declared.parts.Contexts.{Contexts}
 use Rattle.contexts.specs.declared.parts.Effect.{Effect}
+use Rattle.contexts.specs.declared.parts.EffectKind.{EffectKind}
+use Rattle.contexts.specs.declared.parts.EffectKind.TheVariants as what
 use Rattle.contexts.specs.declared.parts.ExchangeEntry.{ExchangeEntry}
 use Rattle.contexts.specs.declared.parts.ExchangeView.{ExchangeView}
 use Rattle.contexts.specs.declared.parts.VmContexts.{VmContexts}
@@ -25,12 +27,12 @@ use Rattle.vm_host.specs.Slots.{Came, silent, calling_live, calling_slot, is_at_
 use Rattle.vm_host.specs.Vms.{VmAt}
 use Rattle.vm_host.specs.declared.slots.Vms.{Vms}
 use Rattle.law_vms.proofs.Ends.{AnyCall, AnyMeasure, along_ends, ends_along, all_then, all_weaker}
-use Rattle.law_vms.proofs.Fitting.{IsEffectSeen, view_marks, KeepsMarks, Fits, IsGood, env_good, wasi_good}
+use Rattle.law_vms.proofs.Fitting.{IsAskSeen, IsEffectSeen, view_marks, KeepsMarks, Fits, IsGood, env_good, wasi_good}
 use Rattle.law_vms.proofs.OwnChanges.{both_left, same_outline, own_same, own_then, put_own}
 use Rattle.law_vms.proofs.Whole.{CameKeeps, live_keeps}
 use Rattle.law_vms.specs.Apart.{AllEnds}
 use Rattle.law_vms.specs.OwnChanges.{IsPlaced, ArePlaced, outline, ChangesItsOwn}
-use Rattle.law_vms.specs.OwnEffects.{IsLine, IsOnLine, IsEffectOf, GrowsBy, marks_of, marks_at, AsksForItsOwn, EffectsAreOwn}
+use Rattle.law_vms.specs.OwnEffects.{IsLine, IsOnLine, IsAskOf, IsEffectOf, GrowsBy, marks_of, marks_at, AsksForItsOwn, EffectsAreOwn}
 
 -- ---- the marks of exchanges
 
@@ -89,12 +91,39 @@ line_kept b e None c is on = absurd (none-some (outline c) (sym is))
 line_kept false e (Some d) c is on = (d, refl, (on.0, sym (ap (λ (y : ℕ × ℕ × ℕ × Option ℕ). y.3) (from_some is)) ∙ on.1))
 line_kept true e (Some d) c is on = (d, refl, λ same. on (ap (λ (y : ℕ × ℕ × ℕ × Option ℕ). y.2) (from_some is) ∙ same))
 
-effect_of_own : (vm : ℕ) (h k : Contexts) → ChangesItsOwn vm h k → (e : Effect) → IsEffectSeen (seen k vm) e → IsEffectOf h vm e
-effect_of_own vm h k own e is =
+stream_of_own : (vm : ℕ) (h k : Contexts) → ChangesItsOwn vm h k → (n : ℕ) → n ≡ effective_of k vm → is_stream (seen k vm) ≡ true → (c : Context) × (context_in h vm n ≡ Some c) × IsOnLine h.is_tcp n c
+stream_of_own vm h k own n at is =
     let id = effective_of k vm in
-    let there = on_line k.is_tcp k (vm_in k vm) id (context_in k vm id) is.1 in
+    let there = on_line k.is_tcp k (vm_in k vm) id (context_in k vm id) is in
     let kept = line_kept k.is_tcp id (context_in h vm id) there.0 (ap (option_map outline) (sym there.1) ∙ same_outline h k vm id own.outlined) there.2 in
-    (kept.0, ap (context_in h vm) is.0 ∙ kept.1, subst (λ b. IsOnLine b e.context kept.0) own.is_tcp (subst (λ n. IsOnLine k.is_tcp n kept.0) (sym is.0) kept.2))
+    (kept.0, ap (context_in h vm) at ∙ kept.1, subst (λ b. IsOnLine b n kept.0) own.is_tcp (subst (λ m. IsOnLine k.is_tcp m kept.0) (sym at) kept.2))
+
+-- a context that is there, as one was before
+there_by : (h : Contexts) (w : VmContexts) (o : Option Context) → is_some (reach_by h w o).own ≡ true → (c : Context) × (o ≡ Some c)
+there_by h w None is = absurd (false≢true is)
+there_by h w (Some c) is = (c, refl)
+
+one_kept : (o : Option Context) (c : Context) → option_map outline (Some c) ≡ option_map outline o → (d : Context) × (o ≡ Some d)
+one_kept None c is = absurd (none-some (outline c) (sym is))
+one_kept (Some d) c is = (d, refl)
+
+call_of_own : (vm : ℕ) (h k : Contexts) → ChangesItsOwn vm h k → (n : ℕ) → n ≡ effective_of k vm → is_some (seen k vm).reach.own ≡ true → (c : Context) × (context_in h vm n ≡ Some c)
+call_of_own vm h k own n at is =
+    let id = effective_of k vm in
+    let there = there_by k (vm_in k vm) (context_in k vm id) is in
+    let kept = one_kept (context_in h vm id) there.0 (ap (option_map outline) (sym there.1) ∙ same_outline h k vm id own.outlined) in
+    (kept.0, ap (context_in h vm) at ∙ kept.1)
+
+ask_of_own : (vm : ℕ) (h k : Contexts) → ChangesItsOwn vm h k → (n : ℕ) (w : EffectKind) → n ≡ effective_of k vm → IsAskSeen vm (seen k vm) w → (c : Context) × (context_in h vm n ≡ Some c) × IsAskOf h vm n c w
+ask_of_own vm h k own n (what.Continue is_response) at is = stream_of_own vm h k own n at is
+ask_of_own vm h k own n what.Close at is = stream_of_own vm h k own n at is
+ask_of_own vm h k own n (what.Answer status fields body) at is = stream_of_own vm h k own n at is
+ask_of_own vm h k own n (what.Call q) at is =
+    let there = call_of_own vm h k own n at is.0 in
+    (there.0, there.1, (is.1, is.2 ∙ sym at))
+
+effect_of_own : (vm : ℕ) (h k : Contexts) → ChangesItsOwn vm h k → (e : Effect) → IsEffectSeen vm (seen k vm) e → IsEffectOf h vm e
+effect_of_own vm h k own e is = ask_of_own vm h k own e.context e.what is.0 is.1
 
 -- ---- one host call
 
@@ -112,7 +141,7 @@ grown P old new more by all = (by.0 ++ more, ap (λ xs. xs ++ more) by.1 ∙ app
 pub all_as : {A : Type 0} (P Q : A → Type 0) (xs : List A) → ((a : A) → P a → Q a) → All P xs → All Q xs
 all_as P Q xs so all = λ k d within. so (get_or xs k d) (all k d within)
 
-work_step : (vm : ℕ) (h : Contexts) (s : HostState) (c : Changes) (ls : List Sent) → IsWork vm h s → Fits (seen s.contexts vm) c → All (IsLine (level_no h.level)) ls → IsWork vm h (host_state (put c vm s.contexts) ls)
+work_step : (vm : ℕ) (h : Contexts) (s : HostState) (c : Changes) (ls : List Sent) → IsWork vm h s → Fits vm (seen s.contexts vm) c → All (IsLine (level_no h.level)) ls → IsWork vm h (host_state (put c vm s.contexts) ls)
 work_step vm h s c ls work fits lines =
     let k = s.contexts in
     let step : ChangesItsOwn vm k (put c vm k) = put_own c vm k work.there in
@@ -120,17 +149,17 @@ work_step vm h s c ls work fits lines =
       there = subst (λ n. vm < n) (sym step.count) work.there;
       own = own_then vm h k (put c vm k) work.own step;
       lines = lines;
-      effects = grown (IsEffectOf h vm) h.effects k.effects c.effects work.effects (all_as (IsEffectSeen (seen k vm)) (IsEffectOf h vm) c.effects (effect_of_own vm h k work.own) fits.0);
+      effects = grown (IsEffectOf h vm) h.effects k.effects c.effects work.effects (all_as (IsEffectSeen vm (seen k vm)) (IsEffectOf h vm) c.effects (effect_of_own vm h k work.own) fits.0);
       marks = λ n. marks_after c k (vm_in k vm) (context_in k vm (effective_of k vm)) n fits.1 ∙ work.marks n;
     }
 
-serve_step : (vm : ℕ) (h : Contexts) (s : HostState) (c : Hosted) → IsWork vm h s → IsGood (seen s.contexts vm) c → IsWork vm h (host_state (put c.changes vm s.contexts) (s.lines ++ c.lines))
+serve_step : (vm : ℕ) (h : Contexts) (s : HostState) (c : Hosted) → IsWork vm h s → IsGood vm (seen s.contexts vm) c → IsWork vm h (host_state (put c.changes vm s.contexts) (s.lines ++ c.lines))
 serve_step vm h s c work good =
     work_step vm h s c.changes (s.lines ++ c.lines) work good.1
     (All-append (IsLine (level_no h.level)) s.lines c.lines work.lines (subst (λ l. All (IsLine (level_no l)) c.lines) work.own.level good.0))
 
 wake_step : (vm : ℕ) (h : Contexts) (s : HostState) (e : ℕ) → IsWork vm h s → IsWork vm h (host_state (put (record no_changes { effective = Some e }) vm s.contexts) s.lines)
-wake_step vm h s e work = work_step vm h s (record no_changes { effective = Some e }) s.lines work (All-nil (IsEffectSeen (seen s.contexts vm)), tt) work.lines
+wake_step vm h s e work = work_step vm h s (record no_changes { effective = Some e }) s.lines work (All-nil (IsEffectSeen vm (seen s.contexts vm)), tt, omega arith) work.lines
 
 -- ---- a callback
 
@@ -150,11 +179,11 @@ live_asked v name context first second now h there =
     let none = nothing_asked v.calls.place h in
     all_weaker (CameKeeps v.calls (IsWork v.calls.place h)) (CameAsked v.calls.place h) (calling_live v name context first second now h)
     (along_ends AnyCall AnyMeasure (CameKeeps v.calls (IsWork v.calls.place h)) (calling_live v name context first second now h)
-    (live_keeps v.calls AnyCall AnyMeasure (IsWork v.calls.place h) IsGood (serve_step v.calls.place h) (wake_step v.calls.place h)
+    (live_keeps v.calls AnyCall AnyMeasure (IsWork v.calls.place h) (IsGood v.calls.place) (serve_step v.calls.place h) (wake_step v.calls.place h)
     (λ c n args g s is.
-    ends_along (IsGood (seen s.contexts v.calls.place)) (hosting c n v.calls.place args g (seen s.contexts v.calls.place)) (env_good c n v.calls.place args g (seen s.contexts v.calls.place)))
+    ends_along (IsGood v.calls.place (seen s.contexts v.calls.place)) (hosting c n v.calls.place args g (seen s.contexts v.calls.place)) (env_good v.calls.place c n args g (seen s.contexts v.calls.place)))
     (λ c n args g s is.
-    ends_along (IsGood (seen s.contexts v.calls.place)) (wasi_hosting c n v.calls.place args g (seen s.contexts v.calls.place)) (wasi_good c n v.calls.place args g (seen s.contexts v.calls.place)))
+    ends_along (IsGood v.calls.place (seen s.contexts v.calls.place)) (wasi_hosting c n v.calls.place args g (seen s.contexts v.calls.place)) (wasi_good v.calls.place c n args g (seen s.contexts v.calls.place)))
     v name context first second now h refl (record { there = there; own = own_same v.calls.place h; lines = none.0; effects = none.1; marks = none.2 })))
     (λ c kept. (kept.0.lines, kept.0.effects, kept.0.marks))
 

@@ -1,5 +1,5 @@
 -- The effects of a callback are done on its own VM's lines.
-use Rattle.std.proofs.Common.{◌≡◌, ℕ, zero, suc, ◌==◌, Bool, true, false, not, ◌&&◌, ◌||◌, List, [], ◌∷◌, All, Option, None, Some, refl, ap, sym, subst, ◌∙◌, if◌then◌else◌, get_or, append-nil}
+use Rattle.std.proofs.Common.{◌≡◌, ◌⊎◌, inl, inr, ℕ, zero, suc, ◌==◌, Bool, true, false, not, ◌&&◌, ◌||◌, List, [], ◌∷◌, All, Option, None, Some, refl, ap, sym, subst, ◌∙◌, if◌then◌else◌, get_or, append-nil}
 use Rattle.std.proofs.lemmas.Bool.{false≢true}
 use Rattle.std.proofs.lemmas.List.Elements.{All-nil, All-cons}
 use Rattle.std.proofs.lemmas.List.Quantifiers.{position-Some}
@@ -16,16 +16,20 @@ use Rattle.exchange.specs.Passing.{resume_context, close_exchange}
 use Rattle.law_exchange.proofs.Own.{own_line}
 use Rattle.law_exchange.specs.Lives as deeds
 use Rattle.law_exchange.specs.Own.{IsOn, AreOn, SendsOn}
+use Rattle.callouts.specs.Callouts.{line_of}
+use Rattle.callouts.specs.Requests.{request_wire}
 use Rattle.gate_io.specs.declared.event.Sent.{Sent}
+use Rattle.gate_io.specs.declared.event.Sent.TheVariants as sends
+use Rattle.gate_io.specs.declared.event.Side.TheVariants.{Up}
 use Rattle.law_vms.proofs.OwnChanges.{both_left}
 use Rattle.law_vms.proofs.OwnEffects.{grown, all_as}
-use Rattle.law_vms.specs.OwnLines.{takes_part, IsSentFor, ActsOnItsOwn, EffectsActOnOwnLines}
+use Rattle.law_vms.specs.OwnLines.{takes_part, IsOnItsLine, IsSentFor, ActsOnItsOwn, EffectsActOnOwnLines}
 use Rattle.worker_model.specs.Changes.{apply_change}
 use Rattle.worker_model.specs.Room.{Room}
 use Rattle.worker_model.specs.declared.types.Change.TheVariants as changes
 use Rattle.worker_model.specs.declared.types.Line.{Line}
 use Rattle.worker_model.specs.declared.types.Owner.{Owner}
-use Rattle.worker_model.specs.Rooms.{Changes, in_exchange, put_back, at_some, at_place, with_lines, has_open, place_of, on_context, is_own, apply_effect, effects_of}
+use Rattle.worker_model.specs.Rooms.{Changes, in_exchange, put_back, at_some, at_place, with_lines, has_open, place_of, on_context, is_own, next_call, apply_effect, effects_of}
 
 -- ---- lists of lines
 
@@ -100,7 +104,7 @@ in_line_done change on vm room m l (Some x) is there part =
     record {
       lines = λ n line at out. get_set_other room.lines m n now (not_there vm room.lines m n l line there part at out) ∙ at;
       numbers = λ n. number_set l now refl room.lines m n there;
-      sent = (sends.more, sends.adds, all_as (IsOn l.number) (IsSentFor room vm) sends.more (λ s is_on. (m, l, there, part, is_on)) (all_on l.number sends.more sends.own));
+      sent = (sends.more, sends.adds, all_as (IsOn l.number) (IsSentFor room vm) sends.more (λ s is_on. inl (m, l, there, part, is_on)) (all_on l.number sends.more sends.own));
       dead = refl;
     }
 
@@ -131,7 +135,17 @@ does_own vm own context (what.Continue response) room =
     done_if (is_own own context response) vm room (on_context (resume_context vm context response) vm context room)
     (on_context_done (resume_context vm context response) (λ n x hub. own_line n (deeds.resumes vm context response) x hub tt) vm context room)
 does_own vm own context what.Close room = on_context_done close_exchange (λ n x hub. own_line n deeds.closes x hub tt) vm context room
-does_own vm own context (what.Call request) room = nothing_done vm room
+does_own vm own context (what.Call request) room = record {
+  lines = λ place line at out. at;
+  numbers = λ place. refl;
+  sent =
+      let id : ℕ = next_call room in
+      let new : Sent → Type 0 = λ s. IsSentFor room vm s in
+      let connect : Sent = sends.Connect (line_of id) in
+      let bytes : Sent = sends.Bytes (line_of id) Up (request_wire request) in
+      (connect ∷ bytes ∷ [], refl, All-cons new connect (bytes ∷ []) (inr (id, refl)) (All-cons new bytes [] (inr (id, refl)) (All-nil new)));
+  dead = refl;
+}
 does_own vm own context (what.Answer status fields body) room =
     on_context_done (apply_change (changes.Answer status fields body)) (λ n x hub. own_line n (deeds.answers false status fields.pairs body) x hub tt) vm context room
 
@@ -146,14 +160,15 @@ earlier_by false vm n later l line is stays at part =
     ap (λ (y : Line). takes_part vm y.exchange) (from_some one) ∙ part
 
 earlier_at : (vm : ℕ) (a b : Room) → ActsOnItsOwn vm a b → (s : Sent) (n : ℕ) (line : Line) → slice_get b.lines n ≡ Some line → takes_part vm line.exchange ≡ true → IsOn line.number s
-    → (o : Option Line) → slice_get a.lines n ≡ o → option_map (λ (x : Line). x.number) o ≡ Some line.number → IsSentFor a vm s
+    → (o : Option Line) → slice_get a.lines n ≡ o → option_map (λ (x : Line). x.number) o ≡ Some line.number → IsOnItsLine a vm s
 earlier_at vm a b acts s n line at part on None is same = absurd (none-some line.number same)
 earlier_at vm a b acts s n line at part on (Some l) is same =
     (n, l, is, earlier_by (takes_part vm l.exchange) vm n b l line refl (acts.lines n l is) at part, subst (λ m. IsOn m s) (sym (from_some same)) on)
 
 earlier : (vm : ℕ) (a b : Room) → ActsOnItsOwn vm a b → (s : Sent) → IsSentFor b vm s → IsSentFor a vm s
-earlier vm a b acts s is =
-    earlier_at vm a b acts s is.0 is.1 is.2 is.3 is.4 (slice_get a.lines is.0) refl (sym (acts.numbers is.0) ∙ ap (option_map (λ (x : Line). x.number)) is.2)
+earlier vm a b acts s (inl is) =
+    inl (earlier_at vm a b acts s is.0 is.1 is.2 is.3 is.4 (slice_get a.lines is.0) refl (sym (acts.numbers is.0) ∙ ap (option_map (λ (x : Line). x.number)) is.2))
+earlier vm a b acts s (inr call) = inr call
 
 acts_then : (vm : ℕ) (a b c : Room) → ActsOnItsOwn vm a b → ActsOnItsOwn vm b c → ActsOnItsOwn vm a c
 acts_then vm a b c first next = record {

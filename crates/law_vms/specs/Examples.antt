@@ -11,6 +11,7 @@ use Rattle.exchange.specs.declared.types.Filter.{Filter}
 use Rattle.gate_base.specs.declared.level.Level.TheVariants as levels
 use Rattle.gate_io.specs.declared.event.Sent.TheVariants as sent
 use Rattle.gate_io.specs.declared.event.Side.TheVariants.{Down}
+use Rattle.header_maps.specs.Operations.{no_headers}
 use Rattle.store_model.specs.Program.{done, ask}
 use Rattle.store_model.specs.declared.call.Call.TheVariants as store
 use Rattle.law_vms.specs.OwnChanges.{outlines, line_at, HasNoneAt, ChangesItsOwn}
@@ -21,6 +22,10 @@ use Rattle.law_vms.specs.SeesItsOwn.{InStep, LookTheSame, ShareNone}
 
 abbrev pub closes : ℕ → Effect
 closes id = record { context = id; what = what.Close }
+
+-- a callout of a context, whose request names these
+abbrev pub calls : (id vm context : ℕ) → Effect
+calls id vm context = record { context = id; what = what.Call (record { vm = vm; context = context; fields = request (codes "/auth"); body = []; trailers = no_headers; timeout_ms = 1 }) }
 
 abbrev pub made_filter : (vm : ℕ) (created : Bool) → Filter
 made_filter vm created = record { plugin = 0; vm = vm; fails_open = false; created = created; context = 2 }
@@ -58,6 +63,10 @@ pub record IsolationExamples : Type 0 where
   pub of_stream : IsEffectOf host 0 (closes 3)
   pub of_root : IsEffectOf host 0 (closes 1) → ⊥
   pub of_another : IsEffectOf host 1 (closes 3) → ⊥
+  -- a callout is one of a root too, where it names that root and its VM
+  pub call_of_root : IsEffectOf host 0 (calls 1 0 1)
+  pub call_for_another : IsEffectOf host 0 (calls 1 1 1) → ⊥
+  pub call_for_a_stream : IsEffectOf host 0 (calls 1 0 2) → ⊥
   pub marks : marks_at host 0 ≡ Some (false, false, false)
   -- a line of the level that is the least, or above it; none below it, and nothing but lines
   pub line : IsLine 2 (sent.Log levels.Info (0x78 ∷ []))

@@ -2,7 +2,9 @@ pub mod Apart
 pub mod Silent
 pub mod OwnChanges
 pub mod MadeVms
+pub mod Numbers
 pub mod OwnEffects
+pub mod OwnCalls
 pub mod SeesItsOwn
 pub mod OwnStores
 pub mod Frames

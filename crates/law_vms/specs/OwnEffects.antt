@@ -5,6 +5,8 @@ use Rattle.abi_services.specs.Logging.{text_limit}
 use Rattle.contexts.specs.declared.parts.Context.{Context}
 use Rattle.contexts.specs.declared.parts.Contexts.{Contexts}
 use Rattle.contexts.specs.declared.parts.Effect.{Effect}
+use Rattle.contexts.specs.declared.parts.EffectKind.{EffectKind}
+use Rattle.contexts.specs.declared.parts.EffectKind.TheVariants as what
 use Rattle.contexts.specs.declared.parts.ExchangeEntry.{ExchangeEntry}
 use Rattle.contexts.specs.Reached.{level_no, context_in, exchange_at}
 use Rattle.filter_host.specs.Called.{Called}
@@ -28,9 +30,16 @@ abbrev pub IsOnLine : (is_tcp : Bool) → (id : ℕ) → Context → Type 0
 IsOnLine false id c = (n : ℕ) × (c.exchange ≡ Some n)
 IsOnLine true id c = c.root ≢ id
 
--- an effect of a context of that VM, which is of a line
+-- What a context may ask for: that of a line all, and any one a callout, whose request names it and its VM, so that it is told what comes back.
+abbrev pub IsAskOf : Contexts → (vm id : ℕ) → Context → EffectKind → Type 0
+IsAskOf h vm id c (what.Continue is_response) = IsOnLine h.is_tcp id c
+IsAskOf h vm id c what.Close = IsOnLine h.is_tcp id c
+IsAskOf h vm id c (what.Answer status fields body) = IsOnLine h.is_tcp id c
+IsAskOf h vm id c (what.Call q) = (q.vm ≡ vm) × (q.context ≡ id)
+
+-- an effect of a context of that VM
 abbrev pub IsEffectOf : Contexts → (vm : ℕ) → Effect → Type 0
-IsEffectOf h vm e = (c : Context) × (context_in h vm e.context ≡ Some c) × IsOnLine h.is_tcp e.context c
+IsEffectOf h vm e = (c : Context) × (context_in h vm e.context ≡ Some c) × IsAskOf h vm e.context c e.what
 
 -- some more after those that were there, each of which is so
 abbrev pub GrowsBy : {A : Type 0} → (A → Type 0) → (old new : List A) → Type 0

@@ -1,6 +1,7 @@
 -- On which lines the effects of a callback are done.
 use Rattle.std.specs.List.{list_any}
-use Rattle.std.specs.Prelude.{◌≡◌, ℕ, ◌==◌, Bool, true, false, not, ◌&&◌, List, Option, None, Some, option_map, slice_get}
+use Rattle.std.specs.Prelude.{◌≡◌, ◌⊎◌, ℕ, ◌==◌, Bool, true, false, not, ◌&&◌, List, Option, None, Some, option_map, slice_get}
+use Rattle.callouts.specs.Callouts.{line_of}
 use Rattle.contexts.specs.declared.parts.Effect.{Effect}
 use Rattle.exchange.specs.declared.types.Exchange.{Exchange}
 use Rattle.exchange.specs.declared.types.Filter.{Filter}
@@ -21,11 +22,15 @@ abbrev pub number_at : Room → (place : ℕ) → Option ℕ
 number_at room place = option_map (λ (line : Line). line.number) (slice_get room.lines place)
 
 -- it is sent on a line in whose exchange that VM takes part
+abbrev pub IsOnItsLine : Room → (vm : ℕ) → Sent → Type 0
+IsOnItsLine room vm s = (place : ℕ) × (line : Line) × (slice_get room.lines place ≡ Some line) × (takes_part vm line.exchange ≡ true) × IsOn line.number s
+
+-- or on a line from 2^31 on: that of a callout which begins
 abbrev pub IsSentFor : Room → (vm : ℕ) → Sent → Type 0
-IsSentFor room vm s = (place : ℕ) × (line : Line) × (slice_get room.lines place ≡ Some line) × (takes_part vm line.exchange ≡ true) × IsOn line.number s
+IsSentFor room vm s = IsOnItsLine room vm s ⊎ ((id : ℕ) × IsOn (line_of id) s)
 
 -- What was done for a VM: a line in whose exchange the VM takes no part is as it was, and every line keeps its number; what was sent besides goes
--- out on lines in whose exchanges it does take part; and no VM died.
+-- out on lines in whose exchanges it does take part, or on those of callouts; and no VM died.
 pub record ActsOnItsOwn (vm : ℕ) (before after : Room) : Type 0 where
   pub lines : (place : ℕ) (line : Line) → slice_get before.lines place ≡ Some line → takes_part vm line.exchange ≡ false → slice_get after.lines place ≡ Some line
   pub numbers : (place : ℕ) → number_at after place ≡ number_at before place

@@ -8,6 +8,8 @@ ghost use Rattle.law_vms.specs.LastIds.{IdsRunOut, LastIdExamples};
 ghost use Rattle.law_vms.specs.Levels.{LevelExamples};
 ghost use Rattle.law_vms.specs.Lives.{LivesKeepPlaces};
 ghost use Rattle.law_vms.specs.MadeVms.{MadeVmsAreInPlace};
+ghost use Rattle.law_vms.specs.Numbers.{NumberExamples};
+ghost use Rattle.law_vms.specs.OwnCalls.{CallsHaveRoom};
 ghost use Rattle.law_vms.specs.OwnChanges.{CallbacksChangeTheirOwn, PlacesBegin, PlacesStay};
 ghost use Rattle.law_vms.specs.OwnEffects.{EffectsAreOwn};
 ghost use Rattle.law_vms.specs.OwnLines.{EffectsActOnOwnLines};
@@ -79,6 +81,12 @@ pub fn callbacks_ask_their_own()
     ensures { CallbacksAskTheirOwn }
 {}
 
+/// No callback asks for more callouts than there is room for, whatever its module does: with those that are under way there are at most 64, and each has
+/// an id up to 2,147,483,647.
+pub fn calls_have_room()
+    ensures { CallsHaveRoom }
+{}
+
 /// Two VMs with their contexts on two lines, of which they share one, worked.
 pub fn worked_isolation()
     ensures { IsolationExamples }
@@ -108,6 +116,11 @@ pub fn worked_fits()
 /// The numbers of the levels of log lines, and the levels of the numbers.
 pub fn worked_levels()
     ensures { LevelExamples }
+{}
+
+/// What callbacks are given: their context, as many numbers more as they take, and after a callout how much came back.
+pub fn worked_numbers()
+    ensures { NumberExamples }
 {}
 
 /// What of a VM never changes, whatever its module does and whatever the shared stores reply, in a callback and over a worker's whole life: the program that its machine runs, with the

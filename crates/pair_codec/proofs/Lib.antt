@@ -1,3 +1,4 @@
 pub mod Left
 pub mod RoundTrip
+pub mod Schemes
 pub mod Texts

@@ -3,12 +3,14 @@
 
 mod end;
 mod laws;
+mod lists;
 mod reading;
 mod serialised;
 mod writing;
 
 pub use end::PairsEnd;
 pub use laws::{pairs_are_read_back, worked_pairs};
+pub use lists::{list_of, request_of};
 pub use reading::read_pairs;
 pub use serialised::Serialised;
 pub use writing::{write_list, write_pairs};

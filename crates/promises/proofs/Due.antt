@@ -11,7 +11,7 @@ use Rattle.gate_io.specs.declared.event.What.{What}
 use Rattle.worker_model.specs.Plan.{Plan}
 use Rattle.worker_model.specs.Room.{Room}
 use Rattle.worker_model.specs.Steps.{is_due_tick}
-use Rattle.worker_model.specs.Turn.{agenda_of, at_moment, deadline_jobs, happening, is_due_now, notice_of, notices_of, registers_at, start_jobs, ticks_due, ticks_in, ticks_of, vms_in}
+use Rattle.worker_model.specs.Turn.{agenda_of, at_moment, calls_due, deadline_jobs, happening, is_due_now, notice_of, notices_of, registers_at, start_jobs, ticks_due, ticks_in, ticks_of, vms_in}
 use Rattle.worker_model.specs.declared.types.Job.{Job}
 use Rattle.worker_model.specs.declared.types.Job.TheVariants as jobs
 use Rattle.promises.specs.Due.{DueComes}
@@ -69,8 +69,11 @@ notice_among plan (suc n) vm job low has =
 abbrev event_on : Plan → What → Room → List Job
 event_on plan what room = happening what room ++ notices_of plan (vms_in room)
 
+abbrev calls_on : Plan → What → Room → List Job
+calls_on plan what room = calls_due room ++ event_on plan what room
+
 abbrev deadlines_on : Plan → What → Room → List Job
-deadlines_on plan what room = deadline_jobs plan ++ event_on plan what room
+deadlines_on plan what room = deadline_jobs plan ++ calls_on plan what room
 
 tick_among : (plan : Plan) (what : What) (room : Room) (vm i : ℕ) (c : Context) (t : Tick) → vm < vms_in room → slice_get (vm_in room.hub.contexts vm).contexts i ≡ Some c → c.tick ≡ Some t
     → is_due_tick room.hub.moment t ≡ true → Contains (agenda_of plan what room) (jobs.Tick vm c.id)
@@ -85,8 +88,9 @@ notice_there plan what room vm low is =
     let job : Job = jobs.Notice vm 16 in
     Contains-append_right (start_jobs room) (ticks_due room ++ deadlines_on plan what room) job
     (Contains-append_right (ticks_due room) (deadlines_on plan what room) job
-    (Contains-append_right (deadline_jobs plan) (event_on plan what room) job
-    (Contains-append_right (happening what room) (notices_of plan (vms_in room)) job (notice_among plan (vms_in room) vm job low (notice_in plan vm is)))))
+    (Contains-append_right (deadline_jobs plan) (calls_on plan what room) job
+    (Contains-append_right (calls_due room) (event_on plan what room) job
+    (Contains-append_right (happening what room) (notices_of plan (vms_in room)) job (notice_among plan (vms_in room) vm job low (notice_in plan vm is))))))
 
 pub due_comes : DueComes
 due_comes = record {

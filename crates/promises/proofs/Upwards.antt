@@ -35,9 +35,9 @@ module _ {H : Type 0} (calling : Calling H) (plan : Plan) where
   sends (t ∷ turns) = ap (λ (l : List Sent). t.end.sent ++ l) (sends turns)
 
 pub lives_go_up : MeaningsAreTurns Vms → RequestsGoUpOneByOne Vms → WriteLogs calling → LivesGoUpOneByOne
-lives_go_up are law logs config who seed life n w =
+lives_go_up are law logs config who seed life n low w =
     let first = first_of config who seed in
     let plan = rules_of first.setting in
     let far = are calling plan first.state life.events life.met _ w.turns.means in
-    let up = law calling plan (contexts_of config seed) first.state.host (map (done_of calling plan) far.turns) w.turns.state n logs (as_done calling plan first.state w.turns.state far.turns far.chain) in
+    let up = law calling plan (contexts_of config seed) first.state.host (map (done_of calling plan) far.turns) w.turns.state n low logs (as_done calling plan first.state w.turns.state far.turns far.chain) in
     subst (λ (sent : List Sent). GoesUpBy plan n w.turns.state.room (exchange_on n w.turns.state.room) (up_traffic n sent)) (sends calling plan far.turns ∙ ap all_sent far.sends) up

@@ -68,7 +68,7 @@ pub fn statuses_are_complete<W, F, P, Q>()
     ensures { StatusesAreComplete W F P Q }
 {}
 
-/// In each whole life of each worker that the headline speaks of, what goes up on a line goes up request by request.
+/// In each whole life of each worker that the headline speaks of, what goes up on a line of a client goes up request by request.
 pub fn lines_of_the_headline()
     ensures { LivesGoUpOneByOne }
 {

@@ -1,4 +1,5 @@
 pub mod Places
 pub mod Quietly
+pub mod CallSteps
 pub mod Turns
 pub mod Wants

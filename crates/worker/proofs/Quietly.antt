@@ -13,6 +13,7 @@ use Rattle.worker_model.specs.Room.{Room}
 use Rattle.worker_model.specs.declared.types.ContextAt.{ContextAt}
 use Rattle.worker_model.specs.declared.types.Job.{Job}
 use Rattle.worker_model.specs.declared.types.Job.TheVariants as jobs
+use Rattle.worker_model.specs.declared.types.OtherStep.{OtherStep}
 use Rattle.worker_model.specs.declared.types.ReadBatch.{ReadBatch}
 use Rattle.worker_model.specs.Plan.{Plan}
 use Rattle.worker_model.specs.Steps.{Both, both, works, works_life, run_silent_job, reads_in, reads_next, ReadSo, ReadOn, after_heard, reading_on}
@@ -78,25 +79,26 @@ module _ {S : Type 0} (performs : S → List Made → S → Type 0) (s : S) (her
   life_quietly calling (jobs.Ready vm root queue) host room new r a b c d e f is = quiet_ends host (run_silent_job (jobs.Ready vm root queue) room) new r is
   life_quietly calling (jobs.Other step) host room new r a b c d e f is = quiet_ends host (run_silent_job (jobs.Other step) room) new r is
 
--- a job that makes no context, and calls for no tick and no item
+-- a job that makes no context, calls for no tick and no item, and is of HTTP
 pub works_on : {H : Type 0} (calling : H → ℕ → Callback → ℕ → ℕ → ℕ → ℕ → Contexts → Program (Called H)) (plan : Plan) (job : Job) (host : H) (room : Room)
     → ((vm plugin : ℕ) (first : Bool) → job ≡ jobs.Root vm plugin first → ⊥) → ((number k : ℕ) → job ≡ jobs.Create number k → ⊥) → ((vm root : ℕ) → job ≡ jobs.Tick vm root → ⊥)
-    → ((vm left : ℕ) → job ≡ jobs.Notice vm left → ⊥) → ((vm root queue : ℕ) → job ≡ jobs.Ready vm root queue → ⊥) → works_life calling job host room ≡ works calling plan job host room
-works_on calling plan (jobs.Begin vm) host room a b c d e = refl
-works_on calling plan (jobs.Root vm plugin first) host room a b c d e = absurd (a vm plugin first refl)
-works_on calling plan (jobs.Start vm root) host room a b c d e = refl
-works_on calling plan (jobs.Configure vm root plugin) host room a b c d e = refl
-works_on calling plan (jobs.Tick vm root) host room a b c d e = absurd (c vm root refl)
-works_on calling plan jobs.Expire host room a b c d e = refl
-works_on calling plan (jobs.Happen what) host room a b c d e = refl
-works_on calling plan (jobs.Create number k) host room a b c d e = absurd (b number k refl)
-works_on calling plan (jobs.Enter number) host room a b c d e = refl
-works_on calling plan (jobs.Put number response items) host room a b c d e = refl
-works_on calling plan (jobs.Refuse number status) host room a b c d e = refl
-works_on calling plan (jobs.Done x) host room a b c d e = refl
-works_on calling plan (jobs.Log x) host room a b c d e = refl
-works_on calling plan (jobs.Delete x) host room a b c d e = refl
-works_on calling plan (jobs.Close number stays) host room a b c d e = refl
-works_on calling plan (jobs.Notice vm left) host room a b c d e = absurd (d vm left refl)
-works_on calling plan (jobs.Ready vm root queue) host room a b c d e = absurd (e vm root queue refl)
-works_on calling plan (jobs.Other step) host room a b c d e = refl
+    → ((vm left : ℕ) → job ≡ jobs.Notice vm left → ⊥) → ((vm root queue : ℕ) → job ≡ jobs.Ready vm root queue → ⊥)
+    → ((step : OtherStep) → job ≡ jobs.Other step → ⊥) → works_life calling job host room ≡ works calling plan job host room
+works_on calling plan (jobs.Begin vm) host room a b c d e f = refl
+works_on calling plan (jobs.Root vm plugin first) host room a b c d e f = absurd (a vm plugin first refl)
+works_on calling plan (jobs.Start vm root) host room a b c d e f = refl
+works_on calling plan (jobs.Configure vm root plugin) host room a b c d e f = refl
+works_on calling plan (jobs.Tick vm root) host room a b c d e f = absurd (c vm root refl)
+works_on calling plan jobs.Expire host room a b c d e f = refl
+works_on calling plan (jobs.Happen what) host room a b c d e f = refl
+works_on calling plan (jobs.Create number k) host room a b c d e f = absurd (b number k refl)
+works_on calling plan (jobs.Enter number) host room a b c d e f = refl
+works_on calling plan (jobs.Put number response items) host room a b c d e f = refl
+works_on calling plan (jobs.Refuse number status) host room a b c d e f = refl
+works_on calling plan (jobs.Done x) host room a b c d e f = refl
+works_on calling plan (jobs.Log x) host room a b c d e f = refl
+works_on calling plan (jobs.Delete x) host room a b c d e f = refl
+works_on calling plan (jobs.Close number stays) host room a b c d e f = refl
+works_on calling plan (jobs.Notice vm left) host room a b c d e f = absurd (d vm left refl)
+works_on calling plan (jobs.Ready vm root queue) host room a b c d e f = absurd (e vm root queue refl)
+works_on calling plan (jobs.Other step) host room a b c d e f = absurd (f step refl)

@@ -2,12 +2,12 @@
 ghost use Rattle.worker_model.specs.Plan.{plan_of};
 ghost use Rattle.std.specs.List.{list_any};
 ghost use Rattle.std.specs.Prelude.{◌≡◌, ◌≤◌, true, [], ◌∷◌, ◌++◌, length, OnOk, IfOk, Some, slice_get};
-ghost use Rattle.worker_model.specs.Turn.{is_of, roots_from, start_of, starts_of, first_vms, vms_in, start_jobs, is_due_now, ticks_in, ticks_of, ticks_due, deadline_jobs, registers_at, notice_of, notices_of, comes_if, happening, agenda_of};
+ghost use Rattle.worker_model.specs.Turn.{is_of, roots_from, start_of, starts_of, first_vms, vms_in, start_jobs, is_due_now, ticks_in, ticks_of, ticks_due, deadline_jobs, registers_at, notice_of, notices_of, fail_jobs, calls_due, comes_if, happening, agenda_of};
 ghost use Rattle.callouts.specs.Callouts.{callout_at};
 ghost use Rattle.contexts.specs.Reached.{vm_in};
 ghost use Rattle.worker_model.specs.Steps.{is_due_tick};
 
-use callouts::{CallStep, callout_at, is_call_line, line_in};
+use callouts::{CallStep, callout_at, due_at, is_call_line, line_in};
 use contexts::{Context, Contexts, Plugin, Tick};
 use gate_base::{LineNo, OutOfMemory, VmNo};
 use gate_io::What;
@@ -195,6 +195,27 @@ fn parts_before(alloc: Global, rules: &Rules, room: &Room) -> Result<Queue<Job>,
     Ok(jobs)
 }
 
+/// The callouts of these ids fail.
+fn push_failures(jobs: &mut Queue<Job>, ids: &[u32]) -> Result<(), OutOfMemory>
+    ensures { OnOk result (jobs.new ≡ jobs.old ++ fail_jobs ids.now) }
+{
+    for id in ids {
+        let step = CallStep::Fail { id: *id };
+        jobs.push(Job::Other {
+            step: OtherStep::Call { step },
+        })?;
+    }
+    Ok(())
+}
+
+/// The callouts that are due fail.
+fn push_calls_due(alloc: Global, jobs: &mut Queue<Job>, room: &Room) -> Result<(), OutOfMemory>
+    ensures { OnOk result (jobs.new ≡ jobs.old ++ calls_due room.now) }
+{
+    let ids = due_at(alloc, room.calls.as_slice(), room.hub.moment)?;
+    push_failures(jobs, ids.as_slice())
+}
+
 /// What comes of the line of a callout, if one is under way there.
 fn push_coming(
     jobs: &mut Queue<Job>,
@@ -235,6 +256,7 @@ pub(crate) fn agenda_of(
     ensures { IfOk result (λ jobs. jobs ≡ agenda_of (plan_of rules.now) what room.now) }
 {
     let mut jobs = parts_before(alloc, rules, room)?;
+    push_calls_due(alloc, &mut jobs, room)?;
     push_event(&mut jobs, what, room)?;
     push_notices(&mut jobs, rules, vms_in(room))?;
     Ok(jobs)

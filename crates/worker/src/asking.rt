@@ -1,12 +1,14 @@
 // How a worker asks its world for an event.
 ghost use Rattle.worker_model.specs.Plan.{plan_of};
-ghost use Rattle.std.specs.Prelude.{◌≡◌, ◌≤◌, [], true, Err, IfOk, IsTrue};
+ghost use Rattle.std.specs.Prelude.{◌≡◌, ◌≤◌, [], true, Err, IfOk, IsTrue, OnOk};
 ghost use Rattle.gate_io.specs.Events.{Follows, Obeys, after_next};
 ghost use Rattle.gate_io.specs.Passing.{asking};
 ghost use Rattle.gate_io.specs.Told.{Gains, Rose};
 ghost use Rattle.worker_model.specs.Wants.{due_in, wants_of};
 
+use crate::call_wants::push_call_lines;
 use crate::due::due_in;
+use gate_base::OutOfMemory;
 use gate_io::{Event, Wants, World, WorldEnd};
 use send_queue::Outbox;
 use std::alloc::Global;
@@ -24,8 +26,8 @@ fn call_when_due(rules: &Rules, room: &mut Room) -> Option<u64>
     due
 }
 
-/// Asks the world for an event, with what the worker wants: lists that are kept, where nothing waits, and else others, in the memory of
-/// those before.
+/// Asks the world for an event, with what the worker wants: lists that are kept, where nothing waits and no callout is under way, and else
+/// others, in the memory of those before.
 pub(crate) fn ask<W: World>(
     alloc: Global,
     rules: &Rules,
@@ -44,21 +46,38 @@ pub(crate) fn ask<W: World>(
     ensures failed { result ≡ Err WorldEnd.Failed → Rose (W.faults world.old) (W.faults world.new) }
 {
     let due = call_when_due(rules, room);
-    if nothing_waits(outbox) {
+    if is_quiet(outbox, room) {
         if let Some(asked) = room.lines.asked(due) {
             return world.next(alloc, asked);
         }
     }
-    let Ok(()) = wants_on(outbox, room.lines.as_slice(), wants) else {
+    let Ok(()) = list_wants(rules, room, outbox, due, wants) else {
         return Err(WorldEnd::OutOfMemory);
     };
-    wants.due = due;
     world.next(alloc, wants)
 }
 
-/// Whether nothing waits.
-fn nothing_waits(outbox: &Outbox) -> bool
-    ensures { result ≡ true → outbox.now ≡ [] }
+/// What the worker wants, in lists that are written anew.
+fn list_wants(
+    rules: &Rules,
+    room: &Room,
+    outbox: &Outbox,
+    due: Option<u64>,
+    wants: &mut Wants,
+) -> Result<(), OutOfMemory>
+    requires { due ≡ due_in (plan_of rules.now) room.now }
+    ensures { OnOk result (wants.new ≡ wants_of (plan_of rules.now) room.now outbox.now) }
 {
-    outbox.waiting().is_empty()
+    wants_on(outbox, room.lines.as_slice(), wants)?;
+    push_call_lines(room.calls.as_slice(), &mut wants.up)?;
+    wants.due = due;
+    Ok(())
+}
+
+/// Whether nothing waits, and no callout is under way.
+fn is_quiet(outbox: &Outbox, room: &Room) -> bool
+    ensures waiting { result ≡ true → outbox.now ≡ [] }
+    ensures calls { result ≡ true → room.now.calls ≡ [] }
+{
+    outbox.waiting().is_empty() && room.calls.is_empty()
 }

@@ -5,6 +5,7 @@ ghost use Rattle.worker_model.specs.Turn.{vms_in};
 ghost use Rattle.worker_model.specs.Wants.{earlier, due_of, with_ticks, ticks_up_to, with_lines, looks_one, looks, with_notices, due_in};
 
 use crate::agenda::{contexts_of, registers_at, vm_of, vms_in};
+use crate::call_wants::with_calls;
 use contexts::{Context, Tick};
 use worker_lines::{earlier, with_lines};
 use worker_model::Rules;
@@ -89,6 +90,6 @@ pub(crate) fn due_in(rules: &Rules, room: &Room) -> Option<u64>
         return None;
     }
     let ticks = ticks_up_to(room, vms_in(room));
-    let due = with_lines(ticks, &room.lines);
+    let due = with_calls(with_lines(ticks, &room.lines), room.calls.as_slice());
     with_notices(rules, room, due)
 }

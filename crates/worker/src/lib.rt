@@ -3,6 +3,8 @@
 
 mod agenda;
 mod asking;
+mod call_steps;
+mod call_wants;
 mod due;
 mod making_worker;
 mod turning;

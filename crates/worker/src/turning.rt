@@ -6,6 +6,7 @@ ghost use Rattle.worker_model.specs.Steps.{both, step, works, move_at, moved, ca
 ghost use Rattle.worker_model.specs.Rooms.{next_of};
 ghost use Rattle.worker_model.specs.Settling.{settling, is_rest};
 
+use crate::call_steps::work_other;
 use contexts::Contexts;
 use filter_chain::AskKind;
 use filter_host::{Callback, Death, Host};
@@ -459,6 +460,7 @@ fn work<H: Host, S: Shared>(
         Job::Tick { vm, root } => tick(alloc, host, room, vm, root, shared),
         Job::Notice { vm, left } => take_notice(alloc, host, rules, room, vm, left, shared),
         Job::Ready { vm, root, queue } => tell_ready(alloc, host, room, vm, root, queue, shared),
+        Job::Other { step } => work_other(alloc, host, room, step, shared),
         job => work_life(alloc, host, room, job, shared),
     }
 }

@@ -1,5 +1,5 @@
--- Worked examples: of which line an event is, and so whose it is.
-use Rattle.std.specs.Prelude.{◌≡◌, List, [], ◌∷◌, codes}
+-- Worked examples: of which line an event is, and so whose it is; and which callouts are due, and whose lines are read.
+use Rattle.std.specs.Prelude.{◌≡◌, [], ◌∷◌, Some, codes}
 use Rattle.callouts.specs.Callouts.{begun, line_of}
 use Rattle.callouts.specs.Examples.{asks}
 use Rattle.callouts.specs.declared.types.CallStep.TheVariants as steps
@@ -7,7 +7,8 @@ use Rattle.gate_io.specs.declared.event.Side.TheVariants.{Up}
 use Rattle.gate_io.specs.declared.event.What.{What}
 use Rattle.gate_io.specs.declared.event.What.TheVariants as whats
 use Rattle.worker_model.specs.Room.{Room}
-use Rattle.worker_model.specs.Turn.{happening}
+use Rattle.worker_model.specs.Turn.{happening, calls_due, at_moment}
+use Rattle.worker_model.specs.Wants.{call_lines, with_call_dues}
 use Rattle.worker_model.specs.declared.types.Job.TheVariants as jobs
 use Rattle.worker_model.specs.declared.types.OtherStep.TheVariants as others
 
@@ -27,3 +28,10 @@ pub record EventExamples : Type 0 where
   pub of_another : (room : Room) → happening (whats.Refused (line_of 2)) (calling room) ≡ []
   -- an event of no line is none of theirs
   pub of_no_line : (room : Room) → happening whats.Clock (calling room) ≡ jobs.Happen whats.Clock ∷ []
+  -- it is due at its moment, a second after it began, and has failed then
+  pub is_due : (room : Room) → calls_due (at_moment 1000000000 (calling room)) ≡ jobs.Other (others.Call (steps.Fail 1)) ∷ []
+  pub not_yet : (room : Room) → calls_due (at_moment 999999999 (calling room)) ≡ []
+  -- more of its response is taken
+  pub is_read : (room : Room) → call_lines (calling room).calls ≡ line_of 1 ∷ []
+  -- and the worker wants to be called when it is due
+  pub is_called : (room : Room) → with_call_dues (Some 2000000000) (calling room).calls ≡ Some 1000000000

@@ -1,6 +1,7 @@
 pub mod Plan
 pub mod Room
 pub mod Rooms
+pub mod Calls
 pub mod Changes
 pub mod Moves
 pub mod Steps

@@ -1,10 +1,14 @@
 -- WHAT A WORKER DOES NEXT, and what the effects of a callback do.
 use Rattle.std.specs.List.{list_any}
-use Rattle.std.specs.Prelude.{ℕ, ◌==◌, Bool, true, false, not, ◌&&◌, ◌||◌, List, [], ◌∷◌, ◌++◌, slice_get, slice_set, nat_lt, Option, None, Some, is_some, position, codes, if◌then◌else◌}
+use Rattle.std.specs.Prelude.{ℕ, ◌+◌, ◌==◌, Bool, true, false, not, ◌&&◌, ◌||◌, List, [], ◌∷◌, ◌++◌, length, slice_get, slice_set, nat_lt, Option, None, Some, is_some, position, codes, if◌then◌else◌}
+use Rattle.callouts.specs.Callouts.{line_of, begun}
+use Rattle.callouts.specs.Requests.{request_wire}
+use Rattle.callouts.specs.declared.types.Callout.{Callout}
 use Rattle.contexts.specs.declared.parts.Effect.{Effect}
 use Rattle.contexts.specs.declared.parts.EffectKind.{EffectKind}
 use Rattle.contexts.specs.declared.parts.EffectKind.TheVariants as what
 use Rattle.contexts.specs.declared.parts.Contexts.{Contexts}
+use Rattle.contexts.specs.declared.parts.Request.{Request}
 use Rattle.contexts.specs.Reached.{vm_in, contains}
 use Rattle.filter_host.specs.declared.host.CallbackEnd.{CallbackEnd}
 use Rattle.filter_host.specs.declared.host.CallbackEnd.TheVariants as ends
@@ -21,7 +25,8 @@ use Rattle.gate_base.specs.declared.cause.Cause.{Cause}
 use Rattle.gate_base.specs.declared.cause.Cause.TheVariants as causes
 use Rattle.gate_base.specs.declared.level.Level.TheVariants.{Critical}
 use Rattle.gate_io.specs.declared.event.Sent.{Sent}
-use Rattle.gate_io.specs.declared.event.Sent.TheVariants.{Log}
+use Rattle.gate_io.specs.declared.event.Sent.TheVariants.{Connect, Bytes, Log}
+use Rattle.gate_io.specs.declared.event.Side.TheVariants.{Up}
 use Rattle.worker_model.specs.Changes.{apply_change}
 use Rattle.worker_model.specs.declared.types.Change.TheVariants as changes
 use Rattle.worker_model.specs.declared.types.ContextAt.{ContextAt}
@@ -155,6 +160,30 @@ with_contexts h room = record room { hub = record room.hub { contexts = h } }
 abbrev pub room_with_sent : List Sent → Room → Room
 room_with_sent more room = record room { hub = hub_with_sent more room.hub }
 
+-- ---- callouts that are under way
+
+-- so many are, and this id was drawn last
+abbrev pub count_calls : (under_way last : ℕ) → Contexts → Contexts
+count_calls under_way last h = record h { calls = record { under_way = under_way; last = last } }
+
+-- these are, and no id is drawn for them
+abbrev pub with_calls : List Callout → Room → Room
+with_calls calls room = record (with_contexts (count_calls (length calls) room.hub.contexts.calls.last room.hub.contexts) room) { calls = calls }
+
+-- one more is, with the id that was drawn last
+abbrev pub add_call : Callout → Room → Room
+add_call c room = record (with_contexts (count_calls (length (room.calls ++ c ∷ [])) c.id room.hub.contexts) room) { calls = room.calls ++ c ∷ [] }
+
+-- The id of the callout that begins next.
+abbrev pub next_call : Room → ℕ
+next_call room = room.hub.contexts.calls.last + 1
+
+-- A CALLOUT BEGINS, under the next id: its connection, and then all of its request
+abbrev pub begin_call : Request → Room → Room
+begin_call q room =
+    let id = next_call room in
+    room_with_sent (Connect (line_of id) ∷ Bytes (line_of id) Up (request_wire q) ∷ []) (add_call (begun id room.hub.moment q) room)
+
 -- ---- the effects of a callback
 
 abbrev pub same : Bool → Bool → Bool
@@ -169,7 +198,7 @@ is_own (Stage c own) context response = c == context && same own response
 abbrev pub apply_effect : ℕ → Owner → ℕ → EffectKind → Room → Room
 apply_effect vm own context (what.Continue response) room = if is_own own context response then room else on_context (resume_context vm context response) vm context room
 apply_effect vm own context what.Close room = on_context close_exchange vm context room
-apply_effect vm own context (what.Call request) room = room
+apply_effect vm own context (what.Call request) room = begin_call request room
 apply_effect vm own context (what.Answer status fields body) room = on_context (apply_change (changes.Answer status fields body)) vm context room
 
 -- in the order of the calls; an effect on an exchange that has ended does nothing

@@ -1,6 +1,11 @@
 -- ONE STEP of a worker.
 use Rattle.std.specs.List.{list_any, position_or_len}
 use Rattle.std.specs.Prelude.{option_map, ◌≡◌, ℕ, zero, suc, ◌+◌, ◌*◌, ◌-◌, ◌==◌, Bool, true, false, not, ◌&&◌, ◌||◌, List, [], ◌∷◌, ◌++◌, length, map, filter, reverse, slice_get, slice_set, remove, insert, Option, None, Some, is_some, is_none, nat_lt, nat_le, position, if◌then◌else◌}
+use Rattle.callouts.specs.Callouts.{callout_in}
+use Rattle.callouts.specs.declared.types.Callout.{Callout}
+use Rattle.callouts.specs.declared.types.CallStep.{CallStep}
+use Rattle.callouts.specs.declared.types.CallStep.TheVariants as steps
+use Rattle.contexts.specs.declared.parts.CallAnswer.{CallAnswer}
 use Rattle.contexts.specs.declared.parts.Contexts.{Contexts}
 use Rattle.contexts.specs.declared.parts.Tick.{Tick}
 use Rattle.contexts.specs.Creating.{next_id, plugin_in, root_created, is_root, stream_created, place_or, open_exchange, end_exchange, await_done_of, delete_id}
@@ -53,11 +58,14 @@ use Rattle.worker_model.specs.declared.types.Line.{Line}
 use Rattle.worker_model.specs.declared.types.Next.{Next}
 use Rattle.worker_model.specs.declared.types.Next.TheVariants as next
 use Rattle.worker_model.specs.declared.types.NewContext.{NewContext}
+use Rattle.worker_model.specs.declared.types.OtherStep.{OtherStep}
+use Rattle.worker_model.specs.declared.types.OtherStep.TheVariants as others
 use Rattle.worker_model.specs.declared.types.Owner.{Owner}
 use Rattle.worker_model.specs.declared.types.Owner.TheVariants.{Nobody, Stage}
 use Rattle.worker_model.specs.declared.types.ReadBatch.{ReadBatch}
 use Rattle.worker_model.specs.Plan.{Plan}
 use Rattle.worker_model.specs.Room.{Room}
+use Rattle.worker_model.specs.Calls.{take_call_event, take_call_heard, answer_if, put_call_answer, has_listener, close_call}
 use Rattle.worker_model.specs.Moves.{asks_at, ended_at}
 use Rattle.worker_model.specs.Rooms.{Changes, all_lines, place_in, with_lines, on_number, with_contexts, room_with_sent, is_dead, lose_vm_in, take_callback_end, value_of_end}
 
@@ -858,6 +866,42 @@ module _ {H : Type 0} (calling : H → ℕ → Callback → ℕ → ℕ → ℕ 
   works_life (jobs.Ready vm root queue) host room = ends (both host (run_silent_job (jobs.Ready vm root queue) room))
   works_life (jobs.Other step) host room = ends (both host (run_silent_job (jobs.Other step) room))
 
+-- ---- callouts
+
+-- the response of the one of an id is read on, by one part
+abbrev pub reads_call : {H : Type 0} → ℕ → Option Callout → H → Room → Course (Both H)
+reads_call id None host room = ends (both host room)
+reads_call id (Some c) host room = hears c.reader (λ h. ends (both host (take_call_heard id c h room)))
+
+-- after it was told, a context has nothing of the answer
+abbrev pub drop_answer : (vm e : ℕ) → Then
+drop_answer vm e value room = put_call_answer None vm e room
+
+module _ {H : Type 0} (calling : H → ℕ → Callback → ℕ → ℕ → ℕ → ℕ → Contexts → Program (Called H)) where
+  -- ITS CONTEXT IS TOLD of the end of a callout, and of the answer, if there is one
+  abbrev pub tells_call : Option CallAnswer → Callout → H → Room → Course (Both H)
+  tells_call a c host room =
+      if has_listener c room
+      then calls_live calling c.vm callbacks.CallAnswered c.context c.id 0 (drop_answer c.vm c.context) host (put_call_answer a c.vm c.context room)
+      else ends (both host room)
+
+  -- THE CALLOUT OF AN ID WAS ANSWERED, or has failed: first its connection is closed
+  abbrev pub ends_call : (is_answered : Bool) → ℕ → Option Callout → H → Room → Course (Both H)
+  ends_call is_answered id None host room = ends (both host room)
+  ends_call is_answered id (Some c) host room = tells_call (answer_if is_answered c) c host (close_call id room)
+
+  -- A step of a callout is worked.
+  abbrev pub works_call : CallStep → H → Room → Course (Both H)
+  works_call (steps.Comes what) host room = ends (both host (take_call_event what room))
+  works_call (steps.Read id) host room = reads_call id (callout_in id room.calls) host room
+  works_call (steps.Fail id) host room = ends_call false id (callout_in id room.calls) host room
+  works_call (steps.Answer id) host room = ends_call true id (callout_in id room.calls) host room
+
+  -- for other connections than those of HTTP exchanges
+  abbrev pub works_other : OtherStep → H → Room → Course (Both H)
+  works_other (others.Call step) host room = works_call step host room
+  works_other (others.Tcp step) host room = works_life calling (jobs.Other (others.Tcp step)) host room
+
 abbrev pub ask_notice : {H : Type 0} → ℕ → ℕ → H → Room → Course (Both H)
 ask_notice vm left host room = asks vm calls.Notice (λ reply. ends (both host (take_notice_reply vm left reply room)))
 
@@ -874,7 +918,7 @@ module _ {H : Type 0} (calling : H → ℕ → Callback → ℕ → ℕ → ℕ 
   works (jobs.Tick vm root) host room = ticks calling vm root host room
   works (jobs.Notice vm left) host room = notice_step plan vm left host room
   works (jobs.Ready vm root queue) host room = tells_ready calling vm root queue host room
-  works (jobs.Other step) host room = works_life calling (jobs.Other step) host room
+  works (jobs.Other step) host room = works_other calling step host room
   works (jobs.Begin vm) host room = works_life calling (jobs.Begin vm) host room
   works (jobs.Start vm root) host room = works_life calling (jobs.Start vm root) host room
   works (jobs.Configure vm root plugin) host room = works_life calling (jobs.Configure vm root plugin) host room

@@ -1,7 +1,7 @@
 -- A TURN: what a worker does at an event.
 use Rattle.std.specs.Prelude.{ℕ, zero, suc, ◌+◌, ◌==◌, Bool, true, false, List, [], ◌∷◌, ◌++◌, length, slice_get, nat_le, Option, None, Some, if◌then◌else◌}
 use Rattle.std.specs.List.{list_any}
-use Rattle.callouts.specs.Callouts.{line_in, is_of_call, callout_at}
+use Rattle.callouts.specs.Callouts.{line_in, is_of_call, callout_at, due_at}
 use Rattle.callouts.specs.declared.types.CallStep.TheVariants as steps
 use Rattle.callouts.specs.declared.types.Callout.{Callout}
 use Rattle.contexts.specs.declared.parts.Context.{Context}
@@ -18,10 +18,10 @@ use Rattle.gate_io.specs.declared.event.Sent.{Sent}
 use Rattle.gate_io.specs.declared.event.What.{What}
 use Rattle.send_queue.specs.Joined.{join_neighbours}
 use Rattle.store_model.specs.Program.{Program}
+use Rattle.worker_model.specs.Calls.{call_job}
 use Rattle.worker_model.specs.Room.{Room}
 use Rattle.worker_model.specs.declared.types.Job.{Job}
 use Rattle.worker_model.specs.declared.types.Job.TheVariants as jobs
-use Rattle.worker_model.specs.declared.types.OtherStep.TheVariants as others
 use Rattle.worker_model.specs.Plan.{Plan}
 use Rattle.worker_model.specs.Settling.{settling}
 use Rattle.worker_model.specs.Steps.{Both, both, is_due_tick}
@@ -91,17 +91,27 @@ abbrev pub notices_of : Plan → ℕ → List Job
 notices_of plan zero = []
 notices_of plan (suc n) = notices_of plan n ++ notice_of plan n
 
+-- The callouts that are due when the event comes have failed, their ids rising, each in a part of the turn of its own.
+abbrev pub fail_jobs : List ℕ → List Job
+fail_jobs [] = []
+fail_jobs (id ∷ ids) = call_job (steps.Fail id) ∷ fail_jobs ids
+
+-- The jobs of the callouts that are due now, ids rising.
+abbrev pub calls_due : Room → List Job
+calls_due room = fail_jobs (due_at room.hub.moment room.calls)
+
 -- The event. On the line of a callout it is of the one that is under way there when the event comes, if any; on any other it is of the lines.
 abbrev pub comes_if : Option Callout → What → List Job
 comes_if None what = []
-comes_if (Some c) what = jobs.Other (others.Call (steps.Comes what)) ∷ []
+comes_if (Some c) what = call_job (steps.Comes what) ∷ []
 
 abbrev pub happening : What → Room → List Job
 happening what room = if is_of_call (line_in what) then comes_if (callout_at (line_in what) room.calls) what else jobs.Happen what ∷ []
 
--- THE PARTS OF A TURN, in order: the start of the VMs, ticks, deadlines, the event, notices
+-- THE PARTS OF A TURN, in order: the start of the VMs, ticks, deadlines of exchanges, those of callouts, the event, notices
 abbrev pub agenda_of : Plan → What → Room → List Job
-agenda_of plan what room = start_jobs room ++ (ticks_due room ++ (deadline_jobs plan ++ (happening what room ++ notices_of plan (vms_in room))))
+agenda_of plan what room =
+    start_jobs room ++ (ticks_due room ++ (deadline_jobs plan ++ (calls_due room ++ (happening what room ++ notices_of plan (vms_in room)))))
 
 abbrev pub at_moment : ℕ → Room → Room
 at_moment now room = record room { hub = record room.hub { moment = now } }

@@ -1,5 +1,7 @@
 -- What a worker asks of its world: from which sides of which lines it takes bytes, and when it wants to be called at the latest.
-use Rattle.std.specs.Prelude.{ℕ, zero, suc, ◌+◌, Bool, true, false, not, ◌&&◌, ◌||◌, slice_get, List, [], ◌∷◌, map, filter, length, nat_lt, nat_le, Option, None, Some, if◌then◌else◌}
+use Rattle.std.specs.Prelude.{ℕ, zero, suc, ◌+◌, Bool, true, false, not, ◌&&◌, ◌||◌, slice_get, List, [], ◌∷◌, ◌++◌, map, filter, length, nat_lt, nat_le, Option, None, Some, if◌then◌else◌}
+use Rattle.callouts.specs.Callouts.{line_of}
+use Rattle.callouts.specs.declared.types.Callout.{Callout}
 use Rattle.contexts.specs.declared.parts.Context.{Context}
 use Rattle.contexts.specs.declared.parts.Tick.{Tick}
 use Rattle.contexts.specs.Reached.{vm_in}
@@ -71,6 +73,25 @@ abbrev pub with_lines : Option ℕ → List Line → Option ℕ
 with_lines due [] = due
 with_lines due (line ∷ lines) = with_lines (earlier due (due_on line.exchange)) lines
 
+-- a callout that is under way
+abbrev pub with_call_dues : Option ℕ → List Callout → Option ℕ
+with_call_dues due [] = due
+with_call_dues due (c ∷ calls) = with_call_dues (earlier due (Some c.due)) calls
+
+-- ---- the lines of callouts
+
+-- More of a response is taken while less than 65,536 bytes of it are unread. What waits keeps none from being read.
+abbrev pub reads_call_more : Callout → Bool
+reads_call_more c = reads_more (Some c.reader)
+
+-- The line of a callout.
+abbrev pub call_line : Callout → ℕ
+call_line c = line_of c.id
+
+-- The lines of those callouts of whose answer more can be read.
+abbrev pub call_lines : List Callout → List ℕ
+call_lines calls = map call_line (filter reads_call_more calls)
+
 -- ---- all that a worker wants
 
 -- a VM that is told of items, and is not dead, looks for notices each 50 milliseconds
@@ -88,12 +109,12 @@ with_notices plan room due = if looks plan room (vms_in room) then earlier due (
 abbrev pub due_in : Plan → Room → Option ℕ
 due_in plan room =
     if room.is_begun
-    then with_notices plan room (with_lines (ticks_up_to room (vms_in room)) room.lines)
+    then with_notices plan room (with_call_dues (with_lines (ticks_up_to room (vms_in room)) room.lines) room.calls)
     else None
 
 abbrev pub wants_of : Plan → Room → List Sent → Wants
 wants_of plan room waiting = record {
   down = wanted_of Down waiting room.lines;
-  up = wanted_of Up waiting room.lines;
+  up = wanted_of Up waiting room.lines ++ call_lines room.calls;
   due = due_in plan room;
 }

@@ -12,7 +12,7 @@ pub fn more_steps_change_nothing()
     ensures { MoreStepsChangeNothing }
 {}
 
-/// Whose an event is, by its line: that of the lines of clients, that of a callout, or nobody's.
+/// Whose an event is, by its line: that of the lines of clients, that of a callout, or nobody's. Which callouts are due, and whose lines are read.
 pub fn worked_events()
     ensures { EventExamples }
 {}

@@ -1,3 +1,4 @@
 pub mod Places
 pub mod Readings
 pub mod Quiet
+pub mod UnderWay

@@ -1,1 +1,2 @@
 pub mod Fate
+pub mod Calls

@@ -334,10 +334,7 @@ impl Room {
                 };
                 self.on_context(alloc, vm, context, what)
             }
-            EffectKind::Call { request } => {
-                let _ = request;
-                Ok(())
-            }
+            EffectKind::Call { request } => self.begin_call(alloc, &request),
         }
     }
 
