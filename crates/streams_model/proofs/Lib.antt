@@ -1,0 +1,2 @@
+pub mod Http
+pub mod Callbacks

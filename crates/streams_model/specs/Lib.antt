@@ -1,0 +1,12 @@
+pub mod Callbacks
+pub mod Lines
+pub mod Rooms
+pub mod Opening
+pub mod Ending
+pub mod Asking
+pub mod Steps
+pub mod Settling
+pub mod Turn
+pub mod Wants
+pub mod Turned
+pub mod Laws
