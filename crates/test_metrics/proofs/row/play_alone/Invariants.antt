@@ -1,6 +1,6 @@
 use Rattle.std.proofs.Common.{◌≡◌, length}
-use Rattle.shared_store.proofs.alone.tests.stores_are_apart.Given as goal
+use Rattle.test_metrics.proofs.row.play_alone.Given as goal
 
 -- there are two stores
 abbrev pub invariant-loop-who : goal.invariant-loop-who
-invariant-loop-who g l = length l.stores.stores ≡ 2
+invariant-loop-who l = length l.alone.stores ≡ 2
