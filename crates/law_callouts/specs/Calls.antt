@@ -25,6 +25,7 @@ use Rattle.law_callouts.specs.Scenes.{Told, told, Comes, contexts, ticking, begi
 
 -- ---- what is sent
 
+-- the bytes of the request of a callout
 abbrev pub request : List ℕ
 request = line_of (codes "GET /auth HTTP/1.1") ++ line_of (codes "host: x") ++ line_of (codes "connection: close") ++ line_of []
 
@@ -32,12 +33,15 @@ request = line_of (codes "GET /auth HTTP/1.1") ++ line_of (codes "host: x") ++ l
 abbrev pub first_out : List Sent
 first_out = sent.Connect 2147483649 ∷ sent.Bytes 2147483649 Up request ∷ []
 
+-- the second callout goes out
 abbrev pub second_out : List Sent
 second_out = sent.Connect 2147483650 ∷ sent.Bytes 2147483650 Up request ∷ []
 
+-- the connection of the first callout is closed
 abbrev pub first_closed : List Sent
 first_closed = sent.Close 2147483649 Up ∷ []
 
+-- and that of the second one
 abbrev pub second_closed : List Sent
 second_closed = sent.Close 2147483650 Up ∷ []
 
@@ -48,20 +52,25 @@ goes_up =
     ∷ sent.Bytes 1 Up (line_of (codes "GET / HTTP/1.1") ++ line_of (codes "host: a") ++ line_of (codes "via: 1.1 wasmgate") ++ line_of (codes "connection: close") ++ line_of [])
     ∷ []
 
+-- the line of the log for the death of VM v
 abbrev pub died : List Sent
 died = sent.Log Critical (codes "vm v died: unreachable") ∷ []
 
 -- ---- what is read of 204
 
+-- the reader of a callout that was given a 204
 abbrev pub answer : Reading
 answer = reading_with_bytes no_content_text (new_reading (Some (codes "GET")))
 
+-- and where it stands after it
 abbrev pub behind_answer : Reading
 behind_answer = moved_on 27 done answer
 
+-- what a turn meets of it
 abbrev pub answer_met : List Met
 answer_met = heard (hands (head_part no_content_head) behind_answer) ∷ []
 
+-- what the context is told of it: fields, and no body
 abbrev pub no_content : CallAnswer
 no_content = record { fields = no_content_head.fields; body = []; trailers = no_headers }
 
@@ -69,6 +78,7 @@ no_content = record { fields = no_content_head.fields; body = []; trailers = no_
 abbrev pub cut : Reading
 cut = reading_with_end (new_reading (Some (codes "GET")))
 
+-- what a turn meets of that: a refusal with 502
 abbrev pub cut_met : List Met
 cut_met = heard (halts (refusal 502) (awaiting_bytes cut)) ∷ []
 
@@ -76,17 +86,21 @@ cut_met = heard (halts (refusal 502) (awaiting_bytes cut)) ∷ []
 abbrev pub three : CallAnswer
 three = record { fields = worked_response.fields; body = codes "abc"; trailers = no_headers }
 
+-- and five bytes with a trailer, after an interim head
 abbrev pub trailed : CallAnswer
 trailed = record { fields = download_head.fields; body = codes "abcde"; trailers = record { kind = Plain; pairs = (codes "x-sum", codes "1") ∷ [] } }
 
 -- ---- what the machines are told
 
+-- the filter is asked for the head of the request
 abbrev pub asked : List Told
 asked = told RequestHeaders 2 4 None ∷ []
 
+-- and then told this
 abbrev pub asked_and : Told → List Told
 asked_and t = asked ++ t ∷ []
 
+-- what a stream is told at its end
 abbrev pub behind_end : List Told
 behind_end = told Done 2 0 None ∷ told Log 2 0 None ∷ told Delete 2 0 None ∷ []
 
@@ -100,9 +114,11 @@ table timeout = holds timeout ∷ lets_go 1 ∷ []
 abbrev pub twice : List Deed
 twice = holds 1000 ∷ asks_again 1 ∷ lets_go 2 ∷ []
 
+-- the same as `table 1000`, with a tick at which the VM dies
 abbrev pub deadly : List Deed
 deadly = trapped_tick ∷ holds 1000 ∷ lets_go 1 ∷ []
 
+-- the tick of the root begins a callout
 abbrev pub ticks : List Deed
 ticks = tick_by (root_calls ∷ []) ∷ []
 
@@ -118,6 +134,7 @@ in_order es = holds_by [] ∷ tick_by es ∷ []
 abbrev pub quiet : Both (List Told)
 quiet = both [] (room [] (with_tick 0 1 (record { period = 10000000000; due = 1000000000 }) (contexts_with_roots plugins)))
 
+-- THIRTY TURNS: what each meets, what machines are told, what is sent, which lines and callouts there are after it, and the id that was drawn last
 pub record CalloutTurns : Type 0 where
   pub begins : Comes (turn_by (table 1000) (begins_with contexts) 0 whats.Clock) ([]) (asked) (first_out) (1 ∷ []) (1 ∷ []) 1
   pub answers : Comes (turn_by (table 1000) begins.end.state 5 (whats.Bytes 2147483649 Up no_content_text)) (answer_met) (asked_and (told CallAnswered 2 1 (Some no_content))) (first_closed ++ goes_up) (1 ∷ []) ([]) 1

@@ -22,11 +22,13 @@ abbrev pub AreUpTo : ℕ → List Callout → Type 0
 AreUpTo last [] = Unit {0}
 AreUpTo last (c ∷ calls) = (c.id ≤ last) × AreUpTo last calls
 
+-- the callouts of a room: their ids rise up to the one that was drawn last, and host calls see how many there are
 pub record AreSound (room : Room) : Type 0 where
   pub rising : AreRising 0 room.calls
   pub drawn : AreUpTo room.hub.contexts.calls.last room.calls
   pub counted : room.hub.contexts.calls.under_way ≡ length room.calls
 
+-- CALLOUTS STAY SOUND, from a new worker on, by each step of a callout
 pub record CalloutsStaySound : Type 0 where
   -- of a worker that has done nothing
   pub first : (config : Config) (seed : List ℕ) → AreSound (first_room config seed)

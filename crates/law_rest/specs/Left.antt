@@ -78,6 +78,7 @@ call_step_left (steps.Read id) = 2
 call_step_left (steps.Fail id) = 1
 call_step_left (steps.Answer id) = 1
 
+-- what is left to do of a step for other connections than those of exchanges
 abbrev pub other_left : OtherStep → ℕ
 other_left (others.Call step) = call_step_left step
 other_left (others.Tcp step) = 1

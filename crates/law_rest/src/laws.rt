@@ -51,7 +51,7 @@ pub fn turns_come_to_rest<H>()
 {}
 
 /// A worker is at rest after each of its turns, where each begins with at most 2^56 things: bytes that are unread or come, exchanges, stages,
-/// items that wait, contexts, VMs and plug-ins. A turn takes at most 248 steps for each of them, and 954.
+/// items that wait, contexts, VMs, plug-ins and callouts. A turn takes at most 248 steps for each of them, and 954.
 pub fn workers_come_to_rest<H>()
     ensures { WorkersComeToRest H }
 {}
@@ -62,7 +62,7 @@ pub fn whole_turns_come_to_rest<H, S: Shared>()
 {}
 
 /// All turns of a worker, one after the other, take no more steps than their events bring: 248 for each byte that comes, and for each event 2
-/// for each VM and context, and 921; and at the first one 64 for each plug-in, and 32.
+/// for each VM, context and callout, and 921; and at the first one 64 for each plug-in, and 32.
 pub fn lives_are_paid<H>()
     ensures { LivesArePaid H }
 {}

@@ -57,9 +57,9 @@ pub fn lives_keep_places()
 {}
 
 /// A whole callback sends nothing but lines for the log, each not below the log's level and no longer than a line may be. What it asks its worker to
-/// do stands after what was asked before, each of it for a context of its own VM that is of an exchange; and it answers no exchange and ends
-/// none by itself. Where its effects are done, whatever they are, a line in whose exchange the VM takes no part stays as it was, what is sent goes
-/// out on lines in whose exchanges it does, and no VM dies.
+/// do stands after what was asked before, each of it for a context of its own VM, and all but callouts for one that is of an exchange; and it
+/// answers no exchange and ends none by itself. Where its effects are done, whatever they are, a line in whose exchange the VM takes no part
+/// stays as it was, what is sent goes out on lines in whose exchanges it does or on those of callouts, and no VM dies.
 pub fn effects_are_own()
     ensures asked { EffectsAreOwn }
     ensures lines { EffectsActOnOwnLines }
