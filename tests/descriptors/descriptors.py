@@ -1,4 +1,5 @@
-"""The program where standard input, output or error is closed, and where memory ends before its words are read. It needs Linux.
+"""The program where standard input, output or error is closed, where a read of standard input fails after its first bytes, and where memory ends before its words are
+read. It needs Linux.
 
 python3 descriptors.py PROGRAM: with each set of the three descriptors closed,
 
@@ -11,6 +12,7 @@ And with words that take more memory than there is, the run ends with 8 and its 
 
 import itertools
 import os
+import pty
 import resource
 import socket
 import subprocess
@@ -18,6 +20,7 @@ import sys
 import tempfile
 import threading
 import time
+import tty
 
 PROGRAM = os.path.abspath(sys.argv[1])
 HERE = os.path.dirname(os.path.abspath(__file__))
@@ -159,6 +162,27 @@ for closed in sets:
     got = ended(["generate", "7"], closed)
     judge(f"generate with {closed} closed", (got[0], got[2]), (7, b"" if 2 in closed else b"wasmgate: out\n") if 1 in closed else (0, b""))
     judge(f"no form with {closed} closed", ended(["none"], closed), (2, b"", b"" if 2 in closed else b"wasmgate: usage\n"))
+
+
+
+def read_from(text, fails):
+    """The status, output and line of `replay -` with this script: by a pipe, or by a terminal whose other side is closed behind it, so that a read
+    fails once the text was read."""
+    if not fails:
+        done = subprocess.run([PROGRAM, "replay", "-"], input=text, capture_output=True, timeout=PATIENCE)
+        return done.returncode, done.stdout, done.stderr
+    near, far = pty.openpty()
+    tty.setraw(far)
+    os.write(far, text)
+    os.close(far)
+    done = subprocess.run([PROGRAM, "replay", "-"], stdin=near, capture_output=True, timeout=PATIENCE)
+    os.close(near)
+    return done.returncode, done.stdout, done.stderr
+
+
+script = b"open 1\nbytes 1 474554202f20485454502f312e310d0a486f73743a20610d0a0d0a\nstop\n"
+judge("a script that is read whole", read_from(script, False)[0], 0)
+judge("a read that fails after the script", read_from(script, True), (5, b"", b"wasmgate: file\n"))
 
 # With one descriptor to spare, which is what the loader takes, it cannot be seen whether the numbers are held.
 def with_few():

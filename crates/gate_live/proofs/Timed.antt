@@ -1,9 +1,9 @@
 -- The moments of events.
-use Rattle.std.proofs.Common.{◌≡◌, ◌⊎◌, inl, inr, ℕ, ◌≤◌, Option, refl, sym, subst}
+use Rattle.std.proofs.Common.{◌≡◌, ◌⊎◌, inl, inr, ℕ, ◌≤◌, Option, refl, subst}
 use Rattle.std.specs.Prelude.{max, IsSomeAnd}
 use Rattle.gate_io.specs.declared.event.What.{What}
 use Rattle.live_sockets.specs.Spent.{IsOfLine}
-use Rattle.gate_live.specs.Timed.{ComesBy, ComesLater, HasCome, IsMoment}
+use Rattle.gate_live.specs.Timed.{IsMoment}
 
 -- what had come at the last event
 pub timed_at_once : (told : ℕ → Type 0) (last : ℕ) (due : Option ℕ) (what : What) → IsSomeAnd due (λ moment. moment ≤ last) → IsMoment told last due what last

@@ -1,8 +1,9 @@
 -- Worlds of a site, and their lines.
-use Rattle.std.proofs.Common.{◌≡◌, ℕ, suc, zero, ◌<◌, List, ◌∷◌, length, Option, sym, subst, arith}
+use Rattle.std.proofs.Common.{◌≡◌, ℕ, suc, zero, ◌<◌, List, [], ◌∷◌, ◌++◌, length, Option, sym, subst, arith}
 use Rattle.std.specs.List.{All}
-use Rattle.std.specs.declared.net.socket_addr.SocketAddr.{SocketAddr}
-use Rattle.gate_live.specs.Sites.{IsReady, IsUntouched}
+use Rattle.std.proofs.lemmas.List.{map-append}
+use Rattle.gate_io.specs.Told.{Gains, gains_more}
+use Rattle.gate_live.specs.Sites.{seeds_of}
 use Rattle.gate_live.specs.declared.live_world.LiveWorld.{LiveWorld}
 use Rattle.live_lines.specs.declared.line.SocketPair.{SocketPair}
 use Rattle.live_sockets.specs.declared.origin.Neighbor.{Neighbor}
@@ -24,6 +25,12 @@ pub all_first : {X : Type 0} (P : X → Type 0) (x : X) (xs : List X) → P x �
 all_first P x xs h hs zero d below = h
 all_first P x xs h hs (suc k) d below = hs k d (let b : suc k < suc (length xs) = below in omega arith)
 
--- a world in which nothing has happened, and whose seed was drawn of its handle
-pub ready : {R P : Type 0} (draws : R → List ℕ → Type 0) (upstream : SocketAddr) (w : LiveWorld R P) (rt : R) (seed : List ℕ) → IsUntouched upstream w → w.rt ≡ rt → w.seed ≡ seed → draws rt seed → IsReady draws upstream w
-ready {R} draws upstream w rt seed untouched same drawn h = (untouched, subst (λ (r : R). draws r w.seed) (sym same) (subst (λ (s : List ℕ). draws rt s) (sym drawn) h))
+-- the seeds of worlds and of one more
+pub seeds_more : {R P : Type 0} (ws : List (LiveWorld R P)) (w : LiveWorld R P) → seeds_of (ws ++ w ∷ []) ≡ seeds_of ws ++ w.seed ∷ []
+seeds_more {R} {P} ws w = map-append (λ (v : LiveWorld R P). v.seed) ws (w ∷ [])
+
+-- a seed was drawn, and a world with it comes after others
+pub drawn_more : {R P : Type 0} (first mid last : Option (List (List ℕ))) (ws vs : List (LiveWorld R P)) (seed : List ℕ)
+    → Gains first (seeds_of ws) mid → Gains mid (seed ∷ []) last → seeds_of vs ≡ seeds_of ws ++ seed ∷ [] → Gains first (seeds_of vs) last
+drawn_more first mid last ws vs seed before one more =
+    subst (λ (seeds : List (List ℕ)). Gains first seeds last) (sym more) (gains_more first (seeds_of ws) mid (seed ∷ []) last before one)

@@ -1,4 +1,5 @@
 pub mod LogLine
+pub mod Logged
 pub mod Sites
 pub mod Timed
 pub mod Worlds

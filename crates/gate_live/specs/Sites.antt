@@ -1,5 +1,5 @@
 -- Worlds over sockets in which nothing has happened.
-use Rattle.std.specs.Prelude.{◌≡◌, ℕ, false, List, [], ◌∷◌, All}
+use Rattle.std.specs.Prelude.{◌≡◌, ℕ, false, List, [], ◌∷◌, All, map}
 use Rattle.std.specs.declared.net.socket_addr.SocketAddr.{SocketAddr}
 use Rattle.std.specs.Net.Grammar.{IsSocketText}
 use Rattle.live_sockets.specs.Origins.{Accepts}
@@ -13,17 +13,17 @@ pub record IsUntouched {R P : Type 0} (upstream : SocketAddr) (w : LiveWorld R P
   pub connects : w.sockets.upstream ≡ upstream
   pub lines : w.sockets.lines.items ≡ []
 
--- the same of one whose seed was drawn of its handle of the system
-abbrev pub IsReady : {R P : Type 0} → (R → List ℕ → Type 0) → SocketAddr → LiveWorld R P → Type 0
-IsReady draws upstream w = IsUntouched upstream w × draws w.rt w.seed
-
 -- so are all of these
-abbrev pub AreReady : {R P : Type 0} → (R → List ℕ → Type 0) → SocketAddr → List (LiveWorld R P) → Type 0
-AreReady draws upstream ws = All (λ w. IsReady draws upstream w) ws
+abbrev pub AreUntouched : {R P : Type 0} → SocketAddr → List (LiveWorld R P) → Type 0
+AreUntouched upstream ws = All (λ w. IsUntouched upstream w) ws
 
 -- the same, where the server's address is one that the text spells
-abbrev pub AreNew : {R P : Type 0} → (R → List ℕ → Type 0) → List ℕ → List (LiveWorld R P) → Type 0
-AreNew draws text ws = (upstream : SocketAddr) × IsSocketText text upstream × AreReady draws upstream ws
+abbrev pub AreNew : {R P : Type 0} → List ℕ → List (LiveWorld R P) → Type 0
+AreNew text ws = (upstream : SocketAddr) × IsSocketText text upstream × AreUntouched upstream ws
+
+-- the seeds of worlds, in order
+abbrev pub seeds_of : {R P : Type 0} → List (LiveWorld R P) → List (List ℕ)
+seeds_of {R} {P} ws = map (λ (w : LiveWorld R P). w.seed) ws
 
 -- the first of the worlds accepts lines, so many at most
 abbrev pub FirstAccepts : {R P : Type 0} → ℕ → List (LiveWorld R P) → Type 0

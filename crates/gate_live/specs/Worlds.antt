@@ -1,5 +1,5 @@
 -- What a world over sockets gives, and what goes to its lines.
-use Rattle.std.specs.Prelude.{◌≡◌, ◌⊎◌, ℕ, ◌+◌, ◌-◌, ◌^◌, min, true, false, List, Option, None}
+use Rattle.std.specs.Prelude.{ℕ, true, false, List, Option, None}
 use Rattle.gate_io.specs.declared.event.Side.{Side}
 use Rattle.gate_io.specs.declared.event.What.{What}
 use Rattle.gate_io.specs.Events.{Last}
@@ -10,6 +10,7 @@ use Rattle.live_sockets.specs.Calls.{BeginsIn, ConnectsIn}
 use Rattle.live_lines.specs.Lines.{SentIn, ClosedIn}
 use Rattle.live_sockets.specs.Origins.{HasEnded}
 use Rattle.live_lines.specs.Told.{LiesIn}
+use Rattle.gate_live.specs.Logged.{LogState, Notices}
 use Rattle.gate_live.specs.declared.live_world.LiveWorld.{LiveWorld}
 
 -- the last event that was given
@@ -49,6 +50,10 @@ Closes old line side new = ClosedIn old.sockets.lines.items line side new.socket
 abbrev pub AcceptsNone : {R P : Type 0} → LiveWorld R P → Type 0
 AcceptsNone w = HasEnded w.sockets.origin
 
--- A line of the log was written on the handle of the system. Or it was dropped, which is counted, up to 2^32 - 1.
-abbrev pub IsLogged : {R P : Type 0} → (R → List ℕ → Type 0) → LiveWorld R P → List ℕ → LiveWorld R P → Type 0
-IsLogged writes old line new = writes old.rt line ⊎ (new.dropped ≡ min (old.dropped + 1) (2 ^ 32 - 1))
+-- what a world knows of the log
+abbrev pub log_in : {R P : Type 0} → LiveWorld R P → LogState R
+log_in w = record { rt = w.rt; is_cut = w.is_cut; dropped = w.dropped }
+
+-- A world that waits logs notices alone, one at most of each of the ten kinds. The lines that were dropped before are counted among what is to be told.
+abbrev pub LogsNotices : {R P : Type 0} → (R → Option (List ℕ)) → (R → Type 0) → LiveWorld R P → LiveWorld R P → Type 0
+LogsNotices logged refuses old new = Notices logged refuses 10 (record { rt = old.rt; is_cut = old.is_cut; dropped = 0 }) (log_in new)

@@ -1,9 +1,10 @@
 // The outside over sockets.
-ghost use Rattle.std.specs.Prelude.{◌≡◌, ◌≤◌, ◌+◌, [], length, unwrap_or, IfOk};
+ghost use Rattle.std.specs.Prelude.{◌≡◌, ◌≤◌, ◌+◌, ℕ, List, Option, [], ◌∷◌, ◌++◌, length, unwrap_or, IfOk};
 ghost use Rattle.std.specs.Net.Grammar.{IsSocketText};
+ghost use Rattle.gate_io.specs.Told.{Gains};
 ghost use Rattle.live_sockets.specs.Homes.{AreHome, AreUnused};
 ghost use Rattle.live_sockets.specs.Origins.{Accepts};
-ghost use Rattle.gate_live.specs.Sites.{AreNew, AreReady, FirstAccepts, IsReady};
+ghost use Rattle.gate_live.specs.Sites.{AreNew, AreUntouched, FirstAccepts, IsUntouched, seeds_of};
 
 use crate::LiveWorld;
 use crate::seeds::SeedSource;
@@ -68,26 +69,24 @@ struct Ground<R> {
     buffers: Buffers<Peer>,
 }
 
-/// What a world has beside its poll and its origin, with a handle of the runtime of its own, of which its seed is drawn.
-fn ground_of<R: SeedSource + Clone + Drop>(alloc: Global, rt: &R) -> Result<Ground<R>, SiteEnd>
-    ensures drawn { IfOk result (λ ground. R.draws ground.rt ground.seed) }
+/// What a world has beside its poll and its origin, with this seed and a handle of the runtime of its own.
+fn ground_of<R: Clone + Drop>(alloc: Global, rt: &R, seed: [u8; 32]) -> Result<Ground<R>, SiteEnd>
+    ensures seed { IfOk result (λ ground. ground.seed ≡ seed) }
 {
     let rt = rt.clone()?;
-    let seed = rt.draw_seed()?;
     let buffers = Buffers::new(alloc)?;
     Ok(Ground { rt, seed, buffers })
 }
 
 /// A world over a poll, whose lines come from an origin that it watches.
-#[tactic(auto, using(crate::proofs::Worlds::ready))]
-fn world_of<R: SeedSource + Drop>(
+fn world_of<R: Drop>(
     ground: Ground<R>,
     poll: Poll,
     origin: Origin,
     upstream: SocketAddr,
 ) -> LiveWorld<R, Peer>
-    requires { R.draws ground.rt ground.seed }
-    ensures untouched { IsReady R.draws upstream result }
+    ensures untouched { IsUntouched upstream result }
+    ensures seed { result.seed ≡ ground.seed }
     ensures origin { result.sockets.origin ≡ origin }
 {
     let Ground { rt, seed, buffers } = ground;
@@ -141,113 +140,125 @@ fn waking_poll<R: Net>(
     Ok((poll, neighbor, mailbox))
 }
 
-/// A world to which lines are handed over, and the queue to it.
-fn other_world<R: Net + SeedSource + Clone + Drop>(
+/// A world with this seed, to which lines are handed over, and the queue to it.
+fn other_world<R: Net + Clone + Drop>(
     alloc: Global,
     rt: &R,
+    seed: [u8; 32],
     upstream: SocketAddr,
     stage: &Arc<AcceptState>,
 ) -> Result<(Neighbor, LiveWorld<R, Peer>), SiteEnd>
-    ensures untouched { IfOk result (λ w. IsReady R.draws upstream w.1) }
+    ensures untouched { IfOk result (λ w. IsUntouched upstream w.1) }
+    ensures seed { IfOk result (λ w. w.1.seed ≡ seed) }
     ensures offered { IfOk result (λ w. w.0.giver.lines ≡ []) }
 {
-    let ground = ground_of(alloc, rt)?;
+    let ground = ground_of(alloc, rt, seed)?;
     let (poll, neighbor, mailbox) = waking_poll(alloc, rt, stage)?;
     let world = world_of(ground, poll, Origin::Mailbox(mailbox), upstream);
     Ok((neighbor, world))
 }
 
-/// Puts a world to which lines are handed over after others, and the queue to it behind theirs.
-fn add_world<R: Net + SeedSource + Clone + Drop>(
+/// Puts a world with this seed, to which lines are handed over, after others, and the queue to it after theirs.
+fn add_world<R: Net + Clone + Drop>(
     alloc: Global,
     rt: &R,
+    seed: [u8; 32],
     upstream: SocketAddr,
     stage: &Arc<AcceptState>,
     others: &mut Vec<Neighbor>,
     worlds: &mut Vec<LiveWorld<R, Peer>>,
 ) -> Result<(), SiteEnd>
-    ensures untouched { AreReady R.draws upstream worlds.old.items → IfOk result (λ _. AreReady R.draws upstream worlds.new.items) }
+    ensures untouched { AreUntouched upstream worlds.old.items → IfOk result (λ _. AreUntouched upstream worlds.new.items) }
+    ensures seeds { IfOk result (λ _. seeds_of worlds.new.items ≡ seeds_of worlds.old.items ++ seed ∷ []) }
     ensures count { IfOk result (λ _. length worlds.new.items ≡ length worlds.old.items + 1) }
     ensures offered { AreUnused others.old.items → IfOk result (λ _. AreUnused others.new.items) }
 {
-    let (neighbor, world) = other_world(alloc, rt, upstream, stage)?;
+    let (neighbor, world) = other_world(alloc, rt, seed, upstream, stage)?;
     others.push(neighbor)?;
     worlds.push(world)?;
     Ok(())
 }
 
-/// Puts the worlds of workers 2 and up, to which lines are handed over, after others, and the queues to them behind theirs.
+/// Puts the worlds of workers 2 and up, to which lines are handed over, after others, and the queues to them after theirs. A seed is drawn for each.
 fn other_worlds<R: Net + SeedSource + Clone + Drop>(
     alloc: Global,
-    rt: &R,
+    rt: &mut R,
     count: u8,
     upstream: SocketAddr,
     stage: &Arc<AcceptState>,
     others: &mut Vec<Neighbor>,
     worlds: &mut Vec<LiveWorld<R, Peer>>,
 ) -> Result<(), SiteEnd>
-    ensures untouched { AreReady R.draws upstream worlds.old.items → IfOk result (λ _. AreReady R.draws upstream worlds.new.items) }
+    ensures untouched { AreUntouched upstream worlds.old.items → IfOk result (λ _. AreUntouched upstream worlds.new.items) }
+    ensures seeds { (first : Option (List (List ℕ))) → Gains first (seeds_of worlds.old.items) (R.drawn rt.old) → IfOk result (λ _. Gains first (seeds_of worlds.new.items) (R.drawn rt.new)) }
     ensures count { IfOk result (λ _. length worlds.new.items ≡ length worlds.old.items + count) }
     ensures offered { AreUnused others.old.items → IfOk result (λ _. AreUnused others.new.items) }
 {
     for _ in 0..count {
-        add_world(alloc, rt, upstream, stage, others, worlds)?;
+        let seed = rt.draw_seed()?;
+        add_world(alloc, rt, seed, upstream, stage, others, worlds)?;
     }
     Ok(())
 }
 
-/// What the world of worker 1 has, with a poll that watches a listener at the settings' address.
-fn listening<R: Net + SeedSource + Clone + Drop>(
+/// What the world of worker 1 has, with this seed and a poll that watches a listener at the settings' address.
+fn listening<R: Net + Clone + Drop>(
     alloc: Global,
     rt: &R,
+    seed: [u8; 32],
     settings: &Settings,
 ) -> Result<(Ground<R>, Poll, TcpListener), SiteEnd>
-    ensures drawn { IfOk result (λ it. R.draws it.0.rt it.0.seed) }
+    ensures seed { IfOk result (λ it. it.0.seed ≡ seed) }
 {
     let listen = address_of(settings.listen.as_str())?;
-    let ground = ground_of(alloc, rt)?;
+    let ground = ground_of(alloc, rt, seed)?;
     let (poll, listener) = listening_poll(rt, listen)?;
     Ok((ground, poll, listener))
 }
 
-/// The world of worker 1, which listens, and hands lines over to the others.
-fn first_world<R: Net + SeedSource + Clone + Drop>(
+/// The world of worker 1, with this seed, which listens, and hands lines over to the others.
+fn first_world<R: Net + Clone + Drop>(
     alloc: Global,
     rt: &R,
+    seed: [u8; 32],
     settings: &Settings,
     upstream: SocketAddr,
     others: Vec<Neighbor>,
     stage: Arc<AcceptState>,
 ) -> Result<LiveWorld<R, Peer>, SiteEnd>
     requires { AreHome 0 others.items }
-    ensures untouched { IfOk result (λ w. IsReady R.draws upstream w) }
+    ensures untouched { IfOk result (λ w. IsUntouched upstream w) }
+    ensures seed { IfOk result (λ w. w.seed ≡ seed) }
     ensures accepts { IfOk result (λ w. Accepts (unwrap_or settings.now.stop_after 4294967295) w.sockets.origin) }
 {
-    let (ground, poll, listener) = listening(alloc, rt, settings)?;
+    let (ground, poll, listener) = listening(alloc, rt, seed, settings)?;
     let most = settings.stop_after.unwrap_or(u32::MAX);
     let origin = Origin::Listener(Acceptor::new(listener, most, others, stage));
     Ok(world_of(ground, poll, origin, upstream))
 }
 
-/// Puts a world for each worker among others, the first in front of them.
+/// Puts a world for each worker where there is none, in their order, each with a seed that is drawn for it.
 #[tactic(auto, using(crate::proofs::Worlds::home))]
 fn fill<R: Net + SeedSource + Clone + Drop>(
     alloc: Global,
-    rt: &R,
+    rt: &mut R,
     settings: &Settings,
     upstream: SocketAddr,
     worlds: &mut Vec<LiveWorld<R, Peer>>,
 ) -> Result<(), SiteEnd>
-    requires { 1 ≤ settings.now.workers }
-    ensures untouched { AreReady R.draws upstream worlds.old.items → IfOk result (λ _. AreReady R.draws upstream worlds.new.items) }
-    ensures count { IfOk result (λ _. length worlds.new.items ≡ length worlds.old.items + settings.now.workers) }
+    requires some { 1 ≤ settings.now.workers }
+    requires none { worlds.old.items ≡ [] }
+    ensures untouched { IfOk result (λ _. AreUntouched upstream worlds.new.items) }
+    ensures seeds { IfOk result (λ _. Gains (R.drawn rt.old) (seeds_of worlds.new.items) (R.drawn rt.new)) }
+    ensures count { IfOk result (λ _. length worlds.new.items ≡ settings.now.workers) }
     ensures accepts { IfOk result (λ _. FirstAccepts (unwrap_or settings.now.stop_after 4294967295) worlds.new.items) }
 {
     let stage = Arc::new(alloc, AcceptState::new())?;
+    let seed = rt.draw_seed()?;
     let mut others = Vec::new(alloc);
     let count = settings.workers - 1;
     other_worlds(alloc, rt, count, upstream, &stage, &mut others, worlds)?;
-    let first = first_world(alloc, rt, settings, upstream, others, stage)?;
+    let first = first_world(alloc, rt, seed, settings, upstream, others, stage)?;
     worlds.insert(0, first)?;
     Ok(())
 }
@@ -255,10 +266,11 @@ fn fill<R: Net + SeedSource + Clone + Drop>(
 /// Listens, and makes a world for each worker.
 fn worlds_of<R: Net + SeedSource + Clone + Drop>(
     alloc: Global,
-    rt: &R,
+    rt: &mut R,
     settings: &Settings,
 ) -> Result<Vec<LiveWorld<R, Peer>>, SiteEnd>
-    ensures untouched { IfOk result (λ worlds. AreNew R.draws settings.now.upstream worlds.items) }
+    ensures untouched { IfOk result (λ worlds. AreNew settings.now.upstream worlds.items) }
+    ensures seeds { IfOk result (λ worlds. Gains (R.drawn rt.old) (seeds_of worlds.items) (R.drawn rt.new)) }
     ensures count { IfOk result (λ worlds. length worlds.items ≡ settings.now.workers) }
     ensures accepts { IfOk result (λ worlds. FirstAccepts (unwrap_or settings.now.stop_after 4294967295) worlds.items) }
 {
@@ -277,8 +289,8 @@ impl<R: Net + TimeSource + Wait + SeedSource + LogStream + Clone + Send + Drop> 
 
     ghost use Rattle.std.specs.Prelude.{◌≡◌, ◌≤◌, None, length, unwrap_or, All, IfOk, OnErr};
     ghost use Rattle.gate_io.specs.Sites.{IsFresh};
-    ghost use Rattle.gate_io.specs.Told.{Rose};
-    ghost use Rattle.gate_live.specs.Sites.{AreNew, FirstAccepts};
+    ghost use Rattle.gate_io.specs.Told.{Gains, Rose};
+    ghost use Rattle.gate_live.specs.Sites.{AreNew, FirstAccepts, seeds_of};
 
     ghost started = { λ _. None };
 
@@ -296,7 +308,8 @@ impl<R: Net + TimeSource + Wait + SeedSource + LogStream + Clone + Send + Drop> 
         settings: &Settings,
     ) -> Result<Vec<LiveWorld<R, Peer>>, SiteEnd>
         ensures count { IfOk result (λ worlds. length worlds.items ≡ settings.now.workers) }
-        ensures untouched { IfOk result (λ worlds. AreNew R.draws settings.now.upstream worlds.items) }
+        ensures untouched { IfOk result (λ worlds. AreNew settings.now.upstream worlds.items) }
+        ensures drawn { IfOk result (λ worlds. Gains (R.drawn self.old.rt) (seeds_of worlds.items) (R.drawn self.new.rt)) }
         ensures accepts { IfOk result (λ worlds. FirstAccepts (unwrap_or settings.now.stop_after 4294967295) worlds.items) }
         ensures fresh { IfOk result (λ worlds. All (λ w. IsFresh None (record { now = w.now; stopped = w.stopped }) w.faults) worlds.items) }
         ensures out { IfOk result (λ worlds. self.new.out ≡ length worlds.items) }
@@ -305,7 +318,7 @@ impl<R: Net + TimeSource + Wait + SeedSource + LogStream + Clone + Send + Drop> 
         ensures faults { self.old.faults ≤ self.new.faults }
         ensures failed { result ≡ Err SiteEnd.Failed → Rose self.old.faults self.new.faults }
     {
-        let answer = worlds_of(alloc, &self.rt, settings);
+        let answer = worlds_of(alloc, &mut self.rt, settings);
         match &answer {
             Ok(worlds) => self.out = worlds.len(),
             Err(SiteEnd::Failed) => self.faults = self.faults.saturating_add(1),

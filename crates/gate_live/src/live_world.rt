@@ -4,15 +4,16 @@ ghost use Rattle.gate_io.specs.Events.{Follows, Obeys, is_stop};
 ghost use Rattle.live_sockets.specs.Spent.{IsBefore, IsEarly, IsOfLine, is_clock};
 ghost use Rattle.live_sockets.specs.Times.{IsTold};
 ghost use Rattle.gate_live.specs.LogLine.{line_of};
+ghost use Rattle.gate_live.specs.Logged.{notice_of};
 ghost use Rattle.gate_io.specs.declared.event.What.TheVariants as whats;
 ghost use Rattle.gate_live.specs.Timed.{IsMoment, IsTimed};
 
 use crate::log_line::log_line;
-use crate::stderr::LogStream;
+use crate::stderr::{LogStream, put_line};
 use gate_base::{Level, LineNo, OutOfMemory};
 use gate_io::{Event, Side, Wants, What, World, WorldEnd};
 use live_lines::Duplex;
-use live_sockets::{LEVEL, Moments, Notice, Sockets, TEXTS, TimeSource};
+use live_sockets::{KINDS, LEVEL, Moments, Notice, Sockets, TEXTS, TimeSource};
 use std::alloc::Global;
 use std::net::Net;
 use std::sync::Wait;
@@ -38,6 +39,7 @@ pub struct LiveWorld<R, P> {
 impl<R, P> LiveWorld<R, P> {
     ghost use Rattle.std.specs.Prelude.{◌≡◌, []};
     ghost use Rattle.gate_live.specs.Sites.{IsUntouched};
+    ghost use Rattle.gate_live.specs.Worlds.{log_in};
 
     /// A world in which nothing has happened, over these sockets.
     pub(crate) fn new(rt: R, seed: [u8; 32], sockets: Sockets<P>) -> Self
@@ -66,6 +68,7 @@ impl<R, P> LiveWorld<R, P> {
         ensures seed { self.new.seed ≡ self.old.seed }
         ensures faults { self.new.faults ≡ self.old.faults }
         ensures lines { self.new.sockets.lines ≡ self.old.sockets.lines }
+        ensures log { log_in self.new ≡ log_in self.old }
     {
         // The system is asked in front of what is heard next, as in `Sockets::wait`.
         self.sockets.looks.ask_next();
@@ -79,7 +82,8 @@ impl<R: Net + TimeSource + Wait + LogStream, P: Duplex> World for LiveWorld<R, P
     ghost use Rattle.gate_io.specs.Events.{after_next};
     ghost use Rattle.gate_io.specs.Told.{Rose};
     ghost use Rattle.live_lines.specs.Allowed.{no_promise};
-    ghost use Rattle.gate_live.specs.Worlds.{last_in, nature_of, AcceptsNone, Asks, Gives, Sends, Connects, Begins, Closes, IsLogged};
+    ghost use Rattle.gate_live.specs.Worlds.{last_in, nature_of, AcceptsNone, Asks, Gives, Sends, Connects, Begins, Closes, LogsNotices, log_in};
+    ghost use Rattle.gate_live.specs.Logged.{IsLogged};
 
     ghost trace = { λ _. None };
 
@@ -95,11 +99,13 @@ impl<R: Net + TimeSource + Wait + LogStream, P: Duplex> World for LiveWorld<R, P
 
     ghost keeps_to_script = { λ w. tt };
 
-    // The first clause of each method tells of the lines, `asked` of when the system was asked, and `ended` of what a failure leaves. The others repeat those of the trait.
+    // The first clause of each method tells of the lines, `asked` of when the system was asked, `log` and `notices` of what is written of the log, `err` and `ended`
+    // of what a failure leaves. The others repeat those of the trait.
     fn next(&mut self, alloc: Global, wants: &Wants) -> Result<Event, WorldEnd>
         ensures heard { IfOk result (λ event. Gives P.gave P.took self.old event.what self.new) }
         ensures asked { IfOk result (λ event. Asks self.old event.what self.new) }
         ensures timed { self.old.stopped ≡ false → IfOk result (IsTimed (IsTold (R.tells self.old.rt)) self.old.now wants.now.due) }
+        ensures notices { LogsNotices R.logged R.refuses self.old self.new }
         ensures event { IfOk result (Follows (last_in self.old)) }
         ensures last { last_in self.new ≡ after_next (last_in self.old) result }
         ensures obeys { IfOk result (λ event. Obeys wants.now event.what) }
@@ -126,6 +132,7 @@ impl<R: Net + TimeSource + Wait + LogStream, P: Duplex> World for LiveWorld<R, P
     ) -> Result<usize, OutOfMemory>
         ensures sent { IfOk result (λ n. Sends P.gave P.took self.old line side bytes.now n self.new) }
         ensures bound { IfOk result (λ n. n ≤ length bytes.now) }
+        ensures log { log_in self.new ≡ log_in self.old }
         ensures last { last_in self.new ≡ last_in self.old }
         ensures nature { nature_of self.new ≡ nature_of self.old }
         ensures faults { self.new.faults ≡ self.old.faults }
@@ -136,6 +143,8 @@ impl<R: Net + TimeSource + Wait + LogStream, P: Duplex> World for LiveWorld<R, P
     fn connect(&mut self, alloc: Global, line: LineNo) -> Result<(), OutOfMemory>
         ensures connected { OnOk result (Connects self.old line self.new) }
         ensures begun { OnOk result (Begins P.gave P.took self.old line self.new) }
+        ensures err { OnErr result (self.new.sockets.lines.items ≡ self.old.sockets.lines.items) }
+        ensures log { log_in self.new ≡ log_in self.old }
         ensures last { last_in self.new ≡ last_in self.old }
         ensures nature { nature_of self.new ≡ nature_of self.old }
         ensures faults { self.new.faults ≡ self.old.faults }
@@ -145,6 +154,7 @@ impl<R: Net + TimeSource + Wait + LogStream, P: Duplex> World for LiveWorld<R, P
 
     fn close(&mut self, alloc: Global, line: LineNo, side: Side) -> Result<(), OutOfMemory>
         ensures closed { Closes self.old line side self.new }
+        ensures log { log_in self.new ≡ log_in self.old }
         ensures last { last_in self.new ≡ last_in self.old }
         ensures nature { nature_of self.new ≡ nature_of self.old }
         ensures faults { self.new.faults ≡ self.old.faults }
@@ -154,7 +164,8 @@ impl<R: Net + TimeSource + Wait + LogStream, P: Duplex> World for LiveWorld<R, P
     }
 
     fn log(&mut self, alloc: Global, level: Level, text: &[u8]) -> Result<(), OutOfMemory>
-        ensures written { OnOk result (IsLogged R.writes self.old (line_of level text.now) self.new) }
+        ensures log { OnOk result (IsLogged R.logged R.refuses (log_in self.old) (line_of level text.now) (log_in self.new)) }
+        ensures err { OnErr result (log_in self.new ≡ log_in self.old) }
         ensures sockets { self.new.sockets ≡ self.old.sockets }
         ensures last { last_in self.new ≡ last_in self.old }
         ensures nature { nature_of self.new ≡ nature_of self.old }
@@ -174,20 +185,23 @@ impl<R: Net + TimeSource + Wait + LogStream, P: Duplex> World for LiveWorld<R, P
 
 impl<R: LogStream, P: Duplex> LiveWorld<R, P> {
     ghost use Rattle.std.specs.Prelude.{◌≡◌};
-    ghost use Rattle.gate_live.specs.Worlds.{IsLogged};
+    ghost use Rattle.gate_live.specs.Logged.{IsLogged, MayNotice, Notices};
+    ghost use Rattle.gate_live.specs.Worlds.{LogsNotices, log_in};
 
     /// Writes a line of the log. One that standard error does not take is dropped, and counted.
     fn show(&mut self, line: &[u8])
-        ensures written { IsLogged R.writes self.old line.now self.new }
-        ensures rest { self.new ≡ record self.old { is_cut = self.new.is_cut; dropped = self.new.dropped } }
+        ensures log { IsLogged R.logged R.refuses (log_in self.old) line.now (log_in self.new) }
+        ensures rest { self.new ≡ record self.old { rt = self.new.rt; is_cut = self.new.is_cut; dropped = self.new.dropped } }
     {
-        if !self.rt.put_line(line, &mut self.is_cut) {
+        if !put_line(&mut self.rt, line, &mut self.is_cut) {
             self.dropped = self.dropped.saturating_add(1);
         }
     }
 
     /// Tells the operator what happened since the last time, once a second at most. Where there is no memory for a line it is not told.
+    #[tactic(auto, using(crate::proofs::Logged::no_notices))]
     fn tell(&mut self, alloc: Global)
+        ensures notices { LogsNotices R.logged R.refuses self.old self.new }
         ensures lines { self.new.sockets.lines ≡ self.old.sockets.lines }
         ensures room { self.new.sockets.room ≡ self.old.sockets.room }
         ensures looks { self.new.sockets.looks ≡ self.old.sockets.looks }
@@ -204,17 +218,20 @@ impl<R: LogStream, P: Duplex> LiveWorld<R, P> {
     }
 
     /// Tells how often each kind of notice came that did.
-    fn tell_all(&mut self, alloc: Global, counts: &[u32])
-        ensures { self.new ≡ record self.old { is_cut = self.new.is_cut; dropped = self.new.dropped } }
+    #[tactic(auto, using(crate::proofs::Logged::no_notices, crate::proofs::Logged::more_notices))]
+    fn tell_all(&mut self, alloc: Global, counts: &[u32; KINDS])
+        ensures notices { Notices R.logged R.refuses 10 (log_in self.old) (log_in self.new) }
+        ensures rest { self.new ≡ record self.old { rt = self.new.rt; is_cut = self.new.is_cut; dropped = self.new.dropped } }
     {
-        for (count, text) in counts.iter().zip(&TEXTS) {
-            self.tell_one(alloc, *count, text);
+        for kind in 0..KINDS {
+            self.tell_one(alloc, counts[kind], TEXTS[kind]);
         }
     }
 
     /// Tells how often a kind of notice came, where it did.
     fn tell_one(&mut self, alloc: Global, count: u32, text: &str)
-        ensures { self.new ≡ record self.old { is_cut = self.new.is_cut; dropped = self.new.dropped } }
+        ensures notice { MayNotice R.logged R.refuses (log_in self.old) (log_in self.new) }
+        ensures rest { self.new ≡ record self.old { rt = self.new.rt; is_cut = self.new.is_cut; dropped = self.new.dropped } }
     {
         if count == 0 {
             return;
@@ -226,7 +243,9 @@ impl<R: LogStream, P: Duplex> LiveWorld<R, P> {
 }
 
 /// The line that tells of a kind of notice and how often it came.
-fn notice_line(alloc: Global, text: &str, count: u32) -> Result<Vec<u8>, OutOfMemory> {
+fn notice_line(alloc: Global, text: &str, count: u32) -> Result<Vec<u8>, OutOfMemory>
+    ensures { IfOk result (λ line. line.items ≡ notice_of text.now count) }
+{
     let told = format!(in alloc; "{text}: {count}")?;
     log_line(alloc, LEVEL, told.as_bytes())
 }
@@ -234,7 +253,7 @@ fn notice_line(alloc: Global, text: &str, count: u32) -> Result<Vec<u8>, OutOfMe
 impl<R: Net + TimeSource + Wait, P: Duplex> LiveWorld<R, P> {
     ghost use Rattle.std.specs.Prelude.{false};
     ghost use Rattle.live_sockets.specs.Spent.{IsDue, IsEarly};
-    ghost use Rattle.gate_live.specs.Worlds.{Asks, Gives};
+    ghost use Rattle.gate_live.specs.Worlds.{Asks, Gives, log_in};
 
     /// The next event, at the clock's moment, or that of the last one where the clock went back. What has fallen due comes by a Clock of its own, in
     /// front of what happens to lines or after one event more: that event has a moment before it, whatever the clock says. A turn does what is due in
@@ -252,6 +271,7 @@ impl<R: Net + TimeSource + Wait, P: Duplex> LiveWorld<R, P> {
         ensures timed { self.old.stopped ≡ false → IfOk result (IsTimed (IsTold (R.tells self.old.rt)) self.old.now wants.now.due) }
         ensures heard { IfOk result (λ event. Gives P.gave P.took self.old event.what self.new) }
         ensures asked { IfOk result (λ event. Asks self.old event.what self.new) }
+        ensures log { log_in self.new ≡ log_in self.old }
     {
         if self.stopped {
             return Ok(Event {
@@ -288,6 +308,7 @@ impl<R: Net + TimeSource + Wait, P: Duplex> LiveWorld<R, P> {
         ensures timed { IfOk result (IsTimed (IsTold (R.tells self.old.rt)) self.old.now wants.now.due) }
         ensures heard { IfOk result (λ event. Gives P.gave P.took self.old event.what self.new) }
         ensures asked { IfOk result (λ event. Asks self.old event.what self.new) }
+        ensures log { log_in self.new ≡ log_in self.old }
     {
         let what = self.sockets.wait(alloc, &self.rt, wants)?;
         let moment = self.now.max(self.sockets.seen());

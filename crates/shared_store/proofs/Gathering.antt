@@ -8,7 +8,6 @@ use native.Mathlib.Decide.{ℕ_discrete}
 use lib.ListN.{get_elem?, length-map}
 use Rattle.atomic_table.proofs.Lists.{at_index, at_map, at_longer, at_last}
 use Rattle.store_model.specs.History.{own, store_acts, store_after, IsLegal}
-use Rattle.store_model.specs.Made.{Made}
 use Rattle.store_model.specs.declared.entry.Entry.{Entry}
 use Rattle.turn_table.specs.declared.view.Ended.{Ended}
 use Rattle.turn_table.specs.Seats.{Seated, TurnTableId, Closed, HasAll}
@@ -17,9 +16,9 @@ use Rattle.turn_table.proofs.Places.{at_below, at_snoc}
 use Rattle.turn_table.proofs.Prefixes.{prefix_self, prefix_trans}
 use Rattle.turn_table.proofs.Rows.{has_seat}
 use Rattle.shared_store.specs.declared.closed.ClosedStore.{ClosedStore}
-use Rattle.shared_store.specs.Moving.{SeatsGoOn, seats_nothing, there}
+use Rattle.shared_store.specs.Moving.{there}
 use Rattle.shared_store.specs.Tables.{AreAt, AreNumbered, AreOf, SeatsJoined, TablesClosed, after_split, next_seats, table_of}
-use Rattle.shared_store.specs.Workers.{AreAll, AreNew, AreShut, ListsGoOn, WentOn, HasOneHistory, new_seat}
+use Rattle.shared_store.specs.Workers.{AreAll, AreNew, AreShut, ListsGoOn, HasOneHistory, new_seat}
 use Rattle.shared_store.proofs.Laws.{all_seats, calls_at, each_on, joined_at, mapped_of, others_go_on}
 use Rattle.shared_store.proofs.Rows.{as_long, get_at, next_member}
 
@@ -90,35 +89,6 @@ all_go_on tables old new a goes = record {
       (λ v w same h. (ap (λ (s : Seated). s.given) same ∙ h.0, ap (λ (s : Seated). s.ended) same ∙ h.1))
       (λ vm v at_v. let h = a.gave l.0 l.1 vm v at_v in (h.0 ∙ sym goes.as_many, h.1));
 }
-
-pub went : (old new : List Seated) (calls : List Made) → SeatsGoOn old calls new → WentOn old new
-went old new calls goes = record { calls = calls; goes = goes }
-
--- the first list goes on, and the others stay
-pub first_goes : (lists : List (Vec Seated)) (l m : Vec Seated) → 0 < length lists → l ≡ get_or lists 0 l → WentOn l.items m.items → ListsGoOn lists (m ∷ drop 1 lists)
-first_goes [] l m h is went = absurd (omega arith)
-first_goes (a ∷ rest) l m h is went = record { as_many = refl; each = each }
-  where
-    each : (w : ℕ) (x y : Vec Seated) → get_elem? (a ∷ rest) w ≡ some x → get_elem? (m ∷ rest) w ≡ some y → WentOn x.items y.items
-    each zero x y at_x at_y =
-        let x_is : l ≡ x = is ∙ some-injective a x at_x in let y_is : m ≡ y = some-injective m y at_y in
-        subst (λ (z : Vec Seated). WentOn x.items z.items) y_is (subst (λ (z : Vec Seated). WentOn z.items m.items) x_is went)
-    each (suc w) x y at_x at_y = let same : x ≡ y = some-injective x y (sym at_x ∙ at_y) in subst (λ (z : Vec Seated). WentOn x.items z.items) same (record { calls = []; goes = seats_nothing x.items })
-
--- each went on by itself
-pub jobs_go_on : (old new : List (Vec Seated)) → length new ≡ length old → ((w : ℕ) (d : Vec Seated) → w < length old → WentOn (get_or old w d).items (get_or new w d).items) → ListsGoOn old new
-jobs_go_on old new long each = record {
-  as_many = long;
-  each = λ w l m at_l at_m.
-      let l_is : get_or old w l ≡ l = get_at old w l l at_l in let m_is : get_or new w l ≡ m = get_at new w m l at_m in
-      subst (λ (z : Vec Seated). WentOn l.items z.items) m_is (subst (λ (z : Vec Seated). WentOn z.items (get_or new w l).items) l_is (each w l (at_below old w l at_l)));
-}
-
--- lists of as many seats as there are tables
-pub all_of_length : (tables : List TurnTableId) (n : ℕ) (lists : List (Vec Seated)) → length tables ≡ n → AreAll tables lists → All (λ (l : Vec Seated). AreAt tables l.items × (length l.items ≡ n)) lists
-all_of_length tables n lists long a k d h =
-    let l = there lists k h in let at = (a.each k l.0 l.1).0 in
-    subst (λ (x : Vec Seated). AreAt tables x.items × (length x.items ≡ n)) (sym (get_at lists k l.0 d l.1)) (at, sym (length-map l.0.items table_of) ∙ (ap length at ∙ long))
 
 -- the members of a list but the first, in a loop over them
 pub first_list : {A : Type 0} (l : List A) (a : A) → 0 < length l → a ≡ get_or l 0 a → get_elem? l 0 ≡ some a

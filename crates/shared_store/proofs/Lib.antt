@@ -1,4 +1,3 @@
-mod Crew
 mod Gathering
 mod Laws
 mod Meets

@@ -13,9 +13,6 @@ use std::alloc::Global;
 use std::marker::Model;
 use store_model::{Call, MetricAsk, MetricReply, Reply, Shared};
 
-#[cfg(test)]
-mod tests;
-
 /// One store and the metrics of each VM name, and the worker whose calls and asks they take. Clauses see `Stores` of `store_model`.
 #[derive(Drop)]
 pub struct Alone {

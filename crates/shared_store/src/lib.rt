@@ -2,8 +2,6 @@
 #![tactic(auto)]
 
 mod alone;
-#[cfg(test)]
-mod asks;
 mod closed;
 mod law;
 mod lists;

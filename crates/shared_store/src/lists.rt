@@ -8,9 +8,6 @@ use gate_base::OutOfMemory;
 use std::alloc::Global;
 use turn_table::Seat;
 
-#[cfg(test)]
-mod tests;
-
 impl Tables {
     /// Tables of so many empty stores, and a list of seats for each of so many workers, in the order of their numbers.
     pub fn make(

@@ -16,9 +16,6 @@ use std::sync::Wait;
 use store_model::{Call, Reply, Shared};
 use turn_table::Seat;
 
-#[cfg(test)]
-mod tests;
-
 /// A worker's seats over the tables: each call waits for the turn at the table of its VM. Clauses see the seats.
 #[derive(Drop)]
 pub struct StoreSeat<'a, R: Wait, G: Gate> {

@@ -33,11 +33,11 @@ pub fn lay_module(alloc: Global, files: &mut Pairs, words: &str) -> Result<(), O
     lay(alloc, files, path, bytes)
 }
 
-/// The files that are laid out.
-pub fn laid_out(alloc: Global, files: &Pairs) -> Result<MemFiles, OutOfMemory> {
+/// The files that are laid out, of which these reads fail.
+pub fn laid_out(alloc: Global, files: &Pairs, fails: CallNos) -> Result<MemFiles, OutOfMemory> {
     let mut all = Members::new(alloc);
     for (path, bytes) in files.as_slice() {
         all.push((path.copy(alloc)?, bytes.copy(alloc)?))?;
     }
-    Ok(MemFiles::new(alloc, all, Members::new(alloc)))
+    Ok(MemFiles::new(alloc, all, fails))
 }

@@ -2,7 +2,7 @@
 //! them, each worker in a thread of its own.
 //!
 //! `text PATH TEXT` and `module PATH HEX` lay out a file, `world MOST FAIL REFUSED SCRIPT` lays out a world for the next row that serves, and
-//! `serve GATE START WRITE WORD,WORD..` runs the command of these words. A row that begins with `#` is written as it is. Texts have escapes,
+//! `serve GATE START/READ WRITE/LINE WORD,WORD..` runs the command of these words. A row that begins with `#` is written as it is. Texts have escapes,
 //! as the library of rows says.
 #![tactic(auto)]
 

@@ -6,7 +6,7 @@ use crate::told::{tell_bytes, tell_number, tell_starts, tell_worlds};
 use crate::worlds::Worlds;
 use command_statuses::Status;
 use commands::run;
-use gate_base::{Members, Octets, OutOfMemory, Pairs};
+use gate_base::{Octets, OutOfMemory, Pairs};
 use gate_io::{MemFiles, MemSink, MemSite};
 use std::alloc::Global;
 use std::sync::Wait;
@@ -39,7 +39,15 @@ fn output(alloc: Global, write: &str) -> Result<MemSink, OutOfMemory> {
     Ok(MemSink::new(Octets::new(alloc), fails))
 }
 
-/// What the command of a row `GATE START WRITE WORD,WORD..` is run over.
+/// The two words with `/` between them; the second is 0 where there is none.
+fn both(text: &str) -> (&str, &str) {
+    match text.split_once('/') {
+        Some(parts) => parts,
+        None => (text, "0"),
+    }
+}
+
+/// What the command of a row `GATE START/READ WRITE/LINE WORD,WORD..` is run over.
 fn staged(
     alloc: Global,
     files: &Pairs,
@@ -49,16 +57,20 @@ fn staged(
     let (held, rest) = word(row);
     let (start, rest) = word(rest);
     let (write, command) = word(rest);
+    let (start, read) = both(start);
+    let (write, line) = both(write);
     let words = words_of(alloc, command)?;
     let starts = calls(alloc, start)?;
+    let reads = calls(alloc, read)?;
     let out = output(alloc, write)?;
-    let files = laid_out(alloc, files)?;
+    let err = output(alloc, line)?;
+    let files = laid_out(alloc, files, reads)?;
     Ok(Stage {
         words,
         files,
         site: worlds.take(alloc, starts),
         out,
-        err: MemSink::new(Octets::new(alloc), Members::new(alloc)),
+        err,
         gate: Watch::new(held),
     })
 }
@@ -103,8 +115,8 @@ impl Stage {
     }
 }
 
-/// `serve GATE START WRITE WORD,WORD..`: runs the command of these words over what is laid out, where the site's starts and the output's writes
-/// of these numbers fail, 0 for none, and the gate holds a turn for the word `turn` and a call for `call`, tells no calls for `load`, and for
+/// `serve GATE START/READ WRITE/LINE WORD,WORD..`: runs the command of these words over what is laid out, where the site's starts, the files' reads, the
+/// output's writes and the writes of the status's line of these numbers fail, 0 or nothing for none, and the gate holds a turn for the word `turn` and a call for `call`, tells no calls for `load`, and for
 /// `seen` tells how many were made before each turn. How it ended, what it wrote to standard error and to standard output, with what the site
 /// was started, what each world took that came back, and what passed the gate.
 pub fn served<R: Threads + Wait + Sync>(

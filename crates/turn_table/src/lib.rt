@@ -19,6 +19,3 @@ pub use seat::Seat;
 pub use table::TurnTable;
 pub use turned::Turned;
 pub use view::{Ended, View};
-
-#[cfg(test)]
-mod tests;

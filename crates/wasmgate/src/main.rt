@@ -50,6 +50,3 @@ fn words_of(rt: &HostRuntime) -> Result<Vec<String>, AllocError> {
         Err(_) => Ok(Vec::new(rt.alloc())),
     }
 }
-
-#[cfg(test)]
-mod tests;

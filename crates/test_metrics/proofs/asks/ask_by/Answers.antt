@@ -9,7 +9,7 @@ pub ask_over-seats-requires : goal.ask_over-seats-requires
 ask_over-seats-requires g c =
     let lists : List SeatsOf = c.args.lists.now.items in let l : SeatsOf = c.index_mut.result.now in
     let at = at_index lists c.args.place l c.requires.place c.index_mut.ensures.value in
-    (subst (AreAt c.args.tables.now) (sym c.replace-seats.ensures.value) (c.requires.tables.0.each c.args.place l at).0, c.requires.tables.1)
+    (subst (AreAt c.args.tables.now) (sym c.replace-seats.ensures.value) (c.requires.tables.0.each c.args.place l at).0, c.requires.tables.1, c.requires.vm)
 
 pub returns-clause-all : goal.returns-clause-all
 returns-clause-all g c =

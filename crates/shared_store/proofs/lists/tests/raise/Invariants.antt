@@ -1,7 +1,0 @@
-use Rattle.std.proofs.Common.{◌≡◌, List}
-use Rattle.store_model.specs.Made.{Made}
-use Rattle.shared_store.proofs.lists.tests.raise.Given as goal
-
--- calls were made, and the stores are as many
-abbrev pub invariant-loop : goal.invariant-loop
-invariant-loop g l = ((calls : List Made) × g.S.Shared.performs l.fn.shared calls l.shared) × (g.S.Shared.stores l.shared ≡ g.S.Shared.stores l.fn.shared)
