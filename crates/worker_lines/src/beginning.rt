@@ -68,7 +68,7 @@ fn push_filter(
 }
 
 /// The filters of plug-ins.
-fn filters_of(
+pub fn filters_of(
     alloc: Global,
     plugins: &[PluginEntry],
     list: &[u16],
@@ -90,7 +90,7 @@ fn is_gone(dead: &[VmNo], f: Filter) -> bool
 }
 
 /// Those of the filters whose VM is not dead.
-fn live_filters(
+pub fn live_filters(
     alloc: Global,
     dead: &[VmNo],
     filters: &[Filter],
@@ -148,7 +148,7 @@ fn is_blocking(dead: &[VmNo], f: Filter) -> bool
 }
 
 /// Whether one of these filters does.
-fn is_blocked(dead: &[VmNo], filters: &[Filter]) -> bool
+pub fn is_blocked(dead: &[VmNo], filters: &[Filter]) -> bool
     ensures { result ≡ list_any (is_blocking dead.now) filters.now }
 {
     filters.iter().any(|f| is_blocking(dead, *f))

@@ -37,7 +37,7 @@ fn is_live(dead: &[VmNo], f: Filter) -> bool
 }
 
 /// The stages of filters, in order.
-fn stages_of(
+pub fn stages_of(
     alloc: Global,
     response: bool,
     dead: &[VmNo],

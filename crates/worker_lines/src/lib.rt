@@ -10,7 +10,8 @@ mod span;
 mod wanted;
 mod wishes;
 
-pub use beginning::new_exchange;
+pub use beginning::{filters_of, is_blocked, live_filters, new_exchange};
+pub use entering::stages_of;
 pub use lines::Lines;
 pub use sides::{exchange_of, is_last, is_open};
-pub use wanted::{earlier, wants_on, with_lines};
+pub use wanted::{cut, earlier, wants_on, with_lines};

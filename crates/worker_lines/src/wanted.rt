@@ -124,7 +124,7 @@ pub(crate) fn wish_of(line: &Line) -> Wish
 }
 
 /// Takes numbers off a list until so many are left. It keeps its memory.
-fn cut(numbers: &mut LineList, count: usize)
+pub fn cut(numbers: &mut LineList, count: usize)
     requires { count ≤ length numbers.old }
     ensures { numbers.new ≡ take count numbers.old }
 {

@@ -77,7 +77,7 @@ impl Room {
     }
 
     /// A callout begins, under the next id.
-    pub(crate) fn begin_call(&mut self, alloc: Global, request: &Request) -> Result<(), OutOfMemory>
+    pub fn begin_call(&mut self, alloc: Global, request: &Request) -> Result<(), OutOfMemory>
         ensures { OnOk result (self.new ≡ begin_call request.now self.old) }
     {
         let last = self.hub.contexts.calls.last;

@@ -9,5 +9,5 @@ mod making;
 mod room;
 
 pub use calls::{call_back, call_live};
-pub use making::may_stream;
-pub use room::Room;
+pub use making::{is_drawn_out, may_root, may_stream, root_of};
+pub use room::{Room, action_of, done_jobs, is_own_stage, is_zero, value_of};

@@ -19,7 +19,7 @@ use worker_lines::new_exchange;
 use worker_model::{Job, NewContext, Rules};
 
 /// Whether the last id of a VM was drawn.
-fn is_drawn_out(h: &Contexts, vm: VmNo) -> bool
+pub fn is_drawn_out(h: &Contexts, vm: VmNo) -> bool
     ensures { result ≡ is_drawn_out vm h.now }
 {
     match h.vms.as_slice().get(vm.get() as usize) {
@@ -29,7 +29,7 @@ fn is_drawn_out(h: &Contexts, vm: VmNo) -> bool
 }
 
 /// Whether the root of a plug-in may be made.
-fn may_root(h: &Contexts, vm: VmNo, plugin: usize) -> bool
+pub fn may_root(h: &Contexts, vm: VmNo, plugin: usize) -> bool
     ensures { result ≡ may_root vm plugin h.now }
 {
     if (vm.get() as usize) >= h.vms.len() || plugin > u16::MAX as usize {
@@ -60,7 +60,7 @@ fn root_jobs(
 }
 
 /// The root of a plug-in.
-fn root_of(h: &Contexts, plugin: u16) -> Option<ContextId>
+pub fn root_of(h: &Contexts, plugin: u16) -> Option<ContextId>
     ensures { result ≡ (plugin_in h.now plugin).root }
 {
     match h.plugins.as_slice().get(plugin as usize) {

@@ -66,7 +66,7 @@ impl Model for Room {
 }
 
 /// Whether an effect is on the stage whose callback it is.
-fn is_own_stage(own: &Owner, context: ContextId, response: bool) -> bool
+pub fn is_own_stage(own: &Owner, context: ContextId, response: bool) -> bool
     ensures { result ≡ is_own own.now context response }
 {
     match own {
@@ -151,7 +151,7 @@ fn is_waiting(h: &Contexts, vm: VmNo, at: usize, context: ContextId) -> bool
 }
 
 /// What a callback returned, if it did.
-pub(crate) fn value_of(end: CallbackEnd) -> Option<Option<u32>>
+pub fn value_of(end: CallbackEnd) -> Option<Option<u32>>
     ensures { result ≡ value_of_end end }
 {
     match end {
@@ -161,7 +161,7 @@ pub(crate) fn value_of(end: CallbackEnd) -> Option<Option<u32>>
 }
 
 /// Whether a callback answered 0.
-fn is_zero(value: Option<u32>) -> bool
+pub fn is_zero(value: Option<u32>) -> bool
     ensures { result ≡ is_zero value }
 {
     match value {
@@ -171,7 +171,7 @@ fn is_zero(value: Option<u32>) -> bool
 }
 
 /// The action that a callback answered.
-fn action_of(value: Option<u32>) -> u32
+pub fn action_of(value: Option<u32>) -> u32
     ensures { result ≡ action_of value }
 {
     match value {
@@ -181,7 +181,7 @@ fn action_of(value: Option<u32>) -> u32
 }
 
 /// The contexts of an exchange that are done with.
-fn done_jobs(alloc: Global, filters: &[Filter]) -> Result<Queue<Job>, OutOfMemory>
+pub fn done_jobs(alloc: Global, filters: &[Filter]) -> Result<Queue<Job>, OutOfMemory>
     ensures { IfOk result (λ jobs. jobs ≡ done_jobs filters.now) }
 {
     let mut jobs = Queue::new(alloc);
@@ -214,7 +214,7 @@ impl Room {
     }
 
     /// The first context that waits no more. Those of a VM stand here as they stand among its own, so that one walk through both finds it.
-    fn released(&self) -> Option<usize>
+    pub fn released(&self) -> Option<usize>
         ensures { result ≡ position (is_released self.now) self.now.waits }
     {
         let mut places = [0; 16];
@@ -265,7 +265,7 @@ impl Room {
     }
 
     /// Sends something.
-    pub(crate) fn send(&mut self, sent: Sent) -> Result<(), OutOfMemory>
+    pub fn send(&mut self, sent: Sent) -> Result<(), OutOfMemory>
         ensures { OnOk result (self.new ≡ room_with_sent (sent ∷ []) self.old) }
     {
         self.hub.sent.push(sent)
@@ -356,7 +356,7 @@ impl Room {
     }
 
     /// A VM died.
-    pub(crate) fn die(&mut self, alloc: Global, vm: VmNo, death: Death) -> Result<(), OutOfMemory>
+    pub fn die(&mut self, alloc: Global, vm: VmNo, death: Death) -> Result<(), OutOfMemory>
         ensures { OnOk result (self.new ≡ lose_vm_in vm death self.old) }
     {
         let text = death_of(alloc, &self.hub.contexts, vm, death)?;
@@ -386,7 +386,7 @@ impl Room {
     }
 
     /// Takes the effects out.
-    fn take_effects(&mut self, alloc: Global) -> Members<Effect>
+    pub fn take_effects(&mut self, alloc: Global) -> Members<Effect>
         ensures effects { result ≡ self.old.hub.contexts.effects }
         ensures rest { self.new ≡ without_effects self.old }
     {
@@ -395,7 +395,7 @@ impl Room {
 
     /// Sends what a callback wrote into the log.
     #[tactic(auto, using(crate::proofs::Quiet::nothing_sent))]
-    fn send_lines(&mut self, alloc: Global, lines: SentList) -> Result<(), OutOfMemory>
+    pub fn send_lines(&mut self, alloc: Global, lines: SentList) -> Result<(), OutOfMemory>
         ensures { OnOk result (self.new ≡ room_with_sent lines self.old) }
     {
         if lines.is_empty() {
@@ -423,7 +423,7 @@ impl Room {
     }
 
     /// What a callback wrote into the log is sent, and then come its effects, or the VM's death.
-    pub(crate) fn answer(
+    pub fn answer(
         &mut self,
         alloc: Global,
         vm: VmNo,
@@ -438,7 +438,7 @@ impl Room {
     }
 
     /// These jobs come first.
-    pub(crate) fn put_in_front(
+    pub fn put_in_front(
         &mut self,
         alloc: Global,
         more: Queue<Job>,
