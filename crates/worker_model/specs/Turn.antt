@@ -1,5 +1,5 @@
 -- A TURN: what a worker does at an event.
-use Rattle.std.specs.Prelude.{ℕ, zero, suc, ◌+◌, ◌==◌, Bool, true, false, List, [], ◌∷◌, ◌++◌, length, slice_get, nat_le, Option, None, Some, if◌then◌else◌}
+use Rattle.std.specs.Prelude.{ℕ, zero, suc, ◌+◌, ◌==◌, ◌&&◌, Bool, true, false, List, [], ◌∷◌, ◌++◌, length, slice_get, nat_le, Option, None, Some, if◌then◌else◌}
 use Rattle.std.specs.List.{list_any}
 use Rattle.callouts.specs.Callouts.{line_in, is_of_call, callout_at, due_at}
 use Rattle.callouts.specs.declared.types.CallStep.TheVariants as steps
@@ -8,6 +8,7 @@ use Rattle.contexts.specs.declared.parts.Context.{Context}
 use Rattle.contexts.specs.declared.parts.Contexts.{Contexts}
 use Rattle.contexts.specs.declared.parts.Plugin.{Plugin}
 use Rattle.contexts.specs.declared.parts.Tick.{Tick}
+use Rattle.contexts.specs.Creating.{next_id}
 use Rattle.contexts.specs.Reached.{vm_in}
 use Rattle.filter_host.specs.Called.{Called}
 use Rattle.filter_host.specs.Course.{Course, ends, then_do}
@@ -72,8 +73,23 @@ abbrev pub ticks_of : ℕ → ℕ → Contexts → List Job
 ticks_of now zero h = []
 ticks_of now (suc n) h = ticks_of now n h ++ ticks_in now n (vm_in h n).contexts
 
+-- The roots that the start of a VM makes, by their ids to come: these follow the last one that was drawn. A tick that a start sets may be due at once
+-- (at the last moment of the clock), and then it comes in the same turn. The step asks whether it is due.
+abbrev pub new_ticks_from : ℕ → ℕ → List Plugin → List Job
+new_ticks_from vm id [] = []
+new_ticks_from vm id (p ∷ plugins) =
+    if is_of vm p && nat_le id 4294967295 then jobs.Tick vm id ∷ new_ticks_from vm (id + 1) plugins else new_ticks_from vm id plugins
+
+abbrev pub new_ticks_of : ℕ → Contexts → List Job
+new_ticks_of zero h = []
+new_ticks_of (suc n) h = new_ticks_of n h ++ new_ticks_from n (next_id h n) h.plugins
+
+abbrev pub new_ticks : Room → List Job
+new_ticks room = if room.is_begun then [] else new_ticks_of (vms_in room) room.hub.contexts
+
+-- the ticks that are due when the event comes, and those of the roots that this turn makes
 abbrev pub ticks_due : Room → List Job
-ticks_due room = ticks_of room.hub.moment (vms_in room) room.hub.contexts
+ticks_due room = ticks_of room.hub.moment (vms_in room) room.hub.contexts ++ new_ticks room
 
 -- responses may be due where the configuration says for how long they are waited for
 abbrev pub deadline_jobs : Plan → List Job
