@@ -161,9 +161,9 @@ pub record AreGateway (ms : Members) : Type 0 where
   pub workers : (1 ≤ number_at workers ms) × (number_at workers ms ≤ 8)
   pub deadline : number_at deadline_ms ms ≤ 3600000
 
-pub gateway_is : (g : Given) (ms : Members) → table_fault gateway_keys g ms ≡ None → AreGateway ms
-gateway_is g ms h =
-    let a = none_unknown (unknown_key gateway_keys ms) (first_fault gateway_keys g ms) h in
+pub gateway_is : (routes : Bool) (g : Given) (ms : Members) → table_fault (gateway_keys routes) g ms ≡ None → AreGateway ms
+gateway_is routes g ms h =
+    let a = none_unknown (unknown_key (gateway_keys routes) ms) (first_fault (gateway_keys routes) g ms) h in
     let b = none_then _ (fault_of listen g ms) _ a in
     let c = none_then _ (fault_of upstream g ms) _ b.1 in
     let d = none_then _ (fault_of workers g ms) _ c.1 in

@@ -10,7 +10,7 @@ ghost use Rattle.config_reader.specs.Rows.{absence_of, row_of};
 
 use crate::address::is_address;
 use crate::keys::{Absent, Key, KeyKind};
-use crate::names::{filters_fault, has_plugin, has_vm};
+use crate::names::{filters_fault, has_plugin, has_vm, tcp_fault};
 use crate::values::{member, name_in, natural};
 use crate::words::level_of;
 use gate_base::OutOfMemory;
@@ -32,6 +32,7 @@ fn value_fault(kind: KeyKind, config: &Config, value: &Value) -> Result<Option<u
         KeyKind::SomeVm => Ok(some_vm_fault(config, value)),
         KeyKind::Path => path_fault(config, value),
         KeyKind::Filters => Ok(filters_fault(config, value)),
+        KeyKind::Streams { has_routes } => Ok(tcp_fault(has_routes, value)),
         KeyKind::Tables => Ok(None),
     }
 }

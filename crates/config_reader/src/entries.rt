@@ -161,7 +161,11 @@ fn places_of(alloc: Global, config: &Config, value: &Value) -> Result<PluginNos,
 }
 
 /// The places of the plug-ins of these names.
-fn places_in(alloc: Global, config: &Config, items: &[Value]) -> Result<PluginNos, OutOfMemory>
+pub(crate) fn places_in(
+    alloc: Global,
+    config: &Config,
+    items: &[Value],
+) -> Result<PluginNos, OutOfMemory>
     ensures { IfOk result (λ places. places ≡ map (λ v. plugin_number (given config.now) (text_of (view v))) items.now) }
 {
     let mut places = Members::new(alloc);

@@ -4,7 +4,7 @@ ghost use Rattle.std.specs.List.{list_all, list_any};
 ghost use Rattle.toml.specs.Data.{as_array, as_str};
 ghost use Rattle.toml.specs.View.{view};
 ghost use Rattle.gate_config.specs.Given.{given};
-ghost use Rattle.config_reader.specs.Judge.{filters_fault, is_a_name, is_among, names_fault, repeats, text_of};
+ghost use Rattle.config_reader.specs.Judge.{filters_fault, is_a_name, is_among, names_fault, repeats, streams_fault, streams_form, tcp_fault, text_of};
 ghost use Rattle.config_reader.specs.Names.{has_vm, has_plugin, vm_number, plugin_number};
 
 use crate::values::{name_in, text_in};
@@ -108,6 +108,42 @@ fn names_fault(config: &Config, items: &[Value]) -> Option<u8>
     None
 }
 
+/// Why a value is none of the plug-ins of streams, whether or not there are routes.
+pub(crate) fn tcp_fault(has_routes: bool, value: &Value) -> Option<u8>
+    ensures { result ≡ tcp_fault has_routes (as_array (view value.now)) }
+{
+    if has_routes { Some(4) } else { streams_fault(value) }
+}
+
+/// Why a value is no list of names of the plug-ins of streams.
+fn streams_fault(value: &Value) -> Option<u8>
+    ensures { result ≡ streams_fault (as_array (view value.now)) }
+{
+    match value.as_array() {
+        Some(items) => streams_form(items.as_slice()),
+        None => Some(4),
+    }
+}
+
+/// Why values are no list of names: there is none, one is no name, they are too many, or one comes twice.
+fn streams_form(items: &[Value]) -> Option<u8>
+    ensures { result ≡ streams_form (map view items.now) }
+{
+    if !are_names(items) {
+        return Some(4);
+    }
+    if items.len() < 1 {
+        return Some(4);
+    }
+    if 16 < items.len() {
+        return Some(7);
+    }
+    if repeats(items) {
+        return Some(8);
+    }
+    None
+}
+
 /// Whether all values are names.
 fn are_names(items: &[Value]) -> bool
     ensures { result ≡ list_all is_a_name (map view items.now) }
@@ -159,7 +195,7 @@ fn is_one_of(name: &str, others: &[Value]) -> bool
 }
 
 /// Whether all values are names of plug-ins.
-fn are_plugins(config: &Config, items: &[Value]) -> bool
+pub(crate) fn are_plugins(config: &Config, items: &[Value]) -> bool
     ensures { result ≡ list_all (λ d. has_plugin (given config.now) (text_of d)) (map view items.now) }
 {
     each_is_a_plugin(config, items)

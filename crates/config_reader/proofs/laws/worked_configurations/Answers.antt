@@ -16,6 +16,8 @@ returns c = record {
   repeated = refl;
   no_such_vm = refl;
   conflict = refl;
+  streams = refl;
+  no_such_plugin = refl;
   no_text = refl;
   accepted = refl;
 }

@@ -12,5 +12,6 @@ pub returns : goal.returns
 unfolding is_utf8 chars encode_utf8 toml_on_literals digits matchit_on_literals vm_number plugin_number number_from
 returns c = record {
   whole = refl;
+  tcp = refl;
   empty = refl;
 }
