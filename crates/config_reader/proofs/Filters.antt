@@ -9,7 +9,7 @@ use Rattle.std.specs.List.{AllPairs, list_all, list_any}
 use Rattle.toml.specs.Data.{Data, Items, as_array}
 use Rattle.gate_config.specs.Given.{Given}
 use Rattle.config_reader.specs.Judge.{filters_fault, filters_in, found_fault, is_a_name, is_among, list_of, names_fault, places_in, places_of, repeats, streams_form, text_of}
-use Rattle.config_reader.specs.Names.{has_plugin, plugin_number}
+use Rattle.config_names.specs.Names.{has_plugin, plugin_number}
 use Rattle.config_reader.specs.Rows.{filters}
 use Rattle.config_reader.proofs.Places.{plugin_there, same_name}
 

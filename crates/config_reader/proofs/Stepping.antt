@@ -13,7 +13,7 @@ use Rattle.config_reader.specs.declared.read.ConfigEnd.TheVariants.{Refused, Out
 use Rattle.config_reader.specs.declared.section.TableArray.{TableArray}
 use Rattle.config_reader.specs.declared.section.TableArray.TheVariants.{Vm, Plugin, Route}
 use Rattle.config_reader.specs.Judge.{Fault, table_fault, list_of, names_fault, filters_fault, streams_form, streams_fault, places_in, places_of, text_of}
-use Rattle.config_reader.specs.Names.{plugin_number}
+use Rattle.config_names.specs.Names.{plugin_number}
 use Rattle.config_reader.specs.Whole.{Judged, Refuses, unless, judge_entries, entry_front, keys_of, length_of, given_with_entry, members_in, judge_list, judge_items, judge_names, judge_streams, routes_in, Answers, Ends, and_then}
 
 pub all_at : {X : Type 0} (p : X → Bool) (xs : List X) (i : ℕ) (d : X) → list_all p xs ≡ true → i < length xs → p (get_or xs i d) ≡ true

@@ -8,7 +8,7 @@ use Rattle.gate_config.specs.Routes.{fits, table_of}
 use Rattle.config_reader.specs.declared.keys.KeyKind.{KeyKind}
 use Rattle.config_reader.specs.declared.keys.KeyKind.TheVariants as kind
 use Rattle.config_reader.specs.Address.{is_address}
-use Rattle.config_reader.specs.Names.{has_vm, has_plugin, plugin_number}
+use Rattle.config_names.specs.Names.{has_vm, has_plugin, plugin_number}
 use Rattle.config_reader.specs.Rows.{Row, Absence, needed, number, text}
 use Rattle.config_reader.specs.Words.{is_name, level_of}
 

@@ -12,7 +12,7 @@ use Rattle.gate_config.specs.declared.entries.PluginEntry.{PluginEntry}
 use Rattle.gate_config.specs.declared.entries.RouteEntry.{RouteEntry}
 use Rattle.gate_config.specs.Given.{Given, given, bare, with_vm, with_plugin, with_entry, route_with}
 use Rattle.config_reader.specs.Judge.{Fault, table_fault, unknown_key, number_at, text_at, text_of, filters_at, places_in, list_of}
-use Rattle.config_reader.specs.Names.{has_plugin, vm_number}
+use Rattle.config_names.specs.Names.{has_plugin, vm_number}
 use Rattle.config_reader.specs.Rows.{Row, gateway_keys, vm_keys, plugin_keys, route_keys, top_keys, listen, upstream, workers, deadline_ms, log_level, vm_name, vm_module, configuration, fuel, pages, plugin_name, plugin_vm, fail, path, filters}
 use Rattle.config_reader.specs.Words.{level_of}
 use Rattle.config_reader.specs.declared.read.ConfigEnd.{ConfigEnd}

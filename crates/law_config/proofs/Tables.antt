@@ -11,7 +11,7 @@ use Rattle.gate_config.specs.declared.entries.VmEntry.{VmEntry}
 use Rattle.gate_config.specs.declared.entries.PluginEntry.{PluginEntry}
 use Rattle.gate_config.specs.Given.{Given}
 use Rattle.config_reader.specs.Judge.{Fault, natural, fault_if, name_fault, number_fault, text_fault, address_fault, level_fault, choice_fault, path_fault, filters_fault, found_fault, fault_of, first_fault, or_then, or_unknown, table_fault, unknown_key, is_key, number_in, text_in, text_of, filters_in, places_of, list_of, is_a_name, repeats}
-use Rattle.config_reader.specs.Names.{has_vm, has_plugin, vm_number, plugin_number}
+use Rattle.config_names.specs.Names.{has_vm, has_plugin, vm_number, plugin_number}
 use Rattle.config_reader.specs.Rows.{Row, vm_name, vm_module, configuration, fuel, pages, plugin_name, plugin_vm, fail, path, filters, listen, upstream, workers, deadline_ms, log_level, tcp, vm_keys, plugin_keys, route_keys, gateway_keys}
 use Rattle.config_reader.specs.Whole.{vm_of, plugin_of, route_of, gateway_of}
 use Rattle.config_reader.specs.Words.{is_name, level_of}
