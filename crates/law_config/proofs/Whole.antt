@@ -135,13 +135,13 @@ record StreamsSay (m h : Given) (o : Option Data) : Type 0 where
 no_entry : {X : Type 0} (P : X → Members → Type 0) (xs : List X) (ds : Items) → EachSays P xs ds → nat_lt 0 (length (list_of ds)) ≡ false → xs ≡ []
 no_entry P [] ds says h = refl
 no_entry P (x ∷ xs) no_items says h = absurd says
-no_entry P (x ∷ xs) (item d ds) says h = cc
+no_entry P (x ∷ xs) (item d ds) says h = absurd (let few : length (list_of (item d ds)) ≤ 0 = grind (arith, nat_tests, h) in omega (arith, few))
 
 lonely : (g : Given) (o : Option Data) → Entries (RouteSays g.plugins) g.routes o → routes_in (option_map as_array o) ≡ false → g.routes ≡ []
 lonely g None says h = says
 lonely g (Some d) says h = no_entry (RouteSays g.plugins) g.routes says.0 says.2 (subst (λ (x : Data). routes_in (Some (as_array x)) ≡ false) says.1 h)
 
-two : (b : Bool) (x : List ℕ) (g h : Given) → cond b (Ok (with_tcp x g)) (Err (5, tcp_key)) ≡ Ok h → (b ≡ true) × (with_tcp x g ≡ h)
+two : (b : Bool) (x : List ℕ) (g h : Given) → cond {A = Judged} b (Ok (with_tcp x g)) (Err (5, tcp_key)) ≡ Ok h → (b ≡ true) × (with_tcp x g ≡ h)
 two false x g h e = cc
 two true x g h e = (refl, itself (with_tcp x g) h e)
 
