@@ -26,11 +26,12 @@ abbrev pub is_some : {A : Type 0} → Option A → Bool
 is_some None = false
 is_some (Some a) = true
 
--- The effective context is that of a stream: its root is another. It may have no exchange any more, and where lines are streams of bytes it never has one.
+-- a context that has a root, and is another
 abbrev pub is_below : ℕ → Option ℕ → Bool
 is_below e None = false
 is_below e (Some root) = not (root == e)
 
+-- The effective context is that of a stream: its root is another. It may have no exchange any more, and where lines are streams of bytes it never has one.
 abbrev pub is_of_stream : Seen → Bool
 is_of_stream s = is_below s.common.effective s.reach.root
 
