@@ -1,0 +1,2 @@
+pub mod Quietly
+pub mod CallSteps
