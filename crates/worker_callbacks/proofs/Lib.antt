@@ -1,2 +1,3 @@
 pub mod Quietly
-pub mod CallSteps
+mod Answered
+mod CallSteps

@@ -1,6 +1,7 @@
 // What the lines of a worker carry.
-ghost use Rattle.std.specs.Prelude.{◌≡◌, OnOk};
+ghost use Rattle.std.specs.Prelude.{◌≡◌, refl, OnOk};
 ghost use Rattle.streams_model.specs.Callbacks.{Takes, Loses};
+ghost use Rattle.worker_callbacks.specs.Renewing.{Renews};
 ghost use Rattle.worker_model.specs.Rooms.{take_callback_end, lose_vm_in};
 
 use filter_host::{CallbackEnd, Death};
@@ -32,6 +33,9 @@ pub trait Traffic {
     /// A VM died.
     fn die(alloc: Global, room: &mut Room, vm: VmNo, death: Death) -> Result<(), OutOfMemory>
         ensures { OnOk result (room.new ≡ loses vm death room.old) };
+
+    /// What the end of a callback does goes by the contexts as the callback left them.
+    ghost renews: { Renews takes };
 }
 
 /// HTTP exchanges.
@@ -56,4 +60,6 @@ impl Traffic for Http {
     fn die(alloc: Global, room: &mut Room, vm: VmNo, death: Death) -> Result<(), OutOfMemory> {
         room.die(alloc, vm, death)
     }
+
+    ghost renews = { λ vm own end lines h before room. refl };
 }

@@ -1,5 +1,5 @@
 // What the effects of a callback do to lines of streams, and the death of a VM.
-ghost use Rattle.std.specs.Prelude.{◌≡◌, OnOk};
+ghost use Rattle.std.specs.Prelude.{◌≡◌, refl, OnOk};
 ghost use Rattle.worker_model.specs.Rooms.{without_effects};
 ghost use Rattle.streams_model.specs.Rooms.{lose_lines, lose_vm_in, resumes, apply_effect, effects_of, after_callback, take_callback_end};
 
@@ -147,4 +147,6 @@ impl Traffic for Streams {
     fn die(alloc: Global, room: &mut Room, vm: VmNo, death: Death) -> Result<(), OutOfMemory> {
         die(alloc, room, vm, death)
     }
+
+    ghost renews = { λ vm own end lines h before room. refl };
 }

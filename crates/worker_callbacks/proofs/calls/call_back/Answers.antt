@@ -1,7 +1,5 @@
-use Rattle.std.proofs.Common.{sym}
-use Rattle.filter_host.specs.Course.{ends}
-use Rattle.filter_host.specs.Runs.{cut_callback, cut_short, goes_callback, goes_as}
-use Rattle.worker_model.specs.Steps.{callback_result, both}
+use Rattle.filter_host.specs.Runs.{cut_callback, cut_short, goes_callback}
+use Rattle.worker_callbacks.proofs.Answered.{answered}
 use Rattle.worker_callbacks.proofs.calls.call_back.Goals as goal
 
 pub returns-in_err-answer-clause-run : goal.returns-in_err-answer-clause-run
@@ -13,4 +11,5 @@ returns-in_err-answer-2-clause-run g c =
 
 pub returns-clause-run : goal.returns-clause-run
 returns-clause-run g c =
-    rw (← c.room.view_is) (goes_as (goes_callback _ (rw c.get-id.ensures at c.in_ok-answer.ensures.run)) (λ i. ends (callback_result (sym c.value_of.ensures i) (both c.callback.new.self (sym c.in_ok-answer-2.ensures i)))))
+    rw (← c.room.view_is)
+    (answered g.K.Traffic.takes g.met.K.Traffic.renews _ _ _ _ _ _ _ _ _ (goes_callback _ (rw c.get-id.ensures at c.in_ok-answer.ensures.run)) c.value_of.ensures c.in_ok-answer-2.ensures)
