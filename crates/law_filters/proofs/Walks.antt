@@ -11,7 +11,7 @@ use Rattle.contexts.specs.declared.parts.Context.{Context}
 use Rattle.contexts.specs.declared.parts.Contexts.{Contexts}
 use Rattle.contexts.specs.declared.parts.Plugin.{Plugin}
 use Rattle.filter_host.proofs.Holds.{AllEnds, all_reached, all_then}
-use Rattle.filter_host.specs.Course.{ends}
+use Rattle.filter_host.specs.Course.{Course, ends, Reaches}
 use Rattle.gate_io.specs.Events.{is_stop}
 use Rattle.gate_config.specs.declared.entries.PluginEntry.{PluginEntry}
 use Rattle.gate_io.specs.declared.event.Event.{Event}
@@ -22,6 +22,7 @@ use Rattle.law_meaning.specs.Walks.{Step, Walk, stays, steps, turns}
 use Rattle.law_roots.specs.Roots.{FiltersGetContexts, RootStands, StartsHaveRoots}
 use Rattle.law_vms.specs.MadeVms.{MadeVmsAreInPlace}
 use Rattle.law_vms.specs.OwnChanges.{ArePlaced, CallbacksChangeTheirOwn, PlacesStay}
+use Rattle.streams_model.proofs.Http.{turn_is}
 use Rattle.vm_host.specs.Slots.{calling}
 use Rattle.vm_host.specs.declared.slots.Vms.{Vms}
 use Rattle.worker_model.specs.Plan.{Plan}
@@ -384,10 +385,11 @@ module _ (starts : StartsHaveRoots) (plan : Plan) where
             all_then Fine (λ (out : Outcome Vms). Fine out.state) (settling calling plan most_steps b.host (room_for_event plan event b.room)) (λ c. ends (outcome_of c))
             (settled most_steps b.host (room_for_event plan event b.room) (event_begun event b.room rest is.0, is.1)) (λ c here. (unsent c.room here.0, here.1))
 
-    pub turned : (b e : Both Vms) (all : List (Turn Vms)) → Turns calling plan b all e → ComeToRest all → is_rest (next_of b.room) ≡ true → Fine b → Fine e
-    turned b e [] same rests rest is = subst Fine (sym same) is
-    turned b e (t ∷ all) chain rests rest is =
-        turned t.end.state e all chain.1 rests.1 rests.0 (all_reached (λ (out : Outcome Vms). Fine out.state) t.met (turn calling plan b t.event) t.end (turn_kept b t.event rest is) chain.0)
+    pub turned : (b e : Both Vms) (all : List (Turn Vms)) → plan.tcp ≡ [] → Turns calling plan b all e → ComeToRest all → is_rest (next_of b.room) ≡ true → Fine b → Fine e
+    turned b e [] http same rests rest is = subst Fine (sym same) is
+    turned b e (t ∷ all) http chain rests rest is =
+        let first = subst (λ (c : Course (Outcome Vms)). Reaches c t.met (ends t.end)) (turn_is calling plan b t.event http) chain.0 in
+        turned t.end.state e all http chain.1 rests.1 rests.0 (all_reached (λ (out : Outcome Vms). Fine out.state) t.met (turn calling plan b t.event) t.end (turn_kept b t.event rest is) first)
 
 -- ---- what it says
 
@@ -431,9 +433,9 @@ roots_stand_for_life starts logs change stay made config who seed all to walk =
     (first_sound config seed (rules_for config who seed) refl, made.placed config.vms)).0
 
 pub roots_stand_after_turns : StartsHaveRoots → WriteLogs calling → CallbacksChangeTheirOwn → PlacesStay → MadeVmsAreInPlace → RootsStandAfterTurns
-roots_stand_after_turns starts logs change stay made config who seed all to chain rests =
+roots_stand_after_turns starts logs change stay made config who seed all to http chain rests =
     roots_of (rules_for config who seed) to.room
-    (turned starts (rules_for config who seed) logs change stay (first_worker config who seed).state to all chain rests refl
+    (turned starts (rules_for config who seed) logs change stay (first_worker config who seed).state to all http chain rests refl
     (first_sound config seed (rules_for config who seed) refl, made.placed config.vms)).0
 
 pub filters_get_contexts : FiltersGetContexts → RootsStandForLife → FiltersGetContextsForLife

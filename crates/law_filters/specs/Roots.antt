@@ -52,10 +52,10 @@ abbrev pub ComeToRest : List (Turn Vms) → Type 0
 ComeToRest [] = Unit {0}
 ComeToRest (t ∷ turns) = (is_rest (next_of t.end.state.room) ≡ true) × ComeToRest turns
 
--- So it is after each whole turn, where each came to rest, as those of a worker's code do.
+-- So it is after each whole turn of a worker of HTTP, where each came to rest, as those of a worker's code do.
 abbrev pub RootsStandAfterTurns : Type 0
 RootsStandAfterTurns =
-    (config : Config) (who : ℕ) (seed : List ℕ) (turns : List (Turn Vms)) (to : Both Vms) → Turns calling (rules_for config who seed) (first_worker config who seed).state turns to → ComeToRest turns
+    (config : Config) (who : ℕ) (seed : List ℕ) (turns : List (Turn Vms)) (to : Both Vms) → config.tcp ≡ [] → Turns calling (rules_for config who seed) (first_worker config who seed).state turns to → ComeToRest turns
     → RootsStand (rules_for config who seed) to.room
 
 -- SO EACH FILTER GETS ITS CONTEXT: at each moment of a worker's life where a line is open, for each filter of a plug-in whose VM lives and has an id left, the step that
