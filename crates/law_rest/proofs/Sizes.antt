@@ -9,7 +9,7 @@ use Rattle.contexts.specs.declared.parts.Context.{Context}
 use Rattle.contexts.specs.declared.parts.Contexts.{Contexts}
 use Rattle.contexts.specs.declared.parts.Plugin.{Plugin}
 use Rattle.contexts.specs.Reached.{vm_in}
-use Rattle.filter_host.specs.Course.{ends, Met, Reaches}
+use Rattle.filter_host.specs.Course.{Course, ends, Met, Reaches}
 use Rattle.filter_host.proofs.Holds.{AllEnds, all_reached}
 use Rattle.exchange.specs.declared.types.Exchange.{Exchange}
 use Rattle.filter_chain.specs.Costs.{cost_of_items, held_cost, chain_cost}
@@ -40,6 +40,7 @@ use Rattle.law_rest.proofs.Sums.{filter_fewer, length_map}
 use Rattle.law_rest.proofs.Tests.{of_if}
 use Rattle.law_rest.proofs.Turns.{turn_rests, turns_come_to_rest, fewer_steps, setting_fits}
 use Rattle.worker_model.proofs.Resting.{whole_rests}
+use Rattle.streams_model.proofs.Http.{turn_is, whole_is}
 
 -- ---- bytes, chains, exchanges and lines
 
@@ -289,8 +290,9 @@ workers_come_to_rest H = record {
 pub whole_turns_come_to_rest : {S : Type 0} (H : Type 0) (performs : S → List Made → S → Type 0) → WholeTurnsComeToRest H performs
 whole_turns_come_to_rest H performs = record {
   made = λ exported registering config who seed host. record { fits = tt; rested = refl };
-  whole = λ calling stop s t old new from to turn ready. record {
-    fits = (turns_come_to_rest H).fits calling (rules_of from.setting) 16 from.state turn.event turn.goes.met (outcome to.state turn.sent) (setting_fits from.setting) ready.fits turn.goes.reaches;
-    rested = whole_rests calling performs stop s t old new from to turn ready.rested;
+  whole = λ calling stop s t old new from to http turn ready. record {
+    fits = (turns_come_to_rest H).fits calling (rules_of from.setting) 16 from.state turn.event turn.goes.met (outcome to.state turn.sent) (setting_fits from.setting) ready.fits
+        (subst (λ (c : Course (Outcome H)). Reaches c turn.goes.met (ends (outcome to.state turn.sent))) (turn_is calling (rules_of from.setting) from.state turn.event http) turn.goes.reaches);
+    rested = whole_rests calling performs stop s t old new from to (whole_is calling performs stop s old from to t new http turn) ready.rested;
   };
 }

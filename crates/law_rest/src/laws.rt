@@ -56,7 +56,7 @@ pub fn workers_come_to_rest<H>()
     ensures { WorkersComeToRest H }
 {}
 
-/// A worker that its code made is at rest, and so it is after each whole turn of the code.
+/// A worker that its code made is at rest, and so it is after each whole turn of the code, where its configuration has no streams of bytes.
 pub fn whole_turns_come_to_rest<H, S: Shared>()
     ensures { WholeTurnsComeToRest H S.performs }
 {}

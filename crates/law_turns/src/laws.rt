@@ -157,8 +157,8 @@ pub fn worked_wants()
 {}
 
 /// Where a world gives what its worker asked for, bytes of a client come where fewer than 65,536 wait on each side of its line, and bytes of a
-/// server where fewer wait for its client; what is unread of their text is then at most 81,919 bytes with them, where no two lines have one
-/// number. A reader that gets text in this way alone never has more unread.
+/// server where fewer wait for its client, on lines of HTTP and on streams of bytes. What is unread of their text is then at most 81,919 bytes with them, where lines
+/// are HTTP and no two of them have one number. A reader that gets text in this way alone never has more unread.
 pub fn backlog_is_bounded()
     ensures waiting { BacklogIsBounded }
     ensures unread { UnreadIsBounded }

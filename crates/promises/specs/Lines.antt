@@ -1,4 +1,4 @@
--- What goes up, in the lives that the headline speaks of.
+-- What goes up, in the lives that the headline speaks of, where lines are HTTP.
 use Rattle.std.specs.Prelude.{◌≡◌, ℕ, false, List, []}
 use Rattle.callouts.specs.Callouts.{is_call_line}
 use Rattle.law_exchange.specs.Traffic.{up_traffic}

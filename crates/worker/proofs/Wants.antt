@@ -1,6 +1,7 @@
 -- What the world is asked for is what the worker wants.
 use Rattle.std.proofs.Common.{◌≡◌, ℕ, List, [], ◌∷◌, ◌++◌, map, refl, ap, sym, ◌∙◌}
 use Rattle.std.proofs.lemmas.List.{append-nil}
+use Rattle.std.specs.Prelude.{Result, Ok, Err, OnOk}
 use Rattle.callouts.specs.declared.types.Callout.{Callout}
 use Rattle.gate_io.specs.declared.event.Sent.{Sent}
 use Rattle.gate_io.specs.declared.event.Side.TheVariants.{Down, Up}
@@ -13,6 +14,7 @@ use Rattle.worker_model.specs.Wants.{wanted_of, call_lines, wants_of, due_in}
 use Rattle.streams_model.proofs.Http.{wants_alike}
 use Rattle.streams_model.specs.Wants.{down_of, up_of, down_among, up_among, wants_for}
 use Rattle.worker_model.specs.declared.types.Line.{Line}
+use Rattle.worker_model.specs.declared.types.TcpLine.{TcpLine}
 
 -- where no callout is under way, there are no lines of callouts
 no_calls : (up : List ℕ) (room : Room) → room.calls ≡ [] → up ≡ up ++ call_lines room.calls
@@ -38,17 +40,23 @@ pub looked_is : (plan : Plan) (room : Room) (waiting : List Sent) (wants : Wants
     → wants.down ≡ down_among plan.tcp waiting room → wants.up ≡ up_among plan.tcp waiting room ++ call_lines room.calls → wants.due ≡ due_in plan room → wants ≡ wants_for plan room waiting
 looked_is plan room waiting wants down_is up_is due_is = λ i. record { down = down_is i; up = up_is i; due = due_is i }
 
--- where the list of plug-ins of streams is empty, and where it is not
-pub down_http : (ts : List ℕ) (waiting : List Sent) (room : Room) → ts ≡ [] → down_among ts waiting room ≡ wanted_of Down waiting room.lines
-down_http ts waiting room none = ap (λ (x : List ℕ). down_among x waiting room) none
+-- the same of a list that is this one
+pub ok_also : {C E A : Type 0} (r : Result C E) (a b c : A) → b ≡ c → OnOk r (a ≡ b) → OnOk r (a ≡ c)
+ok_also (Ok x) a b c same is = is ∙ same
+ok_also (Err e) a b c same is = is
 
-pub up_http : (ts : List ℕ) (waiting : List Sent) (room : Room) → ts ≡ [] → up_among ts waiting room ≡ wanted_of Up waiting room.lines
-up_http ts waiting room none = ap (λ (x : List ℕ). up_among x waiting room) none
+-- where the list of plug-ins of streams is empty
+pub down_http : (ts : List ℕ) (waiting : List Sent) (room : Room) (lines : List Line) → lines ≡ room.lines → ts ≡ [] → wanted_of Down waiting lines ≡ down_among ts waiting room
+down_http ts waiting room lines same none = ap (λ (x : List Line). wanted_of Down waiting x) same ∙ sym (ap (λ (x : List ℕ). down_among x waiting room) none)
 
-pub down_streams : (ts : List ℕ) (waiting : List Sent) (room : Room) → (ts ≡ [] → ⊥) → down_among ts waiting room ≡ down_of waiting room.tcp
-down_streams [] waiting room some = absurd (some refl)
-down_streams (p ∷ ps) waiting room some = refl
+pub up_http : (ts : List ℕ) (waiting : List Sent) (room : Room) (lines : List Line) → lines ≡ room.lines → ts ≡ [] → wanted_of Up waiting lines ≡ up_among ts waiting room
+up_http ts waiting room lines same none = ap (λ (x : List Line). wanted_of Up waiting x) same ∙ sym (ap (λ (x : List ℕ). up_among x waiting room) none)
 
-pub up_streams : (ts : List ℕ) (waiting : List Sent) (room : Room) → (ts ≡ [] → ⊥) → up_among ts waiting room ≡ up_of waiting room.tcp
-up_streams [] waiting room some = absurd (some refl)
-up_streams (p ∷ ps) waiting room some = refl
+-- where it is not
+pub down_streams : (ts : List ℕ) (waiting : List Sent) (room : Room) (lines : List TcpLine) → lines ≡ room.tcp → (ts ≡ [] → ⊥) → down_of waiting lines ≡ down_among ts waiting room
+down_streams [] waiting room lines same some = absurd (some refl)
+down_streams (p ∷ ps) waiting room lines same some = ap (λ (x : List TcpLine). down_of waiting x) same
+
+pub up_streams : (ts : List ℕ) (waiting : List Sent) (room : Room) (lines : List TcpLine) → lines ≡ room.tcp → (ts ≡ [] → ⊥) → up_of waiting lines ≡ up_among ts waiting room
+up_streams [] waiting room lines same some = absurd (some refl)
+up_streams (p ∷ ps) waiting room lines same some = ap (λ (x : List TcpLine). up_of waiting x) same

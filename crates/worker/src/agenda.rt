@@ -250,7 +250,11 @@ fn parts_before(alloc: Global, rules: &Rules, room: &Room) -> Result<Queue<Job>,
 {
     let mut jobs = Queue::new(alloc);
     if !room.is_begun {
-        push_starts(&mut jobs, vms_in(room), room.hub.contexts.plugins.as_slice())?;
+        push_starts(
+            &mut jobs,
+            vms_in(room),
+            room.hub.contexts.plugins.as_slice(),
+        )?;
     }
     push_ticks_due(&mut jobs, room)?;
     push_deadlines(&mut jobs, rules)?;
