@@ -120,6 +120,10 @@ def answer(body, status="200 OK"):
     return b"HTTP/1.1 %s\r\nContent-Length: %d\r\n\r\n" % (status.encode(), len(body)) + body
 
 
+# What an answer of 502 looks like.
+QUOTED = b"HTTP/1.1 502 \r\ncontent-length: 0\r\n\r\n"
+
+
 class Upstream:
     """A server at an address. What it does is in the path of the request. It keeps what it read, by path."""
 
@@ -168,6 +172,24 @@ class Upstream:
             return
         if path == "/reset":
             reset(s)
+            return
+        if path == "/nonsense":
+            s.sendall(b"HTTP/1.1 200 OK\r\nContent-Length: 5\r\nContent-Length: 6\r\n\r\nhello")
+            reader.rest()
+            return
+        if path == "/half-a-head":
+            s.sendall(b"HTTP/1.1 200 OK\r\nContent-Le")
+            return
+        if path == "/its-own":
+            s.sendall(answer(b"", "502 Bad Gateway"))
+            reader.rest()
+            return
+        if path == "/quotes":
+            # A body of which a piece by itself looks like an answer.
+            s.sendall(b"HTTP/1.1 200 OK\r\nContent-Length: %d\r\n\r\n" % len(QUOTED))
+            time.sleep(0.2)
+            s.sendall(QUOTED)
+            reader.rest()
             return
         if path == "/part-reset":
             s.sendall(answer(b"x" * 100000)[:5000])
@@ -672,6 +694,21 @@ def malformed(gateway, upstream):
             pass
         first, fields = Reader(s).head()
         expect(status_of(first), "400")
+
+
+def bad_responses(gateway, upstream):
+    """A response that is malformed, one that ends in its head, and one of 502 are answered 502."""
+    for path in ("/nonsense", "/half-a-head", "/its-own"):
+        with gateway.connect() as s:
+            s.sendall(request(path))
+            first, fields = Reader(s).head()
+            expect(status_of(first), "502")
+
+
+def quoted(gateway, upstream):
+    """A body that looks like an answer is none."""
+    with gateway.connect() as s:
+        get(s, Reader(s), "/quotes", QUOTED)
 
 
 # Connections that stay open until all is over.
@@ -1675,6 +1712,16 @@ def tells(text):
 
 CALLED = b"store caller calls 0 keys 0 items 0\n"
 
+
+def counts(text, wanted):
+    """Whether standard error has lines of this notice, which come to so many in all, and nothing else."""
+
+    def is_so(err):
+        return tells(text)(err) and sum(int(line.rsplit(b" ", 1)[1]) for line in err.splitlines()) == wanted
+
+    return is_so
+
+
 # name, workers, what the configuration has besides, what is printed at the end, cases with how many lines each opens, and where it is looked at
 # what is true of standard error
 GROUPS = [
@@ -1733,6 +1780,8 @@ GROUPS = [
     ("three workers", 3, "", b"", [(many, 30)]),
     ("no server", 1, "", b"", [(refusing, 1)], tells("upstream refused")),
     ("a server that breaks off", 1, "", b"", [(to_a_plain_reset, 1)], tells("upstream broke off in its answer")),
+    ("bad responses", 1, "", b"", [(bad_responses, 3)], counts("502 on a response of the upstream", 3)),
+    ("a body like an answer", 1, "", b"", [(quoted, 1)], lambda err: err == b""),
     ("other addresses", 1, "", b"", [(other_addresses, 1)]),
     ("clients that stay", 1, "", b"", [(refused_stays, 11)], lambda err: err == b""),
     ("a filter of bodies", 1, WITH_SHOUT, b"store shout calls 0 keys 0 items 0\n", [(to_a_reset, 2)], tells("upstream broke off in its answer")),

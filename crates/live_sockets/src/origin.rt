@@ -1,8 +1,9 @@
 // Where a worker's lines come from.
-ghost use Rattle.std.specs.Prelude.{◌≡◌, ℕ, ◌+◌, ◌<◌, ◌≤◌, ◌⊎◌, ◌||◌, [], ◌∷◌, ◌++◌, length, nat_le, vec_len, IsTrue, IfOk, IfSome, IfNone, IsSome, IsSomeAnd};
+ghost use Rattle.std.specs.Prelude.{◌≡◌, ℕ, ◌+◌, ◌<◌, ◌≤◌, ◌⊎◌, ◌||◌, [], ◌∷◌, ◌++◌, false, length, nat_le, vec_len, IsTrue, IfOk, IfSome, IfNone, IsSome, IsSomeAnd};
 ghost use Rattle.std.specs.Arc.{arc_value};
 ghost use Rattle.live_sockets.specs.Calls.{first_call};
 ghost use Rattle.live_sockets.specs.Numbers.{MayGain, home_of};
+ghost use Rattle.live_sockets.specs.Offers.{OffersOnce};
 ghost use Rattle.live_sockets.specs.Places.{HasWaited, most_places};
 
 use crate::desk::{AcceptState, Desk};
@@ -187,10 +188,11 @@ fn queue_of(alloc: Global) -> Result<Queue, OutOfMemory>
 }
 
 impl Neighbor {
-    /// Hands a line over. One that there is no room for is closed, never before 128 were handed over.
+    /// Hands a line over. One that comes back is closed, never before 128 were handed over.
     fn hand<R: Wait>(&mut self, rt: &R, guest: AcceptedLine)
         ensures gains { MayGain self.old.giver.lines guest.number self.new.giver.lines }
         ensures full { (self.new.giver.lines ≡ self.old.giver.lines ++ guest.number ∷ []) ⊎ (128 ≤ length self.old.giver.lines) }
+        ensures offered { OffersOnce self.old.giver guest.number self.new.giver }
     {
         if self.queue.offer(rt, &mut self.giver, guest).is_ok() {
             self.given = self.given.wrapping_add(1);
@@ -205,26 +207,34 @@ impl Neighbor {
 }
 
 impl Mailbox {
-    /// A line that was handed over. None comes once as many came as may before an open line is heard.
+    /// A line that was handed over. None comes where the queue gives none, and once as many came as may before an open line is heard.
     fn take<R: Wait>(&mut self, rt: &R) -> Option<AcceptedLine>
         ensures few { IfSome result (λ guest. self.new.left < self.old.left) }
         ensures some { IfSome result (λ guest. self.new.taker.lines ≡ self.old.taker.lines ++ guest.number ∷ []) }
         ensures none { IfNone result (self.new.taker.lines ≡ self.old.taker.lines) }
+        ensures asked { IfNone result ((self.old.ready ≡ false) ⊎ ((self.old.left ≡ 0) ⊎ (self.new.taker.refusals ≡ self.old.taker.refusals + 1))) }
+        ensures stays { (self.new.ready ≡ self.old.ready) ⊎ (self.new.taker.refusals ≡ self.old.taker.refusals + 1) }
     {
-        if !self.ready || self.left == 0 {
+        if !self.ready {
+            return None;
+        }
+        if self.left == 0 {
             return None;
         }
         self.left -= 1;
         // Read first: where it is so, nothing comes after what the queue holds.
         let ended = self.stage.has_ended();
-        let guest = self.queue.take(rt, &mut self.taker);
-        if guest.is_none() {
-            self.ready = false;
-            self.empty = ended;
-        } else {
-            self.taken = self.taken.wrapping_add(1);
+        match self.queue.take(rt, &mut self.taker) {
+            Some(guest) => {
+                self.taken = self.taken.wrapping_add(1);
+                Some(guest)
+            }
+            None => {
+                self.ready = false;
+                self.empty = ended;
+                None
+            }
         }
-        guest
     }
 
     /// So many lines are kept: the others that were taken are over.
@@ -274,7 +284,7 @@ fn client_number(number: u32) -> Option<LineNo>
 }
 
 impl Acceptor {
-    ghost use Rattle.live_sockets.specs.Homes.{AreHome};
+    ghost use Rattle.live_sockets.specs.Homes.{AreHome, offers};
 
     /// Accepts at a listener so many lines, for this worker and the others.
     pub fn new(
@@ -340,6 +350,8 @@ impl Acceptor {
         ensures all { (k : ℕ) → self.old.number < k → k ≤ self.new.number → home_of k (vec_len self.new.others) ≡ 0 → IsSomeAnd result (λ guest. guest.number ≡ k) ⊎ (most_places ≤ kept) }
         ensures place { IfSome result (λ _. (kept < most_places) ⊎ HasWaited self.new.waits now) }
         ensures offered { AreHome self.old.number self.old.others.items → AreHome self.new.number self.new.others.items }
+        ensures given { IfNone result (self.new.accepted + offers self.old.others.items ≡ self.old.accepted + offers self.new.others.items) }
+        ensures own { IfSome result (λ _. self.new.accepted + offers self.old.others.items ≡ self.old.accepted + offers self.new.others.items + 1) }
     {
         for _ in 0..u32::MAX {
             if !self.ready || self.left == 0 || self.is_done() {
@@ -348,11 +360,10 @@ impl Acceptor {
             let number = self.choose(kept, now)?;
             self.left -= 1;
             match self.listener.accept() {
-                Ok((stream, _)) => {
-                    if let Some(guest) = self.place(rt, number, stream) {
-                        return Some(guest);
-                    }
-                }
+                Ok((stream, _)) => match self.place(rt, number, stream) {
+                    Some(guest) => return Some(guest),
+                    None => {}
+                },
                 Err(e) if e.kind() == io::ErrorKind::ConnectionAborted => {}
                 Err(e) => {
                     self.ready = false;
@@ -432,6 +443,8 @@ impl Acceptor {
         ensures keeps { home_of number (vec_len self.new.others) ≡ 0 → IsSome result }
         ensures others { vec_len self.new.others ≡ vec_len self.old.others }
         ensures offered { AreHome self.old.number self.old.others.items → AreHome self.new.number self.new.others.items }
+        ensures given { IfNone result (offers self.new.others.items ≡ offers self.old.others.items + 1) }
+        ensures kept { IfSome result (λ _. offers self.new.others.items ≡ offers self.old.others.items) }
     {
         self.accepted += 1;
         self.number = number.get();
@@ -451,6 +464,8 @@ impl Acceptor {
         ensures stays { (self.new.accepted ≡ self.old.accepted) × (self.new.most ≡ self.old.most) × (self.new.number ≡ self.old.number) × (self.new.waits ≡ self.old.waits) }
         ensures left { self.new.left ≡ self.old.left }
         ensures offered { (last : ℕ) → last < guest.number → AreHome last self.old.others.items → AreHome guest.number self.new.others.items }
+        ensures given { IfNone result (offers self.new.others.items ≡ offers self.old.others.items + 1) }
+        ensures kept { IfSome result (λ _. offers self.new.others.items ≡ offers self.old.others.items) }
     {
         let place = home_of(guest.number, self.others.len());
         if place == 0 {
@@ -462,7 +477,7 @@ impl Acceptor {
 }
 
 impl Origin {
-    ghost use Rattle.live_sockets.specs.Origins.{GivesNext, HasEnded, is_done};
+    ghost use Rattle.live_sockets.specs.Origins.{GivesNext, HasEnded, IsReady, is_done};
 
     /// The next line, where so many are kept, at this moment.
     pub fn next<R: Wait>(&mut self, rt: &R, kept: usize, now: u64) -> Option<AcceptedLine>
@@ -537,7 +552,9 @@ impl Origin {
     }
 
     /// There may be a line.
-    pub fn note(&mut self) {
+    pub fn note(&mut self)
+        ensures { IsReady self.new }
+    {
         match self {
             Origin::Listener(acceptor) => acceptor.ready = true,
             Origin::Mailbox(mailbox) => mailbox.ready = true,

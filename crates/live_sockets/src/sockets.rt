@@ -4,6 +4,7 @@ ghost use Rattle.std.specs.List.{position};
 ghost use Rattle.live_lines.specs.Allowed.{IsAllowed};
 ghost use Rattle.live_sockets.specs.Calls.{BeginsIn, ConnectsIn, calls_in, first_call, is_call, most_calls};
 ghost use Rattle.live_sockets.specs.Keeping.{AreFew, AreKept};
+ghost use Rattle.live_sockets.specs.Notices.{CountsAnswer, begins_bad_gateway};
 ghost use Rattle.live_lines.specs.Lines.{most_lines, IsHeardAt, HeardIn, HeardNext, Forgets, SentTo, SentIn, BegunAt, IsUnused, ClosedIn, ClosedUp, next_place, place_after};
 ghost use Rattle.live_lines.specs.Told.{LiesIn};
 ghost use Rattle.live_lines.specs.Turns.{LineIsStill};
@@ -529,6 +530,8 @@ impl<P: Duplex> Sockets<P> {
             refused: false,
             server_first: false,
             fault: None,
+            is_short: false,
+            is_due: false,
         };
         let at = clients_in(&self.lines);
         self.lines.insert(at, line)?;
@@ -630,12 +633,28 @@ impl<P: Duplex> Sockets<P> {
         ensures bound { IfOk result (λ n. n ≤ length bytes.now) }
         ensures whole { side ≡ Side.Up → IfOk result (λ n. n ≡ length bytes.now) }
         ensures sent { IfOk result (λ n. SentIn P.gave P.took self.old.lines.items number side bytes.now n self.new.lines.items) }
+        ensures notices { self.new.notices ≡ self.old.notices }
     {
         let Some(at) = find_near(&self.lines, number, self.behind) else {
             return Ok(bytes.len());
         };
         self.behind = at + 1;
         send_at(&mut self.lines, alloc, at, side, bytes)
+    }
+
+    /// What is offered to the client of a line in the turn of something that its server sent: an answer 502 that begins there is told to the operator.
+    pub fn note_answer(&mut self, number: LineNo, bytes: &[u8])
+        ensures noted { CountsAnswer self.old.lines.items number bytes.now self.old.notices.counts self.new.notices.counts }
+        ensures rest { self.new ≡ record self.old { notices = self.new.notices } }
+    {
+        if !begins_bad_gateway(bytes) {
+            return;
+        }
+        if let Some(at) = find(&self.lines, number) {
+            if self.lines[at].begins_answer() {
+                self.notices.note(Notice::BadGateway);
+            }
+        }
     }
 
     /// Lets a line go of which no connection is left: one whose client is gone is not closed by the worker. Where the line that is heard next comes behind
@@ -817,6 +836,13 @@ impl<P: Duplex> Sockets<P> {
     }
 }
 
+/// Whether bytes begin with the first line of an answer 502.
+fn begins_bad_gateway(bytes: &[u8]) -> bool
+    ensures { result ≡ begins_bad_gateway bytes.now }
+{
+    bytes.starts_with(b"HTTP/1.1 502 ")
+}
+
 /// The place of the line of a token, which is looked for by halves first, as in `find`.
 fn place_of_token<P>(lines: &[SocketPair<P>], token: Token, side: Side) -> Option<usize>
     ensures within { IfSome result (λ i. i < length lines.now) }
@@ -914,6 +940,8 @@ fn client_of<P: Duplex>(line: SocketPair<P>) -> Option<P> {
         refused: _,
         server_first: _,
         fault: _,
+        is_short: _,
+        is_due: _,
     } = line;
     down
 }
