@@ -59,9 +59,9 @@ AcceptsNone w = HasEnded w.sockets.origin
 abbrev pub log_in : {R P : Type 0} → LiveWorld R P → LogState R
 log_in w = record { rt = w.rt; is_cut = w.is_cut; dropped = w.dropped }
 
--- A world that waits logs notices alone, one at most of each of the eleven kinds. The lines that were dropped before are counted among what is to be told.
+-- A world that waits logs notices alone, one at most of each of the twelve kinds. The lines that were dropped before are counted among what is to be told.
 abbrev pub LogsNotices : {R P : Type 0} → (R → Option (List ℕ)) → (R → Type 0) → LiveWorld R P → LiveWorld R P → Type 0
-LogsNotices logged refuses old new = Notices logged refuses 11 (record { rt = old.rt; is_cut = old.is_cut; dropped = 0 }) (log_in new)
+LogsNotices logged refuses old new = Notices logged refuses 12 (record { rt = old.rt; is_cut = old.is_cut; dropped = 0 }) (log_in new)
 
 -- the line of whose server an event brought bytes, or their end
 abbrev pub server_of_what : What → Option ℕ

@@ -237,7 +237,7 @@ impl<R: LogStream, P: Duplex> LiveWorld<R, P> {
     /// Tells how often each kind of notice came that did.
     #[tactic(auto, using(crate::proofs::Logged::no_notices, crate::proofs::Logged::more_notices))]
     fn tell_all(&mut self, alloc: Global, counts: &[u32; KINDS])
-        ensures notices { Notices R.logged R.refuses 11 (log_in self.old) (log_in self.new) }
+        ensures notices { Notices R.logged R.refuses 12 (log_in self.old) (log_in self.new) }
         ensures rest { self.new ≡ record self.old { rt = self.new.rt; is_cut = self.new.is_cut; dropped = self.new.dropped } }
     {
         for kind in 0..KINDS {

@@ -5,7 +5,7 @@ use Rattle.live_lines.specs.declared.fault.Fault.{Fault}
 use Rattle.live_lines.specs.declared.fault.Fault.TheVariants.{Refused, Unreachable, EndedEarly, BrokeOff}
 use Rattle.live_lines.specs.declared.line.SocketPair.{SocketPair}
 use Rattle.live_sockets.specs.declared.notices.Notice.{Notice}
-use Rattle.live_sockets.specs.declared.notices.Notice.TheVariants.{Upstream, Undialled, NoPlace, NotAccepted, BeginsAnew, NeverAsked, Dropped, BadGateway}
+use Rattle.live_sockets.specs.declared.notices.Notice.TheVariants.{Upstream, Undialled, NoPlace, NotAccepted, BeginsAnew, NeverAsked, Dropped, BadGateway, Silent}
 
 -- the place of what went wrong with a connection to the server
 abbrev pub place_of_fault : Fault → ℕ
@@ -24,6 +24,7 @@ place_of BeginsAnew = 7
 place_of NeverAsked = 8
 place_of Dropped = 9
 place_of BadGateway = 10
+place_of Silent = 11
 
 -- it came so often more, up to 2^32 - 1
 abbrev pub counted : List ℕ → Notice → ℕ → List ℕ
@@ -31,7 +32,7 @@ counted counts notice more = set counts (place_of notice) (min (get_or counts (p
 
 -- nothing came
 abbrev pub none_counted : List ℕ
-none_counted = 0 ∷ 0 ∷ 0 ∷ 0 ∷ 0 ∷ 0 ∷ 0 ∷ 0 ∷ 0 ∷ 0 ∷ 0 ∷ []
+none_counted = 0 ∷ 0 ∷ 0 ∷ 0 ∷ 0 ∷ 0 ∷ 0 ∷ 0 ∷ 0 ∷ 0 ∷ 0 ∷ 0 ∷ []
 
 -- bytes begin with the first line of an answer 502
 abbrev pub begins_bad_gateway : List ℕ → Bool

@@ -6,7 +6,7 @@ use gate_base::Level;
 use live_lines::Fault;
 
 /// So many kinds of notices there are.
-pub const KINDS: usize = 11;
+pub const KINDS: usize = 12;
 
 /// So many nanoseconds pass between two times at which an operator is told.
 const PAUSE: u64 = 1_000_000_000;
@@ -30,6 +30,8 @@ pub enum Notice {
     Dropped,
     /// A client was answered 502 in the turn of something that its server sent: that was malformed or not whole, or said so itself, or a filter did.
     BadGateway,
+    /// A worker to which lines are handed over began a life and never asked for events in it.
+    Silent,
 }
 
 /// How often each of the notices came since an operator was told.
@@ -42,7 +44,7 @@ pub struct Notices {
 
 /// The place of a kind of notice.
 fn place_of(notice: Notice) -> usize
-    ensures within { result < 11 }
+    ensures within { result < 12 }
     ensures place { result ≡ place_of notice }
 {
     match notice {
@@ -57,6 +59,7 @@ fn place_of(notice: Notice) -> usize
         Notice::NeverAsked => 8,
         Notice::Dropped => 9,
         Notice::BadGateway => 10,
+        Notice::Silent => 11,
     }
 }
 
@@ -73,6 +76,7 @@ pub const TEXTS: [&str; KINDS] = [
     "first worker never began, no line is accepted any more",
     "log lines dropped",
     "502 on a response of the upstream",
+    "another worker never began, it gets no line",
 ];
 
 /// The level of all notices.

@@ -32,13 +32,13 @@ const REFUSED: u64 = 100_000_000;
 /// So many nanoseconds pass until a place is looked for again for a line that waits for one.
 const FULL: u64 = 10_000_000;
 
-/// So many nanoseconds pass until it is looked again whether the worker that accepts asks for events.
+/// So many nanoseconds pass until it is looked again whether a worker asks for events.
 const BEGINS: u64 = 1_000_000_000;
 
 /// So many nanoseconds a line waits where no worker has a place for one, before it is accepted all the same.
 const PATIENCE: u64 = 1_000_000_000;
 
-/// So many nanoseconds after the beginning of a life the worker that accepts may take until it asks for events.
+/// So many nanoseconds after the beginning of a life a worker may take until it asks for events.
 const GIVE_UP: u64 = 10_000_000_000;
 
 /// A line that was accepted.
@@ -62,7 +62,35 @@ pub struct Neighbor {
     desk: Arc<Desk>,
     /// How many lines were handed over.
     given: u64,
+    /// What is seen of its beginning.
+    silence: Silence,
     ghost same: { giver.queue ≡ arc_value queue },
+}
+
+/// What one worker sees of another that began a life and does not ask for events in it.
+#[derive(Clone, Copy)]
+enum Silence {
+    /// It asks for events.
+    Over,
+    /// It does not since this moment.
+    Since(u64),
+    /// It did not for ten seconds, which was noticed.
+    Noticed,
+}
+
+impl Silence {
+    /// What is seen at this moment, where the worker asks for events or does not.
+    fn after(self, asks: bool, now: u64) -> Silence {
+        if asks {
+            return Silence::Over;
+        }
+        match self {
+            Silence::Over => Silence::Since(now),
+            Silence::Since(since) if now.saturating_sub(since) >= GIVE_UP => Silence::Noticed,
+            Silence::Since(since) => Silence::Since(since),
+            Silence::Noticed => Silence::Noticed,
+        }
+    }
 }
 
 /// The queue from the worker that accepts.
@@ -110,6 +138,8 @@ pub struct Acceptor {
     forced: u32,
     /// How often the system refused a line, since that was told.
     refusals: u32,
+    /// How many other workers began a life and did not ask for events for ten seconds, since that was told.
+    silent: u32,
     others: Vec<Neighbor>,
     /// How far this worker is.
     stage: Arc<AcceptState>,
@@ -145,6 +175,7 @@ pub fn join_queue(
             waker,
             desk: told,
             given: 0,
+            silence: Silence::Over,
         },
         Mailbox {
             queue: theirs,
@@ -198,6 +229,15 @@ impl Neighbor {
             self.given = self.given.wrapping_add(1);
             let _ = self.waker.wake();
         }
+    }
+
+    /// Looks at this moment whether its worker asks for events, and answers with what was seen before.
+    fn watch(&mut self, now: u64) -> Silence
+        ensures { self.new.giver ≡ self.old.giver }
+    {
+        let before = self.silence;
+        self.silence = before.after(self.desk.asks(), now);
+        before
     }
 
     /// Whether its worker has a place for one line more. One that began a life and did not ask for events in it has none.
@@ -309,6 +349,7 @@ impl Acceptor {
             waits: None,
             forced: 0,
             refusals: 0,
+            silent: 0,
             others,
             stage,
         }
@@ -331,6 +372,39 @@ impl Acceptor {
     fn wake_others(&self) {
         for other in &self.others {
             let _ = other.waker.wake();
+        }
+    }
+
+    /// Looks at this moment whether the other workers ask for events. True where one began a life and does not yet.
+    fn watch_others(&mut self, now: u64) -> bool {
+        let mut begins = false;
+        for at in 0..self.others.len() {
+            let before = self.others[at].watch(now);
+            match (before, self.others[at].silence) {
+                (_, Silence::Since(_)) => begins = true,
+                (Silence::Since(_), Silence::Noticed) => {
+                    self.silent = self.silent.saturating_add(1);
+                }
+                _ => {}
+            }
+        }
+        begins
+    }
+
+    /// For how many nanoseconds the system is waited for at most, as in `Origin::looks_again`.
+    fn looks_again(&mut self, now: u64) -> Option<u64> {
+        if self.is_done() {
+            return None;
+        }
+        let begins = self.watch_others(now);
+        if self.refused {
+            Some(REFUSED)
+        } else if self.waits.is_some() {
+            Some(FULL)
+        } else if begins {
+            Some(BEGINS)
+        } else {
+            None
         }
     }
 
@@ -510,8 +584,10 @@ impl Origin {
                 notices.add(Notice::NoPlace, acceptor.forced);
                 notices.add(Notice::NotAccepted, acceptor.refusals);
                 notices.add(Notice::BeginsAnew, acceptor.stage.further_lives());
+                notices.add(Notice::Silent, acceptor.silent);
                 acceptor.forced = 0;
                 acceptor.refusals = 0;
+                acceptor.silent = 0;
             }
             Origin::Mailbox(mailbox) => {
                 notices.add(Notice::NeverAsked, mailbox.given_up);
@@ -533,14 +609,11 @@ impl Origin {
         }
     }
 
-    /// For how many nanoseconds the system is waited for at most, at this moment, where nothing is told meanwhile: not for long where the worker that accepts
-    /// begins a life, and where a line waits for a place or was refused.
+    /// For how many nanoseconds the system is waited for at most, at this moment, where nothing is told meanwhile: not for long where a worker begins a life, and
+    /// where a line waits for a place or was refused.
     pub fn looks_again(&mut self, now: u64) -> Option<u64> {
         match self {
-            Origin::Listener(acceptor) if acceptor.is_done() => None,
-            Origin::Listener(acceptor) if acceptor.refused => Some(REFUSED),
-            Origin::Listener(acceptor) if acceptor.waits.is_some() => Some(FULL),
-            Origin::Listener(_) => None,
+            Origin::Listener(acceptor) => acceptor.looks_again(now),
             Origin::Mailbox(mailbox) => {
                 if mailbox.watch(now) {
                     Some(BEGINS)
