@@ -391,10 +391,10 @@ class Gateway:
                 raise AssertionError("%d descriptors, and %d before" % (self.descriptors(), base))
             time.sleep(0.05)
 
-    def ends_for_memory(self, told):
-        """It stops by itself, with the status and the line of memory that ran out, and of what it wrote to standard error this is true."""
+    def ends_for_memory(self):
+        """It stops by itself, with the status and the line of memory that ran out."""
         out, err = self.process.communicate(timeout=PATIENCE)
-        if self.process.returncode != 8 or out != b"" or not err.endswith(b"wasmgate: memory\n") or not told(err):
+        if self.process.returncode != 8 or out != b"" or not err.endswith(b"wasmgate: memory\n"):
             raise AssertionError("status %d, output %r, errors %r" % (self.process.returncode, out, err[-500:]))
 
     def ends(self, wanted=b"", told=None):
@@ -1157,17 +1157,11 @@ def logged(gateway, upstream):
 LOGGED = b"warn a line with \\x01 and \\xff\ncritical vm teller died: unreachable\n"
 
 
-# What tells of a worker that ended for good.
-SILENT = re.compile(rb"warn (another worker never began, it gets no line|first worker never began, no line is accepted any more): 1\nwasmgate: memory\n")
-
-
 def some_memory(gateway, upstream):
     """Where memory suffices for one of two workers, either the other one gets no line and each is answered, or the gateway ends, with all lines that wait, since no worker
-    accepts. Which of them ended is told once it was silent for ten seconds."""
+    accepts."""
     try:
-        for n in range(6):
-            if n == 5:
-                time.sleep(11.5)
+        for _ in range(6):
             with gateway.connect() as s:
                 s.sendall(UNROUTED)
                 is_unrouted(s)
@@ -1561,14 +1555,30 @@ def address_taken(gateway, upstream):
         expect((ran.returncode, ran.stdout, ran.stderr), (6, b"", b"wasmgate: site\n"))
 
 
+def preloaded(folder, name, **more):
+    """The environment of a program that has a file of this folder in C in front of the C library, or nothing where no `cc` builds it."""
+    library = os.path.join(folder, name + ".so")
+    words = ["cc", "-O1", "-shared", "-fPIC", "-o", library, os.path.join(HERE, name + ".c")]
+    if not shutil.which("cc") or subprocess.run(words, stderr=subprocess.DEVNULL).returncode != 0:
+        return None
+    return dict(os.environ, LD_PRELOAD=library, **more)
+
+
+def begins_late(gateway, upstream):
+    """Where the system makes no thread for the second of two workers, the first has all lines, and tells of the other after ten seconds."""
+    for n in range(3):
+        time.sleep(11.5 if n == 2 else 0)
+        with gateway.connect() as s:
+            get(s, Reader(s), "/%d" % n, b"/%d" % n)
+
+
 class Clock:
-    """A clock of the day for a gateway, which steps: steps.c as a library. There is none where no `cc` builds it."""
+    """A clock of the day for a gateway, which steps: steps.c."""
 
     def __init__(self, folder):
-        library, self.file = os.path.join(folder, "steps.so"), os.path.join(folder, "steps")
+        self.file = os.path.join(folder, "steps")
         self.step(0)
-        built = shutil.which("cc") and subprocess.run(["cc", "-O1", "-shared", "-fPIC", "-o", library, os.path.join(HERE, "steps.c")], stderr=subprocess.DEVNULL).returncode == 0
-        self.env = dict(os.environ, LD_PRELOAD=library, CLOCK_STEPS=self.file) if built else None
+        self.env = preloaded(folder, "steps", CLOCK_STEPS=self.file)
 
     def step(self, seconds):
         """From now on it is off by so many seconds."""
@@ -1979,7 +1989,7 @@ GROUPS = [
         [(metered, 3)],
     ),
     ("an operator's filters", 2, WITH_AN_OPERATOR, AFTER_AN_OPERATOR, [(operated, 2)], lambda err: OPERATED.fullmatch(err) is not None),
-    ("some memory", 2, WITH_LARGE_VMS, b"", [(some_memory, 6)], lambda err: SILENT.fullmatch(err) is not None),
+    ("some memory", 2, WITH_LARGE_VMS, b"", [(some_memory, 6)]),
     ("a queue", 2, WITH_A_QUEUE, AFTER_A_QUEUE, [(noticed, 2)], lambda err: err == b""),
     ("two deadlines", 1, "deadline_ms = 2000", b"", [(two_deadlines, 2)]),
     ("a deadline", 1, "deadline_ms = 300", b"", [(deadline, 1)], lambda err: err == b""),
@@ -1995,6 +2005,7 @@ GROUPS = [
     ("no descriptor for a server", 1, "", b"", [(undialled, 1)], tells("upstream not dialled, no descriptor or port is left")),
     ("descriptors that run out", 1, "", b"", [(no_descriptor, 5)], tells("line not accepted, the system refused it")),
     ("lines that are not read", 1, "", b"", [(unread, 363)]),
+    ("no thread for a worker", 2, "", b"", [(begins_late, 3)], tells("another worker never began, it gets no line")),
     ("a clock that steps", 1, "deadline_ms = 2000", b"", [(clock_steps, 8)]),
     ("restarts", 1, "", b"", [(restarted_behind_a_proxy, 1), (restarted_in_place, 1)]),
     ("callouts", 1, WITH_A_CALLER, CALLED, [(called_out, 6), (not_answered, 5), (calls_at_once, 60), (too_many_calls, 66), (gone_meanwhile, 11)]),
@@ -2019,11 +2030,14 @@ def run_group(program, folder, upstream, group):
         nothing(without, upstream)
         memory = without.size() + LARGE_ROOM
         without.kill()
-    clock = Clock(folder) if name == "a clock that steps" else None
-    if clock and not clock.env:
-        print("live/%s: skipped, there is no cc that builds steps.c" % name)
-        return 0, 0
-    gateway = Gateway(program, folder, address, (upstream.address, port), lines, workers, more, memory, env=clock and clock.env)
+    clock = env = None
+    if name in ("a clock that steps", "no thread for a worker"):
+        clock = Clock(folder)
+        env = clock.env if name == "a clock that steps" else preloaded(folder, "threads")
+        if env is None:
+            print("live/%s: skipped, there is no cc that builds what it needs" % name)
+            return 0, 0
+    gateway = Gateway(program, folder, address, (upstream.address, port), lines, workers, more, memory, env=env)
     gateway.clock = clock
     passed, failed = 0, 0
     try:
@@ -2039,7 +2053,7 @@ def run_group(program, folder, upstream, group):
                 if memory == resource.RLIM_INFINITY:
                     gateway.ends(wanted, told)
                 else:
-                    gateway.ends_for_memory(told)
+                    gateway.ends_for_memory()
                 passed += 1
             except Exception as e:
                 failed += 1

@@ -128,7 +128,7 @@ impl<R: Net + TimeSource + Wait + LogStream, P: Duplex> World for LiveWorld<R, P
     {
         let answer = self.following(alloc, wants);
         self.answering = server_of(&answer);
-        self.tell(alloc);
+        self.tell(alloc, self.stopped || answer.is_err());
         if let Err(WorldEnd::Failed) = answer {
             self.faults = self.faults.saturating_add(1);
             self.sockets.end();
@@ -215,9 +215,9 @@ impl<R: LogStream, P: Duplex> LiveWorld<R, P> {
         }
     }
 
-    /// Tells the operator what happened since the last time, once a second at most. Where there is no memory for a line it is not told.
+    /// Tells the operator what happened since the last time, once a second at most, and the last time in any case. Where there is no memory for a line it is not told.
     #[tactic(auto, using(crate::proofs::Logged::no_notices))]
-    fn tell(&mut self, alloc: Global)
+    fn tell(&mut self, alloc: Global, is_last: bool)
         ensures notices { LogsNotices R.logged R.refuses self.old self.new }
         ensures lines { self.new.sockets.lines ≡ self.old.sockets.lines }
         ensures room { self.new.sockets.room ≡ self.old.sockets.room }
@@ -229,7 +229,7 @@ impl<R: LogStream, P: Duplex> LiveWorld<R, P> {
     {
         self.sockets.notices.add(Notice::Dropped, self.dropped);
         self.dropped = 0;
-        if let Some(counts) = self.sockets.take_notices() {
+        if let Some(counts) = self.sockets.take_notices(is_last) {
             self.tell_all(alloc, &counts);
         }
     }

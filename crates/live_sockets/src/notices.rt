@@ -110,15 +110,16 @@ impl Notices {
     }
 
     /// Whether something is to be told.
-    pub fn has_some(&self) -> bool {
+    fn has_some(&self) -> bool {
         self.counts.iter().any(|count| *count > 0)
     }
 
-    /// What is told at this moment: how often each kind came, once a second at most.
-    pub fn take(&mut self, now: u64) -> Option<[u32; KINDS]>
+    /// What is told at this moment: how often each kind came, once a second at most, and the last time in any case.
+    pub fn take(&mut self, now: u64, is_last: bool) -> Option<[u32; KINDS]>
         ensures { MatchOption result (self.new ≡ self.old) (λ counts. (counts ≡ self.old.counts) × (self.new ≡ record { counts = none_counted; told = now })) }
     {
-        if now.saturating_sub(self.told) < PAUSE || !self.has_some() {
+        let is_early = !is_last && now.saturating_sub(self.told) < PAUSE;
+        if is_early || !self.has_some() {
             return None;
         }
         self.told = now;

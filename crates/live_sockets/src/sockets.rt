@@ -37,9 +37,6 @@ pub const ORIGIN: Token = Token(0);
 /// The tokens of closed connections to servers begin here, above those of all lines.
 const CLOSED: usize = 1_099_511_627_776;
 
-/// So many nanoseconds pass at most until an operator is told of what happened.
-const NOTICES: u64 = 1_000_000_000;
-
 /// The sockets of one worker.
 #[derive(Drop)]
 pub struct Sockets<P> {
@@ -308,7 +305,7 @@ impl<P: Duplex> Sockets<P> {
         ensures lines { self.new.lines ≡ self.old.lines }
         ensures looks { self.new.looks ≡ self.old.looks }
     {
-        let again = self.looks_again();
+        let again = self.origin.looks_again(self.looks.seen);
         if self.origin.is_waiting() || self.lingering.iter().any(|closed| closed.is_waiting()) {
             return Some(Duration::ZERO);
         }
@@ -318,19 +315,6 @@ impl<P: Duplex> Sockets<P> {
                 Some(wanted.unwrap_or(again).min(again))
             }
             None => wanted,
-        }
-    }
-
-    /// For how many nanoseconds the system is waited for at most where nothing is told meanwhile.
-    fn looks_again(&mut self) -> Option<u64>
-        ensures lines { self.new.lines ≡ self.old.lines }
-        ensures looks { self.new.looks ≡ self.old.looks }
-    {
-        let again = self.origin.looks_again(self.looks.seen);
-        if self.notices.has_some() {
-            Some(again.unwrap_or(NOTICES).min(NOTICES))
-        } else {
-            again
         }
     }
 
@@ -817,14 +801,14 @@ impl<P: Duplex> Sockets<P> {
         self.looks.seen
     }
 
-    /// How often each kind of what an operator is to be told of came, where it is time to tell.
-    pub fn take_notices(&mut self) -> Option<[u32; KINDS]>
+    /// How often each kind of what an operator is to be told of came, where it is time to tell: once a second at most, and the last time in any case.
+    pub fn take_notices(&mut self, is_last: bool) -> Option<[u32; KINDS]>
         ensures lines { self.new.lines ≡ self.old.lines }
         ensures room { self.new.room ≡ self.old.room }
         ensures looks { self.new.looks ≡ self.old.looks }
     {
         self.origin.tell(&mut self.notices);
-        self.notices.take(self.looks.seen)
+        self.notices.take(self.looks.seen, is_last)
     }
 
     /// No line comes any more, and the other workers are told so.
