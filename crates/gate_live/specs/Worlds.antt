@@ -63,13 +63,16 @@ log_in w = record { rt = w.rt; is_cut = w.is_cut; dropped = w.dropped }
 abbrev pub LogsNotices : {R P : Type 0} → (R → Option (List ℕ)) → (R → Type 0) → LiveWorld R P → LiveWorld R P → Type 0
 LogsNotices logged refuses old new = Notices logged refuses 12 (record { rt = old.rt; is_cut = old.is_cut; dropped = 0 }) (log_in new)
 
+-- a line, where this is the side of its server
+abbrev pub server_of_side : ℕ → Side → Option ℕ
+server_of_side line Up = Some line
+server_of_side line Down = None
+
 -- the line of whose server an event brought bytes, or their end
 abbrev pub server_of_what : What → Option ℕ
-server_of_what (Bytes line Up bytes) = Some line
-server_of_what (Bytes line Down bytes) = None
+server_of_what (Bytes line side bytes) = server_of_side line side
+server_of_what (End line side) = server_of_side line side
 server_of_what (Opened line) = None
-server_of_what (End line Up) = Some line
-server_of_what (End line Down) = None
 server_of_what (Gone line side) = None
 server_of_what (Joined line) = None
 server_of_what (Refused line) = None
@@ -77,6 +80,7 @@ server_of_what (Room line side) = None
 server_of_what Clock = None
 server_of_what Stop = None
 
+-- the same of what a call for an event gave
 abbrev pub server_of : Result Event WorldEnd → Option ℕ
 server_of (Ok event) = server_of_what event.what
 server_of (Err e) = None

@@ -7,7 +7,7 @@ ghost use Rattle.gate_live.specs.LogLine.{line_of};
 ghost use Rattle.gate_live.specs.Logged.{notice_of};
 ghost use Rattle.gate_io.specs.declared.event.What.TheVariants as whats;
 ghost use Rattle.gate_live.specs.Timed.{IsMoment, IsTimed};
-ghost use Rattle.gate_live.specs.Worlds.{server_of, server_of_what};
+ghost use Rattle.gate_live.specs.Worlds.{server_of, server_of_side, server_of_what};
 
 use crate::log_line::log_line;
 use crate::stderr::{LogStream, put_line};
@@ -69,7 +69,13 @@ impl<R, P> LiveWorld<R, P> {
     fn is_answer(&self, line: LineNo, side: Side) -> bool
         ensures { IsTrue result ↔ IsAnswer self.now line side }
     {
-        matches!(side, Side::Down) && self.answering == Some(line)
+        match side {
+            Side::Down => match self.answering {
+                Some(answering) => answering == line,
+                None => false,
+            },
+            Side::Up => false,
+        }
     }
 
     /// A Clock comes at this moment.
@@ -226,6 +232,7 @@ impl<R: LogStream, P: Duplex> LiveWorld<R, P> {
         ensures stopped { self.new.stopped ≡ self.old.stopped }
         ensures seed { self.new.seed ≡ self.old.seed }
         ensures faults { self.new.faults ≡ self.old.faults }
+        ensures answering { self.new.answering ≡ self.old.answering }
     {
         self.sockets.notices.add(Notice::Dropped, self.dropped);
         self.dropped = 0;
@@ -393,21 +400,30 @@ fn server_of(answer: &Result<Event, WorldEnd>) -> Option<LineNo>
     }
 }
 
+/// A line, where this is the side of its server.
+fn server_of_side(line: LineNo, side: Side) -> Option<LineNo>
+    ensures { result ≡ server_of_side line side }
+{
+    match side {
+        Side::Up => Some(line),
+        Side::Down => None,
+    }
+}
+
 /// The line of whose server this brings bytes, or their end.
 fn server_of_what(what: &What) -> Option<LineNo>
     ensures { result ≡ server_of_what what.now }
 {
     match what {
-        What::Bytes {
-            line,
-            side: Side::Up,
-            ..
-        }
-        | What::End {
-            line,
-            side: Side::Up,
-        } => Some(*line),
-        _ => None,
+        What::Bytes { line, side, .. } => server_of_side(*line, *side),
+        What::End { line, side } => server_of_side(*line, *side),
+        What::Opened { .. } => None,
+        What::Gone { .. } => None,
+        What::Joined { .. } => None,
+        What::Refused { .. } => None,
+        What::Room { .. } => None,
+        What::Clock => None,
+        What::Stop => None,
     }
 }
 
