@@ -1,6 +1,6 @@
-use Rattle.std.proofs.Common.{◌≡◌, ◌<◌, ◌+◌, ◌-◌, ◌∙◌, sym, subst, ap, length, arith}
+use Rattle.std.proofs.Common.{◌≡◌, ◌<◌, ◌+◌, ◌-◌, ◌∙◌, sym, ap, length, arith}
 use Rattle.std.proofs.Math.Nat.{mod-lt}
-use Rattle.live_sockets.specs.Numbers.{MayGain, home_of}
+use Rattle.live_sockets.specs.Numbers.{home_of}
 use Rattle.live_sockets.proofs.Homes.{home_own, home_offered, offers_set}
 use Rattle.live_sockets.proofs.origin.Acceptor.route.Goals as goal
 

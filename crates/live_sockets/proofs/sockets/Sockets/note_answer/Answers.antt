@@ -1,8 +1,8 @@
-use Rattle.std.proofs.Common.{◌≡◌, ◌<◌, ◌∙◌, inl, inr, true, false, Bool, List, None, length, slice_index_or, HoldsAt, refl, sym, subst, ap}
+use Rattle.std.proofs.Common.{◌≡◌, ◌<◌, ◌∙◌, inl, inr, true, false, List, None, length, slice_index_or, HoldsAt, refl, sym, subst, ap}
 use Rattle.std.specs.Prelude.{◌==◌}
 use Rattle.std.specs.List.{position}
 use Rattle.live_lines.specs.declared.line.SocketPair.{SocketPair}
-use Rattle.live_sockets.specs.Notices.{BeginsAt, begins_answer, begins_bad_gateway}
+use Rattle.live_sockets.specs.Notices.{begins_answer, begins_bad_gateway}
 use Rattle.live_sockets.proofs.Noticed.{begins_at}
 use Rattle.live_sockets.proofs.sockets.Sockets.note_answer.Goals as goal
 
