@@ -133,7 +133,7 @@ module _ (n : ℕ) where
 out_joined : (id : ℕ) (room : Room) (sent : List Sent) → GoesOut id room sent → IsJoined (sent_on (line_of id) sent)
 out_joined id room sent (out.nothing none is) = subst IsJoined (sym is) tt
 out_joined id room sent (out.request c q there is) = subst IsJoined (sym is) (refl, tt)
-out_joined id room sent (out.closed q drawn gone is) = subst IsJoined (sym is) (refl, refl, tt)
+out_joined id room sent (out.closed q drawn gone is) = subst IsJoined (sym is) (refl, (refl, tt))
 
 out_as : (id : ℕ) (room after : Room) (sent now : List Sent) → after.calls ≡ room.calls → after.hub.contexts.calls ≡ room.hub.contexts.calls → sent_on (line_of id) now ≡ sent_on (line_of id) sent → GoesOut id room sent → GoesOut id after now
 out_as id room after sent now calls counts same (out.nothing none is) = out.nothing (λ (d : IsDrawn id after). none (d.0, subst (λ (c : Calls). id ≤ c.last) counts d.1)) (same ∙ is)

@@ -5,6 +5,7 @@ use Rattle.std.proofs.lemmas.List.{append-nil, append_assoc}
 use Rattle.std.proofs.lemmas.List.Elements.{filter-append}
 use Rattle.std.specs.Prelude.{Option, None, Some, nat_lt, slice_get, if◌then◌else◌}
 use Rattle.callouts.specs.Callouts.{Coming, reads, fails, nothing, comes_of, callout_in, callout_at, line_in, line_of, first_line, begun, with_reading, after_heard as after_part_heard}
+use Rattle.callouts.specs.Requests.{request_wire}
 use Rattle.callouts.specs.Steps.{put_callout, after_coming, after_event_of, callout_after, next_after}
 use Rattle.callouts.specs.declared.types.Callout.{Callout}
 use Rattle.callouts.specs.declared.types.CallStep.{CallStep}
@@ -30,6 +31,7 @@ use Rattle.filter_host.specs.declared.host.Death.{Death}
 use Rattle.filter_host.specs.declared.host.Death.TheVariants as deaths
 use Rattle.gate_io.specs.declared.event.Sent.{Sent}
 use Rattle.gate_io.specs.declared.event.Sent.TheVariants as to
+use Rattle.gate_io.specs.declared.event.Side.TheVariants.{Up}
 use Rattle.gate_io.specs.declared.event.What.{What}
 use Rattle.h1_model.specs.Unread.{Reading}
 use Rattle.store_model.specs.Program.{Program, done, ask, measure}
@@ -84,7 +86,7 @@ at_found (Some line) calls c is = subst (λ (k : ℕ). callout_in k calls ≡ So
 
 own_request : (id : ℕ) (q : Request) → sent_on (line_of id) (request_out id q) ≡ request_out id q
 own_request id q =
-    let wire : List Sent = to.Bytes (line_of id) _ _ ∷ [] in
+    let wire : List Sent = to.Bytes (line_of id) Up (request_wire q) ∷ [] in
     ap (λ (b : Bool). cond b (to.Connect (line_of id) ∷ cond b wire []) (cond b wire [])) (eq-eqb (line_of id) (line_of id) refl)
 
 own_close : (id : ℕ) → sent_on (line_of id) (close_out id) ≡ close_out id
@@ -95,7 +97,7 @@ lines_other m id other = ne_eqb (line_of m) (line_of id) (λ e. other (omega (ar
 
 other_request : (m id : ℕ) (q : Request) → (m ≡ id → ⊥) → sent_on (line_of id) (request_out m q) ≡ []
 other_request m id q other =
-    let wire : List Sent = to.Bytes (line_of m) _ _ ∷ [] in
+    let wire : List Sent = to.Bytes (line_of m) Up (request_wire q) ∷ [] in
     ap (λ (b : Bool). cond b (to.Connect (line_of m) ∷ cond b wire []) (cond b wire [])) (lines_other m id other)
 
 other_close : (m id : ℕ) → (m ≡ id → ⊥) → sent_on (line_of id) (close_out m) ≡ []

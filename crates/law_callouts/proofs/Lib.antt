@@ -5,6 +5,7 @@ pub mod Ending
 pub mod GoingOut
 pub mod Holding
 pub mod Lives
+pub mod OneFate
 pub mod Reading
 pub mod Reports
 pub mod Rooms

@@ -27,6 +27,7 @@ use Rattle.gate_io.specs.declared.event.Side.{Side}
 use Rattle.gate_io.specs.declared.event.Side.TheVariants.{Down, Up}
 use Rattle.gate_io.specs.declared.event.What.{What}
 use Rattle.gate_io.specs.declared.event.What.TheVariants as whats
+use Rattle.header_maps.specs.Headers.{Headers}
 use Rattle.header_maps.specs.Operations.{no_headers}
 use Rattle.h1_model.specs.Messages.{Stop, rest, over, refusal}
 use Rattle.h1_model.specs.Unread.{Part, head_part, interim_part, piece, trailer_part, Reading}
@@ -155,7 +156,7 @@ module _ (n : ℕ) where
   pub closing_says : (vm : ℕ) (own : Owner) (context : ℕ) (room : Room) → IsClear room → Says room (apply_effect vm own context what.Close room)
   closing_says vm own context room clear = context_says passing.close_exchange (by_deed closes tt) vm context room clear
 
-  pub answer_says : (vm : ℕ) (own : Owner) (context status : ℕ) (fields : _) (body : List ℕ) (room : Room) → IsClear room → Says room (apply_effect vm own context (what.Answer status fields body) room)
+  pub answer_says : (vm : ℕ) (own : Owner) (context status : ℕ) (fields : Headers) (body : List ℕ) (room : Room) → IsClear room → Says room (apply_effect vm own context (what.Answer status fields body) room)
   answer_says vm own context status fields body room clear =
       context_says (apply_change (changes.Answer status fields body)) (by_deed (answers false status fields.pairs body) tt) vm context room clear
 

@@ -4,3 +4,4 @@ pub mod Sound
 pub mod Ends
 pub mod Workers
 pub mod GoingOut
+pub mod OneFate

@@ -2,6 +2,7 @@
 ghost use Rattle.law_callouts.specs.Calls.{CalloutTurns};
 ghost use Rattle.law_callouts.specs.Ends.{CalloutsAreSoundInLives, CalloutsBeginNew, CalloutsEndOnce, ReportsHaveAnswers, TurnsAreLives};
 ghost use Rattle.law_callouts.specs.GoingOut.{CalloutsGoOutOnce, WorkersGoOutOnce};
+ghost use Rattle.law_callouts.specs.OneFate.{OneFateAtMost};
 ghost use Rattle.law_callouts.specs.Sound.{CalloutsStaySound};
 ghost use Rattle.law_callouts.specs.Workers.{WorkersBeginCalloutsNew, WorkersEndCalloutsOnce, WorkersStaySound};
 
@@ -43,6 +44,11 @@ pub fn workers_end_callouts_once()
 {
     callbacks_change_their_own();
 }
+
+/// A list of events has one fate of a callout at most. That it has one is not said here.
+pub fn callouts_have_one_fate_at_most()
+    ensures { OneFateAtMost }
+{}
 
 /// What is sent on the line of a callout, from 2^31 on, over the whole life of a worker, whatever its filters do, its stores reply and its lines bring, where its machines
 /// write logs alone and leave the counts of callouts. Nothing, where the id of the line was not drawn. While its callout is under way, one connection up and all bytes of one

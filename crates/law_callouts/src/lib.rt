@@ -4,6 +4,6 @@
 mod laws;
 
 pub use laws::{
-    callouts_end_once, callouts_go_out_once, callouts_stay_sound, worked_callout_turns,
-    workers_end_callouts_once, workers_send_callouts_once,
+    callouts_end_once, callouts_go_out_once, callouts_have_one_fate_at_most, callouts_stay_sound,
+    worked_callout_turns, workers_end_callouts_once, workers_send_callouts_once,
 };
