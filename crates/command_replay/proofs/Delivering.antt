@@ -26,8 +26,10 @@ use Rattle.send_queue.specs.declared.place.Destination.{Destination}
 use Rattle.replay_script.specs.Prints.{Told, tell}
 use Rattle.worker_model.specs.Plan.{Plan}
 use Rattle.worker_model.specs.Steps.{Both}
-use Rattle.worker_model.specs.Turn.{Outcome, turn, turn_by}
-use Rattle.worker_model.specs.Turned.{one_turn, worker_wants}
+use Rattle.worker_model.specs.Turn.{Outcome}
+use Rattle.streams_model.specs.Turn.{turn, turn_by}
+use Rattle.worker_model.specs.Turned.{one_turn}
+use Rattle.streams_model.specs.Turned.{worker_wants}
 use Rattle.command_replay.specs.Delivered.{DeliveredExamples, InItsWorld, Step, events_in, met_in, placed_step, sent_in, sent_of, steps_of, turns_in}
 use Rattle.command_replay.specs.Replay.{Setup, first_worker}
 

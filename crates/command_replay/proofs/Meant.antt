@@ -12,7 +12,8 @@ use Rattle.replay_script.specs.Scripts.{workers_of}
 use Rattle.store_model.specs.Sequential.{Stores}
 use Rattle.worker_model.specs.State.{Standing}
 use Rattle.worker_model.specs.Steps.{Both}
-use Rattle.worker_model.specs.Turn.{Outcome, turn}
+use Rattle.worker_model.specs.Turn.{Outcome}
+use Rattle.streams_model.specs.Turn.{turn}
 use Rattle.command_replay.specs.Delivered.{EachMeans, Step, Stepped, events_in, met_in, placed_step, sent_in, steps_of, turns_in}
 use Rattle.command_replay.specs.Laws.{EachWorkerMeans}
 use Rattle.command_replay.specs.Replay.{Placed, Plays, PlaysFirst, Setup, first_worker, first_workers, placed_of, plan_for, state_at, state_of, stores_for}

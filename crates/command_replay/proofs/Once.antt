@@ -7,7 +7,8 @@ use Rattle.replay_script.specs.Prints.{Told, tell}
 use Rattle.store_model.specs.Sequential.{Stores, Performs}
 use Rattle.worker_model.proofs.Alone.{goes_once}
 use Rattle.worker_model.specs.Steps.{Both}
-use Rattle.worker_model.specs.Turn.{Outcome, turn}
+use Rattle.worker_model.specs.Turn.{Outcome}
+use Rattle.streams_model.specs.Turn.{turn}
 use Rattle.command_replay.specs.Replay.{Placed, Plays, PlaysFirst, Setup, first_workers, for_worker, placed_of, plan_for, state_at, state_of, stores_for}
 use Rattle.command_replay.specs.Laws.{OneReplay, IsFront, FrontsOfOne}
 

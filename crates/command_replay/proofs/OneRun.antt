@@ -16,7 +16,7 @@ use Rattle.store_model.specs.Made.{Made, called, measured}
 use Rattle.store_model.specs.Sequential.{Stores, Performs, measured_after, performs_joined, stores_after}
 use Rattle.worker_model.proofs.Alone.{goes_once}
 use Rattle.worker_model.specs.Steps.{Both}
-use Rattle.worker_model.specs.Turn.{turn}
+use Rattle.streams_model.specs.Turn.{turn}
 use Rattle.command_replay.specs.Laws.{ScriptsOfOneAreRuns}
 use Rattle.command_replay.specs.Replay.{Placed, Plays, Setup, first_worker, first_workers, for_worker, placed_of, plan_for, state_at, state_of, stores_for}
 use Rattle.command_replay.proofs.Fronts.{all_placed}

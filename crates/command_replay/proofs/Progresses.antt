@@ -16,7 +16,8 @@ use Rattle.store_model.specs.Sequential.{Stores, Performs}
 use Rattle.worker_model.specs.Plan.{Plan}
 use Rattle.worker_model.specs.State.{Standing, rules_of}
 use Rattle.worker_model.specs.Steps.{Both}
-use Rattle.worker_model.specs.Turn.{Outcome, outcome, turn}
+use Rattle.worker_model.specs.Turn.{Outcome, outcome}
+use Rattle.streams_model.specs.Turn.{turn}
 use Rattle.command_replay.specs.Delivered.{Prints, PrintsFront}
 use Rattle.command_replay.specs.Replay.{Setup, Placed, placed, place_all, placed_of, first_worker, first_workers, for_worker, plan_for, state_at, state_of, stores_for, Plays, PlaysFirst, IsReady, Flushed, Advances}
 use Rattle.command_replay.proofs.Fronts.{all_placed, each_has_its_worker, gave_all, goes, place_both, placed_front}

@@ -7,7 +7,8 @@ use Rattle.gate_io.specs.MemoryWorld.{stop_at}
 use Rattle.replay_script.specs.Prints.{Told}
 use Rattle.store_model.specs.Sequential.{Stores, Performs, performs_nothing}
 use Rattle.worker_model.specs.Steps.{Both}
-use Rattle.worker_model.specs.Turn.{outcome, turn}
+use Rattle.worker_model.specs.Turn.{outcome}
+use Rattle.streams_model.specs.Turn.{turn}
 use Rattle.command_replay.specs.Laws.{StopStandsForAll, stops}
 use Rattle.command_replay.specs.Replay.{Placed, Plays, Setup, first_workers, for_worker, placed, placed_of, plan_for, state_at, state_of, stores_for}
 use Rattle.command_replay.proofs.Progresses.{plays_more}

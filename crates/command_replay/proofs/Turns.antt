@@ -20,7 +20,8 @@ use Rattle.replay_script.specs.ScriptWorld.{Playing, nature, taken_since}
 use Rattle.replay_script.proofs.Worlds.{plays_its_script}
 use Rattle.store_model.specs.Sequential.{Stores, Performs}
 use Rattle.worker_model.specs.State.{Setting, Standing}
-use Rattle.worker_model.specs.Turned.{one_turn, Whole, TookWhole}
+use Rattle.worker_model.specs.Turned.{one_turn, TookWhole}
+use Rattle.streams_model.specs.Turned.{Whole}
 use Rattle.command_replay.specs.Replay.{Advances, CanTurn, Seated, Turns, TurnsAt, for_worker}
 
 same_trace : (a b : List Passed) → Some a ≡ Some b → a ≡ b

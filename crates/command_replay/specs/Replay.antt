@@ -21,7 +21,8 @@ use Rattle.worker_model.specs.Making.{new_worker}
 use Rattle.worker_model.specs.Plan.{Plan}
 use Rattle.worker_model.specs.State.{Standing, rules_of}
 use Rattle.worker_model.specs.Steps.{Both}
-use Rattle.worker_model.specs.Turn.{Outcome, outcome, turn}
+use Rattle.worker_model.specs.Turn.{Outcome, outcome}
+use Rattle.streams_model.specs.Turn.{turn}
 use Rattle.worker_model.specs.Turned.{one_turn}
 
 -- What a script is played over: what a callback of the machines does, which callbacks they export, which VMs register queues; the

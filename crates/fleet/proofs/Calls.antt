@@ -6,7 +6,7 @@ use Rattle.fleet.specs.Made.{made_in_turn, made_in_turns, made_in_life, made_in_
 use Rattle.gate_io.specs.declared.passed.Passed.{Passed}
 use Rattle.store_model.specs.Made.{Made}
 use Rattle.worker_model.specs.State.{Standing}
-use Rattle.worker_model.specs.Turned.{Turned}
+use Rattle.streams_model.specs.Turned.{Turned}
 use Rattle.worker_model.specs.declared.types.Turn.{Turn}
 use Rattle.worker_model.specs.declared.types.Turn.TheVariants.{Went, Stopped, WorldFault, OutOfMemory}
 

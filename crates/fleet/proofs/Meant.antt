@@ -21,8 +21,10 @@ use Rattle.shared_seats.specs.Moving.{SeatsGoOn, seats_nothing, seats_joined}
 use Rattle.store_model.specs.Made as store
 use Rattle.store_model.specs.Made.{Made}
 use Rattle.worker_model.specs.State.{Setting, Standing, rules_of}
-use Rattle.worker_model.specs.Turn.{Outcome, outcome, turn}
-use Rattle.worker_model.specs.Turned.{NoEvent, Turned, Whole, one_turn, worker_wants}
+use Rattle.worker_model.specs.Turn.{Outcome, outcome}
+use Rattle.streams_model.specs.Turn.{turn}
+use Rattle.worker_model.specs.Turned.{NoEvent, one_turn}
+use Rattle.streams_model.specs.Turned.{Turned, Whole, worker_wants}
 use Rattle.worker_model.specs.declared.types.Turn.{Turn}
 use Rattle.worker_model.specs.declared.types.Turn.TheVariants.{Went, Stopped, WorldFault, OutOfMemory}
 

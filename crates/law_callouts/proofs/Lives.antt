@@ -13,6 +13,7 @@ use Rattle.worker_model.specs.Steps.{Both, both, step}
 use Rattle.worker_model.specs.Turn.{Outcome, outcome_of, room_for_event, without_sent, most_steps, turn_by}
 use Rattle.law_meaning.specs.Turns.{Turn, Turns}
 use Rattle.law_meaning.specs.Walks.{Step}
+use Rattle.streams_model.proofs.Http.{turn_is}
 use Rattle.law_callouts.proofs.Splitting.{none_more, split}
 use Rattle.law_callouts.specs.Ends.{Life, rests, steps, turns, AreWhole, LifeOf, TurnsAreLives}
 
@@ -62,15 +63,16 @@ module _ {H : Type 0} (calling : Calling H) (plan : Plan) where
       let far : Settled (both b.host begun) s.middle = settled most_steps b.host begun s.first s.middle there s.one in
       record { to = s.middle; all = far.all; life = turns b s.middle event [] far.all is kind far.life; is = sym none.1 }
 
-  are_lives : (b to : Both H) (all : List (Turn H)) → is_rest (next_of b.room) ≡ true → Turns calling plan (both b.host (without_sent b.room)) all to → AreWhole all
+  are_lives : (b to : Both H) (all : List (Turn H)) → plan.tcp ≡ [] → is_rest (next_of b.room) ≡ true → Turns calling plan (both b.host (without_sent b.room)) all to → AreWhole all
       → LifeOf calling plan b (map (λ (t : Turn H). t.event) all) to
-  are_lives b to [] is chain whole = record { all = []; end = b; life = rests b is; is = chain }
-  are_lives b to (t ∷ more) is chain whole =
-      let one : OneTurn b t.event t.end = one_turn (is_stop t.event.what) b t.event t.met t.end refl whole.0 is whole.1 chain.0 in
+  are_lives b to [] http is chain whole = record { all = []; end = b; life = rests b is; is = chain }
+  are_lives b to (t ∷ more) http is chain whole =
+      let met = subst (λ (c : Course (Outcome H)). Reaches c t.met (ends t.end)) (turn_is calling plan (both b.host (without_sent b.room)) t.event http) chain.0 in
+      let one : OneTurn b t.event t.end = one_turn (is_stop t.event.what) b t.event t.met t.end refl whole.0 is whole.1 met in
       let state : t.end.state ≡ both one.to.host (without_sent one.to.room) = ap (λ (o : Outcome H). o.state) one.is in
       let there : is_rest (next_of one.to.room) ≡ true = subst (λ (s : Both H). is_rest (next_of s.room) ≡ true) state whole.1 in
       let far : LifeOf calling plan one.to (map (λ (t : Turn H). t.event) more) to
-      = are_lives one.to to more there (subst (λ (s : Both H). Turns calling plan s more to) state chain.1) whole.2 in
+      = are_lives one.to to more http there (subst (λ (s : Both H). Turns calling plan s more to) state chain.1) whole.2 in
       record {
         all = one.all ++ far.all;
         end = far.end;
@@ -79,4 +81,4 @@ module _ {H : Type 0} (calling : Calling H) (plan : Plan) where
       }
 
 pub turns_are_lives : (H : Type 0) → TurnsAreLives H
-turns_are_lives H calling plan b to all is chain whole = are_lives calling plan b to all is chain whole
+turns_are_lives H calling plan b to all http is chain whole = are_lives calling plan b to all http is chain whole

@@ -1,4 +1,4 @@
--- EACH CALLOUT ENDS ONCE, BY ITS FATE: over whole turns of a worker, whatever its machines do and the shared stores reply. The fate is read
+-- EACH CALLOUT ENDS ONCE, BY ITS FATE: over whole turns of a worker whose lines are HTTP, whatever its machines do and the shared stores reply. The fate is read
 -- off the events that passed (`IsFate`), and not off what the worker keeps.
 use Rattle.std.specs.Prelude.{◌≡◌, ◌<◌, ◌≤◌, ◌==◌, ◌&&◌, ℕ, Bool, true, false, List, [], ◌∷◌, ◌++◌, map, Option, None, Some, if◌then◌else◌}
 use Rattle.callouts.specs.Callouts.{line_of, line_in, callout_in, begun, no_answer}
@@ -36,7 +36,7 @@ use Rattle.law_callouts.specs.Sound.{AreSound}
 
 -- ---- whole turns, step by step
 
--- The steps of whole turns at these events, one after another: each step is the one that is next, a turn begins where the one before is at rest, and
+-- The steps of whole turns of HTTP at these events, one after another: each step is the one that is next, a turn begins where the one before is at rest, and
 -- the last one is at rest too. No event is Stop, at which a worker does nothing.
 pub data Life {H : Type 0} (calling : Calling H) (plan : Plan) : Both H → List Event → List (Step H) → Both H → Type 0 where
   rests : (b : Both H) → is_rest (next_of b.room) ≡ true → Life calling plan b [] [] b
@@ -58,10 +58,10 @@ pub record LifeOf {H : Type 0} (calling : Calling H) (plan : Plan) (b : Both H) 
   pub life : Life calling plan b events all end
   pub is : to ≡ both end.host (without_sent end.room)
 
--- WHOLE TURNS, ONE AFTER ANOTHER, ARE SUCH STEPS, wherever they begin at rest.
+-- WHOLE TURNS, ONE AFTER ANOTHER, ARE SUCH STEPS, by a plan without streams of bytes, wherever they begin at rest.
 abbrev pub TurnsAreLives : (H : Type 0) → Type 0
 TurnsAreLives H =
-    (calling : Calling H) (plan : Plan) (b to : Both H) (all : List (Turn H)) → is_rest (next_of b.room) ≡ true → Turns calling plan (both b.host (without_sent b.room)) all to → AreWhole all
+    (calling : Calling H) (plan : Plan) (b to : Both H) (all : List (Turn H)) → plan.tcp ≡ [] → is_rest (next_of b.room) ≡ true → Turns calling plan (both b.host (without_sent b.room)) all to → AreWhole all
     → LifeOf calling plan b (map (λ (t : Turn H). t.event) all) to
 
 -- ---- what is asked of the machines: that a callback leaves the counts of callouts

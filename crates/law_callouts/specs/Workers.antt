@@ -1,4 +1,4 @@
--- EACH CALLOUT ENDS ONCE of the machines that run modules: where each stands at the number of its contexts, as those of a worker that was made do.
+-- EACH CALLOUT ENDS ONCE, of workers whose lines are HTTP and the machines that run modules: where each stands at the number of its contexts, as those of a worker that was made do.
 use Rattle.std.specs.Prelude.{◌≡◌, ◌<◌, ◌≤◌, ℕ, true, List, [], ◌∷◌, Some}
 use Rattle.callouts.specs.Callouts.{callout_in}
 use Rattle.callouts.specs.Fates.{Fate, IsFate}

@@ -147,13 +147,13 @@ responses_go_down H calling plan contexts host ts to n logs turned = by_line (is
 -- ---- of a worker, and of the product
 
 pub workers_answer : (H S : Type 0) (performs : S → List Made → S → Type 0) → WorkersAnswerOneByOne H S performs
-workers_answer H S performs calling exported registering config who seed host sent to n logs worked =
+workers_answer H S performs calling exported registering config who seed host sent to n http logs worked =
     let from : Standing H = new_worker exported registering config who seed host in
-    let r : Run calling from sent to = worked_run calling performs from to sent worked in
+    let r : Run calling from sent to = worked_run calling performs from to sent http worked in
     subst (λ (plan : Plan). GoesDownBy plan (line_in n to.state.room.lines) (client_traffic n sent)) (sym (ap rules_of r.setting))
     (subst (λ (l : List Sent). GoesDownBy (rules_of from.setting) (line_in n to.state.room.lines) (client_traffic n l)) r.sends
     (responses_go_down H calling (rules_of from.setting) (contexts_of config seed) host r.turns to.state n logs r.run))
 
 pub responses_of_the_product : (S : Type 0) (performs : S → List Made → S → Type 0) → ResponsesOfTheProductGoDown S performs
-responses_of_the_product S performs config who seed host sent to n worked =
-    workers_answer Vms S performs slots.calling slots.exported_in slots.registering_in config who seed host sent to n machines_write_logs worked
+responses_of_the_product S performs config who seed host sent to n http worked =
+    workers_answer Vms S performs slots.calling slots.exported_in slots.registering_in config who seed host sent to n http machines_write_logs worked

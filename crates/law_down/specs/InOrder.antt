@@ -1,4 +1,4 @@
--- In which order connections, bytes and closes go on the two sides of a line.
+-- In which order connections, bytes and closes go on the two sides of a line of HTTP.
 use Rattle.std.specs.Prelude.{◌≡◌, ℕ, ◌==◌, Bool, true, false, List, [], ◌∷◌, ◌++◌, Option, None, Some, is_some, if◌then◌else◌}
 use Rattle.callouts.specs.Callouts.{is_call_line}
 use Rattle.filter_host.specs.Called.{Calling}
@@ -29,7 +29,7 @@ use Rattle.worker_model.specs.Settling.{is_rest}
 use Rattle.worker_model.specs.State.{Standing}
 use Rattle.worker_model.specs.Steps.{Both, both, line_in}
 use Rattle.worker_model.specs.Turn.{Outcome, turn}
-use Rattle.worker_model.specs.Turned.{Whole}
+use Rattle.streams_model.specs.Turned.{Whole}
 
 -- ---- a line, as its peers see it
 
@@ -145,18 +145,18 @@ ConnectionsGoInOrder H =
     → IsTurn n event.what (state_of n state.room) end.sent (state_of n end.state.room)
 
 -- THE SAME OF A WORKER AND ITS CODE: from a worker that was made of a configuration, as `Worker::new` makes it, by whole turns as its code takes them, over
--- shared stores of any kind. Each of them comes to rest.
+-- shared stores of any kind. Each of them comes to rest. The configuration has no streams of bytes.
 abbrev pub WorkersGoInOrder : (H S : Type 0) → (performs : S → List Made → S → Type 0) → Type 0
 WorkersGoInOrder H S performs =
     (calling : Calling H) (exported : H → ℕ → Callback → Bool) (registering : H → ℕ → Bool) (config : Config) (who : ℕ) (seed : List ℕ) (host : H)
-    (sent : List Sent) (stop : Bool) (s t : S) (old new : Option (List Passed)) (from after : Standing H) (n : ℕ) → is_call_line n ≡ false → WriteLogs calling
+    (sent : List Sent) (stop : Bool) (s t : S) (old new : Option (List Passed)) (from after : Standing H) (n : ℕ) → config.tcp ≡ [] → is_call_line n ≡ false → WriteLogs calling
     → Worked calling performs (new_worker exported registering config who seed host) sent from → (turn : Whole calling performs stop s old from after t new)
     → IsTurn n turn.event.what (state_of n from.state.room) turn.sent (state_of n after.state.room)
 
 -- THE SAME OF THE PRODUCT: with the machines of its VMs, whatever these are.
 abbrev pub ConnectionsOfTheProductGoInOrder : (S : Type 0) → (performs : S → List Made → S → Type 0) → Type 0
 ConnectionsOfTheProductGoInOrder S performs =
-    (config : Config) (who : ℕ) (seed : List ℕ) (host : Vms) (sent : List Sent) (stop : Bool) (s t : S) (old new : Option (List Passed)) (from after : Standing Vms) (n : ℕ) → is_call_line n ≡ false
+    (config : Config) (who : ℕ) (seed : List ℕ) (host : Vms) (sent : List Sent) (stop : Bool) (s t : S) (old new : Option (List Passed)) (from after : Standing Vms) (n : ℕ) → config.tcp ≡ [] → is_call_line n ≡ false
     → Worked slots.calling performs (new_worker slots.exported_in slots.registering_in config who seed host) sent from
     → (turn : Whole slots.calling performs stop s old from after t new)
     → IsTurn n turn.event.what (state_of n from.state.room) turn.sent (state_of n after.state.room)

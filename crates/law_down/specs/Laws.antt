@@ -1,4 +1,4 @@
--- What goes down on every line, over all turns of a worker.
+-- What goes down on every line, over all turns of a worker whose lines are HTTP.
 use Rattle.std.specs.Prelude.{◌≡◌, ℕ, Bool, true, List, [], None}
 use Rattle.callouts.specs.Callouts.{is_call_line}
 use Rattle.contexts.specs.declared.parts.Contexts.{Contexts}
@@ -27,17 +27,17 @@ ResponsesGoDownOneByOne H =
     → Turns calling plan (both host (new_room contexts)) turns to → GoesDownBy plan (line_in n to.room.lines) (client_traffic n (sent_in turns))
 
 -- THE SAME OF A WORKER AND ITS CODE: from a worker that was made of a configuration, as `Worker::new` makes it, by whole turns as its code takes them, over
--- shared stores of any kind.
+-- shared stores of any kind. The configuration has no streams of bytes.
 abbrev pub WorkersAnswerOneByOne : (H S : Type 0) → (performs : S → List Made → S → Type 0) → Type 0
 WorkersAnswerOneByOne H S performs =
     (calling : Calling H) (exported : H → ℕ → Callback → Bool) (registering : H → ℕ → Bool) (config : Config) (who : ℕ) (seed : List ℕ) (host : H)
-    (sent : List Sent) (to : Standing H) (n : ℕ) → WriteLogs calling → Worked calling performs (new_worker exported registering config who seed host) sent to
+    (sent : List Sent) (to : Standing H) (n : ℕ) → config.tcp ≡ [] → WriteLogs calling → Worked calling performs (new_worker exported registering config who seed host) sent to
     → GoesDownBy (rules_of to.setting) (line_in n to.state.room.lines) (client_traffic n sent)
 
 -- THE SAME OF THE PRODUCT: with the machines of its VMs, whatever these are.
 abbrev pub ResponsesOfTheProductGoDown : (S : Type 0) → (performs : S → List Made → S → Type 0) → Type 0
 ResponsesOfTheProductGoDown S performs =
-    (config : Config) (who : ℕ) (seed : List ℕ) (host : Vms) (sent : List Sent) (to : Standing Vms) (n : ℕ)
+    (config : Config) (who : ℕ) (seed : List ℕ) (host : Vms) (sent : List Sent) (to : Standing Vms) (n : ℕ) → config.tcp ≡ []
     → Worked slots.calling performs (new_worker slots.exported_in slots.registering_in config who seed host) sent to
     → GoesDownBy (rules_of to.setting) (line_in n to.state.room.lines) (client_traffic n sent)
 

@@ -16,7 +16,7 @@ pub fn responses_go_down_one_by_one<H>()
     ensures { ResponsesGoDownOneByOne H }
 {}
 
-/// So it is of a worker that was made of a configuration, as `Worker::new` makes it, by the whole turns that its code takes, over shared stores.
+/// So it is of a worker that was made of a configuration without streams of bytes, as `Worker::new` makes it, by the whole turns that its code takes, over shared stores.
 pub fn workers_answer_one_by_one<H, S: Shared>()
     ensures { WorkersAnswerOneByOne H S S.performs }
 {}
@@ -50,8 +50,8 @@ pub fn connections_go_in_order<H>()
     ensures { ConnectionsGoInOrder H }
 {}
 
-/// So it is of a worker that was made of a configuration, as `Worker::new` makes it, by the whole turns that its code takes, over shared stores: each of them
-/// begins and ends at rest.
+/// So it is of a worker that was made of a configuration without streams of bytes, as `Worker::new` makes it, by the whole turns that its code takes, over shared
+/// stores: each of them begins and ends at rest.
 pub fn workers_go_in_order<H, S: Shared>()
     ensures { WorkersGoInOrder H S S.performs }
 {}

@@ -1,17 +1,17 @@
 -- What is known of roots stays over all steps of all turns.
-use Rattle.std.proofs.Common.{◌≡◌, ◌⊎◌, inl, inr, refl, ℕ, zero, suc, ◌+◌, ◌<◌, ◌≤◌, ◌==◌, Bool, true, false, List, [], ◌∷◌, ◌++◌, length, ap, ◌∙◌, sym, subst, arith}
+use Rattle.std.proofs.Common.{◌≡◌, ◌⊎◌, inl, inr, refl, ℕ, zero, suc, ◌+◌, ◌<◌, ◌≤◌, ◌==◌, ◌&&◌, Bool, true, false, List, [], ◌∷◌, ◌++◌, length, ap, ◌∙◌, sym, subst, arith}
 use Rattle.std.proofs.lemmas.Bool.{ltb-true, eqb-true, le-leb}
 use Rattle.std.specs.List.{list_any}
-use Rattle.std.specs.Prelude.{Contains, slice_get, slice_index_or, position, if◌then◌else◌, is_some, Option, None, Some}
+use Rattle.std.specs.Prelude.{Contains, nat_le, slice_get, slice_index_or, position, if◌then◌else◌, is_some, Option, None, Some}
 use Rattle.callouts.specs.Callouts.{line_in, is_of_call, callout_at, due_at}
 use Rattle.callouts.specs.declared.types.Callout.{Callout}
-use Rattle.contexts.specs.Creating.{no_plugin, plugin_in}
+use Rattle.contexts.specs.Creating.{next_id, no_plugin, plugin_in}
 use Rattle.contexts.specs.Reached.{vm_in}
 use Rattle.contexts.specs.declared.parts.Context.{Context}
 use Rattle.contexts.specs.declared.parts.Contexts.{Contexts}
 use Rattle.contexts.specs.declared.parts.Plugin.{Plugin}
 use Rattle.filter_host.proofs.Holds.{AllEnds, all_reached, all_then}
-use Rattle.filter_host.specs.Course.{ends}
+use Rattle.filter_host.specs.Course.{Course, ends, Reaches}
 use Rattle.gate_io.specs.Events.{is_stop}
 use Rattle.gate_config.specs.declared.entries.PluginEntry.{PluginEntry}
 use Rattle.gate_io.specs.declared.event.Event.{Event}
@@ -22,6 +22,7 @@ use Rattle.law_meaning.specs.Walks.{Step, Walk, stays, steps, turns}
 use Rattle.law_roots.specs.Roots.{FiltersGetContexts, RootStands, StartsHaveRoots}
 use Rattle.law_vms.specs.MadeVms.{MadeVmsAreInPlace}
 use Rattle.law_vms.specs.OwnChanges.{ArePlaced, CallbacksChangeTheirOwn, PlacesStay}
+use Rattle.streams_model.proofs.Http.{turn_is}
 use Rattle.vm_host.specs.Slots.{calling}
 use Rattle.vm_host.specs.declared.slots.Vms.{Vms}
 use Rattle.worker_model.specs.Plan.{Plan}
@@ -29,7 +30,7 @@ use Rattle.worker_model.specs.Room.{Room}
 use Rattle.worker_model.specs.Rooms.{is_dead, next_of, next_part, moves_or, frees_or, ends_or, begins_or_rests, has_move, is_any, is_over, is_released}
 use Rattle.worker_model.specs.Settling.{is_rest, settling, settling_none, settling_rest, settling_step}
 use Rattle.worker_model.specs.Steps.{Both, both, create_filter, may_stream, step, with_stream}
-use Rattle.worker_model.specs.Turn.{agenda_of, at_moment, deadline_jobs, fail_jobs, calls_due, first_vms, happening, is_due_now, is_of, notice_of, notices_of, registers_at, room_for_event, roots_from, start_jobs, start_of, starts_of, ticks_due, ticks_in, ticks_of, vms_in, with_agenda, without_sent, comes_if, Outcome, outcome_of, most_steps, turn, turn_by}
+use Rattle.worker_model.specs.Turn.{agenda_of, at_moment, deadline_jobs, fail_jobs, calls_due, first_vms, happening, is_due_now, is_of, notice_of, notices_of, registers_at, room_for_event, roots_from, start_jobs, start_of, starts_of, new_ticks, new_ticks_from, new_ticks_of, ticks_due, ticks_in, ticks_of, vms_in, with_agenda, without_sent, comes_if, Outcome, outcome_of, most_steps, turn, turn_by}
 use Rattle.worker_model.specs.declared.types.Job.{Job}
 use Rattle.worker_model.specs.declared.types.Job.TheVariants as jobs
 use Rattle.worker_model.specs.declared.types.Next.{Next}
@@ -164,6 +165,20 @@ all_ticks : (now n : ℕ) (h : Contexts) → ArePlain (ticks_of now n h)
 all_ticks now zero h = tt
 all_ticks now (suc n) h = plain_join (ticks_of now n h) (ticks_in now n (vm_in h n).contexts) (all_ticks now n h) (ticks_plain now n (vm_in h n).contexts)
 
+new_from_plain : (vm id : ℕ) (ps : List Plugin) → ArePlain (new_ticks_from vm id ps)
+new_from_plain vm id [] = tt
+new_from_plain vm id (p ∷ ps) =
+    pick ArePlain (is_of vm p && nat_le id 4294967295) (jobs.Tick vm id ∷ new_ticks_from vm (id + 1) ps) (new_ticks_from vm id ps) (tt, new_from_plain vm (id + 1) ps) (new_from_plain vm id ps)
+
+new_ticks_plain : (n : ℕ) (h : Contexts) → ArePlain (new_ticks_of n h)
+new_ticks_plain zero h = tt
+new_ticks_plain (suc n) h = plain_join (new_ticks_of n h) (new_ticks_from n (next_id h n) h.plugins) (new_ticks_plain n h) (new_from_plain n (next_id h n) h.plugins)
+
+due_ticks_plain : (room : Room) → ArePlain (ticks_due room)
+due_ticks_plain room =
+    plain_join (ticks_of room.hub.moment (vms_in room) room.hub.contexts) (new_ticks room) (all_ticks room.hub.moment (vms_in room) room.hub.contexts)
+    (pick ArePlain room.is_begun [] (new_ticks_of (vms_in room) room.hub.contexts) tt (new_ticks_plain (vms_in room) room.hub.contexts))
+
 notices_plain : (plan : Plan) (n : ℕ) → ArePlain (notices_of plan n)
 notices_plain plan zero = tt
 notices_plain plan (suc n) =
@@ -185,7 +200,7 @@ behind_starts plan what room = ticks_due room ++ (deadline_jobs plan ++ (calls_d
 
 behind_plain : (plan : Plan) (what : What) (room : Room) → ArePlain (behind_starts plan what room)
 behind_plain plan what room =
-    plain_join (ticks_due room) (deadline_jobs plan ++ (calls_due room ++ (happening what room ++ notices_of plan (vms_in room)))) (all_ticks room.hub.moment (vms_in room) room.hub.contexts)
+    plain_join (ticks_due room) (deadline_jobs plan ++ (calls_due room ++ (happening what room ++ notices_of plan (vms_in room)))) (due_ticks_plain room)
     (plain_join (deadline_jobs plan) (calls_due room ++ (happening what room ++ notices_of plan (vms_in room))) (pick ArePlain (plan.deadline == 0) [] (jobs.Expire ∷ []) tt (tt, tt))
     (plain_join (calls_due room) (happening what room ++ notices_of plan (vms_in room)) (fails_plain (due_at room.hub.moment room.calls))
     (plain_join (happening what room) (notices_of plan (vms_in room)) (happening_plain what room) (notices_plain plan (vms_in room)))))
@@ -384,10 +399,11 @@ module _ (starts : StartsHaveRoots) (plan : Plan) where
             all_then Fine (λ (out : Outcome Vms). Fine out.state) (settling calling plan most_steps b.host (room_for_event plan event b.room)) (λ c. ends (outcome_of c))
             (settled most_steps b.host (room_for_event plan event b.room) (event_begun event b.room rest is.0, is.1)) (λ c here. (unsent c.room here.0, here.1))
 
-    pub turned : (b e : Both Vms) (all : List (Turn Vms)) → Turns calling plan b all e → ComeToRest all → is_rest (next_of b.room) ≡ true → Fine b → Fine e
-    turned b e [] same rests rest is = subst Fine (sym same) is
-    turned b e (t ∷ all) chain rests rest is =
-        turned t.end.state e all chain.1 rests.1 rests.0 (all_reached (λ (out : Outcome Vms). Fine out.state) t.met (turn calling plan b t.event) t.end (turn_kept b t.event rest is) chain.0)
+    pub turned : (b e : Both Vms) (all : List (Turn Vms)) → plan.tcp ≡ [] → Turns calling plan b all e → ComeToRest all → is_rest (next_of b.room) ≡ true → Fine b → Fine e
+    turned b e [] http same rests rest is = subst Fine (sym same) is
+    turned b e (t ∷ all) http chain rests rest is =
+        let first = subst (λ (c : Course (Outcome Vms)). Reaches c t.met (ends t.end)) (turn_is calling plan b t.event http) chain.0 in
+        turned t.end.state e all http chain.1 rests.1 rests.0 (all_reached (λ (out : Outcome Vms). Fine out.state) t.met (turn calling plan b t.event) t.end (turn_kept b t.event rest is) first)
 
 -- ---- what it says
 
@@ -431,9 +447,9 @@ roots_stand_for_life starts logs change stay made config who seed all to walk =
     (first_sound config seed (rules_for config who seed) refl, made.placed config.vms)).0
 
 pub roots_stand_after_turns : StartsHaveRoots → WriteLogs calling → CallbacksChangeTheirOwn → PlacesStay → MadeVmsAreInPlace → RootsStandAfterTurns
-roots_stand_after_turns starts logs change stay made config who seed all to chain rests =
+roots_stand_after_turns starts logs change stay made config who seed all to http chain rests =
     roots_of (rules_for config who seed) to.room
-    (turned starts (rules_for config who seed) logs change stay (first_worker config who seed).state to all chain rests refl
+    (turned starts (rules_for config who seed) logs change stay (first_worker config who seed).state to all http chain rests refl
     (first_sound config seed (rules_for config who seed) refl, made.placed config.vms)).0
 
 pub filters_get_contexts : FiltersGetContexts → RootsStandForLife → FiltersGetContextsForLife

@@ -1,4 +1,4 @@
--- EVERY FILTER OF A ROUTE IS ASKED, and what fails closed lets nothing pass: over a worker's life, from the head of a request on.
+-- EVERY FILTER OF A ROUTE IS ASKED, and what fails closed lets nothing pass: over the life of a worker whose lines are HTTP, from the head of a request on.
 use Rattle.std.specs.Prelude.{◌≡◌, ◌⊎◌, ℕ, true, false, Contains, List, [], ◌∷◌, ◌++◌, slice_get, Some}
 use Rattle.contexts.specs.Creating.{next_id, plugin_in}
 use Rattle.exchange.specs.Heads.{path_of, route_in}

@@ -1,4 +1,4 @@
--- OVER A WORKER'S LIFE the head of a request waits for each stage of its exchange.
+-- OVER THE LIFE OF A WORKER whose lines are HTTP the head of a request waits for each stage of its exchange.
 use Rattle.std.specs.Prelude.{◌≡◌, ◌⊎◌, ℕ, true, Contains, List, [], ◌∷◌, ◌++◌, Some}
 use Rattle.exchange.specs.declared.types.Exchange.{Exchange}
 use Rattle.gate_config.specs.declared.config.Config.{Config}

@@ -1,4 +1,4 @@
--- THE ROOT CONTEXTS OF PLUG-INS, over the whole life of a worker.
+-- THE ROOT CONTEXTS OF PLUG-INS, over the whole life of a worker whose lines are HTTP.
 use Rattle.std.specs.Prelude.{◌≡◌, ◌⊎◌, ℕ, Bool, true, false, Contains, List, [], ◌∷◌, slice_get, Some}
 use Rattle.contexts.specs.Creating.{plugin_in}
 use Rattle.exchange.specs.declared.types.Filter.{Filter}
@@ -27,7 +27,7 @@ first_worker config who seed = new_worker exported_in registering_in config who 
 abbrev pub rules_for : Config → (who : ℕ) → (seed : List ℕ) → Plan
 rules_for config who seed = rules_of (first_worker config who seed).setting
 
--- The steps of its whole turns, one after the other, from its beginning to a state between two steps
+-- The steps of its whole turns, one after the other, from its beginning to a state between two steps, where its configuration has no streams of bytes (`turns_are_walks`)
 abbrev pub WalksTo : Config → (who : ℕ) → (seed : List ℕ) → List (Step Vms) → Both Vms → Type 0
 WalksTo config who seed steps to = Walk calling (rules_for config who seed) (first_worker config who seed).state steps to
 
@@ -52,10 +52,10 @@ abbrev pub ComeToRest : List (Turn Vms) → Type 0
 ComeToRest [] = Unit {0}
 ComeToRest (t ∷ turns) = (is_rest (next_of t.end.state.room) ≡ true) × ComeToRest turns
 
--- So it is after each whole turn, where each came to rest, as those of a worker's code do.
+-- So it is after each whole turn, where each came to rest, as those of a worker's code do. The configuration has no streams of bytes.
 abbrev pub RootsStandAfterTurns : Type 0
 RootsStandAfterTurns =
-    (config : Config) (who : ℕ) (seed : List ℕ) (turns : List (Turn Vms)) (to : Both Vms) → Turns calling (rules_for config who seed) (first_worker config who seed).state turns to → ComeToRest turns
+    (config : Config) (who : ℕ) (seed : List ℕ) (turns : List (Turn Vms)) (to : Both Vms) → config.tcp ≡ [] → Turns calling (rules_for config who seed) (first_worker config who seed).state turns to → ComeToRest turns
     → RootsStand (rules_for config who seed) to.room
 
 -- SO EACH FILTER GETS ITS CONTEXT: at each moment of a worker's life where a line is open, for each filter of a plug-in whose VM lives and has an id left, the step that

@@ -1,4 +1,5 @@
-// The functions call the laws that theirs rest on, and do nothing else: their contracts are the laws.
+// The laws are of workers whose lines are HTTP: whose configuration has no streams of bytes. The functions call the laws that theirs rest on, and do nothing else: their
+// contracts are the laws.
 ghost use Rattle.law_filters.specs.Every.{ClosedLetsNothingPass, EveryFilterIsAsked};
 ghost use Rattle.law_filters.specs.EveryExamples.{EveryExamples};
 ghost use Rattle.law_filters.specs.Examples.{HeadExamples};
@@ -10,7 +11,7 @@ use law_lines::machines_write_logs;
 use law_roots::roots_stand;
 use law_vms::{callbacks_change_their_own, made_vms_are_in_place};
 
-/// Over the whole life of a worker, step by step: the VM of each plug-in is dead, or the plug-in's root context stands, or it is to come; and where one is to
+/// Over the whole life of a worker of HTTP, step by step: the VM of each plug-in is dead, or the plug-in's root context stands, or it is to come; and where one is to
 /// come no line is open. So it is after each whole turn, where turns come to rest.
 pub fn roots_stand_for_life()
     ensures steps { RootsStandForLife }
@@ -39,7 +40,7 @@ pub fn heads_wait()
     ensures stays { AllHeadsWait }
 {}
 
-/// Over the whole life of a worker: from any state where the head of a request waits for a stage of its exchange, by any steps up to one that opens a connection
+/// Over the whole life of a worker of HTTP: from any state where the head of a request waits for a stage of its exchange, by any steps up to one that opens a connection
 /// for the line, one of them asked the stage the head, or the stage's VM died. That a request comes to such a state is said by `every_filter_is_asked`.
 pub fn stages_are_asked_first()
     ensures { StagesAreAskedFirst }
@@ -55,7 +56,7 @@ pub fn worked_heads()
     ensures { HeadExamples }
 {}
 
-/// Every filter is asked. Over the whole life of a worker, from the step that reads the head of a request on a line to one that opens the connection to its server: each
+/// Every filter is asked. Over the whole life of a worker of HTTP, from the step that reads the head of a request on a line to one that opens the connection to its server: each
 /// plug-in of the route that takes the request was asked the head before, with a context of its own that was made for this exchange. Only a plug-in that fails
 /// open, and whose VM died, was passed over.
 pub fn every_filter_is_asked()
@@ -67,7 +68,7 @@ pub fn every_filter_is_asked()
     roots_stand();
 }
 
-/// What fails closed lets nothing pass. From the step that reads the head of a request on: once the VM of a plug-in of its route is dead that fails closed, no later step
+/// What fails closed lets nothing pass on lines of HTTP. From the step that reads the head of a request on: once the VM of a plug-in of its route is dead that fails closed, no later step
 /// opens a connection to the server for it, and after each of them the exchange has ended, was answered, or is refused with 503 before any filter sees it.
 pub fn closed_lets_nothing_pass()
     ensures { ClosedLetsNothingPass }

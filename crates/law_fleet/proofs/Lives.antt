@@ -9,7 +9,7 @@ use Rattle.gate_io.specs.declared.passed.Passed.{Passed}
 use Rattle.shared_seats.specs.Moving.{SeatsGoOn}
 use Rattle.shared_seats.specs.Seats.{SeatsOf}
 use Rattle.worker_model.specs.State.{Standing}
-use Rattle.worker_model.specs.Turned.{Turned}
+use Rattle.streams_model.specs.Turned.{Turned}
 use Rattle.worker_model.specs.declared.types.Turn.TheVariants.{OutOfMemory}
 use Rattle.law_fleet.specs.Lives.{EarlyLivesTookEvents, HasEvent}
 

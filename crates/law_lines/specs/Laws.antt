@@ -1,4 +1,4 @@
--- What holds of every line, over all turns of a worker.
+-- What holds of every line, over all turns of a worker whose lines are HTTP.
 use Rattle.std.specs.Prelude.{◌≡◌, ℕ, Bool, false, ◌++◌, List, [], Some}
 use Rattle.callouts.specs.Callouts.{is_call_line}
 use Rattle.filter_host.specs.Called.{Calling}
@@ -36,16 +36,16 @@ RequestsGoUpOneByOne H =
     → Turns calling plan (both host (new_room contexts)) turns to → GoesUpBy plan n to.room (exchange_on n to.room) (up_traffic n (sent_in turns))
 
 -- THE SAME OF A WORKER AND ITS CODE: from a worker that was made of a configuration, as `Worker::new` makes it, by whole turns as its code takes them, over
--- shared stores of any kind.
+-- shared stores of any kind. The configuration has no streams of bytes.
 abbrev pub WorkersGoUpOneByOne : (H S : Type 0) → (performs : S → List Made → S → Type 0) → Type 0
 WorkersGoUpOneByOne H S performs =
     (calling : Calling H) (exported : H → ℕ → Callback → Bool) (registering : H → ℕ → Bool) (config : Config) (who : ℕ) (seed : List ℕ) (host : H)
-    (sent : List Sent) (to : Standing H) (n : ℕ) → is_call_line n ≡ false → WriteLogs calling → Worked calling performs (new_worker exported registering config who seed host) sent to
+    (sent : List Sent) (to : Standing H) (n : ℕ) → config.tcp ≡ [] → is_call_line n ≡ false → WriteLogs calling → Worked calling performs (new_worker exported registering config who seed host) sent to
     → GoesUpBy (rules_of to.setting) n to.state.room (exchange_on n to.state.room) (up_traffic n sent)
 
 -- THE SAME OF THE PRODUCT: with the machines of its VMs, whatever these are.
 abbrev pub RequestsOfTheProductGoUp : (S : Type 0) → (performs : S → List Made → S → Type 0) → Type 0
 RequestsOfTheProductGoUp S performs =
-    (config : Config) (who : ℕ) (seed : List ℕ) (host : Vms) (sent : List Sent) (to : Standing Vms) (n : ℕ) → is_call_line n ≡ false
+    (config : Config) (who : ℕ) (seed : List ℕ) (host : Vms) (sent : List Sent) (to : Standing Vms) (n : ℕ) → config.tcp ≡ [] → is_call_line n ≡ false
     → Worked slots.calling performs (new_worker slots.exported_in slots.registering_in config who seed host) sent to
     → GoesUpBy (rules_of to.setting) n to.state.room (exchange_on n to.state.room) (up_traffic n sent)

@@ -1,4 +1,4 @@
--- Turns of a worker, one after the other.
+-- Turns of a worker whose lines are HTTP, one after the other.
 use Rattle.std.specs.Prelude.{◌≡◌, ℕ, Bool, false, List, [], ◌∷◌, ◌++◌, Option, None}
 use Rattle.filter_host.specs.Called.{Calling}
 use Rattle.std.specs.List.{flat_map}
@@ -14,8 +14,8 @@ use Rattle.store_model.specs.Made.{Made}
 use Rattle.worker_model.specs.State.{Standing}
 use Rattle.worker_model.specs.Steps.{Both}
 use Rattle.worker_model.specs.Turn.{Outcome, turn}
-use Rattle.worker_model.specs.Turned.{Whole}
 use Rattle.worker_model.specs.Room.{Room}
+use Rattle.streams_model.specs.Turned.{Whole}
 
 -- what a worker begins with, whatever its contexts: no line is open, and nothing is in hand
 abbrev pub new_room : Contexts → Room

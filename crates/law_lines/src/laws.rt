@@ -33,7 +33,7 @@ pub fn requests_go_up_one_by_one<H>()
     ensures { RequestsGoUpOneByOne H }
 {}
 
-/// So it is of a worker that was made of a configuration, as `Worker::new` makes it, by the whole turns that its code takes, over shared stores.
+/// So it is of a worker that was made of a configuration without streams of bytes, as `Worker::new` makes it, by the whole turns that its code takes, over shared stores.
 pub fn workers_go_up_one_by_one<H, S: Shared>()
     ensures { WorkersGoUpOneByOne H S S.performs }
 {}

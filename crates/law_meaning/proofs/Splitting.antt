@@ -7,7 +7,8 @@ use Rattle.gate_io.specs.declared.event.Event.{Event}
 use Rattle.send_queue.specs.Turns.{OneTurn}
 use Rattle.worker_model.specs.Plan.{Plan}
 use Rattle.worker_model.specs.Steps.{Both}
-use Rattle.worker_model.specs.Turn.{Outcome, turn}
+use Rattle.worker_model.specs.Turn.{Outcome}
+use Rattle.streams_model.specs.Turn.{turn}
 use Rattle.worker_model.specs.Turned.{one_turn}
 use Rattle.worker_meaning.specs.Meaning.{Run, first_turn, means, run}
 use Rattle.law_meaning.specs.Turns.{MeaningsAreTurns, Turns, TurnsOf}

@@ -11,7 +11,8 @@ use Rattle.worker_model.specs.Plan.{Plan}
 use Rattle.worker_model.specs.Rooms.{next_of}
 use Rattle.worker_model.specs.Settling.{is_rest, settling, settling_none, settling_rest, settling_step}
 use Rattle.worker_model.specs.Steps.{Both, both, step}
-use Rattle.worker_model.specs.Turn.{Outcome, outcome_of, room_for_event, most_steps, turn, turn_by}
+use Rattle.worker_model.specs.Turn.{Outcome, outcome_of, room_for_event, most_steps, turn_by}
+use Rattle.streams_model.proofs.Http.{turn_is}
 use Rattle.worker_model.specs.Room.{Room}
 use Rattle.law_meaning.proofs.Splitting.{none_more, split}
 use Rattle.law_meaning.specs.Walks.{Step, TurnsAreWalks, Walk, WalkOf, stays, steps}
@@ -57,4 +58,5 @@ module _ {H : Type 0} (calling : Calling H) (plan : Plan) where
       }
 
 pub turns_are_walks : (H : Type 0) → TurnsAreWalks H
-turns_are_walks H calling plan from event met end goes h = walked calling plan (is_stop event.what) from event met end goes h
+turns_are_walks H calling plan from event met end http goes h =
+    walked calling plan (is_stop event.what) from event met end goes (subst (λ (c : Course (Outcome H)). Reaches c met (ends end)) (turn_is calling plan from event http) h)

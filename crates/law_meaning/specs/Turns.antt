@@ -6,7 +6,8 @@ use Rattle.filter_host.specs.Course.{ends, Met, Reaches}
 use Rattle.gate_io.specs.declared.event.Event.{Event}
 use Rattle.worker_model.specs.Plan.{Plan}
 use Rattle.worker_model.specs.Steps.{Both}
-use Rattle.worker_model.specs.Turn.{Outcome, turn}
+use Rattle.worker_model.specs.Turn.{Outcome}
+use Rattle.streams_model.specs.Turn.{turn}
 use Rattle.worker_model.specs.Turned.{one_turn}
 use Rattle.worker_meaning.specs.Meaning.{Run, means}
 

@@ -1,4 +1,4 @@
--- WALKS: the steps of turns, one after the other, as a list. A law on callbacks speaks of these steps.
+-- WALKS: the steps of turns of a worker whose lines are HTTP, one after the other, as a list. A law on callbacks speaks of these steps.
 use Rattle.std.specs.Prelude.{◌≡◌, true, false, List, [], ◌∷◌, ◌++◌, Option, None}
 use Rattle.filter_host.specs.Called.{Calling}
 use Rattle.filter_host.specs.Course.{ends, Met, Reaches}
@@ -13,7 +13,8 @@ use Rattle.worker_model.specs.Plan.{Plan}
 use Rattle.worker_model.specs.Rooms.{next_of}
 use Rattle.worker_model.specs.Settling.{is_rest}
 use Rattle.worker_model.specs.Steps.{Both, both, step}
-use Rattle.worker_model.specs.Turn.{Outcome, outcome_of, without_sent, room_for_event, turn}
+use Rattle.worker_model.specs.Turn.{Outcome, outcome_of, without_sent, room_for_event}
+use Rattle.streams_model.specs.Turn.{turn}
 use Rattle.worker_model.specs.Room.{Room}
 use Rattle.worker_model.specs.declared.types.Asked.{Asked}
 use Rattle.worker_model.specs.declared.types.Next.{Next}
@@ -73,8 +74,8 @@ pub record WalkOf {H : Type 0} (calling : Calling H) (plan : Plan) (from : Both 
   pub met_is : flat_map (λ (s : Step H). s.met) walk ≡ met
   pub end_is : end ≡ outcome_of to
 
--- EACH TURN BUT THAT OF STOP IS A WALK, wherever it begins, and whatever the stores reply.
+-- EACH TURN BUT THAT OF STOP IS A WALK, by a plan without streams of bytes, wherever it begins, and whatever the stores reply.
 abbrev pub TurnsAreWalks : (H : Type 0) → Type 0
 TurnsAreWalks H =
-    (calling : Calling H) (plan : Plan) (from : Both H) (event : Event) (met : List Met) (end : Outcome H) → is_stop event.what ≡ false → Reaches (turn calling plan from event) met (ends end)
+    (calling : Calling H) (plan : Plan) (from : Both H) (event : Event) (met : List Met) (end : Outcome H) → plan.tcp ≡ [] → is_stop event.what ≡ false → Reaches (turn calling plan from event) met (ends end)
     → WalkOf calling plan from event met end

@@ -8,7 +8,7 @@ pub fn meanings_are_turns<H>()
     ensures { MeaningsAreTurns H }
 {}
 
-/// A turn other than that of Stop is a walk: steps, each the one that is next in the state before it, which meet what the turn meets and lead to where it comes.
+/// A turn other than that of Stop, by a plan without streams of bytes, is a walk: steps, each the one that is next in the state before it, which meet what the turn meets and lead to where it comes.
 pub fn turns_are_walks<H>()
     ensures { TurnsAreWalks H }
 {}

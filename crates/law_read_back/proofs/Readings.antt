@@ -137,9 +137,9 @@ requests_are_read H calling plan contexts host turns to n low logs turned =
     read_by plan n to.room (exchange_on n to.room) _ (all_go_up_one_by_one H calling plan contexts host turns to n low logs turned)
 
 pub requests_of_workers_are_read : (H S : Type 0) (performs : S → List Made → S → Type 0) → RequestsOfWorkersAreReadAsOne H S performs
-requests_of_workers_are_read H S performs calling exported registering config who seed host sent to n low logs worked =
-    read_by _ n to.state.room (exchange_on n to.state.room) _ (workers_go_up H S performs calling exported registering config who seed host sent to n low logs worked)
+requests_of_workers_are_read H S performs calling exported registering config who seed host sent to n http low logs worked =
+    read_by _ n to.state.room (exchange_on n to.state.room) _ (workers_go_up H S performs calling exported registering config who seed host sent to n http low logs worked)
 
 pub requests_of_the_product_are_read : (S : Type 0) (performs : S → List Made → S → Type 0) → RequestsOfTheProductAreReadAsOne S performs
-requests_of_the_product_are_read S performs config who seed host sent to n low worked =
-    read_by _ n to.state.room (exchange_on n to.state.room) _ (requests_of_the_product_go_up S performs config who seed host sent to n low worked)
+requests_of_the_product_are_read S performs config who seed host sent to n http low worked =
+    read_by _ n to.state.room (exchange_on n to.state.room) _ (requests_of_the_product_go_up S performs config who seed host sent to n http low worked)

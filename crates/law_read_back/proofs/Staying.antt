@@ -741,13 +741,13 @@ plugins_lists h [] are = are
 plugins_lists h (p ∷ plugins) are = plugins_lists (with_plugin p.vm p.name p.configuration h) plugins are
 
 pub maps_of_workers : (H S : Type 0) (performs : S → List Made → S → Type 0) → MapsOfWorkersStayLists H S performs
-maps_of_workers H S performs calling exported registering config who seed host sent to n low logs keeps worked =
+maps_of_workers H S performs calling exported registering config who seed host sent to n http low logs keeps worked =
     let from : Standing H = new_worker exported registering config who seed host in
-    let r : Run calling from sent to = worked_run calling performs from to sent worked in
+    let r : Run calling from sent to = worked_run calling performs from to sent http worked in
     subst (KeptLists n to.state.room.hub.contexts) r.sends
     (maps_stay_lists H calling (rules_of from.setting) (contexts_of config seed) host r.turns to.state n low logs keeps
     (plugins_lists (with_vms (no_contexts config.log_level seed) config.vms) config.plugins (vms_lists (no_contexts config.log_level seed) config.vms (none_lists config.log_level seed))) r.run)
 
 pub maps_of_the_product : (S : Type 0) (performs : S → List Made → S → Type 0) → MapsOfTheProductStayLists S performs
-maps_of_the_product S performs config who seed host sent to n low worked =
-    maps_of_workers Vms S performs slots.calling slots.exported_in slots.registering_in config who seed host sent to n low machines_write_logs machines_keep_lists worked
+maps_of_the_product S performs config who seed host sent to n http low worked =
+    maps_of_workers Vms S performs slots.calling slots.exported_in slots.registering_in config who seed host sent to n http low machines_write_logs machines_keep_lists worked

@@ -1,5 +1,5 @@
 -- Over all turns of a worker, how what goes up on a connection is read.
-use Rattle.std.specs.Prelude.{◌≡◌, ℕ, Bool, false, List}
+use Rattle.std.specs.Prelude.{◌≡◌, ℕ, Bool, false, List, []}
 use Rattle.callouts.specs.Callouts.{is_call_line}
 use Rattle.contexts.specs.declared.parts.Contexts.{Contexts}
 use Rattle.filter_host.specs.Called.{Calling}
@@ -26,16 +26,16 @@ RequestsAreReadAsOne H =
     (calling : Calling H) (plan : Plan) (contexts : Contexts) (host : H) (turns : List (Done H)) (to : Both H) (n : ℕ) → is_call_line n ≡ false → WriteLogs calling
     → Turns calling plan (both host (new_room contexts)) turns to → ReadBy plan n to.room (exchange_on n to.room) (up_traffic n (sent_in turns))
 
--- the same of a worker that was made of a configuration, by the whole turns that its code takes, over shared stores of any kind
+-- the same of a worker that was made of a configuration without streams of bytes, by the whole turns that its code takes, over shared stores of any kind
 abbrev pub RequestsOfWorkersAreReadAsOne : (H S : Type 0) → (performs : S → List Made → S → Type 0) → Type 0
 RequestsOfWorkersAreReadAsOne H S performs =
     (calling : Calling H) (exported : H → ℕ → Callback → Bool) (registering : H → ℕ → Bool) (config : Config) (who : ℕ) (seed : List ℕ) (host : H)
-    (sent : List Sent) (to : Standing H) (n : ℕ) → is_call_line n ≡ false → WriteLogs calling → Worked calling performs (new_worker exported registering config who seed host) sent to
+    (sent : List Sent) (to : Standing H) (n : ℕ) → config.tcp ≡ [] → is_call_line n ≡ false → WriteLogs calling → Worked calling performs (new_worker exported registering config who seed host) sent to
     → ReadBy (rules_of to.setting) n to.state.room (exchange_on n to.state.room) (up_traffic n sent)
 
 -- and with the machines of its VMs, whatever these are
 abbrev pub RequestsOfTheProductAreReadAsOne : (S : Type 0) → (performs : S → List Made → S → Type 0) → Type 0
 RequestsOfTheProductAreReadAsOne S performs =
-    (config : Config) (who : ℕ) (seed : List ℕ) (host : Vms) (sent : List Sent) (to : Standing Vms) (n : ℕ) → is_call_line n ≡ false
+    (config : Config) (who : ℕ) (seed : List ℕ) (host : Vms) (sent : List Sent) (to : Standing Vms) (n : ℕ) → config.tcp ≡ [] → is_call_line n ≡ false
     → Worked slots.calling performs (new_worker slots.exported_in slots.registering_in config who seed host) sent to
     → ReadBy (rules_of to.setting) n to.state.room (exchange_on n to.state.room) (up_traffic n sent)

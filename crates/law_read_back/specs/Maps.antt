@@ -123,17 +123,17 @@ MapsStayLists H =
     (calling : Calling H) (plan : Plan) (contexts : Contexts) (host : H) (turns : List (Done H)) (to : Both H) (n : ℕ) → is_call_line n ≡ false → WriteLogs calling → KeepLists calling → AreLists contexts
     → Turns calling plan (both host (new_room contexts)) turns to → KeptLists n to.room.hub.contexts (sent_in turns)
 
--- the same of a worker that was made of a configuration, by the whole turns that its code takes, over shared stores of any kind
+-- the same of a worker that was made of a configuration without streams of bytes, by the whole turns that its code takes, over shared stores of any kind
 abbrev pub MapsOfWorkersStayLists : (H S : Type 0) → (performs : S → List Made → S → Type 0) → Type 0
 MapsOfWorkersStayLists H S performs =
     (calling : Calling H) (exported : H → ℕ → Callback → Bool) (registering : H → ℕ → Bool) (config : Config) (who : ℕ) (seed : List ℕ) (host : H)
-    (sent : List Sent) (to : Standing H) (n : ℕ) → is_call_line n ≡ false → WriteLogs calling → KeepLists calling → Worked calling performs (new_worker exported registering config who seed host) sent to
+    (sent : List Sent) (to : Standing H) (n : ℕ) → config.tcp ≡ [] → is_call_line n ≡ false → WriteLogs calling → KeepLists calling → Worked calling performs (new_worker exported registering config who seed host) sent to
     → KeptLists n to.state.room.hub.contexts sent
 
 -- and with the machines of its VMs, whatever these are
 abbrev pub MapsOfTheProductStayLists : (S : Type 0) → (performs : S → List Made → S → Type 0) → Type 0
 MapsOfTheProductStayLists S performs =
-    (config : Config) (who : ℕ) (seed : List ℕ) (host : Vms) (sent : List Sent) (to : Standing Vms) (n : ℕ) → is_call_line n ≡ false
+    (config : Config) (who : ℕ) (seed : List ℕ) (host : Vms) (sent : List Sent) (to : Standing Vms) (n : ℕ) → config.tcp ≡ [] → is_call_line n ≡ false
     → Worked slots.calling performs (new_worker slots.exported_in slots.registering_in config who seed host) sent to
     → KeptLists n to.state.room.hub.contexts sent
 

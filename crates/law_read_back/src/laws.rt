@@ -28,7 +28,7 @@ pub fn requests_are_read_as_one<H>()
     ensures { RequestsAreReadAsOne H }
 {}
 
-/// So it is of a worker that was made of a configuration, as `Worker::new` makes it, by the whole turns that its code takes, over shared stores.
+/// So it is of a worker that was made of a configuration without streams of bytes, as `Worker::new` makes it, by the whole turns that its code takes, over shared stores.
 pub fn requests_of_workers_are_read_as_one<H, S: Shared>()
     ensures { RequestsOfWorkersAreReadAsOne H S S.performs }
 {}
@@ -77,7 +77,7 @@ pub fn maps_stay_lists<H>()
     ensures { MapsStayLists H }
 {}
 
-/// So it is of a worker that was made of a configuration, as `Worker::new` makes it, by the whole turns that its code takes, over shared stores.
+/// So it is of a worker that was made of a configuration without streams of bytes, as `Worker::new` makes it, by the whole turns that its code takes, over shared stores.
 pub fn maps_of_workers_stay_lists<H, S: Shared>()
     ensures { MapsOfWorkersStayLists H S S.performs }
 {}

@@ -1,4 +1,4 @@
--- WHOLE TURNS OF A WORKER as its code takes them, over shared stores of any kind.
+-- WHOLE TURNS OF A WORKER as its code takes them, over shared stores of any kind. The laws are of configurations without streams of bytes.
 use Rattle.std.specs.Prelude.{◌≡◌, ℕ, Bool, true, List, [], ◌∷◌, Contains, Option, Some}
 use Rattle.filter_host.specs.Called.{Calling}
 use Rattle.filter_host.specs.declared.host.Callback.{Callback}
@@ -10,7 +10,8 @@ use Rattle.worker_model.specs.Making.{new_worker}
 use Rattle.worker_model.specs.State.{Standing}
 use Rattle.worker_model.specs.Steps.{line_in, exchange_reading}
 use Rattle.worker_model.specs.Turn.{outcome}
-use Rattle.worker_model.specs.Turned.{worker_wants, Heard, Whole}
+use Rattle.worker_model.specs.Turned.{Heard}
+use Rattle.streams_model.specs.Turned.{worker_wants, Whole}
 use Rattle.worker_model.specs.declared.types.Line.{Line}
 use Rattle.law_reading.specs.Laws.{HasRead}
 use Rattle.law_reading.specs.Limits.{IsShort}
@@ -31,7 +32,7 @@ module _ {H S : Type 0} (calling : Calling H) (performs : S → List Made → S 
 abbrev pub WorkersReadWhatCame : (H S : Type 0) → (performs : S → List Made → S → Type 0) → Type 0
 WorkersReadWhatCame H S performs =
     (calling : Calling H) (exported : H → ℕ → Callback → Bool) (registering : H → ℕ → Bool) (config : Config) (who : ℕ) (seed : List ℕ) (host : H)
-    (turns : List (OneTurn H)) (to : Standing H) (n : ℕ) (l : Line)
+    (turns : List (OneTurn H)) (to : Standing H) (n : ℕ) (l : Line) → config.tcp ≡ []
     → Worked calling performs (new_worker exported registering config who seed host) turns to
     → line_in n to.state.room.lines ≡ Some l → HasRead n turns l.requests
 
@@ -47,6 +48,6 @@ module _ {H S : Type 0} (calling : Calling H) (performs : S → List Made → S 
 abbrev pub WorkersLeaveLittleUnread : (H S : Type 0) → (performs : S → List Made → S → Type 0) → Type 0
 WorkersLeaveLittleUnread H S performs =
     (calling : Calling H) (exported : H → ℕ → Callback → Bool) (registering : H → ℕ → Bool) (config : Config) (who : ℕ) (seed : List ℕ) (host : H)
-    (turns : List (OneTurn H)) (to : Standing H) (l : Line)
+    (turns : List (OneTurn H)) (to : Standing H) (l : Line) → config.tcp ≡ []
     → Obeyed calling performs (new_worker exported registering config who seed host) turns to
     → Contains to.state.room.lines l → IsShort (Some l.requests) × IsShort (exchange_reading l.exchange)

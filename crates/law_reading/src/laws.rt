@@ -17,8 +17,8 @@ pub fn lines_read_what_came<H>()
     ensures { LinesReadWhatCame H }
 {}
 
-/// So it is of a worker that was made of a configuration, as `Worker::new` makes it, by the whole turns that its code takes, over shared stores: each of them
-/// comes to rest.
+/// So it is of a worker that was made of a configuration without streams of bytes, as `Worker::new` makes it, by the whole turns that its code takes, over shared
+/// stores: each of them comes to rest.
 pub fn workers_read_what_came<H, S: Shared>()
     ensures { WorkersReadWhatCame H S S.performs }
 {}
@@ -66,7 +66,7 @@ pub fn unread_stays_short<H>()
     ensures { UnreadStaysShort H }
 {}
 
-/// So it is of a worker that was made of a configuration by the whole turns that its code takes, where its world keeps to what it is asked for, as each
+/// So it is of a worker that was made of a configuration without streams of bytes, by the whole turns that its code takes, where its world keeps to what it is asked for, as each
 /// world over sockets does: `Worker::turn` says of which event each turn was, and that it was heard so (`heard`).
 pub fn workers_leave_little_unread<H, S: Shared>()
     ensures { WorkersLeaveLittleUnread H S S.performs }

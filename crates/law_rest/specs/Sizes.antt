@@ -20,7 +20,7 @@ use Rattle.worker_model.specs.Settling.{settling}
 use Rattle.worker_model.specs.State.{Setting, Standing, rules_of}
 use Rattle.worker_model.specs.Steps.{Both, both}
 use Rattle.worker_model.specs.Turn.{Outcome, turn, room_for_event, most_steps, vms_in}
-use Rattle.worker_model.specs.Turned.{Whole}
+use Rattle.streams_model.specs.Turned.{Whole}
 use Rattle.law_rest.specs.Laws.{IsAtRest}
 use Rattle.law_rest.specs.Left.{work_left, bytes_of, calls_left, AllFit}
 
@@ -104,9 +104,9 @@ pub record WorkersComeToRest (H : Type 0) : Type 0 where
 
 -- ---- the code
 
--- So a worker that its code made is ready, and so it is after each whole turn of the code.
+-- So a worker that its code made is ready, and so it is after each whole turn of the code, where the configuration has no streams of bytes.
 pub record WholeTurnsComeToRest {S : Type 0} (H : Type 0) (performs : S → List Made → S → Type 0) : Type 0 where
   pub made : (exported : H → ℕ → Callback → Bool) (registering : H → ℕ → Bool) (config : Config) (who : ℕ) (seed : List ℕ) (host : H)
       → IsReady (new_worker exported registering config who seed host).state
-  pub whole : (calling : Calling H) (stop : Bool) (s t : S) (old new : Option (List Passed)) (from to : Standing H)
+  pub whole : (calling : Calling H) (stop : Bool) (s t : S) (old new : Option (List Passed)) (from to : Standing H) → from.setting.config.tcp ≡ []
       → Whole calling performs stop s old from to t new → IsReady from.state → IsReady to.state

@@ -56,13 +56,13 @@ pub fn workers_come_to_rest<H>()
     ensures { WorkersComeToRest H }
 {}
 
-/// A worker that its code made is at rest, and so it is after each whole turn of the code.
+/// A worker that its code made is at rest, and so it is after each whole turn of the code, where its configuration has no streams of bytes.
 pub fn whole_turns_come_to_rest<H, S: Shared>()
     ensures { WholeTurnsComeToRest H S.performs }
 {}
 
 /// All turns of a worker, one after the other, take no more steps than their events bring: 248 for each byte that comes, and for each event 2
-/// for each VM, context and callout, and 921; and at the first one 64 for each plug-in, and 32.
+/// for each VM, context and callout, and 921; and at the first one 66 for each plug-in, and 32.
 pub fn lives_are_paid<H>()
     ensures { LivesArePaid H }
 {}

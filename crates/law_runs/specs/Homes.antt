@@ -1,4 +1,4 @@
--- AT HOME over a worker's whole life: there are contexts for each of its machines, and a machine for each VM that has contexts.
+-- AT HOME over the whole life of a worker whose lines are HTTP: there are contexts for each of its machines, and a machine for each VM that has contexts.
 use Rattle.std.specs.Prelude.{◌≡◌, ℕ, true, false, List, length, is_some}
 use Rattle.contexts.specs.declared.parts.Contexts.{Contexts}
 use Rattle.filter_host.specs.declared.host.Callback.{Callback}

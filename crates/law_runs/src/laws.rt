@@ -50,7 +50,7 @@ pub fn vms_are_made_with_machines()
     ensures worked { MadeExample }
 {}
 
-/// Over the whole life of a worker that was made of a configuration, each callback of a VM that was made with its machine (`vms_are_made_with_machines`)
+/// Over the whole life of a worker that was made of a configuration without streams of bytes, each callback of a VM that was made with its machine (`vms_are_made_with_machines`)
 /// and that is not held for dead is run, and where the module exports it, of the function that it exports.
 pub fn runs_over_lives()
     ensures { RunsOverLives }
@@ -98,7 +98,7 @@ pub fn gone_end_next<H>()
 {}
 
 /// A VM whose entry of the configuration holds the code of its module is made with the program of that module, whose imports stand for the host calls that it names, and with as many pages and as much fuel
-/// as the entry tells, and has these for its worker's whole life. Each callback of it, and its start function and then `_initialize` or else `_start` where it begins, is a run of one function with the whole
+/// as the entry tells, and has these for its worker's whole life, where its lines are HTTP. Each callback of it, and its start function and then `_initialize` or else `_start` where it begins, is a run of one function with the whole
 /// of that fuel, of its own, and no more. Worked are modules whose start function or `_initialize` has too little, and one that asks for more pages than its entry tells.
 pub fn runs_have_their_fuel()
     ensures runs { RunsHaveTheirFuel }

@@ -2,7 +2,7 @@
 use Rattle.std.proofs.Common.{◌≡◌, true, false, List, [], ◌∷◌, ◌++◌, map, codes, refl}
 use Rattle.std.specs.Fmt.{digits}
 use Rattle.filter_host.specs.Course.{Course}
-use Rattle.filter_host.specs.declared.host.Callback.TheVariants.{CallAnswered, Tick, DownstreamData, UpstreamData}
+use Rattle.filter_host.specs.declared.host.Callback.TheVariants.{CallAnswered, ContextCreate, Tick, DownstreamData, UpstreamData}
 use Rattle.gate_io.specs.declared.event.Sent.TheVariants as sent
 use Rattle.gate_io.specs.declared.event.Side.TheVariants.{Down, Up}
 use Rattle.gate_io.specs.declared.event.What.TheVariants as whats
@@ -16,7 +16,7 @@ use Rattle.httparse.proofs.OnLiterals.{httparse_on_literals}
 use Rattle.httpdate.proofs.OnLiterals.{httpdate_on_literals}
 use Rattle.law_callouts.specs.Calls.{first_out, first_closed}
 use Rattle.law_turns.specs.Tables.{Call, call}
-use Rattle.law_streams.specs.Streams.{one, two, starts_with, turn_by, turn_of_two, silent_turn, pauses, holds, calls_first, closes, traps, death_log, first_calls, last_calls, last_calls_down, first_calls_of_two, last_calls_of_two, StreamExamples, StreamWants}
+use Rattle.law_streams.specs.Streams.{one, two, starts_with, turn_by, turn_of_two, silent_turn, pauses, holds, calls_first, closes, traps, traps_first, goes_on_and_pauses, crowded_turn, lines_up_to, death_log, first_calls, last_calls, last_calls_down, first_calls_of_two, last_calls_of_two, StreamExamples, StreamWants}
 
 abbrev connects_turn : Course (Outcome (List Call))
 connects_turn = silent_turn (starts_with (one false)) 0 (whats.Opened 1)
@@ -348,6 +348,28 @@ gone_before_lines : map (λ (x : TcpLine). x.number) gone_before_end.state.room.
 unfolding settling digits
 gone_before_lines = refl
 
+abbrev answer_decides_turn : Course (Outcome (List Call))
+answer_decides_turn = turn_by goes_on_and_pauses false (starts_with (one false)) 0 (whats.Opened 1)
+
+abbrev answer_decides_end : Outcome (List Call)
+answer_decides_end = end_by [] answer_decides_turn
+
+answer_decides_there : ends_there [] answer_decides_turn ≡ true
+unfolding settling digits
+answer_decides_there = refl
+
+answer_decides_told : answer_decides_end.state.host ≡ first_calls
+unfolding settling digits
+answer_decides_told = refl
+
+answer_decides_sent : answer_decides_end.sent ≡ []
+unfolding settling digits
+answer_decides_sent = refl
+
+answer_decides_lines : map (λ (x : TcpLine). x.number) answer_decides_end.state.room.tcp ≡ 1 ∷ []
+unfolding settling digits
+answer_decides_lines = refl
+
 abbrev holds_new_turn : Course (Outcome (List Call))
 holds_new_turn = turn_by holds false (starts_with (one false)) 0 (whats.Opened 1)
 
@@ -479,6 +501,72 @@ closed_at_once_sent = refl
 closed_at_once_lines : map (λ (x : TcpLine). x.number) closed_at_once_end.state.room.tcp ≡ []
 unfolding settling digits
 closed_at_once_lines = refl
+
+abbrev dies_at_making_turn : Course (Outcome (List Call))
+dies_at_making_turn = turn_by traps_first false (starts_with (one false)) 0 (whats.Opened 1)
+
+abbrev dies_at_making_end : Outcome (List Call)
+dies_at_making_end = end_by [] dies_at_making_turn
+
+dies_at_making_there : ends_there [] dies_at_making_turn ≡ true
+unfolding settling digits
+dies_at_making_there = refl
+
+dies_at_making_told : dies_at_making_end.state.host ≡ call ContextCreate 2 1 0 ∷ []
+unfolding settling digits
+dies_at_making_told = refl
+
+dies_at_making_sent : dies_at_making_end.sent ≡ death_log ++ sent.Close 1 Down ∷ []
+unfolding settling digits
+dies_at_making_sent = refl
+
+dies_at_making_lines : map (λ (x : TcpLine). x.number) dies_at_making_end.state.room.tcp ≡ []
+unfolding settling digits
+dies_at_making_lines = refl
+
+abbrev takes_128_turn : Course (Outcome (List Call))
+takes_128_turn = crowded_turn 127 (whats.Opened 128)
+
+abbrev takes_128_end : Outcome (List Call)
+takes_128_end = end_by [] takes_128_turn
+
+takes_128_there : ends_there [] takes_128_turn ≡ true
+unfolding settling digits
+takes_128_there = refl
+
+takes_128_told : takes_128_end.state.host ≡ []
+unfolding settling digits
+takes_128_told = refl
+
+takes_128_sent : takes_128_end.sent ≡ sent.Connect 128 ∷ []
+unfolding settling digits
+takes_128_sent = refl
+
+takes_128_lines : map (λ (x : TcpLine). x.number) takes_128_end.state.room.tcp ≡ map (λ (x : TcpLine). x.number) (lines_up_to 128)
+unfolding settling digits
+takes_128_lines = refl
+
+abbrev closes_129_turn : Course (Outcome (List Call))
+closes_129_turn = crowded_turn 128 (whats.Opened 129)
+
+abbrev closes_129_end : Outcome (List Call)
+closes_129_end = end_by [] closes_129_turn
+
+closes_129_there : ends_there [] closes_129_turn ≡ true
+unfolding settling digits
+closes_129_there = refl
+
+closes_129_told : closes_129_end.state.host ≡ []
+unfolding settling digits
+closes_129_told = refl
+
+closes_129_sent : closes_129_end.sent ≡ sent.Close 129 Down ∷ []
+unfolding settling digits
+closes_129_sent = refl
+
+closes_129_lines : map (λ (x : TcpLine). x.number) closes_129_end.state.room.tcp ≡ map (λ (x : TcpLine). x.number) (lines_up_to 128)
+unfolding settling digits
+closes_129_lines = refl
 
 abbrev opens_open_turn : Course (Outcome (List Call))
 opens_open_turn = turn_by [] true (starts_with (one true)) 0 (whats.Opened 1)
@@ -673,12 +761,16 @@ stream_examples = record {
   nothing_up_yet = record { end = nothing_up_yet_end; reaches = reaches_by [] nothing_up_yet_turn nothing_up_yet_there tt; called = nothing_up_yet_told; hands_over = nothing_up_yet_sent; leaves = nothing_up_yet_lines };
   tick_lets_go = record { end = tick_lets_go_end; reaches = reaches_by [] tick_lets_go_turn tick_lets_go_there tt; called = tick_lets_go_told; hands_over = tick_lets_go_sent; leaves = tick_lets_go_lines };
   gone_before = record { end = gone_before_end; reaches = reaches_by [] gone_before_turn gone_before_there tt; called = gone_before_told; hands_over = gone_before_sent; leaves = gone_before_lines };
+  answer_decides = record { end = answer_decides_end; reaches = reaches_by [] answer_decides_turn answer_decides_there tt; called = answer_decides_told; hands_over = answer_decides_sent; leaves = answer_decides_lines };
   holds_new = record { end = holds_new_end; reaches = reaches_by [] holds_new_turn holds_new_there tt; called = holds_new_told; hands_over = holds_new_sent; leaves = holds_new_lines };
   holds_first = record { end = holds_first_end; reaches = reaches_by [] holds_first_turn holds_first_there tt; called = holds_first_told; hands_over = holds_first_sent; leaves = holds_first_lines };
   goes_with_second = record { end = goes_with_second_end; reaches = reaches_by [] goes_with_second_turn goes_with_second_there tt; called = goes_with_second_told; hands_over = goes_with_second_sent; leaves = goes_with_second_lines };
   closes_stream = record { end = closes_stream_end; reaches = reaches_by [] closes_stream_turn closes_stream_there tt; called = closes_stream_told; hands_over = closes_stream_sent; leaves = closes_stream_lines };
   dies_closed = record { end = dies_closed_end; reaches = reaches_by [] dies_closed_turn dies_closed_there tt; called = dies_closed_told; hands_over = dies_closed_sent; leaves = dies_closed_lines };
   closed_at_once = record { end = closed_at_once_end; reaches = reaches_by [] closed_at_once_turn closed_at_once_there tt; called = closed_at_once_told; hands_over = closed_at_once_sent; leaves = closed_at_once_lines };
+  dies_at_making = record { end = dies_at_making_end; reaches = reaches_by [] dies_at_making_turn dies_at_making_there tt; called = dies_at_making_told; hands_over = dies_at_making_sent; leaves = dies_at_making_lines };
+  takes_128 = record { end = takes_128_end; reaches = reaches_by [] takes_128_turn takes_128_there tt; called = takes_128_told; hands_over = takes_128_sent; leaves = takes_128_lines };
+  closes_129 = record { end = closes_129_end; reaches = reaches_by [] closes_129_turn closes_129_there tt; called = closes_129_told; hands_over = closes_129_sent; leaves = closes_129_lines };
   opens_open = record { end = opens_open_end; reaches = reaches_by [] opens_open_turn opens_open_there tt; called = opens_open_told; hands_over = opens_open_sent; leaves = opens_open_lines };
   dies_open = record { end = dies_open_end; reaches = reaches_by [] dies_open_turn dies_open_there tt; called = dies_open_told; hands_over = dies_open_sent; leaves = dies_open_lines };
   skips_dead = record { end = skips_dead_end; reaches = reaches_by [] skips_dead_turn skips_dead_there tt; called = skips_dead_told; hands_over = skips_dead_sent; leaves = skips_dead_lines };

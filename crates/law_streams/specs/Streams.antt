@@ -1,5 +1,5 @@
 -- Worked turns of lines that are streams of bytes.
-use Rattle.std.specs.Prelude.{◌≡◌, ℕ, Bool, true, false, List, [], ◌∷◌, ◌++◌, map, Option, None, Some, codes}
+use Rattle.std.specs.Prelude.{◌≡◌, ℕ, zero, suc, Bool, true, false, List, [], ◌∷◌, ◌++◌, map, Option, None, Some, codes}
 use Rattle.contexts.specs.declared.parts.Contexts.{Contexts}
 use Rattle.contexts.specs.declared.parts.EffectKind.TheVariants as effects
 use Rattle.filter_host.specs.Called.{Called, called_back}
@@ -90,6 +90,15 @@ turn_of_two from now what = turn (calling_by []) (plan_for two (0 ∷ 1 ∷ []))
 abbrev pub silent_turn : Both (List Call) → ℕ → What → Course (Outcome (List Call))
 silent_turn from now what = turn silent (plan_for (one false) (0 ∷ [])) from (event now what)
 
+-- so many lines are open, of the numbers from 1 on
+abbrev pub lines_up_to : ℕ → List TcpLine
+lines_up_to zero = []
+lines_up_to (suc n) = lines_up_to n ++ new_line (suc n) [] ∷ []
+
+-- a turn of a worker that has so many
+abbrev pub crowded_turn : ℕ → What → Course (Outcome (List Call))
+crowded_turn count what = silent_turn (both [] (record (room [] (contexts_with_roots (one false))) { tcp = lines_up_to count })) 0 what
+
 -- ---- what its filters do
 
 -- one pauses New, which its root's tick lets go on
@@ -111,6 +120,14 @@ calls_first =
 -- one closes the stream at bytes of the client
 abbrev pub closes : List Deed
 closes = record { name = DownstreamData; context = 2; end = Returned (Some 0); effects = record { context = 2; what = effects.Close } ∷ [] } ∷ []
+
+-- one has its own stage go on at New, and answers Pause
+abbrev pub goes_on_and_pauses : List Deed
+goes_on_and_pauses = record { name = NewConnection; context = 2; end = Returned (Some 1); effects = record { context = 2; what = effects.Continue false } ∷ [] } ∷ []
+
+-- one traps when its context is made
+abbrev pub traps_first : List Deed
+traps_first = record { name = ContextCreate; context = 2; end = Died (Trapped Unreachable); effects = [] } ∷ []
 
 -- one traps at bytes of the client
 abbrev pub traps : List Deed
@@ -163,6 +180,8 @@ pub record StreamExamples : Type 0 where
   pub tick_lets_go : Comes (turn_by pauses false nothing_up_yet.end.state 1000000000 whats.Clock) (first_calls ++ call Tick 1 0 0 ∷ call DownstreamData 2 2 0 ∷ call DownstreamData 2 0 1 ∷ []) (sent.Connect 1 ∷ sent.Bytes 1 Up (codes "ab") ∷ []) (1 ∷ [])
   -- a client that is gone before New left: nobody is told of a connection to the server, and none is closed
   pub gone_before : Comes (turn_by pauses false bytes_wait.end.state 0 (whats.Gone 1 Down)) (first_calls ++ last_calls_down 2) ([]) ([])
+  -- the answer decides of the stage whose callback it is, whatever that callback asked for it
+  pub answer_decides : Comes (turn_by goes_on_and_pauses false (starts_with (one false)) 0 (whats.Opened 1)) (first_calls) ([]) (1 ∷ [])
   -- bytes are held, and go on with the next
   pub holds_new : Comes (turn_by holds false (starts_with (one false)) 0 (whats.Opened 1)) (first_calls) (sent.Connect 1 ∷ []) (1 ∷ [])
   pub holds_first : Comes (turn_by holds false holds_new.end.state 0 (whats.Bytes 1 Down (codes "ab"))) (first_calls ++ call DownstreamData 2 2 0 ∷ []) ([]) (1 ∷ [])
@@ -172,6 +191,11 @@ pub record StreamExamples : Type 0 where
   -- a death under closed ends the connection, without callbacks of that VM; from then on a line is closed at once
   pub dies_closed : Comes (turn_by traps false asks_new.end.state 0 (whats.Bytes 1 Down (codes "ab"))) (first_calls ++ call DownstreamData 2 2 0 ∷ []) (death_log ++ sent.Close 1 Up ∷ sent.Close 1 Down ∷ []) ([])
   pub closed_at_once : Comes (turn_by traps false dies_closed.end.state 0 (whats.Opened 2)) (first_calls ++ call DownstreamData 2 2 0 ∷ []) (sent.Close 2 Down ∷ []) ([])
+  -- a death at the making of a context ends the line before New comes: no connection to the server is opened
+  pub dies_at_making : Comes (turn_by traps_first false (starts_with (one false)) 0 (whats.Opened 1)) (call ContextCreate 2 1 0 ∷ []) (death_log ++ sent.Close 1 Down ∷ []) ([])
+  -- there are 128 lines at most: one more is closed at once
+  pub takes_128 : Comes (crowded_turn 127 (whats.Opened 128)) ([]) (sent.Connect 128 ∷ []) (map (λ (l : TcpLine). l.number) (lines_up_to 128))
+  pub closes_129 : Comes (crowded_turn 128 (whats.Opened 129)) ([]) (sent.Close 129 Down ∷ []) (map (λ (l : TcpLine). l.number) (lines_up_to 128))
   -- a death under open lets what was held go on, and a line after it skips the filter
   pub opens_open : Comes (turn_by [] true (starts_with (one true)) 0 (whats.Opened 1)) (first_calls) (sent.Connect 1 ∷ []) (1 ∷ [])
   pub dies_open : Comes (turn_by traps true opens_open.end.state 0 (whats.Bytes 1 Down (codes "ab"))) (first_calls ++ call DownstreamData 2 2 0 ∷ []) (death_log ++ sent.Bytes 1 Up (codes "ab") ∷ []) (1 ∷ [])

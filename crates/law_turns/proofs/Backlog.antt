@@ -21,6 +21,9 @@ use Rattle.send_queue.specs.declared.place.Destination.TheVariants.{Peer}
 use Rattle.worker_model.specs.Steps.{line_in, line_reading}
 use Rattle.worker_model.specs.Wants.{has_room, reads_more, reads_call_more, call_line, call_lines, is_wanted, is_up}
 use Rattle.worker_model.specs.declared.types.Line.{Line}
+use Rattle.worker_model.specs.declared.types.TcpLine.{TcpLine}
+use Rattle.worker_model.specs.Room as rooms
+use Rattle.streams_model.specs.Wants as streams
 use Rattle.law_turns.specs.Backlog.{open_line, one, two, backlog_wants, wants, RoomExamples, TextExamples, LineExamples, bytes_to, backlog, BacklogIsBounded, AreApart, HasUnread, UnreadIsBounded, IsAsked, DoesAsked, ReaderIsBounded}
 
 -- ---- worked rooms
@@ -113,30 +116,34 @@ waits line side (member ∷ waiting) =
     omega (arith, octets_in-append (marks_of (Peer line side) member) (marks_at (Peer line side) waiting), member_waits line side member, waits line side waiting)
 
 -- a line of a number that was picked
-record Picked (test : Line → Bool) (lines : List Line) (number : ℕ) : Type 0 where
-  line : Line
+record Picked {L : Type 0} (number_of : L → ℕ) (test : L → Bool) (lines : List L) (number : ℕ) : Type 0 where
+  line : L
   stands : Contains lines line
-  is : line.number ≡ number
+  is : number_of line ≡ number
   passes : test line ≡ true
 
-later_picked : (test : Line → Bool) (l : Line) (lines : List Line) (number : ℕ) → Picked test lines number → Picked test (l ∷ lines) number
-later_picked test l lines number p =
+later_picked : {L : Type 0} (number_of : L → ℕ) (test : L → Bool) (l : L) (lines : List L) (number : ℕ) → Picked number_of test lines number → Picked number_of test (l ∷ lines) number
+later_picked number_of test l lines number p =
     record { line = p.line; stands = (suc p.stands.0, omega (arith, p.stands.1), p.stands.2); is = p.is; passes = p.passes }
 
-picked : (test : Line → Bool) (lines : List Line) (number : ℕ) → Contains (numbers (filter test lines)) number → Picked test lines number
-picked test [] number (k, below, is) = let never : ⊥ = omega (arith, below) in absurd never
-picked test (l ∷ lines) number there = by_test (λ later. picked test lines number later) (test l) refl there
+picked_by : {L : Type 0} (number_of : L → ℕ) (test : L → Bool) (lines : List L) (number : ℕ) → Contains (map number_of (filter test lines)) number → Picked number_of test lines number
+picked_by number_of test [] number (k, below, is) = let never : ⊥ = omega (arith, below) in absurd never
+picked_by {L} number_of test (l ∷ lines) number there = by_test (λ later. picked_by number_of test lines number later) (test l) refl there
   where
-    by_test : (Contains (numbers (filter test lines)) number → Picked test lines number) → (b : Bool) → test l ≡ b
-        → Contains (numbers (kept b l (filter test lines))) number → Picked test (l ∷ lines) number
+    by_test : (Contains (map number_of (filter test lines)) number → Picked number_of test lines number) → (b : Bool) → test l ≡ b
+        → Contains (map number_of (if b then l ∷ filter test lines else filter test lines)) number → Picked number_of test (l ∷ lines) number
     by_test more true e (zero, below, is) = record { line = l; stands = (zero, omega arith, refl); is = is; passes = e }
-    by_test more true e (suc k, below, is) = later_picked test l lines number (more (k, omega (arith, below), is))
-    by_test more false e there = later_picked test l lines number (more there)
+    by_test more true e (suc k, below, is) = later_picked number_of test l lines number (more (k, omega (arith, below), is))
+    by_test more false e there = later_picked number_of test l lines number (more there)
 
-has_backlog : (waiting : List Sent) (side : Side) (line : Line) (number : ℕ) → line.number ≡ number → has_room waiting side line ≡ true → backlog number side waiting < 65536
-has_backlog waiting side line number is roomy =
+-- a line of HTTP
+picked : (test : Line → Bool) (lines : List Line) (number : ℕ) → Contains (numbers (filter test lines)) number → Picked (λ (l : Line). l.number) test lines number
+picked test lines number there = picked_by (λ (l : Line). l.number) test lines number there
+
+has_backlog : (waiting : List Sent) (side : Side) (its number : ℕ) → its ≡ number → nat_lt (octets_in (marks_at (Peer its side) waiting)) 65536 ≡ true → backlog number side waiting < 65536
+has_backlog waiting side its number is roomy =
     subst (λ (n : ℕ). backlog n side waiting < 65536) is
-    (omega (arith, ltb-true (octets_in (marks_at (Peer line.number side) waiting)) 65536 roomy, waits line.number side waiting))
+    (omega (arith, ltb-true (octets_in (marks_at (Peer its side) waiting)) 65536 roomy, waits its side waiting))
 
 -- the lines of callouts are those from 2^31 on
 high : (id : ℕ) → is_call_line (line_of id) ≡ true
@@ -159,16 +166,30 @@ of_clients (l ∷ lines) calls n low (suc k, below, is) =
     let later = of_clients lines calls n low (k, omega (arith, below), is) in
     (suc later.0, omega (arith, later.1), later.2)
 
-pub backlog_is_bounded : BacklogIsBounded
-backlog_is_bounded plan r waiting (Opened line) obeys = tt
-backlog_is_bounded plan r waiting (Bytes number Down bytes) obeys =
-    let p = picked (is_wanted Down waiting) r.lines number obeys in
+-- by the list of plug-ins of streams: of clients, and of servers
+down_bounded : (ts : List ℕ) (r : rooms.Room) (waiting : List Sent) (number : ℕ) → Contains (streams.down_among ts waiting r) number → (backlog number Down waiting < 65536) × (backlog number Up waiting < 65536)
+down_bounded [] r waiting number there =
+    let p = picked (is_wanted Down waiting) r.lines number there in
     let roomy = (and_parts (has_room waiting Down p.line && has_room waiting Up p.line) (reads_more (line_reading false (Some p.line))) p.passes).0 in
     let each = and_parts (has_room waiting Down p.line) (has_room waiting Up p.line) roomy in
-    (has_backlog waiting Down p.line number p.is each.0, has_backlog waiting Up p.line number p.is each.1)
-backlog_is_bounded plan r waiting (Bytes number Up bytes) obeys = λ low.
-    let p = picked (is_wanted Up waiting) r.lines number (of_clients (numbers (filter (is_wanted Up waiting) r.lines)) r.calls number low obeys) in
-    has_backlog waiting Down p.line number p.is (and_parts (has_room waiting Down p.line) (reads_more (line_reading true (Some p.line))) p.passes).0
+    (has_backlog waiting Down p.line.number number p.is each.0, has_backlog waiting Up p.line.number number p.is each.1)
+down_bounded (t ∷ ts) r waiting number there =
+    let p = picked_by streams.number_in (streams.wants_down waiting) r.tcp number there in
+    let each = and_parts (streams.has_room waiting Down p.line) (streams.has_room waiting Up p.line) p.passes in
+    (has_backlog waiting Down p.line.number number p.is each.0, has_backlog waiting Up p.line.number number p.is each.1)
+
+up_bounded : (ts : List ℕ) (r : rooms.Room) (waiting : List Sent) (number : ℕ) → Contains (streams.up_among ts waiting r) number → backlog number Down waiting < 65536
+up_bounded [] r waiting number there =
+    let p = picked (is_wanted Up waiting) r.lines number there in
+    has_backlog waiting Down p.line.number number p.is (and_parts (has_room waiting Down p.line) (reads_more (line_reading true (Some p.line))) p.passes).0
+up_bounded (t ∷ ts) r waiting number there =
+    let p = picked_by streams.number_in (streams.wants_up waiting) r.tcp number there in
+    has_backlog waiting Down p.line.number number p.is (and_parts (streams.has_room waiting Down p.line) p.line.is_up p.passes).0
+
+pub backlog_is_bounded : BacklogIsBounded
+backlog_is_bounded plan r waiting (Opened line) obeys = tt
+backlog_is_bounded plan r waiting (Bytes number Down bytes) obeys = down_bounded plan.tcp r waiting number obeys
+backlog_is_bounded plan r waiting (Bytes number Up bytes) obeys = λ low. up_bounded plan.tcp r waiting number (of_clients (streams.up_among plan.tcp waiting r) r.calls number low obeys)
 backlog_is_bounded plan r waiting (End line side) obeys = tt
 backlog_is_bounded plan r waiting (Gone line side) obeys = tt
 backlog_is_bounded plan r waiting (Joined line) obeys = tt

@@ -17,6 +17,7 @@ use Rattle.send_queue.specs.Places.{is_same_side}
 use Rattle.worker_model.specs.Plan.{Plan}
 use Rattle.worker_model.specs.Steps.{line_in, line_reading, accept_line}
 use Rattle.worker_model.specs.Wants.{is_up, reads_more, wants_of}
+use Rattle.streams_model.specs.Wants.{wants_for}
 use Rattle.worker_model.specs.Room as rooms
 use Rattle.worker_model.specs.declared.types.Line.{Line}
 use Rattle.law_turns.specs.Scenes.{filter_of, stage, exchange, line, room, contexts_with_roots, open_plan}
@@ -123,9 +124,9 @@ FitsBacklog waiting (Room line side) = Unit {0}
 FitsBacklog waiting Clock = Unit {0}
 FitsBacklog waiting Stop = Unit {0}
 
--- THE BACKLOG IS BOUNDED: an event that a worker asked for comes where little waits.
+-- THE BACKLOG IS BOUNDED: an event that a worker asked for comes where little waits, be its lines HTTP or streams of bytes.
 abbrev pub BacklogIsBounded : Type 0
-BacklogIsBounded = (plan : Plan) (r : rooms.Room) (waiting : List Sent) (what : What) → Obeys (wants_of plan r waiting) what → FitsBacklog waiting what
+BacklogIsBounded = (plan : Plan) (r : rooms.Room) (waiting : List Sent) (what : What) → Obeys (wants_for plan r waiting) what → FitsBacklog waiting what
 
 -- ---- what is unread, when bytes come
 
@@ -140,6 +141,7 @@ pub record HasUnread (lines : List Line) (number : ℕ) (side : Side) (bytes : L
   pub before : length reading.unread ≤ 65535
   pub behind : length (reading_with_bytes bytes reading).unread ≤ 81919
 
+-- (Of a stream of bytes nothing is kept unread.)
 abbrev pub UnreadIsBounded : Type 0
 UnreadIsBounded =
     (plan : Plan) (r : rooms.Room) (waiting : List Sent) (number : ℕ) (side : Side) (bytes : List ℕ) → is_call_line number ≡ false → AreApart r.lines

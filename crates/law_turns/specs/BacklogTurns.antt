@@ -1,4 +1,5 @@
--- HOW MUCH WAITS FROM TURN TO TURN, by whole turns that a worker's code takes, where its world gives only what it was asked for.
+-- HOW MUCH WAITS FROM TURN TO TURN, by whole turns that a worker's code takes, where its world gives only what it was asked for. So it is of lines of HTTP and of streams
+-- of bytes alike.
 use Rattle.std.specs.Prelude.{◌≡◌, ℕ, ◌+◌, ◌<◌, ◌≤◌, Bool, true, false, List, [], ◌∷◌, Option}
 use Rattle.callouts.specs.Callouts.{is_call_line}
 use Rattle.filter_host.specs.Called.{Calling}
@@ -13,7 +14,8 @@ use Rattle.gate_io.specs.declared.passed.Passed.{Passed}
 use Rattle.send_queue.specs.Turns.{OneTurn, all_sent}
 use Rattle.store_model.specs.Made.{Made}
 use Rattle.worker_model.specs.State.{Standing}
-use Rattle.worker_model.specs.Turned.{Heard, Whole, one_turn, worker_wants}
+use Rattle.worker_model.specs.Turned.{Heard, one_turn}
+use Rattle.streams_model.specs.Turned.{Whole, worker_wants}
 use Rattle.law_turns.specs.Backlog.{FitsBacklog, backlog}
 
 -- THE EVENT OF A TURN comes where little waits: of what waits when the turn begins, which is what the worker asks by. However a turn ended, its event was heard so

@@ -1,4 +1,4 @@
--- OVER TURNS, and over a worker's whole life.
+-- OVER TURNS, and over the whole life of a worker whose lines are HTTP.
 use Rattle.std.specs.Prelude.{◌≡◌, ℕ, List, None}
 use Rattle.contexts.specs.declared.parts.Contexts.{Contexts}
 use Rattle.filter_host.specs.Course.{ends, Met, Reaches}

@@ -48,7 +48,7 @@ pub fn callbacks_change_their_own()
     ensures stays { PlacesStay }
 {}
 
-/// Over a worker's whole life, turn by turn and step by step, whatever modules do, stores reply and lines bring: machines that stand at the numbers of their
+/// Over the whole life of a worker whose lines are HTTP, turn by turn and step by step, whatever modules do, stores reply and lines bring: machines that stand at the numbers of their
 /// contexts stay there, what says which callbacks are exported stays of the module that runs, and a VM whose callback trapped or spent its fuel is never run
 /// again. That a callback changes and asks for its own is so of every callback of such a life; what else is said of callbacks holds of it where its premises are
 /// these two.
@@ -123,7 +123,7 @@ pub fn worked_numbers()
     ensures { NumberExamples }
 {}
 
-/// What of a VM never changes, whatever its module does and whatever the shared stores reply, in a callback and over a worker's whole life: the program that its machine runs, with the
+/// What of a VM never changes, whatever its module does and whatever the shared stores reply, in a callback and over the whole life of a worker whose lines are HTTP: the program that its machine runs, with the
 /// most pages that its memory may have; the function that allocates, and what the host answers meanwhile; what its imports stand for; the functions that it exports, and its start function;
 /// and the fuel of each run. Where no machine stood none stands afterwards.
 pub fn vms_keep_their_bounds()

@@ -18,7 +18,8 @@ use Rattle.vm_host.specs.declared.slots.Vms.{Vms}
 use Rattle.worker_model.specs.Making.{bodies_of, registers_of, with_plugins, with_vms}
 use Rattle.worker_model.specs.Plan.{Plan}
 use Rattle.worker_model.specs.Steps.{Both, both}
-use Rattle.worker_model.specs.Turn.{Outcome, first_vms, turn}
+use Rattle.worker_model.specs.Turn.{Outcome, first_vms}
+use Rattle.streams_model.specs.Turn.{turn}
 
 abbrev machines_by : Given → Vms
 machines_by g = record { slots = slots_from 0 g.vms }

@@ -12,10 +12,13 @@ use Rattle.exchange.specs.declared.types.Hub.{Hub}
 use Rattle.gate_base.specs.declared.level.Level.TheVariants.{Critical}
 use Rattle.gate_io.specs.declared.event.Sent.TheVariants.{Log}
 use Rattle.worker_model.specs.Room.{Room}
-use Rattle.worker_model.specs.Rooms.{all_lines, death_text, in_exchange, in_line, on_number}
+use Rattle.worker_model.specs.Rooms.{all_lines, death_text, in_exchange, in_line, lose_vm_in, on_number}
 use Rattle.worker_model.specs.Steps.{exchange_on, lose_server}
 use Rattle.worker_model.specs.declared.types.Line.{Line}
-use Rattle.promises.specs.Failures.{FailuresAreAnswered, FailsClosed, Waits}
+use Rattle.worker_model.specs.declared.types.TcpLine.{TcpLine}
+use Rattle.streams_model.specs.Lines as streams
+use Rattle.streams_model.specs.Rooms as stream_rooms
+use Rattle.promises.specs.Failures.{FailuresAreAnswered, FailsClosed, StreamFailsClosed, Waits}
 use Rattle.promises.proofs.Files.{some_same}
 
 or_true : (a b : Bool) → b ≡ true → (a || b) ≡ true
@@ -52,6 +55,25 @@ on_lines vm (y ∷ lines) hub zero l x at on f =
     (hub, ap (λ (z : Line). Some (in_line (lose_vm vm) z hub).0) (some_same y l at) ∙ ap (λ (z : Line). Some z) (on_line vm l x hub on f))
 on_lines vm (y ∷ lines) hub (suc place) l x at on f = on_lines vm lines (in_line (lose_vm vm) y hub).1 place l x at on f
 
+-- ---- on streams of bytes
+
+stream_closes : (vm : ℕ) (l : TcpLine) → StreamFailsClosed vm l → streams.fails_closed vm l ≡ true
+stream_closes vm l f =
+    any_at (λ (g : Filter). (g.vm == vm && not g.fails_open) && streams.is_there l g) l.filters f.place f.its f.at
+    (λ k. (eq-eqb f.its.vm vm f.of_vm k && not (f.is_closed k)) && f.there k)
+
+stream_ends : (vm : ℕ) (l : TcpLine) (hub : Hub) → StreamFailsClosed vm l → streams.lose_vm vm l hub ≡ streams.in_line streams.close_stream l hub
+stream_ends vm l hub f = λ k.
+    if f.runs k then (l, hub) else if stream_closes vm l f k then streams.in_line streams.close_stream l hub else streams.in_line (streams.bypass_vm vm) l hub
+
+on_streams : (vm : ℕ) (lines : List TcpLine) (hub : Hub) (place : ℕ) (l : TcpLine) → slice_get lines place ≡ Some l → StreamFailsClosed vm l
+    → (h : Hub) × (slice_get (stream_rooms.all_lines (streams.lose_vm vm) lines hub).0 place ≡ Some (streams.in_line streams.close_stream l h).0)
+on_streams vm [] hub zero l at f = absurd (cc at)
+on_streams vm [] hub (suc place) l at f = absurd (cc at)
+on_streams vm (y ∷ lines) hub zero l at f =
+    (hub, ap (λ (z : TcpLine). Some (streams.lose_vm vm z hub).0) (some_same y l at) ∙ ap (λ (z : TcpLine × Hub). Some z.0) (stream_ends vm l hub f))
+on_streams vm (y ∷ lines) hub (suc place) l at f = on_streams vm lines (streams.lose_vm vm y hub).1 place l at f
+
 -- ---- a lost server
 
 missed : (n : ℕ) (x : Exchange) (room : Room) → exchange_on n room ≡ Some x → Waits x → lose_server n (exchange_on n room) room ≡ on_number (refuse_exchange 502) n room
@@ -65,4 +87,5 @@ failures_are_answered = record {
       on_lines vm room.lines (hub_with_sent (Log Critical (death_text (vm_in room.hub.contexts vm).name death) ∷ []) room.hub) place l x at on f;
   gone = missed;
   not_reached = missed;
+  streams = λ vm place death room l at f. on_streams vm room.tcp (lose_vm_in vm death room).hub place l at f;
 }

@@ -25,8 +25,10 @@ use Rattle.shared_seats.specs.Seats.{SeatsOf}
 use Rattle.store_model.specs.Made as store
 use Rattle.store_model.specs.Made.{Made}
 use Rattle.worker_model.specs.State.{Setting, Standing, rules_of}
-use Rattle.worker_model.specs.Turn.{Outcome, turn}
-use Rattle.worker_model.specs.Turned.{NoEvent, Turned, one_turn, worker_wants}
+use Rattle.worker_model.specs.Turn.{Outcome}
+use Rattle.streams_model.specs.Turn.{turn}
+use Rattle.worker_model.specs.Turned.{NoEvent, one_turn}
+use Rattle.streams_model.specs.Turned.{Turned, worker_wants}
 use Rattle.worker_model.specs.declared.types.Turn.{Turn}
 use Rattle.worker_model.specs.declared.types.Turn.TheVariants.{Went, Stopped, WorldFault, OutOfMemory}
 use Rattle.promises.specs.Headline.{AreTurns, IsCut, IsMeant, IsWhole, Life, calls_of, passed_in}

@@ -9,6 +9,8 @@ use Rattle.worker_model.specs.Room.{Room}
 use Rattle.worker_model.specs.Rooms.{take_callback_end, after_callback}
 use Rattle.worker_model.specs.Steps.{callback_of}
 use Rattle.worker_model.specs.declared.types.Owner.{Owner}
+use Rattle.streams_model.specs.Asking as streams
+use Rattle.streams_model.specs.Rooms as stream_rooms
 
 -- EACH CALLBACK IS THAT OF ITS ITEM
 pub record CallbackNames : Type 0 where
@@ -18,9 +20,16 @@ pub record CallbackNames : Type 0 where
   pub response_head : callback_of true kinds.Head ≡ callbacks.ResponseHeaders
   pub response_body : callback_of true kinds.Piece ≡ callbacks.ResponseBody
   pub response_trailers : callback_of true kinds.Trailers ≡ callbacks.ResponseTrailers
+  -- where lines are streams of bytes: a stage is asked of a new connection as of a head
+  pub new_connection : streams.callback_of false kinds.Head ≡ callbacks.NewConnection
+  pub downstream_data : streams.callback_of false kinds.Piece ≡ callbacks.DownstreamData
+  pub upstream_data : streams.callback_of true kinds.Piece ≡ callbacks.UpstreamData
 
 -- THE LINES THAT A CALLBACK LOGS ARE SENT, after what was sent before. Then its effects are done, or its VM dies.
-abbrev pub LinesAreSent : Type 0
-LinesAreSent =
-    (vm : ℕ) (own : Owner) (end : CallbackEnd) (lines : List Sent) (h : Contexts) (room : Room)
-    → (told : Room) × (told.hub.sent ≡ room.hub.sent ++ lines) × (take_callback_end vm own end lines h room ≡ after_callback vm own end h.effects told)
+pub record LinesAreSent : Type 0 where
+  -- where lines are HTTP
+  pub http : (vm : ℕ) (own : Owner) (end : CallbackEnd) (lines : List Sent) (h : Contexts) (room : Room)
+      → (told : Room) × (told.hub.sent ≡ room.hub.sent ++ lines) × (take_callback_end vm own end lines h room ≡ after_callback vm own end h.effects told)
+  -- where they are streams of bytes
+  pub streams : (vm : ℕ) (own : Owner) (end : CallbackEnd) (lines : List Sent) (h : Contexts) (room : Room)
+      → (told : Room) × (told.hub.sent ≡ room.hub.sent ++ lines) × (stream_rooms.take_callback_end vm own end lines h room ≡ stream_rooms.after_callback vm own end h.effects told)

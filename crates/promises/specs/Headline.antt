@@ -19,7 +19,8 @@ use Rattle.store_model.specs.Made.{Made, entries_on}
 use Rattle.store_model.specs.declared.entry.Entry.{Entry}
 use Rattle.worker_model.specs.State.{Standing, rules_of}
 use Rattle.worker_model.specs.Steps.{Both}
-use Rattle.worker_model.specs.Turn.{Outcome, turn}
+use Rattle.worker_model.specs.Turn.{Outcome}
+use Rattle.streams_model.specs.Turn.{turn}
 use Rattle.worker_model.specs.Turned.{one_turn}
 
 -- A life of a worker: the events that it was given; what its turns met (each call of a store with its reply, and each thing that was read); what

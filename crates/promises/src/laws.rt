@@ -70,7 +70,8 @@ pub fn statuses_are_complete<W, F, P, Q>()
     ensures { StatusesAreComplete W F P Q }
 {}
 
-/// In each whole life of each worker that the headline speaks of, what goes up on a line of a client goes up request by request.
+/// In each whole life of each worker that the headline speaks of, where its configuration has no streams of bytes, what goes up on a line of a client goes up request by
+/// request.
 pub fn lines_of_the_headline()
     ensures { LivesGoUpOneByOne }
 {
@@ -79,12 +80,14 @@ pub fn lines_of_the_headline()
     machines_write_logs();
 }
 
-/// The callback that is called for an item is the one that is named for it: for the head, a piece of the body or the trailers, of a request or of a response.
+/// The callback that is called for an item is the one that is named for it: for the head, a piece of the body or the trailers, of a request or of a response; and for
+/// a new connection, and bytes of its client or of its server, where lines are streams of bytes.
 pub fn callbacks_have_their_names()
     ensures { CallbackNames }
 {}
 
-/// Each line that a callback logs is sent, after what was sent before; then the callback's effects are done, or its VM dies.
+/// Each line that a callback logs is sent, after what was sent before; then the callback's effects are done, or its VM dies. So it is where lines are HTTP, and where they
+/// are streams of bytes.
 pub fn logged_lines_are_sent()
     ensures { LinesAreSent }
 {}
@@ -95,12 +98,13 @@ pub fn what_is_due_comes()
 {}
 
 /// Where a VM dies of which a filter of a running exchange fails closed, the exchange is answered with 503 at once, or cut off after a head of its response, on
-/// whichever line it is; and where its server is gone or was not reached before the response was read, it is answered with 502.
+/// whichever line it is; and where its server is gone or was not reached before the response was read, it is answered with 502. A stream of bytes comes to its end
+/// where such a filter's VM dies.
 pub fn failures_are_answered()
     ensures { FailuresAreAnswered }
 {}
 
-/// What goes down is what came up, and what goes up is what came, where no filter stands: what goes out of a body is read as that body; over the life of an exchange
+/// What goes down is what came up, and what goes up is what came, where no filter stands and lines are HTTP: what goes out of a body is read as that body; over the life of an exchange
 /// without filters its response goes down as it came; what a reader hands on of a response's body comes to its chain, in order; and interim heads go down, but not to HTTP/1.0.
 pub fn what_goes_on_is_what_came()
     ensures bodies { BodiesGoOnAsTheyCame }
@@ -124,7 +128,7 @@ pub fn filters_keep_their_order()
 }
 
 /// Before the connection to a server is opened, each plug-in of the route that takes the request was asked the request's head, with a context of its own that was made
-/// for this exchange: over the whole life of a worker, whatever callbacks return and ask for. Only a plug-in that fails open, and whose VM died, was passed over.
+/// for this exchange: over the whole life of a worker whose lines are HTTP, whatever callbacks return and ask for. Only a plug-in that fails open, and whose VM died, was passed over.
 pub fn filters_are_asked()
     ensures { EveryFilterIsAsked }
 {
@@ -132,7 +136,7 @@ pub fn filters_are_asked()
 }
 
 /// Once the VM of a plug-in on the route of a request is dead that fails closed, no connection to a server is opened for the request any more: it has ended, was
-/// answered, or is refused with 503. So it is over the whole life of a worker, of the exchange that was there when the VM died and of later ones.
+/// answered, or is refused with 503. So it is over the whole life of a worker whose lines are HTTP, of the exchange that was there when the VM died and of later ones.
 pub fn dead_filters_that_close_let_nothing_pass()
     ensures { ClosedLetsNothingPass }
 {

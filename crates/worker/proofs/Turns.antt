@@ -25,13 +25,14 @@ use Rattle.store_model.specs.Made.{Made}
 use Rattle.store_model.specs.Program.{Program}
 use Rattle.worker_model.specs.Room.{Room}
 use Rattle.worker.specs.Filled.{filled}
-use Rattle.worker_model.specs.Rooms.{next_of}
-use Rattle.worker_model.specs.Settling.{settling, is_rest}
+use Rattle.worker_model.specs.Settling.{is_rest}
 use Rattle.worker_model.specs.State.{Standing, rules_of}
 use Rattle.worker_model.specs.Steps.{Both, both}
 use Rattle.worker_model.specs.declared.types.Turn.{Turn}
-use Rattle.worker_model.specs.Turn.{Outcome, outcome, without_sent, outcome_of, room_for_event, most_steps, turn, turn_by}
-use Rattle.worker_model.specs.Turned.{TookWhole, one_turn, worker_wants, Heard, NoEvent, Whole, Unanswered, PartlySent, Turned, TurnedOn}
+use Rattle.worker_model.specs.Turn.{Outcome, outcome, without_sent, outcome_of, room_for_event, most_steps}
+use Rattle.worker_model.specs.Turned.{TookWhole, one_turn, Heard, NoEvent}
+use Rattle.streams_model.specs.Turn.{turn, turn_by, settles_for, next_for}
+use Rattle.streams_model.specs.Turned.{worker_wants, Whole, Unanswered, PartlySent, Turned, TurnedOn}
 
 -- of a world that takes each piece whole, no `send` took less
 pub took_whole : {E : Type 0} (takes_whole : Bool) (old mid new : Option (List Passed)) (before after : List Sent) (wants : Wants) (event : Event) → IsTrue takes_whole
@@ -87,7 +88,7 @@ module _ {H S : Type 0} (calling : H → ℕ → Callback → ℕ → ℕ → �
 
   -- the turn that is no Stop went to its end
   pub went_to : (s t : S) (from : Standing H) (event : Event) (host : H) (room : Room) (sent : List Sent) → is_stop event.what ≡ false → room.hub.sent ≡ []
-      → Goes performs s (settling calling (rules_of from.setting) most_steps from.state.host (room_for_event (rules_of from.setting) event from.state.room)) (ends (both host (filled sent room))) t
+      → Goes performs s (settles_for calling (rules_of from.setting) most_steps from.state.host (room_for_event (rules_of from.setting) event from.state.room)) (ends (both host (filled sent room))) t
       → Goes performs s (turn calling (rules_of from.setting) from.state event) (ends (outcome (both host room) (join_neighbours sent))) t
   went_to s t from event host room sent other empty goes =
       goes_from (ap (λ (b : Bool). turn_by calling (rules_of from.setting) b from.state event) other)
@@ -95,7 +96,7 @@ module _ {H S : Type 0} (calling : H → ℕ → Callback → ℕ → ℕ → �
 
   -- it was cut short
   pub cut_off : (s t : S) (from : Standing H) (event : Event) (left : Course (Both H)) → is_stop event.what ≡ false
-      → Goes performs s (settling calling (rules_of from.setting) most_steps from.state.host (room_for_event (rules_of from.setting) event from.state.room)) left t
+      → Goes performs s (settles_for calling (rules_of from.setting) most_steps from.state.host (room_for_event (rules_of from.setting) event from.state.room)) left t
       → (q : Course (Outcome H)) × Goes performs s (turn calling (rules_of from.setting) from.state event) q t
   cut_off s t from event left other goes =
       (_, goes_from (ap (λ (b : Bool). turn_by calling (rules_of from.setting) b from.state event) other) (goes_part (λ b. ends (outcome_of b)) goes))
@@ -120,8 +121,8 @@ module _ {H S : Type 0} (calling : H → ℕ → Callback → ℕ → ℕ → �
 
   -- another turn, which came to rest, and in which all was offered
   unfoldable pub went : {E : Type 0} (s t : S) (takes_whole : Bool) (old mid new : Option (List Passed)) (from to : Standing H) (wants : Wants) (event : Event) (kept sent : List Sent)
-      → wants ≡ worker_wants from → (event.what ≡ Stop → ⊥) → to.took ≡ true → to.state.room.hub.sent ≡ [] → is_rest (next_of to.state.room) ≡ true → kept ≡ still_waiting event.what from.waiting
-      → Goes performs s (settling calling (rules_of from.setting) most_steps from.state.host (room_for_event (rules_of from.setting) event from.state.room)) (ends (both to.state.host (filled sent to.state.room))) t
+      → wants ≡ worker_wants from → (event.what ≡ Stop → ⊥) → to.took ≡ true → to.state.room.hub.sent ≡ [] → is_rest (next_for (rules_of from.setting) to.state.room) ≡ true → kept ≡ still_waiting event.what from.waiting
+      → Goes performs s (settles_for calling (rules_of from.setting) most_steps from.state.host (room_for_event (rules_of from.setting) event from.state.room)) (ends (both to.state.host (filled sent to.state.room))) t
       → Gains old (asking wants (Ok event)) mid → Offered {E = E} takes_whole mid [] (kept ++ join_neighbours sent) (Ok tt) new to.waiting
       → Whole calling performs false s old from to t new
   went {E = E} s t takes_whole old mid new from to wants event kept sent wants_are other took empty at_rest kept_is goes given offered_so =
@@ -142,7 +143,7 @@ module _ {H S : Type 0} (calling : H → ℕ → Callback → ℕ → ℕ → �
   -- memory ran out before anything was handed over
   unfoldable pub unanswered : (s t : S) (old new : Option (List Passed)) (from to : Standing H) (wants : Wants) (event : Event)
       → wants ≡ worker_wants from → (event.what ≡ Stop → ⊥) → to.took ≡ true
-      → (left : Course (Both H)) × Goes performs s (settling calling (rules_of from.setting) most_steps from.state.host (room_for_event (rules_of from.setting) event from.state.room)) left t
+      → (left : Course (Both H)) × Goes performs s (settles_for calling (rules_of from.setting) most_steps from.state.host (room_for_event (rules_of from.setting) event from.state.room)) left t
       → Gains old (asking wants (Ok event)) new → Unanswered calling performs s old from to t new
   unanswered s t old new from to wants event wants_are other took goes given =
       let cut = cut_off s t from event goes.0 (is_no_stop event.what other) goes.1 in
@@ -159,7 +160,7 @@ module _ {H S : Type 0} (calling : H → ℕ → Callback → ℕ → ℕ → �
   unfoldable pub partly_sent : {E : Type 0} (e : E) (s t : S) (takes_whole : Bool) (old mid new : Option (List Passed)) (from to : Standing H) (host : H) (room : Room) (waiting : List Sent) (wants : Wants)
       (event : Event) (kept sent : List Sent)
       → wants ≡ worker_wants from → (event.what ≡ Stop → ⊥) → to.took ≡ true → room.hub.sent ≡ [] → kept ≡ still_waiting event.what from.waiting
-      → Goes performs s (settling calling (rules_of from.setting) most_steps from.state.host (room_for_event (rules_of from.setting) event from.state.room)) (ends (both host (filled sent room))) t
+      → Goes performs s (settles_for calling (rules_of from.setting) most_steps from.state.host (room_for_event (rules_of from.setting) event from.state.room)) (ends (both host (filled sent room))) t
       → Gains old (asking wants (Ok event)) mid → Offered {E = E} takes_whole mid [] (kept ++ join_neighbours sent) (Err e) new waiting
       → PartlySent calling performs s old from to t new
   partly_sent {E = E} e s t takes_whole old mid new from to host room waiting wants event kept sent wants_are other took empty kept_is goes given offered_so =

@@ -2,14 +2,15 @@
 ghost use Rattle.worker_model.specs.Plan.{plan_of};
 ghost use Rattle.std.specs.List.{list_any};
 ghost use Rattle.std.specs.Prelude.{◌≡◌, ◌≤◌, true, [], ◌∷◌, ◌++◌, length, OnOk, IfOk, Some, slice_get};
-ghost use Rattle.worker_model.specs.Turn.{is_of, roots_from, start_of, starts_of, first_vms, vms_in, start_jobs, is_due_now, ticks_in, ticks_of, ticks_due, deadline_jobs, registers_at, notice_of, notices_of, fail_jobs, calls_due, comes_if, happening, agenda_of};
+ghost use Rattle.worker_model.specs.Turn.{is_of, roots_from, start_of, starts_of, first_vms, vms_in, start_jobs, is_due_now, ticks_in, ticks_of, new_ticks_from, new_ticks_of, new_ticks, ticks_due, deadline_jobs, registers_at, notice_of, notices_of, fail_jobs, calls_due, comes_if, happening, agenda_of};
 ghost use Rattle.callouts.specs.Callouts.{callout_at};
+ghost use Rattle.contexts.specs.Creating.{next_id};
 ghost use Rattle.contexts.specs.Reached.{vm_in};
 ghost use Rattle.worker_model.specs.Steps.{is_due_tick};
 
 use callouts::{CallStep, callout_at, due_at, is_call_line, line_in};
 use contexts::{Context, Contexts, Plugin, Tick};
-use gate_base::{LineNo, OutOfMemory, VmNo};
+use gate_base::{ContextId, LineNo, OutOfMemory, VmNo};
 use gate_io::What;
 use gate_queue::Queue;
 use std::alloc::Global;
@@ -140,6 +141,68 @@ fn push_all_ticks(
     Ok(())
 }
 
+/// The id that the next context of a VM gets, where one is left.
+fn next_id(h: &Contexts, vm: VmNo) -> u64
+    ensures id { result ≡ next_id h.now vm }
+    ensures bound { result ≤ 4294967296 }
+{
+    match h.vms.as_slice().get(vm.get() as usize) {
+        None => 1,
+        Some(v) => v.last.get() as u64 + 1,
+    }
+}
+
+/// The roots that the start of a VM makes, by their ids to come, of which the first is given.
+fn push_new_ticks(
+    jobs: &mut Queue<Job>,
+    vm: VmNo,
+    first: u64,
+    plugins: &[Plugin],
+) -> Result<(), OutOfMemory>
+    requires { first ≤ 4294967296 }
+    ensures { OnOk result (jobs.new ≡ jobs.old ++ new_ticks_from vm first plugins.now) }
+{
+    let mut id = first;
+    for p in plugins {
+        if is_of(vm, p) && id <= 4294967295 {
+            let root = ContextId::new(id as u32);
+            jobs.push(Job::Tick { vm, root })?;
+            id += 1;
+        }
+    }
+    Ok(())
+}
+
+/// The roots that the starts of the first VMs make.
+fn push_all_new_ticks(jobs: &mut Queue<Job>, count: u8, h: &Contexts) -> Result<(), OutOfMemory>
+    requires { count ≤ 16 }
+    ensures { OnOk result (jobs.new ≡ jobs.old ++ new_ticks_of count h.now) }
+{
+    for n in 0..count {
+        let vm = vm_of(n);
+        push_new_ticks(jobs, vm, next_id(h, vm), h.plugins.as_slice())?;
+    }
+    Ok(())
+}
+
+/// The roots that this turn makes.
+fn push_ticks_to_come(jobs: &mut Queue<Job>, room: &Room) -> Result<(), OutOfMemory>
+    ensures { OnOk result (jobs.new ≡ jobs.old ++ new_ticks room.now) }
+{
+    if room.is_begun {
+        return Ok(());
+    }
+    push_all_new_ticks(jobs, vms_in(room), &room.hub.contexts)
+}
+
+/// The roots that are due, and those that this turn makes.
+fn push_ticks_due(jobs: &mut Queue<Job>, room: &Room) -> Result<(), OutOfMemory>
+    ensures { OnOk result (jobs.new ≡ jobs.old ++ ticks_due room.now) }
+{
+    push_all_ticks(jobs, room.hub.moment, vms_in(room), &room.hub.contexts)?;
+    push_ticks_to_come(jobs, room)
+}
+
 /// Whether a VM registers queues.
 pub(crate) fn registers_at(rules: &Rules, vm: VmNo) -> bool
     ensures { result ≡ registers_at (slice_get (plan_of rules.now).registers vm) }
@@ -185,12 +248,15 @@ fn push_deadlines(jobs: &mut Queue<Job>, rules: &Rules) -> Result<(), OutOfMemor
 fn parts_before(alloc: Global, rules: &Rules, room: &Room) -> Result<Queue<Job>, OutOfMemory>
     ensures { IfOk result (λ jobs. jobs ≡ start_jobs room.now ++ (ticks_due room.now ++ deadline_jobs (plan_of rules.now))) }
 {
-    let count = vms_in(room);
     let mut jobs = Queue::new(alloc);
     if !room.is_begun {
-        push_starts(&mut jobs, count, room.hub.contexts.plugins.as_slice())?;
+        push_starts(
+            &mut jobs,
+            vms_in(room),
+            room.hub.contexts.plugins.as_slice(),
+        )?;
     }
-    push_all_ticks(&mut jobs, room.hub.moment, count, &room.hub.contexts)?;
+    push_ticks_due(&mut jobs, room)?;
     push_deadlines(&mut jobs, rules)?;
     Ok(jobs)
 }

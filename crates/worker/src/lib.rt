@@ -7,6 +7,7 @@ mod call_steps;
 mod call_wants;
 mod due;
 mod making_worker;
+mod picking;
 mod turning;
 mod worker;
 

@@ -505,7 +505,7 @@ fn is_rest(next: Next) -> bool
 }
 
 /// At most so many steps, until everything is at rest. Where more are left to do, memory counts as spent.
-pub fn settle<H: Host, S: Shared>(
+pub(crate) fn settle<H: Host, S: Shared>(
     alloc: Global,
     host: &mut H,
     rules: &Rules,

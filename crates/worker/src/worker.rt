@@ -7,17 +7,18 @@ ghost use Rattle.send_queue.specs.Delivery.{Offered};
 ghost use Rattle.send_queue.specs.Joined.{join_neighbours};
 ghost use Rattle.worker.specs.Filled.{filled, event_of};
 ghost use Rattle.worker_model.specs.Making.{new_worker};
-ghost use Rattle.worker_model.specs.Rooms.{next_of};
-ghost use Rattle.worker_model.specs.Settling.{settling, is_rest};
+ghost use Rattle.worker_model.specs.Settling.{is_rest};
 ghost use Rattle.worker_model.specs.State.{rules_of};
 ghost use Rattle.worker_model.specs.Steps.{both};
 ghost use Rattle.worker_model.specs.Turn.{room_for_event, most_steps};
-ghost use Rattle.worker_model.specs.Turned.{Turned, TurnedOn, TookWhole};
+ghost use Rattle.worker_model.specs.Turned.{TookWhole};
+ghost use Rattle.streams_model.specs.Turn.{settles_for, next_for};
+ghost use Rattle.streams_model.specs.Turned.{Turned, TurnedOn};
 
 use crate::agenda::agenda_of;
 use crate::asking::ask;
 use crate::making_worker::parts_of;
-use crate::turning::settle;
+use crate::picking::settle_all;
 use filter_host::Host;
 use gate_base::{Members, OutOfMemory, WorkerNo};
 use gate_config::Config;
@@ -172,11 +173,11 @@ fn react<H: Host, S: Shared>(
     ensures needs { H.needs host.new ≡ H.needs host.old }
     ensures stores { S.stores shared.new ≡ S.stores shared.old }
     ensures empty { IfOk result (λ sent. room.new.hub.sent ≡ []) }
-    ensures rest { IfOk result (λ sent. is_rest (next_of room.new) ≡ true) }
-    ensures run { Ends S.performs shared.old (settling H.calling (plan_of rules.now) most_steps host.old (room_for_event (plan_of rules.now) event room.old)) (λ sent. both host.new (filled sent.items room.new)) result shared.new }
+    ensures rest { IfOk result (λ sent. is_rest (next_for (plan_of rules.now) room.new) ≡ true) }
+    ensures run { Ends S.performs shared.old (settles_for H.calling (plan_of rules.now) most_steps host.old (room_for_event (plan_of rules.now) event room.old)) (λ sent. both host.new (filled sent.items room.new)) result shared.new }
 {
     face(alloc, rules, event.now, event.what, room)?;
-    settle(alloc, host, rules, room, u64::MAX, shared)?;
+    settle_all(alloc, host, rules, room, u64::MAX, shared)?;
     Ok(take_sent(alloc, room))
 }
 

@@ -13,8 +13,10 @@ use Rattle.store_model.specs.Made.{Made}
 use Rattle.worker_model.specs.Plan.{Plan}
 use Rattle.worker_model.specs.State.{Setting, Standing, rules_of}
 use Rattle.worker_model.specs.Steps.{Both}
-use Rattle.worker_model.specs.Turn.{Outcome, outcome, turn}
-use Rattle.worker_model.specs.Turned.{one_turn, Whole}
+use Rattle.worker_model.specs.Turn.{Outcome, outcome}
+use Rattle.streams_model.specs.Turn.{turn}
+use Rattle.worker_model.specs.Turned.{one_turn}
+use Rattle.streams_model.specs.Turned.{Whole}
 use Rattle.worker_meaning.specs.Laws.{MeaningExamples, MeaningGoesOn, MeaningIsAFunction}
 use Rattle.worker_meaning.specs.Meaning.{Means, Run, first_turn, last_turn, meaning, means, run}
 

@@ -8,7 +8,7 @@ use Rattle.gate_io.specs.declared.event.Event.{Event}
 use Rattle.worker_model.specs.Plan.{Plan}
 use Rattle.worker_model.specs.State.{Standing}
 use Rattle.worker_model.specs.Steps.{Both}
-use Rattle.worker_model.specs.Turn.{turn}
+use Rattle.streams_model.specs.Turn.{turn}
 use Rattle.worker_model.specs.Turned.{one_turn}
 use Rattle.worker_meaning.specs.Meaning.{Run, last_turn, meaning, means, run}
 

@@ -10,7 +10,8 @@ use Rattle.store_model.specs.Made.{Made}
 use Rattle.worker_model.specs.Plan.{Plan}
 use Rattle.worker_model.specs.State.{Standing, rules_of}
 use Rattle.worker_model.specs.Steps.{Both}
-use Rattle.worker_model.specs.Turn.{Outcome, turn}
+use Rattle.worker_model.specs.Turn.{Outcome}
+use Rattle.streams_model.specs.Turn.{turn}
 use Rattle.worker_model.specs.Turned.{one_turn}
 
 -- what a run comes to: the state that it leaves, and its turns, each with its event and what it sends

@@ -1,0 +1,3 @@
+pub mod Quietly
+mod Answered
+mod CallSteps

@@ -1,0 +1,3 @@
+mod Losses
+mod Places
+mod Jobs
