@@ -47,14 +47,14 @@ def toml_of(config):
     return "\n".join(lines) + "\n"
 
 
-def plain_config(modules):
-    """The configuration that `replay SCRIPT MODULE..` plays over."""
+def plain_config(modules, is_tcp=False):
+    """The configuration that `replay SCRIPT MODULE..` plays over, or one of connections that are streams of bytes."""
     names = ["m%d" % (at + 1) for at in range(len(modules))]
     return {
-        "gateway": {},
+        "gateway": {"tcp": names} if is_tcp else {},
         "vm": [{"name": name, "module": os.path.abspath(path)} for name, path in zip(names, modules)],
         "plugin": [{"name": name, "vm": name} for name in names],
-        "route": [{"path": path, "filters": names} for path in ("/", "/{*rest}")],
+        "route": [{"path": path, "filters": names} for path in ("/", "/{*rest}") if not is_tcp],
     }
 
 
@@ -268,10 +268,10 @@ def shown_fuel(play):
             yield "    %s %d" % (name, play.units(at, name))
 
 
-def show(what, script, words):
+def show(what, script, words, is_tcp):
     """`tools/talk calls` and `tools/talk fuel`."""
     try:
-        play = Play(script, read_config(words[1]) if words[:1] == ["--config"] else plain_config(words))
+        play = Play(script, read_config(words[1]) if words[:1] == ["--config"] else plain_config(words, is_tcp))
         for line in (shown_calls if what == "calls" else shown_fuel)(play):
             print(line)
         return 0
@@ -321,16 +321,16 @@ class Want:
 class Case:
     """A case of a test file."""
 
-    def __init__(self, name, number, modules, gateway, config):
+    def __init__(self, name, number, modules, gateway, config, is_tcp):
         self.name, self.number = name, number
-        self.modules, self.gateway, self.config = [dict(it) for it in modules], dict(gateway), config
+        self.modules, self.gateway, self.config, self.is_tcp = [dict(it) for it in modules], dict(gateway), config, is_tcp
         self.lines, self.wants, self.owns_modules = [""] * number, [], False
 
     def configuration(self):
         if self.config:
             return read_config(self.config, os.path.dirname(self.config) or ".")
-        config = plain_config([it["module"] for it in self.modules])
-        config["gateway"] = self.gateway
+        config = plain_config([it["module"] for it in self.modules], self.is_tcp)
+        config["gateway"].update(self.gateway)
         for at, settings in enumerate(self.modules):
             for key, value in settings.items():
                 if key in OF_MODULE:
@@ -342,14 +342,14 @@ class Case:
 def cases_of(path):
     """The cases of a test file."""
     folder = os.path.dirname(path)
-    first = Case("", 0, [], {}, None)
+    first = Case("", 0, [], {}, None, False)
     cases, case, worker, line = [], first, 1, 1
     for number, text in enumerate(talk.lines_of(path), 1):
         word, _, rest = text.partition(" ")
         case.lines.append("")
         try:
             if word == "case":
-                case = Case(rest.strip() or "line %d" % number, number, first.modules, first.gateway, first.config)
+                case = Case(rest.strip() or "line %d" % number, number, first.modules, first.gateway, first.config, first.is_tcp)
                 cases.append(case)
                 worker = line = 1
             elif word == "module":
@@ -358,6 +358,8 @@ def cases_of(path):
                 case.modules.append({"module": os.path.join(folder, rest)})
             elif word == "config":
                 case.config = os.path.join(folder, rest)
+            elif text.split() == ["tcp"]:
+                case.is_tcp = True
             elif word in OF_MODULE:
                 if not case.modules:
                     raise talk.Fault("no module is named before")

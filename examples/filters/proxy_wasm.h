@@ -26,8 +26,19 @@ enum action { CONTINUE = 0, PAUSE = 1 };
 
 enum level { TRACE, DEBUG, INFO, WARN, ERROR, CRITICAL };
 enum map { REQUEST_HEADERS, REQUEST_TRAILERS, RESPONSE_HEADERS, RESPONSE_TRAILERS, CALL_HEADERS = 6, CALL_TRAILERS = 7 };
-enum buffer { REQUEST_BODY = 0, RESPONSE_BODY = 1, CALL_BODY = 4, VM_CONFIGURATION = 6, PLUGIN_CONFIGURATION = 7 };
-enum stream { REQUEST = 0, RESPONSE = 1 };
+enum buffer {
+    REQUEST_BODY = 0,
+    RESPONSE_BODY = 1,
+    // Where connections are streams of bytes: what the client and what the server sent.
+    DOWNSTREAM_DATA = 2,
+    UPSTREAM_DATA = 3,
+    CALL_BODY = 4,
+    VM_CONFIGURATION = 6,
+    PLUGIN_CONFIGURATION = 7
+};
+enum stream { REQUEST = 0, RESPONSE = 1, DOWNSTREAM = 2, UPSTREAM = 3 };
+// Who ended a connection: what the callbacks of its close are given.
+enum peer { BY_GATEWAY = 1, BY_PEER = 2 };
 enum metric { COUNTER = 0, GAUGE = 1 };
 
 #define HOST(name) __attribute__((import_module("env"), import_name(#name))) extern

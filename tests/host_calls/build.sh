@@ -16,6 +16,8 @@ held() {
 build calls
 build big -DBIG
 build heads -DNO_BODIES
+build streams -DSTREAMS
+build big_streams -DSTREAMS -DBIG
 held no_allocator -DNO_ALLOCATOR -DSTART
 held initialize -DINITIALIZE
 for source in *.s; do

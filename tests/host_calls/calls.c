@@ -691,6 +691,13 @@ CALLBACK(proxy_on_http_call_response) void proxy_on_http_call_response(u32 id, u
     arguments_used = 4;
     run(AT('r', http_call_response), ++nth);
 }
+#ifdef STREAMS
+CALLBACK(proxy_on_new_connection) u32 proxy_on_new_connection(u32 id) { RUN(AT('w', new_connection), id, 0) return answer; }
+CALLBACK(proxy_on_downstream_data) u32 proxy_on_downstream_data(u32 id, u32 size, u32 end) { RUN2(AT('s', downstream_data), id, 0, size, end) return answer; }
+CALLBACK(proxy_on_upstream_data) u32 proxy_on_upstream_data(u32 id, u32 size, u32 end) { RUN2(AT('t', upstream_data), id, 0, size, end) return answer; }
+CALLBACK(proxy_on_downstream_connection_close) void proxy_on_downstream_connection_close(u32 id, u32 peer) { RUN1(AT('u', downstream_close), id, 0, peer) }
+CALLBACK(proxy_on_upstream_connection_close) void proxy_on_upstream_connection_close(u32 id, u32 peer) { RUN1(AT('v', upstream_close), id, 0, peer) }
+#endif
 CALLBACK(proxy_on_done) u32 proxy_on_done(u32 id) { RUN(AT('n', done), id, 1) return answer; }
 CALLBACK(proxy_on_log) void proxy_on_log(u32 id) { RUN(AT('o', log), id, 0) }
 CALLBACK(proxy_on_delete) void proxy_on_delete(u32 id) { RUN(AT('p', delete), id, 0) }

@@ -31,6 +31,7 @@ vm = "a"
 path = "/{*rest}"
 filters = ["p"]
 """
+TCP = PLAIN.partition("[[route]]")[0].replace("[[vm]]", '[gateway]\ntcp = ["p"]\n[[vm]]', 1).replace("calls.wasm", "streams.wasm")
 # the calls that take no place and no range of memory
 WITHOUT_PLACES = {
     "proxy_set_tick_period_milliseconds", "proxy_set_effective_context", "proxy_done", "proxy_continue_stream", "proxy_close_stream",
@@ -140,9 +141,9 @@ class Case:
     def __init__(self, path):
         self.name = path.name
         parts = parts_of(path.read_text())
-        self.config = "\n".join(parts.get("config") or PLAIN.splitlines()) + "\n"
+        self.config = "\n".join(parts.get("config") or (TCP if "tcp" in parts else PLAIN).splitlines()) + "\n"
         if "module big" in parts:
-            self.config = self.config.replace("calls.wasm", "big.wasm")
+            self.config = self.config.replace("calls.wasm", "big.wasm").replace('"streams.wasm', '"big_streams.wasm')
         sections = {}
         for heading, lines in parts.items():
             words = heading.split()

@@ -120,6 +120,10 @@ def answer(body, status="200 OK"):
     return b"HTTP/1.1 %s\r\nContent-Length: %d\r\n\r\n" % (status.encode(), len(body)) + body
 
 
+# What an answer of 502 looks like.
+QUOTED = b"HTTP/1.1 502 \r\ncontent-length: 0\r\n\r\n"
+
+
 class Upstream:
     """A server at an address. What it does is in the path of the request. It keeps what it read, by path."""
 
@@ -168,6 +172,26 @@ class Upstream:
             return
         if path == "/reset":
             reset(s)
+            return
+        if path == "/hang-up":
+            return
+        if path == "/nonsense":
+            s.sendall(b"HTTP/1.1 200 OK\r\nContent-Length: 5\r\nContent-Length: 6\r\n\r\nhello")
+            reader.rest()
+            return
+        if path == "/half-a-head":
+            s.sendall(b"HTTP/1.1 200 OK\r\nContent-Le")
+            return
+        if path == "/its-own":
+            s.sendall(answer(b"", "502 Bad Gateway"))
+            reader.rest()
+            return
+        if path == "/quotes":
+            # A body of which a piece by itself looks like an answer.
+            s.sendall(b"HTTP/1.1 200 OK\r\nContent-Length: %d\r\n\r\n" % len(QUOTED))
+            time.sleep(0.2)
+            s.sendall(QUOTED)
+            reader.rest()
             return
         if path == "/part-reset":
             s.sendall(answer(b"x" * 100000)[:5000])
@@ -274,12 +298,13 @@ class Upstream:
 class Gateway:
     """The program, serving at an address."""
 
-    def __init__(self, program, folder, address, server, lines, workers=1, more="", memory=resource.RLIM_INFINITY):
+    def __init__(self, program, folder, address, server, lines, workers=1, more="", memory=resource.RLIM_INFINITY, port=None, env=None):
+        self.begun = program, folder, address, server
         self.lines = lines
         self.opened = 0
         self.guard = threading.Lock()
         self.address = address
-        self.port = closed_port(address)
+        self.port = port or closed_port(address)
         config = os.path.join(folder, "config-%d.toml" % self.port)
         with open(config, "w") as f:
             f.write(
@@ -291,7 +316,17 @@ class Gateway:
         def bound():
             resource.setrlimit(resource.RLIMIT_AS, (memory, memory))
 
-        self.process = subprocess.Popen(self.words, stdout=subprocess.PIPE, stderr=subprocess.PIPE, cwd=folder, preexec_fn=bound)
+        self.process = subprocess.Popen(self.words, stdout=subprocess.PIPE, stderr=subprocess.PIPE, cwd=folder, preexec_fn=bound, env=env)
+
+    def another(self, lines, port=None):
+        """One more of the same program and server, at this port or one of its own."""
+        return Gateway(*self.begun, lines, port=port)
+
+    def connections(self):
+        """How many connections the system has of this one's address that are not closed on either side."""
+        wanted = "%02X%02X%02X%02X:%04X" % (*reversed([int(it) for it in self.address.split(".")]), self.port)
+        with open("/proc/net/tcp") as f:
+            return sum(line.split()[1] == wanted and line.split()[3] == "01" for line in f.readlines()[1:])
 
     def connect(self):
         with self.guard:
@@ -672,6 +707,32 @@ def malformed(gateway, upstream):
             pass
         first, fields = Reader(s).head()
         expect(status_of(first), "400")
+
+
+def hung_up(gateway, upstream):
+    """A server that closes the connection in place of an answer: its client is answered 502, and its line goes on."""
+    with gateway.connect() as s:
+        reader = Reader(s)
+        s.sendall(request("/hang-up"))
+        first, fields = reader.head()
+        expect(status_of(first), "502")
+        reader.body(fields)
+        get(s, reader, "/next", b"/next")
+
+
+def bad_responses(gateway, upstream):
+    """A response that is malformed, one that ends in its head, and one of 502 are answered 502."""
+    for path in ("/nonsense", "/half-a-head", "/its-own"):
+        with gateway.connect() as s:
+            s.sendall(request(path))
+            first, fields = Reader(s).head()
+            expect(status_of(first), "502")
+
+
+def quoted(gateway, upstream):
+    """A body that looks like an answer is none."""
+    with gateway.connect() as s:
+        get(s, Reader(s), "/quotes", QUOTED)
 
 
 # Connections that stay open until all is over.
@@ -1494,6 +1555,170 @@ def address_taken(gateway, upstream):
         expect((ran.returncode, ran.stdout, ran.stderr), (6, b"", b"wasmgate: site\n"))
 
 
+def preloaded(folder, name, **more):
+    """The environment of a program that has a file of this folder in C in front of the C library, or nothing where no `cc` builds it."""
+    library = os.path.join(folder, name + ".so")
+    words = ["cc", "-O1", "-shared", "-fPIC", "-o", library, os.path.join(HERE, name + ".c")]
+    if not shutil.which("cc") or subprocess.run(words, stderr=subprocess.DEVNULL).returncode != 0:
+        return None
+    return dict(os.environ, LD_PRELOAD=library, **more)
+
+
+def begins_late(gateway, upstream):
+    """Where the system makes no thread for the second of two workers, the first has all lines, and tells of the other after ten seconds."""
+    for n in range(3):
+        time.sleep(11.5 if n == 2 else 0)
+        with gateway.connect() as s:
+            get(s, Reader(s), "/%d" % n, b"/%d" % n)
+
+
+class Clock:
+    """A clock of the day for a gateway, which steps: steps.c."""
+
+    def __init__(self, folder):
+        self.file = os.path.join(folder, "steps")
+        self.step(0)
+        self.env = preloaded(folder, "steps", CLOCK_STEPS=self.file)
+
+    def step(self, seconds):
+        """From now on it is off by so many seconds."""
+        with open(self.file, "r+b" if os.path.exists(self.file) else "wb") as f:
+            f.write(struct.pack("=q", seconds))
+
+
+def dated(gateway):
+    """The date of an answer of the gateway's own, in seconds since 1970."""
+    with gateway.connect() as s:
+        s.sendall(UNROUTED)
+        first, fields = Reader(s).head()
+        expect(status_of(first), "404")
+        return calendar.timegm(time.strptime(fields["date"], "%a, %d %b %Y %H:%M:%S GMT"))
+
+
+def clock_steps(gateway, upstream):
+    """Where the clock of the day steps forward by half an hour, or back by two, an exchange under way is answered in time, and dates go on with at most twice the time that
+    passes, and never back. A step forward by more than an hour is taken at once."""
+    begun, first = time.monotonic(), dated(gateway)
+    expect(abs(first - time.time()) <= 2, True)
+    last = first
+    for off in (1800, -5400):
+        with gateway.connect() as s:
+            s.sendall(request("/late"))
+            time.sleep(0.2)
+            gateway.clock.step(off)
+            head, fields = Reader(s).head()
+            expect(status_of(head), "200")
+        for _ in range(2):
+            date = dated(gateway)
+            expect(last <= date <= first + 2 * (time.monotonic() - begun) + 2, True)
+            last = date
+    gateway.clock.step(7200)
+    expect(abs(dated(gateway) - time.time() - 7200) <= 3, True)
+
+
+class Front:
+    """A proxy in front: each new connection goes to the port that it has then."""
+
+    def __init__(self, port):
+        self.port = port
+        self.listener = socket.create_server(("127.0.0.1", 0), backlog=128)
+        self.address = self.listener.getsockname()
+        threading.Thread(target=self.accept, daemon=True).start()
+
+    def accept(self):
+        while True:
+            try:
+                s, _ = self.listener.accept()
+            except OSError:
+                return
+            t = socket.create_connection(("127.0.0.1", self.port), PATIENCE)
+            for a, b in ((s, t), (t, s)):
+                threading.Thread(target=self.pass_on, args=(a, b), daemon=True).start()
+
+    def pass_on(self, a, b):
+        try:
+            while piece := a.recv(65536):
+                b.sendall(piece)
+            b.shutdown(socket.SHUT_WR)
+        except OSError:
+            pass
+
+
+def is_listening(gateway):
+    gateway.connect().close()
+
+
+def restarted_behind_a_proxy(gateway, upstream):
+    """As OPERATIONS says: the new process at another port, new connections there, and the old one ended once it has none. Each of the clients that go on meanwhile gets each
+    answer, also one whose exchange was under way."""
+    is_listening(gateway)
+    old, new = gateway.another(100000), gateway.another(100000)
+    front, ends, answered, faults = Front(old.port), threading.Event(), [0, 0], []
+
+    def asks(n):
+        # Every other client keeps its connection until the switch.
+        count = 0
+        try:
+            while not ends.is_set():
+                with socket.create_connection(front.address, PATIENCE) as s:
+                    s.settimeout(PATIENCE)
+                    reader, port = Reader(s), front.port
+                    while True:
+                        path = "/late" if count % 50 == 49 else "/restart/%d/%d" % (n, count)
+                        get(s, reader, path, b"late" if path == "/late" else path.encode())
+                        count += 1
+                        answered[front.port == new.port] += 1
+                        if n % 2 == 0 or ends.is_set() or port != front.port:
+                            break
+        except Exception as e:
+            faults.append(repr(e))
+
+    try:
+        is_listening(old)
+        clients = [threading.Thread(target=asks, args=(n,), daemon=True) for n in range(8)]
+        for client in clients:
+            client.start()
+        time.sleep(1)
+        is_listening(new)
+        front.port = new.port
+        until = time.monotonic() + PATIENCE
+        while old.connections() > 0:
+            if time.monotonic() > until:
+                raise AssertionError("the old process has connections still")
+            time.sleep(0.02)
+        old.process.terminate()
+        old.process.communicate(timeout=PATIENCE)
+        time.sleep(1)
+        ends.set()
+        for client in clients:
+            client.join(PATIENCE)
+        expect(faults, [])
+        expect(min(answered) > 20, True)
+    finally:
+        ends.set()
+        front.listener.close()
+        old.kill()
+        new.kill()
+
+
+def restarted_in_place(gateway, upstream):
+    """A process at the address of one that was ended with its connections open listens at once. Until then connections are refused, and none waits for ever."""
+    is_listening(gateway)
+    old = gateway.another(100000)
+    try:
+        for n in range(3):
+            s = old.connect()
+            get(s, Reader(s), "/%d" % n, b"/%d" % n)
+            KEPT.append(s)
+            old.process.terminate()
+            old.process.communicate(timeout=PATIENCE)
+            old = gateway.another(100000, old.port)
+            with old.connect() as s:
+                get(s, Reader(s), "/after/%d" % n, b"/after/%d" % n)
+    finally:
+        old.kill()
+
+
 def nothing(gateway, upstream):
     """A line that is opened and closed."""
     gateway.connect().close()
@@ -1675,6 +1900,16 @@ def tells(text):
 
 CALLED = b"store caller calls 0 keys 0 items 0\n"
 
+
+def counts(text, wanted):
+    """Whether standard error has lines of this notice, which come to so many in all, and nothing else."""
+
+    def is_so(err):
+        return tells(text)(err) and sum(int(line.rsplit(b" ", 1)[1]) for line in err.splitlines()) == wanted
+
+    return is_so
+
+
 # name, workers, what the configuration has besides, what is printed at the end, cases with how many lines each opens, and where it is looked at
 # what is true of standard error
 GROUPS = [
@@ -1733,6 +1968,9 @@ GROUPS = [
     ("three workers", 3, "", b"", [(many, 30)]),
     ("no server", 1, "", b"", [(refusing, 1)], tells("upstream refused")),
     ("a server that breaks off", 1, "", b"", [(to_a_plain_reset, 1)], tells("upstream broke off in its answer")),
+    ("a server that hangs up", 1, "", b"", [(hung_up, 1)], tells("upstream ended before its answer")),
+    ("bad responses", 1, "", b"", [(bad_responses, 3)], counts("502 on a response of the upstream", 3)),
+    ("a body like an answer", 1, "", b"", [(quoted, 1)], lambda err: err == b""),
     ("other addresses", 1, "", b"", [(other_addresses, 1)]),
     ("clients that stay", 1, "", b"", [(refused_stays, 11)], lambda err: err == b""),
     ("a filter of bodies", 1, WITH_SHOUT, b"store shout calls 0 keys 0 items 0\n", [(to_a_reset, 2)], tells("upstream broke off in its answer")),
@@ -1767,6 +2005,9 @@ GROUPS = [
     ("no descriptor for a server", 1, "", b"", [(undialled, 1)], tells("upstream not dialled, no descriptor or port is left")),
     ("descriptors that run out", 1, "", b"", [(no_descriptor, 5)], tells("line not accepted, the system refused it")),
     ("lines that are not read", 1, "", b"", [(unread, 363)]),
+    ("no thread for a worker", 2, "", b"", [(begins_late, 3)], tells("another worker never began, it gets no line")),
+    ("a clock that steps", 1, "deadline_ms = 2000", b"", [(clock_steps, 8)]),
+    ("restarts", 1, "", b"", [(restarted_behind_a_proxy, 1), (restarted_in_place, 1)]),
     ("callouts", 1, WITH_A_CALLER, CALLED, [(called_out, 6), (not_answered, 5), (calls_at_once, 60), (too_many_calls, 66), (gone_meanwhile, 11)]),
     ("callouts of two workers", 2, WITH_A_CALLER, CALLED, [(called_out, 6), (calls_at_once, 60)]),
     ("no server for callouts", 1, WITH_A_CALLER, CALLED, [(no_server_for_calls, 3)], tells("upstream refused")),
@@ -1789,7 +2030,15 @@ def run_group(program, folder, upstream, group):
         nothing(without, upstream)
         memory = without.size() + LARGE_ROOM
         without.kill()
-    gateway = Gateway(program, folder, address, (upstream.address, port), lines, workers, more, memory)
+    clock = env = None
+    if name in ("a clock that steps", "no thread for a worker"):
+        clock = Clock(folder)
+        env = clock.env if name == "a clock that steps" else preloaded(folder, "threads")
+        if env is None:
+            print("live/%s: skipped, there is no cc that builds what it needs" % name)
+            return 0, 0
+    gateway = Gateway(program, folder, address, (upstream.address, port), lines, workers, more, memory, env=env)
+    gateway.clock = clock
     passed, failed = 0, 0
     try:
         for case, _ in cases:

@@ -5,7 +5,7 @@ answer and how many allocations it asks for, and then once for each of them that
 either the run ends with status 8 and the line `wasmgate: memory`, and what it wrote is a front of the whole, or what it wrote is the whole. Past the last
 allocation it is the whole. No run takes longer than PATIENCE.
 
-Under `serve` the same holds of what each client gets. A worker that is refused memory may begin anew, and then serves later clients.
+Under `serve` the same holds of what each client gets. A worker that is refused memory may begin anew, and then says so and serves later clients.
 """
 
 import concurrent.futures
@@ -174,6 +174,14 @@ def is_served(whole, got):
     return all(text.startswith(it) for text, it in zip(wanted, texts))
 
 
+def is_told(whole, got):
+    """The same with one worker, which has begun anew where a client is answered after one whose exchange broke off: the log says so, once."""
+    if not is_served(whole, got):
+        return False
+    broke = [len(text) < len(it) for text, it in zip(got[3:], whole[3:])]
+    return got[2].count(b"warn worker begins anew: 1\n") == 1 or not any(a and not b for a, b in zip(broke, broke[1:]))
+
+
 def steps(count, most):
     """The numbers of the allocations that are refused: the first ones, and then so many that are `most` in all; and two past the last one."""
     if ALL or count <= most:
@@ -224,7 +232,7 @@ with concurrent.futures.ThreadPoolExecutor(len(os.sched_getaffinity(0))) as POOL
         runs += judge(f"cases/{name}", case(name), is_front, lambda count: steps(count, 4000))
     runs += judge("generate", words_of("generate", "7"), is_front, lambda count: steps(count, 4000 if ALL else 100))
     for workers in (1, 2):
-        runs += judge(f"serve, workers = {workers}", serving(workers, server), is_served, lambda count: [*range(1, count, 1 if ALL or workers == 1 else 10), count + 1])
+        runs += judge(f"serve, workers = {workers}", serving(workers, server), is_told if workers == 1 else is_served, lambda count: [*range(1, count, 1 if ALL or workers == 1 else 10), count + 1])
 
 for name in failed:
     print(f"FAIL memory: {name}")

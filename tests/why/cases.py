@@ -62,6 +62,8 @@ MODULES = {
     "outside.wasm": HEADER + ONE + h("05 03 01 00 01") + exports((ABI, 0, 0)) + EMPTY + b"\x0b" + sized(vector([h("00 41") + s(65535) + h("0b 02 61 62")])),
     "cut.wasm": (HEADER + ONE + exports((ABI, 0, 0)) + EMPTY)[:-1],
     "text.wasm": b"(module)",
+    # A callback of connections that are streams of bytes.
+    "streams.wasm": HEADER + h("01 09 02 60 00 00 60 01 7f 01 7f 03 03 02 00 01") + exports((ABI, 0, 0), ("proxy_on_new_connection", 0, 1)) + bodies(b"\0\x0b", h("00 41 00 0b")),
     # A property's name in its data, no allocator, a callback for bodies, and one that is never called.
     "names.wasm": HEADER + h("01 17 04 60 00 00 60 04 7f 7f 7f 7f 01 7f 60 03 7f 7f 7f 01 7f 60 01 7f 00") + imports(("env", "proxy_get_property", 1)) + h("03 04 03 00 02 03")
     + h("05 03 01 00 01") + exports((ABI, 0, 1), ("proxy_on_request_body", 0, 2), ("proxy_on_foreign_function", 0, 3)) + bodies(b"\0\x0b", h("00 41 00 0b"), b"\0\x0b")
@@ -78,6 +80,8 @@ CONFIGURATIONS = {
     "top.toml": "worker = 2\n" + VM,
     "noname.toml": VM + PLUGIN.replace('"a"', '"b"') + ROUTE,
     "nofilter.toml": VM + PLUGIN + ROUTE.replace('"p"', '"p", "q"'),
+    "tcp.toml": "[gateway]\ntcp = [\"p\", \"q\"]\n" + VM + PLUGIN,
+    "both.toml": "[gateway]\ntcp = [\"p\"]\n" + VM + PLUGIN + ROUTE,
     "twice.toml": VM + VM,
     "route.toml": VM + PLUGIN + ROUTE + ROUTE,
     "gateway.toml": "[gateway]\nworkers = 1\nlisten = \"localhost:80\"\n",
@@ -173,6 +177,7 @@ WANTED = [
   offset 0 (0x0): it does not begin with \\0asm: this is no WebAssembly module in binary form
   Do: This looks like the text format: wat2wasm (wabt) makes a module of it.
 """),
+    ("streams.wasm", 0, "streams.wasm: accepted\n  imports: none\n  callbacks\n    proxy_on_new_connection: called with tcp alone\n"),
     ("names.wasm", 0, """names.wasm: accepted
   imports
     env.proxy_get_property  works
@@ -192,6 +197,9 @@ WANTED = [
     ("top.toml", 1, "top.toml:1: worker: the key is unknown\n  | worker = 2\n  Known here: gateway, vm, plugin, route.\n"),
     ("noname.toml", 1, "noname.toml:6: plugin.0.vm: nothing has this name\n  | vm = \"b\"\n  Names of [[vm]]: \"a\".\n"),
     ("nofilter.toml", 1, "nofilter.toml:9: route.0.filters: nothing has this name\n  | filters = [\"p\", \"q\"]\n  Names of [[plugin]]: \"p\".\n"),
+    ("tcp.toml", 1, "tcp.toml:2: gateway.tcp: nothing has this name\n  | tcp = [\"p\", \"q\"]\n  Names of [[plugin]]: \"p\".\n"),
+    ("both.toml", 1, "both.toml:2: gateway.tcp: the value is of another type, past its bounds or of another form\n  | tcp = [\"p\"]\n"
+     "  Allowed: a list of 1 to 16 names of [[plugin]]s, and no [[route]] beside it.\n"),
     ("twice.toml", 1, "twice.toml:5: vm.1.name: the name is there twice\n  | name = \"a\"\n"),
     ("route.toml", 1, "route.toml:11: route.1.path: the router does not take this path\n  | path = \"/\"\n  It is no route of the crate matchit, or conflicts with one before it: "
      "two routes that differ in the name of a parameter alone, as /a/{x} and /a/{y}, or one path twice.\n"),

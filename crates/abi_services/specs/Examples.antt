@@ -6,7 +6,7 @@ use Rattle.store_model.specs.declared.call.Call.{Call}
 use Rattle.store_model.specs.declared.call.Reply.{Reply}
 use Rattle.store_model.specs.declared.call.Reply.TheVariants as reply
 use Rattle.store_model.specs.declared.metric.MetricReply.TheVariants as total
-use Rattle.contexts.specs.Reached.{Seen, Reach}
+use Rattle.contexts.specs.Reached.{Seen}
 use Rattle.abi_model.specs.Calls.{answers, only, given}
 use Rattle.abi_model.specs.Writing.{quiet}
 use Rattle.abi_model.specs.declared.ends.Outcome.{Outcome}
@@ -30,8 +30,8 @@ pub record LocalExamples : Type 0 where
   pub no_such_level : (s : Seen) → logging 6 [] s ≡ quiet 2
   pub path : pseudo_of (codes "request" ++ 0 ∷ codes "path") ≡ Some (codes ":path")
   pub no_pseudo : pseudo_of (codes "request") ≡ None
-  pub plugin_is_fixed : (r : Reach) → is_fixed (codes "plugin_name") r ≡ true
-  pub nobody_sets : (r : Reach) → set_in (codes "a") (codes "b") r None ≡ answers 2
+  pub plugin_is_fixed : (s : Seen) → is_fixed (codes "plugin_name") s ≡ true
+  pub nobody_sets : (s : Seen) → set_in (codes "a") (codes "b") s None ≡ answers 2
 
 pub record StoreExamples : Type 0 where
   pub absent : got reply.Absent ≡ only 1

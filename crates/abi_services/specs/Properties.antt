@@ -1,5 +1,5 @@
 -- The calls on properties. A path is a list of segments with a zero byte between them.
-use Rattle.std.specs.Prelude.{◌≡◌, ℕ, ◌||◌, Bool, true, false, nat_lt, List, ◌∷◌, ◌++◌, length, bytes_eq, codes, Option, None, Some, if◌then◌else◌}
+use Rattle.std.specs.Prelude.{◌≡◌, ℕ, ◌==◌, ◌||◌, ◌&&◌, not, Bool, true, false, nat_lt, List, ◌∷◌, ◌++◌, length, bytes_eq, codes, Option, None, Some, if◌then◌else◌}
 use Rattle.header_maps.specs.Headers.{Headers}
 use Rattle.header_maps.specs.Operations.{first_of}
 use Rattle.contexts.specs.declared.parts.Own.{Own as OwnParts}
@@ -7,7 +7,7 @@ use Rattle.contexts.specs.declared.parts.ExchangeView.{ExchangeView}
 use Rattle.contexts.specs.declared.parts.Plugin.{Plugin}
 use Rattle.contexts.specs.Properties.{property_of, property_set, property_limit, property_bytes}
 use Rattle.contexts.specs.declared.parts.Contexts.{Contexts}
-use Rattle.contexts.specs.Reached.{Reach, no_changes, seen, put}
+use Rattle.contexts.specs.Reached.{Reach, Seen, no_changes, seen, put}
 use Rattle.abi_model.specs.Calls.{Made, Own, answers, changing, reads, only, given}
 use Rattle.abi_model.specs.declared.ends.Outcome.{Outcome}
 use Rattle.abi_model.specs.declared.ends.Gives.TheVariants.{Bytes}
@@ -26,14 +26,18 @@ abbrev pub is_some : {A : Type 0} → Option A → Bool
 is_some None = false
 is_some (Some a) = true
 
--- of a stream context alone
-abbrev pub is_of_stream : List ℕ → Option ExchangeView → Bool
-is_of_stream path None = false
-is_of_stream path (Some v) = is_some (pseudo_of path)
+-- a context that has a root, and is another
+abbrev pub is_below : ℕ → Option ℕ → Bool
+is_below e None = false
+is_below e (Some root) = not (root == e)
 
--- a path that is not set
-abbrev pub is_fixed : List ℕ → Reach → Bool
-is_fixed path r = bytes_eq path (codes "plugin_name") || (bytes_eq path (codes "plugin_vm_id") || is_of_stream path r.exchange)
+-- The effective context is that of a stream: its root is another. It may have no exchange any more, and where lines are streams of bytes it never has one.
+abbrev pub is_of_stream : Seen → Bool
+is_of_stream s = is_below s.common.effective s.reach.root
+
+-- a path that is not set: those of a request are a stream's alone
+abbrev pub is_fixed : List ℕ → Seen → Bool
+is_fixed path s = bytes_eq path (codes "plugin_name") || (bytes_eq path (codes "plugin_vm_id") || is_of_stream s && is_some (pseudo_of path))
 
 -- ---- reading
 
@@ -85,10 +89,10 @@ abbrev pub IsPastIn : (path value : List ℕ) → Option OwnParts → Type 0
 IsPastIn path value None = ⊥
 IsPastIn path value (Some o) = is_past_limit path value o ≡ true
 
-abbrev pub set_in : (path value : List ℕ) → Reach → Option OwnParts → Made
-set_in path value r None = answers 2
-set_in path value r (Some o) =
-    if is_fixed path r then answers 2
+abbrev pub set_in : (path value : List ℕ) → Seen → Option OwnParts → Made
+set_in path value s None = answers 2
+set_in path value s (Some o) =
+    if is_fixed path s then answers 2
     else (if is_past_limit path value o then answers 10 else changing (record no_changes { own = Some (with_property path value o) }))
 
 -- the same of the contexts
@@ -100,4 +104,4 @@ abbrev pub property_put : (path value : List ℕ) → (vm : ℕ) → Contexts �
 property_put path value vm h = put_in path value (seen h vm).reach.own vm h
 
 abbrev pub own_set_property : Own
-own_set_property args inputs s = set_in inputs.first inputs.second s.reach s.reach.own
+own_set_property args inputs s = set_in inputs.first inputs.second s s.reach.own

@@ -8,7 +8,7 @@ ghost use Rattle.abi_model.specs.declared.table.HostCall.TheVariants as call;
 ghost use Rattle.contexts.specs.declared.limits.PropertyEnd.TheVariants as property_end;
 ghost use Rattle.contexts.specs.Keyed.{first_of_number};
 ghost use Rattle.contexts.specs.Reached.{context_no};
-ghost use Rattle.abi_services.specs.Properties.{pseudo_of as pseudo_at, is_fixed as is_fixed_of, first_in as first_in_of, set_value as set_value_of, stream_value as stream_value_of, vm_name as vm_name_of, property_at, value_as, set_in, property_put, IsPastIn, own_get_property, own_set_property};
+ghost use Rattle.abi_services.specs.Properties.{pseudo_of as pseudo_at, is_fixed as is_fixed_of, is_of_stream as is_of_stream_of, first_in as first_in_of, set_value as set_value_of, stream_value as stream_value_of, vm_name as vm_name_of, property_at, value_as, set_in, property_put, IsPastIn, own_get_property, own_set_property};
 
 use abi_model::{
     Gives, HostCall, HostEnd, Inputs, LocalCall, Outcome, Param, answer, call_row, given,
@@ -36,14 +36,25 @@ fn pseudo_of(path: &[u8]) -> Option<&'static [u8]>
     }
 }
 
+/// Whether the effective context is that of a stream: its root is another.
+fn is_of_stream(contexts: &Contexts, vm: VmNo) -> bool
+    requires { vm < length contexts.now.vms }
+    ensures { result ≡ is_of_stream_of (seen contexts.now vm) }
+{
+    match contexts.root(vm) {
+        Some(root) => root != contexts.effective(vm),
+        None => false,
+    }
+}
+
 /// Whether the path is one that is not set.
 fn is_fixed(contexts: &Contexts, vm: VmNo, path: &[u8]) -> bool
     requires { vm < length contexts.now.vms }
-    ensures { result ≡ is_fixed_of path.now (seen contexts.now vm).reach }
+    ensures { result ≡ is_fixed_of path.now (seen contexts.now vm) }
 {
     path == b"plugin_name".as_slice()
         || path == b"plugin_vm_id".as_slice()
-        || (contexts.exchange(vm).is_some() && pseudo_of(path).is_some())
+        || (is_of_stream(contexts, vm) && pseudo_of(path).is_some())
 }
 
 /// The context of an id.
@@ -181,9 +192,9 @@ fn set(
     value: &[u8],
 ) -> Result<Outcome, OutOfMemory>
     requires { vm < length contexts.old.vms }
-    ensures made { IfOk result (λ o. o ≡ told (set_in path.now value.now (seen contexts.old vm).reach (seen contexts.old vm).reach.own)) }
+    ensures made { IfOk result (λ o. o ≡ told (set_in path.now value.now (seen contexts.old vm) (seen contexts.old vm).reach.own)) }
     ensures short { IfOk result (λ o. AreShort o.gives) }
-    ensures changes { IfOk result (λ _. contexts.new ≡ put_changes (set_in path.now value.now (seen contexts.old vm).reach (seen contexts.old vm).reach.own).changes vm contexts.old) }
+    ensures changes { IfOk result (λ _. contexts.new ≡ put_changes (set_in path.now value.now (seen contexts.old vm) (seen contexts.old vm).reach.own).changes vm contexts.old) }
     ensures err { OnErr result (contexts.new ≡ contexts.old) }
 {
     if contexts.own(vm).is_none() || is_fixed(contexts, vm, path) {

@@ -8,8 +8,8 @@ use Rattle.std.proofs.lemmas.Slice.Eq.{bytes_eq-Decides}
 use Rattle.std.specs.List.{AllPairs, list_all, list_any}
 use Rattle.toml.specs.Data.{Data, Items, as_array}
 use Rattle.gate_config.specs.Given.{Given}
-use Rattle.config_reader.specs.Judge.{filters_fault, filters_in, found_fault, is_a_name, is_among, list_of, names_fault, places_of, repeats, text_of}
-use Rattle.config_reader.specs.Names.{has_plugin, plugin_number}
+use Rattle.config_reader.specs.Judge.{filters_fault, filters_in, found_fault, is_a_name, is_among, list_of, names_fault, places_in, places_of, repeats, streams_form, text_of}
+use Rattle.config_names.specs.Names.{has_plugin, plugin_number}
 use Rattle.config_reader.specs.Rows.{filters}
 use Rattle.config_reader.proofs.Places.{plugin_there, same_name}
 
@@ -69,7 +69,42 @@ names_are g ds h =
       differ = all_differ g ds t.2 t.1;
     }
 
-nobody : (g : Given) → AreFilters g []
+no_fault : (a b c d : Bool) → cond {A = Option ℕ} a (cond b (Some 4) (cond c (Some 7) (cond d (Some 8) None))) (Some 4) ≡ None → (a ≡ true) × (c ≡ false) × (d ≡ false)
+no_fault false b c d h = cc
+no_fault true true c d h = cc
+no_fault true false true d h = cc
+no_fault true false false true h = cc
+no_fault true false false false h = (refl, refl, refl)
+
+-- names of streams that are of the form are names
+pub streams_names : (ds : List Data) → streams_form ds ≡ None → list_all is_a_name ds ≡ true
+streams_names ds h = (no_fault (list_all is_a_name ds) (nat_lt (length ds) 1) (nat_lt 16 (length ds)) (repeats ds) h).0
+
+not_empty : (g : Given) (ds : List Data) → nat_lt (length ds) 1 ≡ false → places_in g ds ≢ []
+not_empty g [] h = cc
+not_empty g (d ∷ ds) h = λ e. cc
+
+one_at_least : (a b c d : Bool) → cond {A = Option ℕ} a (cond b (Some 4) (cond c (Some 7) (cond d (Some 8) None))) (Some 4) ≡ None → b ≡ false
+one_at_least false b c d h = cc
+one_at_least true true c d h = cc
+one_at_least true false c d h = refl
+
+-- there is one at least
+pub some_streams : (g : Given) (ds : List Data) → streams_form ds ≡ None → places_in g ds ≢ []
+some_streams g ds h = not_empty g ds (one_at_least (list_all is_a_name ds) (nat_lt (length ds) 1) (nat_lt 16 (length ds)) (repeats ds) h)
+
+-- where plug-ins have them, they are filters as those of a route
+pub streams_filters : (g : Given) (ds : List Data) → streams_form ds ≡ None → list_all (λ d. has_plugin g (text_of d)) ds ≡ true → AreFilters g (places_in g ds)
+streams_filters g ds h there =
+    let t = no_fault (list_all is_a_name ds) (nat_lt (length ds) 1) (nat_lt 16 (length ds)) (repeats ds) h in
+    let few : length ds ≤ 16 = grind (arith, nat_tests, t.1) in
+    record {
+      few = omega (arith, few, length-map ds (number_of g));
+      there = all_there g ds there;
+      differ = all_differ g ds there t.2;
+    }
+
+pub nobody : (g : Given) → AreFilters g []
 nobody g = record { few = omega arith; there = λ k e low. absurd (omega arith); differ = λ i j e less low. absurd (omega arith) }
 
 items_are : (g : Given) (o : Option Items) → filters_fault g o ≡ None → AreFilters g (places_of g o)

@@ -9,7 +9,7 @@ use Rattle.gate_config.specs.Given.{Given}
 use Rattle.gate_config.specs.Kept.{IsVm, IsPlugin}
 use Rattle.gate_config.specs.Routes.{fits, table_of}
 use Rattle.config_reader.specs.Judge.{Fault, natural, name_in, fault_if, name_fault, number_fault, text_fault, path_fault, found_fault, fault_of, first_fault, or_then, or_unknown, table_fault, unknown_key, number_in, number_at, text_in, text_at, filters_at}
-use Rattle.config_reader.specs.Names.{has_vm, has_plugin, vm_number}
+use Rattle.config_names.specs.Names.{has_vm, has_plugin, vm_number}
 use Rattle.config_reader.specs.Rows.{Row, vm_name, vm_module, configuration, fuel, pages, plugin_name, plugin_vm, fail, path, filters, listen, upstream, workers, deadline_ms, log_level, vm_keys, plugin_keys, route_keys, gateway_keys}
 use Rattle.config_reader.specs.Whole.{vm_of, plugin_of, route_of, gateway_of}
 use Rattle.config_reader.specs.Words.{is_name, is_name_byte}
@@ -161,9 +161,9 @@ pub record AreGateway (ms : Members) : Type 0 where
   pub workers : (1 ≤ number_at workers ms) × (number_at workers ms ≤ 8)
   pub deadline : number_at deadline_ms ms ≤ 3600000
 
-pub gateway_is : (g : Given) (ms : Members) → table_fault gateway_keys g ms ≡ None → AreGateway ms
-gateway_is g ms h =
-    let a = none_unknown (unknown_key gateway_keys ms) (first_fault gateway_keys g ms) h in
+pub gateway_is : (routes : Bool) (g : Given) (ms : Members) → table_fault (gateway_keys routes) g ms ≡ None → AreGateway ms
+gateway_is routes g ms h =
+    let a = none_unknown (unknown_key (gateway_keys routes) ms) (first_fault (gateway_keys routes) g ms) h in
     let b = none_then _ (fault_of listen g ms) _ a in
     let c = none_then _ (fault_of upstream g ms) _ b.1 in
     let d = none_then _ (fault_of workers g ms) _ c.1 in

@@ -4,7 +4,7 @@ use Rattle.std.specs.List.{list_all}
 use Rattle.toml.specs.Data.{Data, Items, Members, no_members, get_member, as_array, as_table}
 use Rattle.gate_config.specs.Given.{Given}
 use Rattle.config_reader.specs.Judge.{Fault, list_of, table_fault}
-use Rattle.config_reader.specs.Whole.{Judged, unless, judge_entries, judge_items, judge_list, judge_found, judge_array, entry_front, given_with_entry, keys_of, members_in, most_of, name_of, gateway_of, gateway_in, gateway_at, judge_gateway}
+use Rattle.config_reader.specs.Whole.{Judged, unless, judge_entries, judge_items, judge_list, judge_found, judge_array, entry_front, given_with_entry, keys_of, members_in, most_of, name_of, gateway_of, gateway_in, gateway_at, has_routes, judge_gateway}
 use Rattle.config_reader.specs.Rows.{gateway_keys}
 use Rattle.config_reader.specs.declared.section.TableArray.{TableArray}
 use Rattle.config_reader.specs.declared.section.TableArray.TheVariants.{Vm, Plugin, Route}
@@ -67,18 +67,19 @@ pub record IsBare (g : Given) : Type 0 where
   pub vms : g.vms ≡ []
   pub plugins : g.plugins ≡ []
   pub routes : g.routes ≡ []
+  pub tcp : g.tcp ≡ []
 
 bare_is : (ms : Members) (g : Given) → gateway_of ms ≡ g → IsBare g
-bare_is ms g e = record { vms = ap (λ (x : Given). x.vms) (sym e); plugins = ap (λ (x : Given). x.plugins) (sym e); routes = ap (λ (x : Given). x.routes) (sym e) }
+bare_is ms g e = record { vms = ap (λ (x : Given). x.vms) (sym e); plugins = ap (λ (x : Given). x.plugins) (sym e); routes = ap (λ (x : Given). x.routes) (sym e); tcp = ap (λ (x : Given). x.tcp) (sym e) }
 
-gateway_is_bare : (ms : Members) (g : Given) → judge_gateway ms ≡ Ok g → IsBare g
-gateway_is_bare ms g e =
-    bare_is ms g (is_itself (Ok (gateway_of ms)) (gateway_of ms) g refl (not_refused (codes "gateway.") (table_fault gateway_keys (gateway_of no_members) ms) (Ok (gateway_of ms)) g e))
+gateway_is_bare : (routes : Bool) (ms : Members) (g : Given) → judge_gateway routes ms ≡ Ok g → IsBare g
+gateway_is_bare routes ms g e =
+    bare_is ms g (is_itself (Ok (gateway_of ms)) (gateway_of ms) g refl (not_refused (codes "gateway.") (table_fault (gateway_keys routes) (gateway_of no_members) ms) (Ok (gateway_of ms)) g e))
 
-in_is_bare : (o : Option (Option Members)) (g : Given) → gateway_in o ≡ Ok g → IsBare g
-in_is_bare None g e = gateway_is_bare no_members g e
-in_is_bare (Some None) g e = cc
-in_is_bare (Some (Some ms)) g e = gateway_is_bare ms g e
+in_is_bare : (routes : Bool) (o : Option (Option Members)) (g : Given) → gateway_in routes o ≡ Ok g → IsBare g
+in_is_bare routes None g e = gateway_is_bare routes no_members g e
+in_is_bare routes (Some None) g e = cc
+in_is_bare routes (Some (Some ms)) g e = gateway_is_bare routes ms g e
 
 pub no_entries : (ms : Members) (g : Given) → gateway_at ms ≡ Ok g → IsBare g
-no_entries ms g e = in_is_bare (option_map as_table (get_member (codes "gateway") ms)) g e
+no_entries ms g e = in_is_bare (has_routes ms) (option_map as_table (get_member (codes "gateway") ms)) g e

@@ -7,7 +7,7 @@ use Rattle.std.proofs.lemmas.Slice.Eq.{bytes_eq-Decides}
 use Rattle.std.specs.List.{list_any, position, position_or_len}
 use Rattle.gate_config.specs.declared.entries.PluginEntry.{PluginEntry}
 use Rattle.gate_config.specs.Given.{Given}
-use Rattle.config_reader.specs.Names.{has_vm, has_plugin, vm_number, plugin_number}
+use Rattle.config_names.specs.Names.{has_vm, has_plugin, vm_number, plugin_number}
 
 or_none : (a b : Bool) → (a || b) ≡ false → (a ≡ false) × (b ≡ false)
 or_none true b h = cc

@@ -1,7 +1,7 @@
 -- One step along the entries of an array.
-use Rattle.std.proofs.Common.{◌≡◌, ℕ, zero, suc, ◌+◌, ◌<◌, List, [], ◌∷◌, ◌++◌, Bool, true, false, ◌&&◌, map, length, length-append, get_or, drop, Result, Option, Some, None, is_some, Ok, Err, subst, unwrap_or, refl, ap, sym, ◌∙◌, arith, rules}
+use Rattle.std.proofs.Common.{◌≡◌, ℕ, zero, suc, ◌+◌, ◌<◌, List, [], ◌∷◌, ◌++◌, Bool, true, false, ◌&&◌, map, length, length-append, nat_lt, get_or, drop, Result, Option, Some, None, is_some, Ok, Err, subst, unwrap_or, refl, ap, sym, ◌∙◌, arith, rules}
 use Rattle.std.proofs.lemmas.Bool.{and_parts}
-use Rattle.std.proofs.lemmas.List.{drop_more}
+use Rattle.std.proofs.lemmas.List.{drop_more, length-map}
 use Rattle.std.specs.List.{list_all}
 use Rattle.toml.specs.Data.{Data, Items, Members, no_members, as_table}
 use Rattle.toml.specs.View.{view, items_view}
@@ -12,9 +12,9 @@ use Rattle.config_reader.specs.declared.read.ConfigEnd.{ConfigEnd}
 use Rattle.config_reader.specs.declared.read.ConfigEnd.TheVariants.{Refused, OutOfMemory}
 use Rattle.config_reader.specs.declared.section.TableArray.{TableArray}
 use Rattle.config_reader.specs.declared.section.TableArray.TheVariants.{Vm, Plugin, Route}
-use Rattle.config_reader.specs.Judge.{Fault, table_fault, list_of, names_fault, filters_fault, places_of, text_of}
-use Rattle.config_reader.specs.Names.{plugin_number}
-use Rattle.config_reader.specs.Whole.{Judged, Refuses, unless, judge_entries, entry_front, keys_of, length_of, given_with_entry, members_in, judge_list, judge_items, Answers, Ends, and_then}
+use Rattle.config_reader.specs.Judge.{Fault, table_fault, list_of, names_fault, filters_fault, streams_form, streams_fault, places_in, places_of, text_of}
+use Rattle.config_names.specs.Names.{plugin_number}
+use Rattle.config_reader.specs.Whole.{Judged, Refuses, unless, judge_entries, entry_front, keys_of, length_of, given_with_entry, members_in, judge_list, judge_items, judge_names, judge_streams, routes_in, Answers, Ends, and_then}
 
 pub all_at : {X : Type 0} (p : X → Bool) (xs : List X) (i : ℕ) (d : X) → list_all p xs ≡ true → i < length xs → p (get_or xs i d) ≡ true
 all_at p [] i d h low = absurd (omega arith)
@@ -63,6 +63,23 @@ map_twice f h (x ∷ xs) = ap (λ l. f (h x) ∷ l) (map_twice f h xs)
 pub places_are : (g : Given) (o : Option Items) (vs : List Value) → Some (items_view vs) ≡ o → places_of g o ≡ map (λ v. plugin_number g (text_of (view v))) vs
 places_are g o vs e =
     sym (ap (places_of g) e) ∙ ap (map (λ (d : Data). plugin_number g (text_of d))) (listed vs) ∙ map_twice (λ (d : Data). plugin_number g (text_of d)) view vs
+
+-- whether an array has entries, by the values themselves
+pub entries_are : (o : Option Items) (vs : List Value) → Some (items_view vs) ≡ o → routes_in (Some o) ≡ nat_lt 0 (length vs)
+entries_are o vs e =
+    sym (ap (λ (x : Option Items). routes_in (Some x)) e)
+    ∙ ap (λ (ds : List Data). nat_lt 0 (length ds)) (listed vs)
+    ∙ ap (nat_lt 0) (length-map vs view)
+
+pub streams_are : (o : Option Items) (vs : List Value) → Some (items_view vs) ≡ o → streams_fault o ≡ streams_form (map view vs)
+streams_are o vs e = sym (ap streams_fault e) ∙ ap streams_form (listed vs)
+
+pub names_judged : (g : Given) (o : Option Items) (vs : List Value) → Some (items_view vs) ≡ o → judge_streams g o ≡ judge_names g (map view vs)
+names_judged g o vs e = sym (ap (judge_streams g) e) ∙ ap (judge_names g) (listed vs)
+
+-- the same places, by the values themselves
+pub places_seen : (g : Given) (vs : List Value) → places_in g (map view vs) ≡ map (λ v. plugin_number g (text_of (view v))) vs
+places_seen g vs = map_twice (λ (d : Data). plugin_number g (text_of d)) view vs
 
 pub no_table : (v : Value) → None ≡ as_table (view v) → is_some (as_table (view v)) ≡ true → ⊥
 no_table v e t = let bad = rw (← e) at t in cc

@@ -35,6 +35,23 @@ pub record ConfigurationExamples : Type 0 where
   pub repeated : gives (codes "vm = [{name = \"a\", module = \"m\"}, {name = \"a\", module = \"m\"}]\n") ≡ Err (8, codes "vm.1.name")
   pub no_such_vm : gives (codes "[[vm]]\nname = \"a\"\nmodule = \"m\"\n[[plugin]]\nname = \"p\"\nvm = \"b\"\n") ≡ Err (5, codes "plugin.0.vm")
   pub conflict : gives (codes "[[route]]\npath = \"/{a}/x\"\n[[route]]\npath = \"/{b}/x\"\nfilters = 1\n") ≡ Err (6, codes "route.1.path")
+  -- streams of bytes: their plug-ins by name, in the order of the list; without routes
+  pub streams : gives (codes "[gateway]\ntcp = [\"q\", \"p\"]\n[[vm]]\nname = \"a\"\nmodule = \"m\"\n[[plugin]]\nname = \"p\"\nvm = \"a\"\n[[plugin]]\nname = \"q\"\nvm = \"a\"\n")
+      ≡ Ok (record {
+        workers = 1;
+        listen = codes "127.0.0.1:8080";
+        upstream = codes "127.0.0.1:9000";
+        deadline_ms = 0;
+        log_level = Info;
+        vms = record { name = codes "a"; «module» = codes "m"; configuration = []; fuel = 10000000; pages = 128; code = None } ∷ [];
+        plugins =
+            record { name = codes "p"; vm = 0; configuration = []; fail_open = false }
+            ∷ record { name = codes "q"; vm = 0; configuration = []; fail_open = false }
+            ∷ [];
+        routes = [];
+        tcp = 1 ∷ 0 ∷ [];
+      })
+  pub no_such_plugin : gives (codes "[gateway]\ntcp = [\"q\"]\n") ≡ Err (5, codes "gateway.tcp")
   pub no_text : gives (codes "[gateway\n") ≡ Err (1, codes "-")
   pub accepted : gives (codes "[gateway]\nlog_level = \"warn\"\n[[vm]]\nname = \"a\"\nmodule = \"m\"\nfuel = 7\n[[plugin]]\nname = \"p\"\nvm = \"a\"\nfail = \"open\"\n[[route]]\npath = \"/\"\nfilters = [\"p\"]\n")
       ≡ Ok (record {

@@ -8,7 +8,7 @@ use Rattle.gate_config.specs.Routes.{fits, table_of}
 use Rattle.config_reader.specs.declared.keys.KeyKind.{KeyKind}
 use Rattle.config_reader.specs.declared.keys.KeyKind.TheVariants as kind
 use Rattle.config_reader.specs.Address.{is_address}
-use Rattle.config_reader.specs.Names.{has_vm, has_plugin, plugin_number}
+use Rattle.config_names.specs.Names.{has_vm, has_plugin, plugin_number}
 use Rattle.config_reader.specs.Rows.{Row, Absence, needed, number, text}
 use Rattle.config_reader.specs.Words.{is_name, level_of}
 
@@ -89,6 +89,26 @@ abbrev pub filters_fault : Given → Option Items → Option ℕ
 filters_fault g None = Some 4
 filters_fault g (Some ds) = names_fault g (list_of ds)
 
+-- ---- the plug-ins of streams
+
+-- One name at least, 16 at most, and none twice. Whether plug-ins have these names is judged once the plug-ins are read.
+abbrev pub streams_form : List Data → Option ℕ
+streams_form ds =
+    if list_all is_a_name ds
+    then (if nat_lt (length ds) 1 then Some 4
+    else (if nat_lt 16 (length ds) then Some 7
+    else (if repeats ds then Some 8 else None)))
+    else Some 4
+
+-- why a value is no list of them
+abbrev pub streams_fault : Option Items → Option ℕ
+streams_fault None = Some 4
+streams_fault (Some ds) = streams_form (list_of ds)
+
+-- beside a route no value is one
+abbrev pub tcp_fault : (has_routes : Bool) → Option Items → Option ℕ
+tcp_fault has_routes o = if has_routes then Some 4 else streams_fault o
+
 abbrev pub value_fault : KeyKind → Given → Data → Option ℕ
 value_fault (kind.Number least most) g d = number_fault least most (natural (as_integer d))
 value_fault (kind.Text least most) g d = text_fault least most (as_str d)
@@ -100,6 +120,7 @@ value_fault kind.NewPlugin g d = name_fault 8 (has_plugin g) (as_str d)
 value_fault kind.SomeVm g d = name_fault 5 (λ s. not (has_vm g s)) (as_str d)
 value_fault kind.Path g d = path_fault g (as_str d)
 value_fault kind.Filters g d = filters_fault g (as_array d)
+value_fault (kind.Streams has_routes) g d = tcp_fault has_routes (as_array d)
 value_fault kind.Tables g d = None
 
 -- ---- one key, and one table
@@ -167,6 +188,10 @@ abbrev pub text_at : Row → Members → List ℕ
 text_at key ms = text_in key (get_member key.name ms)
 
 -- the places of the plug-ins of these names
+abbrev pub places_in : Given → List Data → List ℕ
+places_in g ds = map (λ d. plugin_number g (text_of d)) ds
+
+-- the same of a list, and none of what is no list
 abbrev pub places_of : Given → Option Items → List ℕ
 places_of g None = []
 places_of g (Some ds) = map (λ d. plugin_number g (text_of d)) (list_of ds)

@@ -1,6 +1,5 @@
 pub mod Words
 pub mod Address
-pub mod Names
 pub mod Rows
 pub mod Judge
 pub mod Whole

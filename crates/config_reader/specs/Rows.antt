@@ -1,5 +1,5 @@
 -- The keys of each table, in the order in which they are judged.
-use Rattle.std.specs.Prelude.{ℕ, List, [], ◌∷◌, codes}
+use Rattle.std.specs.Prelude.{ℕ, List, [], ◌∷◌, Bool, codes}
 use Rattle.config_reader.specs.declared.keys.KeyKind.{KeyKind}
 use Rattle.config_reader.specs.declared.keys.KeyKind.TheVariants as kind
 use Rattle.config_reader.specs.declared.keys.Key.{Key}
@@ -47,8 +47,13 @@ deadline_ms = row (codes "deadline_ms") (kind.Number 0 3600000) (number 0)
 abbrev pub log_level : Row
 log_level = row (codes "log_level") kind.Level (text (codes "info"))
 
-abbrev pub gateway_keys : List Row
-gateway_keys = listen ∷ upstream ∷ workers ∷ deadline_ms ∷ log_level ∷ []
+-- the plug-ins of streams of bytes, whether or not there are routes; without the key, lines are HTTP
+abbrev pub tcp : (has_routes : Bool) → Row
+tcp has_routes = row (codes "tcp") (kind.Streams has_routes) no_names
+
+-- the keys of `gateway`, whether or not there are routes
+abbrev pub gateway_keys : (has_routes : Bool) → List Row
+gateway_keys has_routes = listen ∷ upstream ∷ workers ∷ deadline_ms ∷ log_level ∷ tcp has_routes ∷ []
 
 -- ---- `vm`
 

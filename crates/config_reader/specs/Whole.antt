@@ -1,5 +1,5 @@
 -- THE CONFIGURATION OF A TEXT, or its first refusal: the tables in their order, in each table its keys in their order.
-use Rattle.std.specs.Prelude.{◌≡◌, ℕ, ◌+◌, ◌^◌, nat_lt, List, [], ◌∷◌, ◌++◌, length, bytes_eq, codes, decimal, Option, Some, None, is_some, option_map, unwrap_or, Result, Ok, Err, if◌then◌else◌}
+use Rattle.std.specs.Prelude.{◌≡◌, ℕ, ◌+◌, ◌^◌, nat_lt, List, [], ◌∷◌, ◌++◌, length, bytes_eq, codes, decimal, Bool, false, Option, Some, None, is_some, option_map, unwrap_or, Result, Ok, Err, if◌then◌else◌}
 use Rattle.std.specs.List.{list_all}
 use Rattle.std.specs.Str.{is_utf8}
 use Rattle.toml.specs.Data.{Data, Items, Members, no_members, get_member, as_array, as_table}
@@ -11,8 +11,8 @@ use Rattle.gate_config.specs.declared.entries.VmEntry.{VmEntry}
 use Rattle.gate_config.specs.declared.entries.PluginEntry.{PluginEntry}
 use Rattle.gate_config.specs.declared.entries.RouteEntry.{RouteEntry}
 use Rattle.gate_config.specs.Given.{Given, given, bare, with_vm, with_plugin, with_entry, route_with}
-use Rattle.config_reader.specs.Judge.{Fault, table_fault, unknown_key, number_at, text_at, filters_at, list_of}
-use Rattle.config_reader.specs.Names.{vm_number}
+use Rattle.config_reader.specs.Judge.{Fault, table_fault, unknown_key, number_at, text_at, text_of, filters_at, places_in, list_of}
+use Rattle.config_names.specs.Names.{has_plugin, vm_number}
 use Rattle.config_reader.specs.Rows.{Row, gateway_keys, vm_keys, plugin_keys, route_keys, top_keys, listen, upstream, workers, deadline_ms, log_level, vm_name, vm_module, configuration, fuel, pages, plugin_name, plugin_vm, fail, path, filters}
 use Rattle.config_reader.specs.Words.{level_of}
 use Rattle.config_reader.specs.declared.read.ConfigEnd.{ConfigEnd}
@@ -130,22 +130,74 @@ level_at ms = unwrap_or (level_of (text_at log_level ms)) Info
 abbrev pub gateway_of : Members → Given
 gateway_of ms = bare (number_at workers ms) (text_at listen ms) (text_at upstream ms) (number_at deadline_ms ms) (level_at ms)
 
-abbrev pub judge_gateway : Members → Judged
-judge_gateway ms = unless (codes "gateway.") (table_fault gateway_keys (gateway_of no_members) ms) (Ok (gateway_of ms))
+abbrev pub judge_gateway : (has_routes : Bool) → Members → Judged
+judge_gateway has_routes ms = unless (codes "gateway.") (table_fault (gateway_keys has_routes) (gateway_of no_members) ms) (Ok (gateway_of ms))
 
-abbrev pub gateway_in : Option (Option Members) → Judged
-gateway_in None = judge_gateway no_members
-gateway_in (Some None) = Err (4, codes "gateway")
-gateway_in (Some (Some ms)) = judge_gateway ms
+abbrev pub gateway_in : (has_routes : Bool) → Option (Option Members) → Judged
+gateway_in has_routes None = judge_gateway has_routes no_members
+gateway_in has_routes (Some None) = Err (4, codes "gateway")
+gateway_in has_routes (Some (Some ms)) = judge_gateway has_routes ms
+
+-- an array with an entry stands there. (What is no array is refused with `route`.)
+abbrev pub routes_in : Option (Option Items) → Bool
+routes_in None = false
+routes_in (Some None) = false
+routes_in (Some (Some ds)) = nat_lt 0 (length (list_of ds))
+
+-- there is a `[[route]]`
+abbrev pub has_routes : Members → Bool
+has_routes ms = routes_in (option_map as_array (get_member (codes "route") ms))
 
 abbrev pub gateway_at : Members → Judged
-gateway_at ms = gateway_in (option_map as_table (get_member (codes "gateway") ms))
+gateway_at ms = gateway_in (has_routes ms) (option_map as_table (get_member (codes "gateway") ms))
+
+-- ---- `tcp` of `gateway`, once the plug-ins and the routes are read
+
+-- the key, as a refusal names it
+abbrev pub tcp_key : List ℕ
+tcp_key = codes "gateway.tcp"
+
+-- what stands there in `gateway`, if that is a table
+abbrev pub tcp_in : Option (Option Members) → Option Data
+tcp_in None = None
+tcp_in (Some None) = None
+tcp_in (Some (Some ms)) = get_member (codes "tcp") ms
+
+-- the same, in a whole text
+abbrev pub tcp_at : Members → Option Data
+tcp_at ms = tcp_in (option_map as_table (get_member (codes "gateway") ms))
+
+-- a plug-in has each of these names
+abbrev pub all_plugins : Given → List Data → Bool
+all_plugins g ds = list_all (λ d. has_plugin g (text_of d)) ds
+
+-- the lines are streams of bytes that pass these plug-ins
+abbrev pub with_tcp : List ℕ → Given → Given
+with_tcp places g = record g { tcp = places }
+
+-- A plug-in has each of the names.
+abbrev pub judge_names : Given → List Data → Judged
+judge_names g ds = if all_plugins g ds then Ok (with_tcp (places_in g ds) g) else Err (5, tcp_key)
+
+-- (What is no array was refused with `gateway`.)
+abbrev pub judge_streams : Given → Option Items → Judged
+judge_streams g None = Err (4, tcp_key)
+judge_streams g (Some ds) = judge_names g (list_of ds)
+
+-- what stands at `tcp`, if anything does
+abbrev pub judge_tcp_found : Given → Option Data → Judged
+judge_tcp_found g None = Ok g
+judge_tcp_found g (Some d) = judge_streams g (as_array d)
+
+-- `tcp` of a whole text
+abbrev pub judge_tcp : Members → Given → Judged
+judge_tcp ms g = judge_tcp_found g (tcp_at ms)
 
 -- ---- the whole
 
 abbrev pub judge_tables : Option (List ℕ) → Members → Judged
 judge_tables (Some key) ms = Err (3, key)
-judge_tables None ms = and_then (gateway_at ms) (judge_arrays ms)
+judge_tables None ms = and_then (and_then (gateway_at ms) (judge_arrays ms)) (judge_tcp ms)
 
 abbrev pub judge : Option Members → Judged
 judge None = Err (1, codes "-")

@@ -5,14 +5,15 @@ ghost use Rattle.toml.specs.Data.{as_integer, as_str};
 ghost use Rattle.toml.specs.View.{view, table_view};
 ghost use Rattle.gate_config.specs.Given.{given};
 ghost use Rattle.config_reader.specs.Judge.{natural, number_fault, text_fault, address_fault, level_fault, choice_fault, name_fault, path_fault, value_fault, missing_fault, fault_of, first_fault, is_key, unknown_key, table_fault};
-ghost use Rattle.config_reader.specs.Names.{has_vm, has_plugin};
+ghost use Rattle.config_names.specs.Names.{has_vm, has_plugin};
 ghost use Rattle.config_reader.specs.Rows.{absence_of, row_of};
 
 use crate::address::is_address;
 use crate::keys::{Absent, Key, KeyKind};
-use crate::names::{filters_fault, has_plugin, has_vm};
+use crate::names::{filters_fault, tcp_fault};
 use crate::values::{member, name_in, natural};
 use crate::words::level_of;
+use config_names::{has_plugin, has_vm};
 use gate_base::OutOfMemory;
 use gate_config::Config;
 use toml::{Table, Value};
@@ -32,6 +33,7 @@ fn value_fault(kind: KeyKind, config: &Config, value: &Value) -> Result<Option<u
         KeyKind::SomeVm => Ok(some_vm_fault(config, value)),
         KeyKind::Path => path_fault(config, value),
         KeyKind::Filters => Ok(filters_fault(config, value)),
+        KeyKind::Streams { has_routes } => Ok(tcp_fault(has_routes, value)),
         KeyKind::Tables => Ok(None),
     }
 }

@@ -8,16 +8,16 @@ ghost use Rattle.gate_config.specs.Given.{given};
 ghost use Rattle.gate_config.specs.Kept.{IsVm, IsPlugin};
 ghost use Rattle.gate_config.specs.Routes.{fits, table_of};
 ghost use Rattle.config_reader.specs.Judge.{table_fault, text_of, places_of, filters_at, text_at};
-ghost use Rattle.config_reader.specs.Names.{has_vm, has_plugin, plugin_number, vm_number};
+ghost use Rattle.config_names.specs.Names.{has_vm, has_plugin, plugin_number, vm_number};
 ghost use Rattle.config_reader.specs.Rows.{row_of, vm_keys, plugin_keys, route_keys, path, filters};
 ghost use Rattle.config_reader.specs.Whole.{given_with_entry, keys_of, length_of, most_of, plugin_of, route_of, vm_of};
 
 use crate::keys::{
     CONFIGURATION, FAIL, FILTERS, FUEL, Key, MODULE, PAGES, PATH, PLUGIN_NAME, PLUGIN_VM, VM_NAME,
 };
-use crate::names::{plugin_place, vm_place};
 use crate::section::TableArray;
 use crate::values::{member, number_at, text_at, text_in};
+use config_names::{plugin_place, vm_place};
 use gate_base::{Members, Octets, OutOfMemory, Text, VmNo};
 use gate_config::{Config, PluginEntry, PluginNos, RouteEnd, VmEntry};
 use std::alloc::{AllocError, Global};
@@ -161,7 +161,11 @@ fn places_of(alloc: Global, config: &Config, value: &Value) -> Result<PluginNos,
 }
 
 /// The places of the plug-ins of these names.
-fn places_in(alloc: Global, config: &Config, items: &[Value]) -> Result<PluginNos, OutOfMemory>
+pub(crate) fn places_in(
+    alloc: Global,
+    config: &Config,
+    items: &[Value],
+) -> Result<PluginNos, OutOfMemory>
     ensures { IfOk result (λ places. places ≡ map (λ v. plugin_number (given config.now) (text_of (view v))) items.now) }
 {
     let mut places = Members::new(alloc);

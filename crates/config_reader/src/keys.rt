@@ -25,6 +25,8 @@ pub enum KeyKind {
     Path,
     /// A list of names of plug-ins.
     Filters,
+    /// A list of names of the plug-ins of streams, which are looked for later; nothing where there are routes.
+    Streams { has_routes: bool },
     /// Tables, which are judged key by key.
     Tables,
 }
@@ -95,7 +97,30 @@ pub(crate) const LOG_LEVEL: Key = Key {
     absent: Absent::Text { text: "info" },
 };
 
-static GATEWAY_KEYS: [Key; 5] = [LISTEN, UPSTREAM, WORKERS, DEADLINE_MS, LOG_LEVEL];
+/// The plug-ins of streams of bytes, where there is no route.
+const TCP: Key = Key {
+    name: "tcp",
+    kind: KeyKind::Streams { has_routes: false },
+    absent: Absent::NoNames,
+};
+
+/// The same where there are routes.
+const TCP_BESIDE_ROUTES: Key = Key {
+    name: "tcp",
+    kind: KeyKind::Streams { has_routes: true },
+    absent: Absent::NoNames,
+};
+
+static GATEWAY_KEYS: [Key; 6] = [LISTEN, UPSTREAM, WORKERS, DEADLINE_MS, LOG_LEVEL, TCP];
+
+static GATEWAY_KEYS_BESIDE_ROUTES: [Key; 6] = [
+    LISTEN,
+    UPSTREAM,
+    WORKERS,
+    DEADLINE_MS,
+    LOG_LEVEL,
+    TCP_BESIDE_ROUTES,
+];
 
 /// The name of a VM.
 pub(crate) const VM_NAME: Key = Key {
@@ -208,11 +233,15 @@ static TOP_KEYS: [Key; 4] = [
     },
 ];
 
-/// The keys of `gateway`.
-pub(crate) fn gateway_keys() -> &'static [Key]
-    ensures { map row_of result.now ≡ gateway_keys }
+/// The keys of `gateway`, whether or not there are routes.
+pub(crate) fn gateway_keys(has_routes: bool) -> &'static [Key]
+    ensures { map row_of result.now ≡ gateway_keys has_routes }
 {
-    GATEWAY_KEYS.as_slice()
+    if has_routes {
+        GATEWAY_KEYS_BESIDE_ROUTES.as_slice()
+    } else {
+        GATEWAY_KEYS.as_slice()
+    }
 }
 
 /// The keys of a VM.

@@ -1,83 +1,16 @@
-// The names that are there so far, and lists of names.
-ghost use Rattle.std.specs.Prelude.{◌≡◌, ◌<◌, IfSome, length, map, bytes_eq, position};
+// Lists of names.
+ghost use Rattle.std.specs.Prelude.{◌≡◌, map, bytes_eq};
 ghost use Rattle.std.specs.List.{list_all, list_any};
 ghost use Rattle.toml.specs.Data.{as_array, as_str};
 ghost use Rattle.toml.specs.View.{view};
 ghost use Rattle.gate_config.specs.Given.{given};
-ghost use Rattle.config_reader.specs.Judge.{filters_fault, is_a_name, is_among, names_fault, repeats, text_of};
-ghost use Rattle.config_reader.specs.Names.{has_vm, has_plugin, vm_number, plugin_number};
+ghost use Rattle.config_reader.specs.Judge.{filters_fault, is_a_name, is_among, names_fault, repeats, streams_fault, streams_form, tcp_fault, text_of};
+ghost use Rattle.config_names.specs.Names.{has_plugin};
 
 use crate::values::{name_in, text_in};
+use config_names::has_plugin;
 use gate_config::Config;
 use toml::Value;
-
-/// Whether a VM has this name.
-pub(crate) fn has_vm(config: &Config, name: &str) -> bool
-    ensures { result ≡ has_vm (given config.now) name.now }
-{
-    config
-        .vms
-        .as_slice()
-        .iter()
-        .any(|vm| vm.name.as_str() == name)
-}
-
-/// Whether a plug-in has this name.
-pub(crate) fn has_plugin(config: &Config, name: &str) -> bool
-    ensures { result ≡ has_plugin (given config.now) name.now }
-{
-    config
-        .plugins
-        .as_slice()
-        .iter()
-        .any(|plugin| plugin.name.as_str() == name)
-}
-
-/// The place of the VM of this name, and 0 where there is none.
-#[tactic(auto, unfolding(crate::specs::Names::vm_number))]
-pub(crate) fn vm_place(config: &Config, name: &str) -> usize
-    ensures { result ≡ vm_number (given config.now) name.now }
-{
-    match find_vm(config, name) {
-        Some(place) => place,
-        None => 0,
-    }
-}
-
-/// The place of the VM of this name.
-fn find_vm(config: &Config, name: &str) -> Option<usize>
-    ensures { result ≡ position (λ vm. bytes_eq vm.name name.now) config.now.vms }
-{
-    config
-        .vms
-        .as_slice()
-        .iter()
-        .position(|vm| vm.name.as_str() == name)
-}
-
-/// The place of the plug-in of this name, and 0 where there is none.
-#[tactic(auto, unfolding(crate::specs::Names::plugin_number))]
-pub(crate) fn plugin_place(config: &Config, name: &str) -> usize
-    ensures place { result ≡ plugin_number (given config.now) name.now }
-    ensures small { result < 64 }
-{
-    match find_plugin(config, name) {
-        Some(place) => place,
-        None => 0,
-    }
-}
-
-/// The place of the plug-in of this name.
-fn find_plugin(config: &Config, name: &str) -> Option<usize>
-    ensures first { result ≡ position (λ plugin. bytes_eq plugin.name name.now) config.now.plugins }
-    ensures within { IfSome result (λ place. place < length config.now.plugins) }
-{
-    config
-        .plugins
-        .as_slice()
-        .iter()
-        .position(|plugin| plugin.name.as_str() == name)
-}
 
 /// Why a value is no list of filters.
 pub(crate) fn filters_fault(config: &Config, value: &Value) -> Option<u8>
@@ -104,6 +37,46 @@ fn names_fault(config: &Config, items: &[Value]) -> Option<u8>
     }
     if !are_plugins(config, items) {
         return Some(5);
+    }
+    None
+}
+
+/// Why a value is none of the plug-ins of streams, whether or not there are routes.
+pub(crate) fn tcp_fault(has_routes: bool, value: &Value) -> Option<u8>
+    ensures { result ≡ tcp_fault has_routes (as_array (view value.now)) }
+{
+    if has_routes {
+        Some(4)
+    } else {
+        streams_fault(value)
+    }
+}
+
+/// Why a value is no list of names of the plug-ins of streams.
+fn streams_fault(value: &Value) -> Option<u8>
+    ensures { result ≡ streams_fault (as_array (view value.now)) }
+{
+    match value.as_array() {
+        Some(items) => streams_form(items.as_slice()),
+        None => Some(4),
+    }
+}
+
+/// Why values are no list of names: there is none, one is no name, they are too many, or one comes twice.
+fn streams_form(items: &[Value]) -> Option<u8>
+    ensures { result ≡ streams_form (map view items.now) }
+{
+    if !are_names(items) {
+        return Some(4);
+    }
+    if items.len() < 1 {
+        return Some(4);
+    }
+    if 16 < items.len() {
+        return Some(7);
+    }
+    if repeats(items) {
+        return Some(8);
     }
     None
 }
@@ -159,7 +132,7 @@ fn is_one_of(name: &str, others: &[Value]) -> bool
 }
 
 /// Whether all values are names of plug-ins.
-fn are_plugins(config: &Config, items: &[Value]) -> bool
+pub(crate) fn are_plugins(config: &Config, items: &[Value]) -> bool
     ensures { result ≡ list_all (λ d. has_plugin (given config.now) (text_of d)) (map view items.now) }
 {
     each_is_a_plugin(config, items)

@@ -1,16 +1,17 @@
 // A configuration from a text.
-ghost use Rattle.std.specs.Prelude.{◌≡◌, ◌≤◌, ◌<◌, ◌++◌, [], IfOk, IfErr, OnOk, None, Some, Err, ℕ, string_bytes, length, map, codes, true, is_some, option_map};
+ghost use Rattle.std.specs.Prelude.{◌≡◌, ◌≤◌, ◌<◌, ◌++◌, [], IfOk, IfErr, OnOk, None, Some, Ok, Err, ℕ, string_bytes, length, map, codes, true, is_some, option_map};
 ghost use Rattle.std.specs.List.{list_all};
 ghost use Rattle.toml.specs.Data.{as_array, as_table, no_members};
 ghost use Rattle.toml.specs.View.{view, table_view};
 ghost use Rattle.gate_config.specs.Given.{given};
-ghost use Rattle.config_reader.specs.Judge.{table_fault, number_at};
+ghost use Rattle.config_reader.specs.Judge.{table_fault, number_at, places_in};
 ghost use Rattle.config_reader.specs.Rows.{gateway_keys, workers, deadline_ms};
-ghost use Rattle.config_reader.specs.Whole.{Answers, Ends, Judged, Refuses, and_then, config_of, given_with_entry, entry_front, gateway_at, gateway_of, judge, judge_array, judge_arrays, judge_entries, judge_gateway, judge_items, judge_list, keys_of, length_of, level_at, most_of, unless};
+ghost use Rattle.config_reader.specs.Whole.{Answers, Ends, Judged, Refuses, and_then, config_of, given_with_entry, entry_front, gateway_at, gateway_of, has_routes, judge, judge_array, judge_arrays, judge_entries, judge_gateway, judge_items, judge_list, judge_names, judge_streams, judge_tcp, keys_of, length_of, level_at, most_of, routes_in, tcp_at, tcp_in, unless, with_tcp};
 
 use crate::checks::{table_fault, unknown_key};
-use crate::entries::add_entry;
+use crate::entries::{add_entry, places_in};
 use crate::keys::{DEADLINE_MS, LISTEN, LOG_LEVEL, UPSTREAM, WORKERS, gateway_keys, top_keys};
+use crate::names::are_plugins;
 use crate::section::TableArray;
 use crate::values::{member, number_at, text_at};
 use crate::words::level_of;
@@ -65,7 +66,7 @@ fn read_tables(alloc: Global, table: &Table) -> Result<Config, ConfigEnd>
         Ok(config) => config,
         Err(end) => return Err(end),
     };
-    match read_arrays(alloc, table, &mut config) {
+    match read_after_gateway(alloc, table, &mut config) {
         Ok(()) => Ok(config),
         Err(end) => {
             drop(config);
@@ -78,20 +79,41 @@ fn read_tables(alloc: Global, table: &Table) -> Result<Config, ConfigEnd>
 fn read_gateway_at(alloc: Global, table: &Table) -> Result<Config, ConfigEnd>
     ensures { Answers (gateway_at (table_view table.now)) result }
 {
+    let routes = has_routes(table);
     match member(table, "gateway") {
         Some(value) => match value.as_table() {
-            Some(gateway) => read_gateway(alloc, gateway),
+            Some(gateway) => read_gateway(alloc, routes, gateway),
             None => Err(refuse(alloc, 4, "", "gateway")),
         },
-        None => read_gateway(alloc, &Table::new(alloc)),
+        None => read_gateway(alloc, routes, &Table::new(alloc)),
     }
 }
 
-/// Reads the table `gateway`.
-fn read_gateway(alloc: Global, table: &Table) -> Result<Config, ConfigEnd>
-    ensures { Answers (judge_gateway (table_view table.now)) result }
+/// Whether there is a `[[route]]`.
+fn has_routes(table: &Table) -> bool
+    ensures { result ≡ has_routes (table_view table.now) }
 {
-    let Ok(fault) = gateway_fault(alloc, table) else {
+    match member(table, "route") {
+        Some(value) => has_entries(value),
+        None => false,
+    }
+}
+
+/// Whether a value is an array with an entry.
+fn has_entries(value: &Value) -> bool
+    ensures { result ≡ routes_in (Some (as_array (view value.now))) }
+{
+    match value.as_array() {
+        Some(items) => items.as_slice().len() > 0,
+        None => false,
+    }
+}
+
+/// Reads the table `gateway`, whether or not there are routes.
+fn read_gateway(alloc: Global, routes: bool, table: &Table) -> Result<Config, ConfigEnd>
+    ensures { Answers (judge_gateway routes (table_view table.now)) result }
+{
+    let Ok(fault) = gateway_fault(alloc, routes, table) else {
         return Err(ConfigEnd::OutOfMemory);
     };
     if let Some((number, key)) = fault {
@@ -104,11 +126,15 @@ fn read_gateway(alloc: Global, table: &Table) -> Result<Config, ConfigEnd>
 }
 
 /// The first refusal of the table `gateway`, with the key's name.
-fn gateway_fault<'a>(alloc: Global, table: &'a Table) -> Result<Option<(u8, &'a str)>, OutOfMemory>
-    ensures { IfOk result (λ fault. option_map (λ f. (f.0, f.1.now)) fault ≡ table_fault gateway_keys (gateway_of no_members) (table_view table.now)) }
+fn gateway_fault<'a>(
+    alloc: Global,
+    routes: bool,
+    table: &'a Table,
+) -> Result<Option<(u8, &'a str)>, OutOfMemory>
+    ensures { IfOk result (λ fault. option_map (λ f. (f.0, f.1.now)) fault ≡ table_fault (gateway_keys routes) (gateway_of no_members) (table_view table.now)) }
 {
     let bare = bare_config(alloc)?;
-    let fault = table_fault(gateway_keys(), &bare, table);
+    let fault = table_fault(gateway_keys(routes), &bare, table);
     drop(bare);
     fault
 }
@@ -143,6 +169,83 @@ fn level_at(table: &Table) -> Level
     ensures { result ≡ level_at (table_view table.now) }
 {
     level_of(text_at(&LOG_LEVEL, table)).unwrap_or(Level::Info)
+}
+
+/// Reads the arrays, where they are there, and then the plug-ins of streams, into a configuration that has no entries yet.
+fn read_after_gateway(alloc: Global, table: &Table, config: &mut Config) -> Result<(), ConfigEnd>
+    requires vms { config.old.vms ≡ [] }
+    requires plugins { config.old.plugins ≡ [] }
+    requires routes { config.old.routes ≡ [] }
+    ensures { Ends (and_then (judge_arrays (table_view table.now) (given config.old)) (judge_tcp (table_view table.now))) result (given config.new) }
+{
+    match read_arrays(alloc, table, config) {
+        Ok(()) => read_tcp(alloc, table, config),
+        Err(end) => Err(end),
+    }
+}
+
+/// Reads `tcp` of `gateway`, where it is there.
+fn read_tcp(alloc: Global, table: &Table, config: &mut Config) -> Result<(), ConfigEnd>
+    ensures { Ends (judge_tcp (table_view table.now) (given config.old)) result (given config.new) }
+{
+    match tcp_at(table) {
+        Some(value) => read_streams(alloc, value, config),
+        None => Ok(()),
+    }
+}
+
+/// What stands at `tcp` of `gateway`.
+fn tcp_at(table: &Table) -> Option<&Value>
+    ensures { option_map (λ v. view v.now) result ≡ tcp_at (table_view table.now) }
+{
+    match member(table, "gateway") {
+        Some(value) => tcp_in(value),
+        None => None,
+    }
+}
+
+/// What stands at `tcp` of a value, if that is a table.
+fn tcp_in(value: &Value) -> Option<&Value>
+    ensures { option_map (λ v. view v.now) result ≡ tcp_in (Some (as_table (view value.now))) }
+{
+    match value.as_table() {
+        Some(gateway) => member(gateway, "tcp"),
+        None => None,
+    }
+}
+
+/// Reads a value as the names of the plug-ins of streams.
+fn read_streams(alloc: Global, value: &Value, config: &mut Config) -> Result<(), ConfigEnd>
+    ensures { Ends (judge_streams (given config.old) (as_array (view value.now))) result (given config.new) }
+{
+    let Some(items) = value.as_array() else {
+        return Err(refuse(alloc, 4, "", "gateway.tcp"));
+    };
+    read_names(alloc, items.as_slice(), config)
+}
+
+/// Reads the names of the plug-ins of streams: plug-ins have them.
+fn read_names(alloc: Global, items: &[Value], config: &mut Config) -> Result<(), ConfigEnd>
+    ensures { Ends (judge_names (given config.old) (map view items.now)) result (given config.new) }
+{
+    if !are_plugins(config, items) {
+        return Err(refuse(alloc, 5, "", "gateway.tcp"));
+    }
+    set_streams(alloc, items, config)
+}
+
+/// The plug-ins of these names are those of streams.
+#[tactic(auto, using(crate::proofs::Stepping::places_seen))]
+fn set_streams(alloc: Global, items: &[Value], config: &mut Config) -> Result<(), ConfigEnd>
+    ensures { Ends (Ok (with_tcp (places_in (given config.old) (map view items.now)) (given config.old))) result (given config.new) }
+{
+    match places_in(alloc, config, items) {
+        Ok(places) => {
+            config.tcp = places;
+            Ok(())
+        }
+        Err(_) => Err(ConfigEnd::OutOfMemory),
+    }
 }
 
 /// Reads the arrays, where they are there, into a configuration that has no entries yet.

@@ -51,6 +51,7 @@ AreLogged {R} logged refuses old (line ∷ lines) new = (mid : LogState R) × Is
 abbrev pub notice_of : List ℕ → ℕ → List ℕ
 notice_of text count = line_of Warn (text ++ (codes ": " ++ decimal count))
 
+-- a line is a notice: a text and how often it came
 abbrev pub IsNotice : List ℕ → Type 0
 IsNotice line = (text : List ℕ) × (count : ℕ) × (line ≡ notice_of text count)
 

@@ -1,13 +1,18 @@
 -- What a world over sockets gives, and what goes to its lines.
-use Rattle.std.specs.Prelude.{ℕ, true, false, List, Option, None}
+use Rattle.std.specs.Prelude.{◌≡◌, ◌⊎◌, ℕ, ◌+◌, true, false, List, Option, None, Some, Result, Ok, Err}
+use Rattle.gate_io.specs.declared.ends.WorldEnd.{WorldEnd}
+use Rattle.gate_io.specs.declared.event.Event.{Event}
 use Rattle.gate_io.specs.declared.event.Side.{Side}
+use Rattle.gate_io.specs.declared.event.Side.TheVariants.{Down, Up}
 use Rattle.gate_io.specs.declared.event.What.{What}
+use Rattle.gate_io.specs.declared.event.What.TheVariants.{Opened, Bytes, End, Gone, Joined, Refused, Room, Clock, Stop}
 use Rattle.gate_io.specs.Events.{Last}
 use Rattle.gate_io.specs.Nature.{Nature}
 use Rattle.live_sockets.specs.Keeping.{WasHeard}
 use Rattle.live_sockets.specs.Looks.{AsksFirst}
 use Rattle.live_sockets.specs.Calls.{BeginsIn, ConnectsIn}
 use Rattle.live_lines.specs.Lines.{SentIn, ClosedIn}
+use Rattle.live_sockets.specs.Notices.{CountsAnswer}
 use Rattle.live_sockets.specs.Origins.{HasEnded}
 use Rattle.live_lines.specs.Told.{LiesIn}
 use Rattle.gate_live.specs.Logged.{LogState, Notices}
@@ -54,6 +59,37 @@ AcceptsNone w = HasEnded w.sockets.origin
 abbrev pub log_in : {R P : Type 0} → LiveWorld R P → LogState R
 log_in w = record { rt = w.rt; is_cut = w.is_cut; dropped = w.dropped }
 
--- A world that waits logs notices alone, one at most of each of the ten kinds. The lines that were dropped before are counted among what is to be told.
+-- A world that waits logs notices alone, one at most of each of the twelve kinds. The lines that were dropped before are counted among what is to be told.
 abbrev pub LogsNotices : {R P : Type 0} → (R → Option (List ℕ)) → (R → Type 0) → LiveWorld R P → LiveWorld R P → Type 0
-LogsNotices logged refuses old new = Notices logged refuses 10 (record { rt = old.rt; is_cut = old.is_cut; dropped = 0 }) (log_in new)
+LogsNotices logged refuses old new = Notices logged refuses 12 (record { rt = old.rt; is_cut = old.is_cut; dropped = 0 }) (log_in new)
+
+-- a line, where this is the side of its server
+abbrev pub server_of_side : ℕ → Side → Option ℕ
+server_of_side line Up = Some line
+server_of_side line Down = None
+
+-- the line of whose server an event brought bytes, or their end
+abbrev pub server_of_what : What → Option ℕ
+server_of_what (Bytes line side bytes) = server_of_side line side
+server_of_what (End line side) = server_of_side line side
+server_of_what (Opened line) = None
+server_of_what (Gone line side) = None
+server_of_what (Joined line) = None
+server_of_what (Refused line) = None
+server_of_what (Room line side) = None
+server_of_what Clock = None
+server_of_what Stop = None
+
+-- the same of what a call for an event gave
+abbrev pub server_of : Result Event WorldEnd → Option ℕ
+server_of (Ok event) = server_of_what event.what
+server_of (Err e) = None
+
+-- bytes go to the client of the line of whose server the last event was
+abbrev pub IsAnswer : {R P : Type 0} → LiveWorld R P → ℕ → Side → Type 0
+IsAnswer w line side = (side ≡ Down) × (w.answering ≡ Some line)
+
+-- They are counted where they begin an answer 502, and no other bytes are.
+abbrev pub Counts : {R P : Type 0} → LiveWorld R P → ℕ → Side → List ℕ → LiveWorld R P → Type 0
+Counts old line side bytes new =
+    (IsAnswer old line side × CountsAnswer old.sockets.lines.items line bytes old.sockets.notices.counts new.sockets.notices.counts) ⊎ ((IsAnswer old line side → ⊥) × (new.sockets.notices.counts ≡ old.sockets.notices.counts))

@@ -1,5 +1,5 @@
 // A worker's outside over sockets.
-ghost use Rattle.std.specs.Prelude.{◌≡◌, ◌≤◌, ◌⊎◌, IfOk, IfSome, IfNone, IsSomeAnd, OnOk, OnErr};
+ghost use Rattle.std.specs.Prelude.{◌≡◌, ◌≤◌, ◌⊎◌, ◌↔◌, IsTrue, IfOk, IfSome, IfNone, IsSomeAnd, OnOk, OnErr};
 ghost use Rattle.gate_io.specs.Events.{Follows, Obeys, is_stop};
 ghost use Rattle.live_sockets.specs.Spent.{IsBefore, IsEarly, IsOfLine, is_clock};
 ghost use Rattle.live_sockets.specs.Times.{IsTold};
@@ -7,6 +7,7 @@ ghost use Rattle.gate_live.specs.LogLine.{line_of};
 ghost use Rattle.gate_live.specs.Logged.{notice_of};
 ghost use Rattle.gate_io.specs.declared.event.What.TheVariants as whats;
 ghost use Rattle.gate_live.specs.Timed.{IsMoment, IsTimed};
+ghost use Rattle.gate_live.specs.Worlds.{server_of, server_of_side, server_of_what};
 
 use crate::log_line::log_line;
 use crate::stderr::{LogStream, put_line};
@@ -34,12 +35,14 @@ pub struct LiveWorld<R, P> {
     is_cut: bool,
     /// How many lines of the log were dropped, since that was told.
     dropped: u32,
+    /// The line of whose server the last event brought bytes, or their end.
+    answering: Option<LineNo>,
 }
 
 impl<R, P> LiveWorld<R, P> {
     ghost use Rattle.std.specs.Prelude.{◌≡◌, []};
     ghost use Rattle.gate_live.specs.Sites.{IsUntouched};
-    ghost use Rattle.gate_live.specs.Worlds.{log_in};
+    ghost use Rattle.gate_live.specs.Worlds.{IsAnswer, log_in};
 
     /// A world in which nothing has happened, over these sockets.
     pub(crate) fn new(rt: R, seed: [u8; 32], sockets: Sockets<P>) -> Self
@@ -58,6 +61,20 @@ impl<R, P> LiveWorld<R, P> {
             faults: 0,
             is_cut: false,
             dropped: 0,
+            answering: None,
+        }
+    }
+
+    /// Whether bytes for a side of a line go to the client of whose server the last event was.
+    fn is_answer(&self, line: LineNo, side: Side) -> bool
+        ensures { IsTrue result ↔ IsAnswer self.now line side }
+    {
+        match side {
+            Side::Down => match self.answering {
+                Some(answering) => answering == line,
+                None => false,
+            },
+            Side::Up => false,
         }
     }
 
@@ -82,7 +99,7 @@ impl<R: Net + TimeSource + Wait + LogStream, P: Duplex> World for LiveWorld<R, P
     ghost use Rattle.gate_io.specs.Events.{after_next};
     ghost use Rattle.gate_io.specs.Told.{Rose};
     ghost use Rattle.live_lines.specs.Allowed.{no_promise};
-    ghost use Rattle.gate_live.specs.Worlds.{last_in, nature_of, AcceptsNone, Asks, Gives, Sends, Connects, Begins, Closes, LogsNotices, log_in};
+    ghost use Rattle.gate_live.specs.Worlds.{last_in, nature_of, AcceptsNone, Asks, Gives, Sends, Connects, Begins, Closes, Counts, LogsNotices, log_in};
     ghost use Rattle.gate_live.specs.Logged.{IsLogged};
 
     ghost trace = { λ _. None };
@@ -106,6 +123,7 @@ impl<R: Net + TimeSource + Wait + LogStream, P: Duplex> World for LiveWorld<R, P
         ensures asked { IfOk result (λ event. Asks self.old event.what self.new) }
         ensures timed { self.old.stopped ≡ false → IfOk result (IsTimed (IsTold (R.tells self.old.rt)) self.old.now wants.now.due) }
         ensures notices { LogsNotices R.logged R.refuses self.old self.new }
+        ensures answering { self.new.answering ≡ server_of result }
         ensures event { IfOk result (Follows (last_in self.old)) }
         ensures last { last_in self.new ≡ after_next (last_in self.old) result }
         ensures obeys { IfOk result (λ event. Obeys wants.now event.what) }
@@ -115,7 +133,9 @@ impl<R: Net + TimeSource + Wait + LogStream, P: Duplex> World for LiveWorld<R, P
         ensures ended { result ≡ Err WorldEnd.Failed → AcceptsNone self.new }
     {
         let answer = self.following(alloc, wants);
-        self.tell(alloc);
+        self.answering = server_of(&answer);
+        let is_last = self.stopped || answer.is_err();
+        self.tell(alloc, is_last);
         if let Err(WorldEnd::Failed) = answer {
             self.faults = self.faults.saturating_add(1);
             self.sockets.end();
@@ -131,12 +151,16 @@ impl<R: Net + TimeSource + Wait + LogStream, P: Duplex> World for LiveWorld<R, P
         bytes: &[u8],
     ) -> Result<usize, OutOfMemory>
         ensures sent { IfOk result (λ n. Sends P.gave P.took self.old line side bytes.now n self.new) }
+        ensures counted { Counts self.old line side bytes.now self.new }
         ensures bound { IfOk result (λ n. n ≤ length bytes.now) }
         ensures log { log_in self.new ≡ log_in self.old }
         ensures last { last_in self.new ≡ last_in self.old }
         ensures nature { nature_of self.new ≡ nature_of self.old }
         ensures faults { self.new.faults ≡ self.old.faults }
     {
+        if self.is_answer(line, side) {
+            self.sockets.note_answer(line, bytes);
+        }
         self.sockets.send(alloc, line, side, bytes)
     }
 
@@ -198,9 +222,9 @@ impl<R: LogStream, P: Duplex> LiveWorld<R, P> {
         }
     }
 
-    /// Tells the operator what happened since the last time, once a second at most. Where there is no memory for a line it is not told.
+    /// Tells the operator what happened since the last time, once a second at most, and the last time in any case. Where there is no memory for a line it is not told.
     #[tactic(auto, using(crate::proofs::Logged::no_notices))]
-    fn tell(&mut self, alloc: Global)
+    fn tell(&mut self, alloc: Global, is_last: bool)
         ensures notices { LogsNotices R.logged R.refuses self.old self.new }
         ensures lines { self.new.sockets.lines ≡ self.old.sockets.lines }
         ensures room { self.new.sockets.room ≡ self.old.sockets.room }
@@ -209,10 +233,11 @@ impl<R: LogStream, P: Duplex> LiveWorld<R, P> {
         ensures stopped { self.new.stopped ≡ self.old.stopped }
         ensures seed { self.new.seed ≡ self.old.seed }
         ensures faults { self.new.faults ≡ self.old.faults }
+        ensures answering { self.new.answering ≡ self.old.answering }
     {
         self.sockets.notices.add(Notice::Dropped, self.dropped);
         self.dropped = 0;
-        if let Some(counts) = self.sockets.take_notices() {
+        if let Some(counts) = self.sockets.take_notices(is_last) {
             self.tell_all(alloc, &counts);
         }
     }
@@ -220,7 +245,7 @@ impl<R: LogStream, P: Duplex> LiveWorld<R, P> {
     /// Tells how often each kind of notice came that did.
     #[tactic(auto, using(crate::proofs::Logged::no_notices, crate::proofs::Logged::more_notices))]
     fn tell_all(&mut self, alloc: Global, counts: &[u32; KINDS])
-        ensures notices { Notices R.logged R.refuses 10 (log_in self.old) (log_in self.new) }
+        ensures notices { Notices R.logged R.refuses 12 (log_in self.old) (log_in self.new) }
         ensures rest { self.new ≡ record self.old { rt = self.new.rt; is_cut = self.new.is_cut; dropped = self.new.dropped } }
     {
         for kind in 0..KINDS {
@@ -363,6 +388,43 @@ fn moment_of(what: &What, due: Option<u64>, last: u64, now: u64) -> u64
     match due {
         Some(due) => now.min(due - 1),
         None => now,
+    }
+}
+
+/// The line of whose server an event brought bytes, or their end.
+fn server_of(answer: &Result<Event, WorldEnd>) -> Option<LineNo>
+    ensures { result ≡ server_of answer.now }
+{
+    match answer {
+        Ok(event) => server_of_what(&event.what),
+        Err(_) => None,
+    }
+}
+
+/// A line, where this is the side of its server.
+fn server_of_side(line: LineNo, side: Side) -> Option<LineNo>
+    ensures { result ≡ server_of_side line side }
+{
+    match side {
+        Side::Up => Some(line),
+        Side::Down => None,
+    }
+}
+
+/// The line of whose server this brings bytes, or their end.
+fn server_of_what(what: &What) -> Option<LineNo>
+    ensures { result ≡ server_of_what what.now }
+{
+    match what {
+        What::Bytes { line, side, .. } => server_of_side(*line, *side),
+        What::End { line, side } => server_of_side(*line, *side),
+        What::Opened { .. } => None,
+        What::Gone { .. } => None,
+        What::Joined { .. } => None,
+        What::Refused { .. } => None,
+        What::Room { .. } => None,
+        What::Clock => None,
+        What::Stop => None,
     }
 }
 

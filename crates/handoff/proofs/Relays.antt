@@ -7,7 +7,7 @@ use lib.ListN.{get_elem?}
 use Rattle.crossbeam_queue.specs.Fifo.{Pushes, Pops, Forks, Merges, Learns}
 use Rattle.crossbeam_queue.proofs.Lists.{at_set, at_snoc}
 use Rattle.handoff.specs.declared.rule.Hands.{Hands}
-use Rattle.handoff.specs.Hands.{hands, Fits, Relayed, IsFront, AreFronts, longer, Holds, Leaves, IsInOrder, itself, giver_of_two, taker_of, twice_is_not, overtaken_is_not, told_of_more_is_not, held_is_not_taken}
+use Rattle.handoff.specs.Hands.{hands, counted, Fits, Relayed, IsFront, AreFronts, longer, Holds, Leaves, IsInOrder, itself, giver_of_two, taker_of, twice_is_not, overtaken_is_not, told_of_more_is_not, held_is_not_taken}
 
 at_end : (l : List Hands) (a b : Hands) (j : ℕ) → get_elem? l j ≢ some b → get_elem? (l ++ a ∷ []) j ≡ some b → j ≡ length l
 at_end [] a b zero n e = refl
@@ -47,19 +47,19 @@ chosen true xs ys zs p q = q
 chosen false xs ys zs p q = p
 
 module _ {L : Type 0} (line : L → ℕ) where
-  pub begins : Relayed line [] (hands true true [] [] [] [] ∷ [])
+  pub begins : Relayed line [] (hands true true [] [] [] [] 0 ∷ [])
   begins = (
     0,
     0,
     [],
     [],
     refl,
-    all_set (Fits 0 0 [] []) (hands true true [] [] [] [] ∷ []) 0 (hands true true [] [] [] []) (record { gives = λ _. (refl, refl); takes = λ _. (refl, refl); told_offered = front_none []; told_taken = front_none [] })
+    all_set (Fits 0 0 [] []) (hands true true [] [] [] [] 0 ∷ []) 0 (hands true true [] [] [] [] 0) (record { gives = λ _. (refl, refl); takes = λ _. (refl, refl); told_offered = front_none []; told_taken = front_none [] })
         (λ j u other e. absurd (other (at_end [] _ u j (λ x. some-ne-none u (sym x)) e))),
   )
 
-  pub sends : (n port : ℕ) (v : Hands) (x : L) → v.gives ≡ true → Pushes (Relayed line) n port v x (λ w. w ≡ hands v.gives v.takes (v.offered ++ line x ∷ []) v.taken v.told_offered v.told_taken)
-  sends n port v x may items views _ h at = let w : Hands = hands v.gives v.takes (v.offered ++ line x ∷ []) v.taken v.told_offered v.told_taken in let mine = h.5 port v at in let offered = h.2 ++ line x ∷ [] in (
+  pub sends : (n port : ℕ) (v : Hands) (x : L) → v.gives ≡ true → Pushes (Relayed line) n port v x (λ w. w ≡ hands v.gives v.takes (v.offered ++ line x ∷ []) v.taken v.told_offered v.told_taken v.refusals)
+  sends n port v x may items views _ h at = let w : Hands = hands v.gives v.takes (v.offered ++ line x ∷ []) v.taken v.told_offered v.told_taken v.refusals in let mine = h.5 port v at in let offered = h.2 ++ line x ∷ [] in (
     w,
     (
       h.0,
@@ -74,8 +74,8 @@ module _ {L : Type 0} (line : L → ℕ) where
     refl,
   )
 
-  pub gets : (port : ℕ) (v : Hands) → v.takes ≡ true → Pops (Relayed line) port v (λ x w. (w ≡ hands v.gives v.takes v.offered (v.taken ++ line x ∷ []) v.told_offered v.told_taken) × AreFronts w.taken w.told_offered)
-  gets port v may x items views h at = let w : Hands = hands v.gives v.takes v.offered (v.taken ++ line x ∷ []) v.told_offered v.told_taken in let mine = h.5 port v at in let taken = h.3 ++ line x ∷ [] in
+  pub gets : (port : ℕ) (v : Hands) → v.takes ≡ true → Pops (Relayed line) port v (λ x w. (w ≡ hands v.gives v.takes v.offered (v.taken ++ line x ∷ []) v.told_offered v.told_taken v.refusals) × AreFronts w.taken w.told_offered)
+  gets port v may x items views h at = let w : Hands = hands v.gives v.takes v.offered (v.taken ++ line x ∷ []) v.told_offered v.told_taken v.refusals in let mine = h.5 port v at in let taken = h.3 ++ line x ∷ [] in
       let now : w.taken ≡ taken = ap (λ (l : List ℕ). l ++ line x ∷ []) (mine.takes may).1 in
       let all : h.2 ≡ taken ++ map line items = h.4 ∙ sym (append_assoc h.3 (line x ∷ []) (map line items)) in (
         w,
@@ -93,8 +93,8 @@ module _ {L : Type 0} (line : L → ℕ) where
       )
 
   pub forks : (port : ℕ) (v : Hands) → v.gives ≡ true → v.takes ≡ true
-      → Forks (Relayed line) port v (hands true false v.offered [] v.told_offered v.told_taken) (hands false true [] v.taken v.told_offered v.told_taken)
-  forks port v a b items views h at = let l : Hands = hands true false v.offered [] v.told_offered v.told_taken in let r : Hands = hands false true [] v.taken v.told_offered v.told_taken in
+      → Forks (Relayed line) port v (hands true false v.offered [] v.told_offered v.told_taken 0) (hands false true [] v.taken v.told_offered v.told_taken 0)
+  forks port v a b items views h at = let l : Hands = hands true false v.offered [] v.told_offered v.told_taken 0 in let r : Hands = hands false true [] v.taken v.told_offered v.told_taken 0 in
       let mine = h.5 port v at in let vs : List Hands = set views port l in
       let Old : ℕ → Hands → Type 0 = λ j u. Fits h.0 h.1 h.2 h.3 j u × (u.takes ≢ true) in
       let old : All Old vs = all_set Old views port l (record { gives = λ _. mine.gives a; takes = λ p. absurd (true≢false (sym p)); told_offered = mine.told_offered; told_taken = mine.told_taken }, λ p. true≢false (sym p))
@@ -111,31 +111,37 @@ module _ {L : Type 0} (line : L → ℕ) where
       )
 
   -- a pass that may do nothing comes, and tells what is so
-  comes : (port : ℕ) (v r : Hands) → r.gives ≢ true → r.takes ≢ true → ((giver taker : ℕ) (offered taken : List ℕ) → Fits giver taker offered taken port v → IsFront r.told_offered offered × IsFront r.told_taken taken)
-      → Forks (Relayed line) port v v r
-  comes port v r a b so items views h at = let vs : List Hands = set views port v in let tells = so h.0 h.1 h.2 h.3 (h.5 port v at) in (
+  comes : (port : ℕ) (v w r : Hands) → r.gives ≢ true → r.takes ≢ true → ((giver taker : ℕ) (offered taken : List ℕ) → Fits giver taker offered taken port v → Fits giver taker offered taken port w)
+      → ((giver taker : ℕ) (offered taken : List ℕ) → Fits giver taker offered taken port v → IsFront r.told_offered offered × IsFront r.told_taken taken) → Forks (Relayed line) port v w r
+  comes port v w r a b keeps so items views h at = let vs : List Hands = set views port w in let mine = h.5 port v at in let tells = so h.0 h.1 h.2 h.3 mine in (
     h.0,
     h.1,
     h.2,
     h.3,
     h.4,
-    λ j u e. ⊎_elim (λ x. all_set (Fits h.0 h.1 h.2 h.3) views port v (h.5 port v at) (λ j u _ e. h.5 j u e) j u x)
+    λ j u e. ⊎_elim (λ x. all_set (Fits h.0 h.1 h.2 h.3) views port w (keeps h.0 h.1 h.2 h.3 mine) (λ j u _ e. h.5 j u e) j u x)
         (λ (is : r ≡ u). subst (Fits h.0 h.1 h.2 h.3 j) is (record { gives = λ p. absurd (a p); takes = λ p. absurd (b p); told_offered = tells.0; told_taken = tells.1 }))
         (at_snoc vs r u j e),
   )
 
-  pub notes_offered : (port : ℕ) (v : Hands) → v.gives ≡ true → Forks (Relayed line) port v v (hands false false [] [] v.offered v.told_taken)
-  notes_offered port v may = comes port v (hands false false [] [] v.offered v.told_taken) (λ p. true≢false (sym p)) (λ p. true≢false (sym p))
+  pub notes_offered : (port : ℕ) (v : Hands) → v.gives ≡ true → Forks (Relayed line) port v v (hands false false [] [] v.offered v.told_taken 0)
+  notes_offered port v may = comes port v v (hands false false [] [] v.offered v.told_taken 0) (λ p. true≢false (sym p)) (λ p. true≢false (sym p)) (λ giver taker offered taken mine. mine)
       (λ giver taker offered taken mine. (([], append-nil v.offered ∙ (mine.gives may).1), mine.told_taken))
 
-  pub notes_taken : (port : ℕ) (v : Hands) → v.takes ≡ true → Forks (Relayed line) port v v (hands false false [] [] v.told_offered v.taken)
-  notes_taken port v may = comes port v (hands false false [] [] v.told_offered v.taken) (λ p. true≢false (sym p)) (λ p. true≢false (sym p))
+  pub notes_taken : (port : ℕ) (v : Hands) → v.takes ≡ true → Forks (Relayed line) port v v (hands false false [] [] v.told_offered v.taken 0)
+  notes_taken port v may = comes port v v (hands false false [] [] v.told_offered v.taken 0) (λ p. true≢false (sym p)) (λ p. true≢false (sym p)) (λ giver taker offered taken mine. mine)
       (λ giver taker offered taken mine. (mine.told_offered, ([], append-nil v.taken ∙ (mine.takes may).1)))
 
+  -- a refusal is counted
+  pub refuses : (port : ℕ) (v : Hands) → Forks (Relayed line) port v (counted v) (hands false false [] [] [] [] 0)
+  refuses port v = comes port v (counted v) (hands false false [] [] [] [] 0) (λ p. true≢false (sym p)) (λ p. true≢false (sym p))
+      (λ giver taker offered taken mine. record { gives = mine.gives; takes = mine.takes; told_offered = mine.told_offered; told_taken = mine.told_taken })
+      (λ giver taker offered taken mine. (front_none offered, front_none taken))
+
   pub reads : (port : ℕ) (v : Hands) (other : ℕ) (n : Hands)
-      → Merges (Relayed line) port v other n (hands v.gives v.takes v.offered v.taken (longer v.told_offered n.told_offered) (longer v.told_taken n.told_taken)) (hands false false [] [] [] [])
-  reads port v other n items views h at apart at' = let both : Hands = hands v.gives v.takes v.offered v.taken (longer v.told_offered n.told_offered) (longer v.told_taken n.told_taken) in
-      let none : Hands = hands false false [] [] [] [] in let vs : List Hands = set views port both in
+      → Merges (Relayed line) port v other n (hands v.gives v.takes v.offered v.taken (longer v.told_offered n.told_offered) (longer v.told_taken n.told_taken) v.refusals) (hands false false [] [] [] [] 0)
+  reads port v other n items views h at apart at' = let both : Hands = hands v.gives v.takes v.offered v.taken (longer v.told_offered n.told_offered) (longer v.told_taken n.told_taken) v.refusals in
+      let none : Hands = hands false false [] [] [] [] 0 in let vs : List Hands = set views port both in
       let was : get_elem? views other ≡ some n = ⊎_elim (λ x. absurd (apart x.0)) (λ x. x.1) (at_set views port other both n at') in
       let mine = h.5 port v at in let theirs = h.5 other n was in let F = Fits h.0 h.1 h.2 h.3 in (
         h.0,
@@ -176,12 +182,12 @@ not_overtaken h =
 
 pub not_told_of_more : told_of_more_is_not
 not_told_of_more h =
-    let taker : Hands = hands false true [] (1 ∷ []) (1 ∷ 2 ∷ []) [] in
+    let taker : Hands = hands false true [] (1 ∷ []) (1 ∷ 2 ∷ []) [] 0 in
     let p = leaves itself 0 taker refl [] (taker ∷ []) h refl in
     absurd (cc (p.1))
 
 pub not_held_and_taken : held_is_not_taken
 not_held_and_taken h =
-    let giver : Hands = hands true false (1 ∷ []) [] [] (1 ∷ []) in
+    let giver : Hands = hands true false (1 ∷ []) [] [] (1 ∷ []) 0 in
     let p = holds itself 0 giver refl (1 ∷ []) (giver ∷ []) h refl in
     absurd (omega (arith, p.1))

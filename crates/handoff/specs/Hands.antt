@@ -7,8 +7,13 @@ use Rattle.atomic_table.specs.Seated.{TableId}
 use Rattle.crossbeam_queue.specs.Fifo.{Held}
 use Rattle.handoff.specs.declared.rule.Hands.{Hands}
 
-abbrev pub hands : Bool → Bool → List ℕ → List ℕ → List ℕ → List ℕ → Hands
-hands a b offered taken told_offered told_taken = record { gives = a; takes = b; offered = offered; taken = taken; told_offered = told_offered; told_taken = told_taken }
+abbrev pub hands : Bool → Bool → List ℕ → List ℕ → List ℕ → List ℕ → ℕ → Hands
+hands a b offered taken told_offered told_taken refusals =
+    record { gives = a; takes = b; offered = offered; taken = taken; told_offered = told_offered; told_taken = told_taken; refusals = refusals }
+
+-- one call more that the queue refused
+abbrev pub counted : Hands → Hands
+counted v = hands v.gives v.takes v.offered v.taken v.told_offered v.told_taken (v.refusals + 1)
 
 -- one list is what another begins with
 abbrev pub IsFront : (front whole : List ℕ) → Type 0
@@ -33,14 +38,16 @@ abbrev pub Relayed : {L : Type 0} → (L → ℕ) → List L → List Hands → 
 Relayed line items views = (giver : ℕ) × (taker : ℕ) × (offered : List ℕ) × (taken : List ℕ) × (offered ≡ taken ++ map line items)
     × ((port : ℕ) (v : Hands) → get_elem? views port ≡ some v → Fits giver taker offered taken port v)
 
--- the queue, the numbers of the lines that were offered or taken by this right, and those of the first that it was told were taken or offered by the other one
+-- the queue, the numbers of the lines that were offered or taken by this right, those of the first that it was told were taken or offered by the other one, and
+-- how many of its calls the queue refused
 pub record Rights : Type 0 where
   pub queue : TableId
   pub lines : List ℕ
   pub told : List ℕ
+  pub refusals : ℕ
 
 abbrev pub new_rights : TableId → Rights
-new_rights queue = record { queue = queue; lines = []; told = [] }
+new_rights queue = record { queue = queue; lines = []; told = []; refusals = 0 }
 
 -- the queue, and the numbers of the first lines that were offered at it, and of the first that were taken
 pub record Noted : Type 0 where
@@ -73,10 +80,10 @@ itself n = n
 
 -- lines 1 and 2 were offered
 abbrev pub giver_of_two : Hands
-giver_of_two = hands true false (1 ∷ 2 ∷ []) [] [] []
+giver_of_two = hands true false (1 ∷ 2 ∷ []) [] [] [] 0
 
 abbrev pub taker_of : List ℕ → Hands
-taker_of taken = hands false true [] taken [] []
+taker_of taken = hands false true [] taken [] [] 0
 
 -- the queue holds 2: line 1 was not taken twice
 abbrev pub twice_is_not : Type 0
@@ -88,8 +95,8 @@ overtaken_is_not = Relayed itself (1 ∷ []) (giver_of_two ∷ taker_of (2 ∷ [
 
 -- the queue holds nothing, and one line was taken: the taker was not told of two
 abbrev pub told_of_more_is_not : Type 0
-told_of_more_is_not = Relayed itself [] (hands false true [] (1 ∷ []) (1 ∷ 2 ∷ []) [] ∷ []) → ⊥
+told_of_more_is_not = Relayed itself [] (hands false true [] (1 ∷ []) (1 ∷ 2 ∷ []) [] 0 ∷ []) → ⊥
 
 -- the queue holds the one line that was offered: the giver was not told that it was taken
 abbrev pub held_is_not_taken : Type 0
-held_is_not_taken = Relayed itself (1 ∷ []) (hands true false (1 ∷ []) [] [] (1 ∷ []) ∷ []) → ⊥
+held_is_not_taken = Relayed itself (1 ∷ []) (hands true false (1 ∷ []) [] [] (1 ∷ []) 0 ∷ []) → ⊥

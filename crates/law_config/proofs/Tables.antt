@@ -11,8 +11,8 @@ use Rattle.gate_config.specs.declared.entries.VmEntry.{VmEntry}
 use Rattle.gate_config.specs.declared.entries.PluginEntry.{PluginEntry}
 use Rattle.gate_config.specs.Given.{Given}
 use Rattle.config_reader.specs.Judge.{Fault, natural, fault_if, name_fault, number_fault, text_fault, address_fault, level_fault, choice_fault, path_fault, filters_fault, found_fault, fault_of, first_fault, or_then, or_unknown, table_fault, unknown_key, is_key, number_in, text_in, text_of, filters_in, places_of, list_of, is_a_name, repeats}
-use Rattle.config_reader.specs.Names.{has_vm, has_plugin, vm_number, plugin_number}
-use Rattle.config_reader.specs.Rows.{Row, vm_name, vm_module, configuration, fuel, pages, plugin_name, plugin_vm, fail, path, filters, listen, upstream, workers, deadline_ms, log_level, vm_keys, plugin_keys, route_keys, gateway_keys}
+use Rattle.config_names.specs.Names.{has_vm, has_plugin, vm_number, plugin_number}
+use Rattle.config_reader.specs.Rows.{Row, vm_name, vm_module, configuration, fuel, pages, plugin_name, plugin_vm, fail, path, filters, listen, upstream, workers, deadline_ms, log_level, tcp, vm_keys, plugin_keys, route_keys, gateway_keys}
 use Rattle.config_reader.specs.Whole.{vm_of, plugin_of, route_of, gateway_of}
 use Rattle.config_reader.specs.Words.{is_name, level_of}
 use Rattle.config_reader.proofs.Places.{position_below, position_passes}
@@ -228,7 +228,7 @@ name_is_text (datetime t) h = cc
 name_is_text (array ds) h = cc
 name_is_text (table ms) h = cc
 
-each_named : (g : Given) (ds : Items) → list_all is_a_name (list_of ds) ≡ true → list_all (λ d. has_plugin g (text_of d)) (list_of ds) ≡ true → EachNamed g.plugins (map (λ d. plugin_number g (text_of d)) (list_of ds)) ds
+pub each_named : (g : Given) (ds : Items) → list_all is_a_name (list_of ds) ≡ true → list_all (λ d. has_plugin g (text_of d)) (list_of ds) ≡ true → EachNamed g.plugins (map (λ d. plugin_number g (text_of d)) (list_of ds)) ds
 each_named g no_items a h = tt
 each_named g (item d ds) a h =
     let p = and_parts (is_a_name d) (list_all is_a_name (list_of ds)) a in
@@ -303,20 +303,30 @@ route_says g ms h =
       filters = filters_is g (get_member filters.name ms) c.0;
     }
 
-pub gateway_says : (g : Given) (ms : Members) → table_fault gateway_keys g ms ≡ None → GatewaySays (gateway_of ms) ms
-gateway_says g ms h =
-    let a = known (unknown_key gateway_keys ms) (first_fault gateway_keys g ms) h in
+pub gateway_says : (routes : Bool) (g : Given) (ms : Members) → table_fault (gateway_keys routes) g ms ≡ None → GatewaySays (gateway_of ms) ms
+gateway_says routes g ms h =
+    let a = known (unknown_key (gateway_keys routes) ms) (first_fault (gateway_keys routes) g ms) h in
     let b = taken _ (fault_of listen g ms) _ a.1 in
     let c = taken _ (fault_of upstream g ms) _ b.1 in
     let d = taken _ (fault_of workers g ms) _ c.1 in
     let e = taken _ (fault_of deadline_ms g ms) _ d.1 in
     let f = taken _ (fault_of log_level g ms) _ e.1 in
     record {
-      keys = only gateway_keys ms a.0;
+      keys = only (gateway_keys routes) ms a.0;
       listen = listen_is g (get_member listen.name ms) b.0;
       upstream = upstream_is g (get_member upstream.name ms) c.0;
       workers = workers_is g (get_member workers.name ms) d.0;
       deadline_ms = deadline_is g (get_member deadline_ms.name ms) e.0;
       log_level = level_is g (get_member log_level.name ms) f.0;
-      tcp = refl;
     }
+
+-- what stands at `tcp` is of its form
+pub tcp_form : (routes : Bool) (g : Given) (ms : Members) → table_fault (gateway_keys routes) g ms ≡ None → fault_of (tcp routes) g ms ≡ None
+tcp_form routes g ms h =
+    let a = known (unknown_key (gateway_keys routes) ms) (first_fault (gateway_keys routes) g ms) h in
+    let b = taken _ (fault_of listen g ms) _ a.1 in
+    let c = taken _ (fault_of upstream g ms) _ b.1 in
+    let d = taken _ (fault_of workers g ms) _ c.1 in
+    let e = taken _ (fault_of deadline_ms g ms) _ d.1 in
+    let f = taken _ (fault_of log_level g ms) _ e.1 in
+    (taken _ (fault_of (tcp routes) g ms) _ f.1).0

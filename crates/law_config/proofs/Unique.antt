@@ -9,7 +9,7 @@ use Rattle.gate_config.specs.declared.entries.PluginEntry.{PluginEntry}
 use Rattle.gate_config.specs.declared.entries.RouteEntry.{RouteEntry}
 use Rattle.gate_config.specs.Given.{Given}
 use Rattle.config_reader.specs.Words.{level_of}
-use Rattle.law_config.specs.Says.{TextOr, NumberOr, level_word, GatewaySays, TableOr, EachSays, Entries, VmSays, PluginSays, EachNamed, FiltersOr, RouteSays}
+use Rattle.law_config.specs.Says.{TextOr, NumberOr, level_word, GatewaySays, TableOr, EachSays, Entries, VmSays, PluginSays, EachNamed, FiltersOr, NamesOr, RouteSays, TcpSays}
 use Rattle.law_config.specs.Laws.{DocumentsSayOneConfiguration}
 
 -- ---- values
@@ -152,7 +152,6 @@ record SameGateway (g h : Given) : Type 0 where
   upstream : g.upstream ≡ h.upstream
   deadline_ms : g.deadline_ms ≡ h.deadline_ms
   log_level : g.log_level ≡ h.log_level
-  tcp : g.tcp ≡ h.tcp
 
 gateway_same : (g h : Given) (ms : Members) → GatewaySays g ms → GatewaySays h ms → SameGateway g h
 gateway_same g h ms p q = record {
@@ -161,7 +160,6 @@ gateway_same g h ms p q = record {
   upstream = text_or_same (codes "127.0.0.1:9000") g.upstream h.upstream (get_member (codes "upstream") ms) p.upstream q.upstream;
   deadline_ms = number_or_same 0 g.deadline_ms h.deadline_ms (get_member (codes "deadline_ms") ms) p.deadline_ms q.deadline_ms;
   log_level = level_same g.log_level h.log_level (text_or_same (codes "info") (level_word g.log_level) (level_word h.log_level) (get_member (codes "log_level") ms) p.log_level q.log_level);
-  tcp = p.tcp ∙ sym q.tcp;
 }
 
 found_same : (g h : Given) (o : Option Data) → TableOr (GatewaySays g) o → TableOr (GatewaySays h) o → SameGateway g h
@@ -170,6 +168,17 @@ found_same g h (Some d) p q =
     let e : table p.0 ≡ table q.0 = sym p.1 ∙ q.1 in
     let same : p.0 ≡ q.0 = cc in
     gateway_same g h q.0 (subst (λ (ms : Members). GatewaySays g ms) same p.2) q.2
+
+names_same : (plugins : List PluginEntry) → AllPairs (λ a b. a.name ≢ b.name) plugins → (ns ks : List ℕ) (o : Option Data) → NamesOr plugins ns o → NamesOr plugins ks o → ns ≡ ks
+names_same plugins pairs ns ks None p q = p ∙ sym q
+names_same plugins pairs ns ks (Some d) p q = filters_same plugins pairs ns ks (Some d) p.0 q.0
+
+tcp_same : (plugins : List PluginEntry) → AllPairs (λ a b. a.name ≢ b.name) plugins → (ns ks : List ℕ) (o : Option Data) → TableOr (TcpSays plugins ns) o → TableOr (TcpSays plugins ks) o → ns ≡ ks
+tcp_same plugins pairs ns ks None p q = p ∙ sym q
+tcp_same plugins pairs ns ks (Some d) p q =
+    let e : table p.0 ≡ table q.0 = sym p.1 ∙ q.1 in
+    let same : p.0 ≡ q.0 = cc in
+    names_same plugins pairs ns ks (get_member (codes "tcp") q.0) (subst (λ (ms : Members). TcpSays plugins ns ms) same p.2) q.2
 
 -- ---- the whole
 
@@ -181,6 +190,8 @@ one_configuration ms g h p q names =
     let plugins : g.plugins ≡ h.plugins = entries_same (PluginSays g.vms) (plugin_same g.vms names.vms) g.plugins h.plugins (get_member (codes "plugin") ms) p.plugins its_plugins in
     let its_routes : Entries (RouteSays g.plugins) h.routes (get_member (codes "route") ms) = subst (λ (l : List PluginEntry). Entries (RouteSays l) h.routes (get_member (codes "route") ms)) (sym plugins) q.routes in
     let routes : g.routes ≡ h.routes = entries_same (RouteSays g.plugins) (route_same g.plugins names.plugins) g.routes h.routes (get_member (codes "route") ms) p.routes its_routes in
+    let its_tcp : TableOr (TcpSays g.plugins h.tcp) (get_member (codes "gateway") ms) = subst (λ (l : List PluginEntry). TableOr (TcpSays l h.tcp) (get_member (codes "gateway") ms)) (sym plugins) q.tcp in
+    let tcp : g.tcp ≡ h.tcp = tcp_same g.plugins names.plugins g.tcp h.tcp (get_member (codes "gateway") ms) p.tcp its_tcp in
     (λ i. record {
       workers = gateway.workers i;
       listen = gateway.listen i;
@@ -190,5 +201,5 @@ one_configuration ms g h p q names =
       vms = vms i;
       plugins = plugins i;
       routes = routes i;
-      tcp = gateway.tcp i;
+      tcp = tcp i;
     })

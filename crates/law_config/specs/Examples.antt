@@ -29,8 +29,30 @@ meant = record {
   tcp = [];
 }
 
+-- Lines that are streams of bytes: one of two plug-ins, which stands after the other.
+abbrev pub streams : List ℕ
+streams = codes "[gateway]\ntcp = [\"tally\"]\n\n[[vm]]\nname = \"count\"\nmodule = \"-\"\n\n[[plugin]]\nname = \"audit\"\nvm = \"count\"\n\n[[plugin]]\nname = \"tally\"\nvm = \"count\"\n"
+
+-- its configuration
+abbrev pub streams_meant : Given
+streams_meant = record {
+  workers = 1;
+  listen = codes "127.0.0.1:8080";
+  upstream = codes "127.0.0.1:9000";
+  deadline_ms = 0;
+  log_level = Info;
+  vms = record { name = codes "count"; «module» = codes "-"; configuration = []; fuel = 10000000; pages = 128; code = None } ∷ [];
+  plugins =
+      record { name = codes "audit"; vm = 0; configuration = []; fail_open = false }
+      ∷ record { name = codes "tally"; vm = 0; configuration = []; fail_open = false }
+      ∷ [];
+  routes = [];
+  tcp = 1 ∷ [];
+}
+
 pub record TextExample : Type 0 where
   pub whole : config_of text ≡ Ok meant
+  pub tcp : config_of streams ≡ Ok streams_meant
   -- a text without a byte has the defaults
   pub empty : config_of [] ≡ Ok (record { workers = 1; listen = codes "127.0.0.1:8080"; upstream = codes "127.0.0.1:9000"; deadline_ms = 0; log_level = Info; vms = []; plugins = []; routes = []; tcp = [] })
 
@@ -64,7 +86,8 @@ pub record OrderExamples : Type 0 where
   pub upstream_second : Refuses (codes "[gateway]\nlog_level = 1\ndeadline_ms = -1\nworkers = 0\nupstream = 1\n") 4 (codes "gateway.upstream")
   pub workers_third : Refuses (codes "[gateway]\nlog_level = 1\ndeadline_ms = -1\nworkers = 0\n") 4 (codes "gateway.workers")
   pub deadline_fourth : Refuses (codes "[gateway]\nlog_level = 1\ndeadline_ms = -1\n") 4 (codes "gateway.deadline_ms")
-  pub level_last : Refuses (codes "[gateway]\nlog_level = \"loud\"\n") 4 (codes "gateway.log_level")
+  pub level_fifth : Refuses (codes "[gateway]\ntcp = 1\nlog_level = \"loud\"\n") 4 (codes "gateway.log_level")
+  pub tcp_last : Refuses (codes "vm = 1\n[gateway]\ntcp = 1\n") 4 (codes "gateway.tcp")
   pub vm_name_first : Refuses (codes "vm = [{pages = 0, fuel = 0, configuration = 1, module = \"\"}]\n") 2 (codes "vm.0.name")
   pub module_second : Refuses (codes "vm = [{name = \"a\", pages = 0, fuel = 0, configuration = 1, module = \"\"}]\n") 4 (codes "vm.0.module")
   pub configuration_third : Refuses (codes "vm = [{name = \"a\", pages = 0, fuel = 0, configuration = 1, module = \"m\"}]\n") 4 (codes "vm.0.configuration")
@@ -81,6 +104,17 @@ pub record OrderExamples : Type 0 where
   pub filters_count : Refuses (codes "route = [{path = \"/\", filters = [\"b\", \"b\", \"b\", \"b\", \"b\", \"b\", \"b\", \"b\", \"b\", \"b\", \"b\", \"b\", \"b\", \"b\", \"b\", \"b\", \"b\"]}]\n") 7 (codes "route.0.filters")
   pub filters_twice : Refuses (codes "route = [{path = \"/\", filters = [\"b\", \"b\"]}]\n") 8 (codes "route.0.filters")
   pub filters_there : Refuses (codes "route = [{path = \"/\", filters = [\"b\"]}]\n") 5 (codes "route.0.filters")
+  -- the plug-ins of streams: their form, of which are one name at least and no route beside them, then how many, and then one that is there twice are
+  -- judged with `gateway`; one that no plug-in has after the routes
+  pub tcp_empty : Refuses (codes "vm = 1\n[gateway]\ntcp = []\n") 4 (codes "gateway.tcp")
+  pub tcp_form : Refuses (codes "[gateway]\ntcp = [\"b\", \"b\", \"b\", \"b\", \"b\", \"b\", \"b\", \"b\", \"b\", \"b\", \"b\", \"b\", \"b\", \"b\", \"b\", \"b\", 1]\n") 4 (codes "gateway.tcp")
+  pub tcp_capital : Refuses (codes "[gateway]\ntcp = [\"B\"]\n") 4 (codes "gateway.tcp")
+  pub tcp_count : Refuses (codes "vm = 1\n[gateway]\ntcp = [\"b\", \"b\", \"b\", \"b\", \"b\", \"b\", \"b\", \"b\", \"b\", \"b\", \"b\", \"b\", \"b\", \"b\", \"b\", \"b\", \"b\"]\n") 7 (codes "gateway.tcp")
+  pub tcp_twice : Refuses (codes "vm = 1\n[gateway]\ntcp = [\"b\", \"b\"]\n") 8 (codes "gateway.tcp")
+  pub routes_before_tcp : Refuses (codes "route = 1\n[gateway]\ntcp = [\"b\"]\n") 4 (codes "route")
+  pub tcp_beside_a_route : Refuses (codes "vm = 1\n[gateway]\ntcp = [\"b\", \"b\"]\n[[route]]\npath = \"/\"\n") 4 (codes "gateway.tcp")
+  pub level_before_a_route : Refuses (codes "[gateway]\ntcp = [\"b\"]\nlog_level = 1\n[[route]]\npath = \"/\"\n") 4 (codes "gateway.log_level")
+  pub tcp_there : Refuses (codes "route = []\n[gateway]\ntcp = [\"b\"]\n") 5 (codes "gateway.tcp")
 
 -- a text gives a configuration
 abbrev pub IsAccepted : List ℕ → Type 0

@@ -1,6 +1,6 @@
 -- What a document in TOML says of a configuration, key by key as docs/CONFIGURATION.md lists them: a relation between the tables that the crate
 -- `toml` reads and a configuration. Nothing of how a configuration is read stands here.
-use Rattle.std.specs.Prelude.{◌≡◌, ℕ, pos, List, [], ◌∷◌, Option, Some, None, Contains, slice_get, codes, if◌then◌else◌}
+use Rattle.std.specs.Prelude.{◌≡◌, ◌≢◌, ℕ, pos, List, [], ◌∷◌, Option, Some, None, Contains, slice_get, codes, if◌then◌else◌}
 use Rattle.toml.specs.Data.{Data, string, integer, array, table, Items, no_items, item, Members, no_members, member, get_member}
 use Rattle.gate_base.specs.declared.level.Level.{Level}
 use Rattle.gate_base.specs.declared.level.Level.TheVariants.{Trace, Debug, Info, Warn, Error, Critical}
@@ -48,14 +48,12 @@ level_word Error = codes "error"
 level_word Critical = codes "critical"
 
 pub record GatewaySays (g : Given) (ms : Members) : Type 0 where
-  pub keys : HasOnly (codes "listen" ∷ codes "upstream" ∷ codes "workers" ∷ codes "deadline_ms" ∷ codes "log_level" ∷ []) ms
+  pub keys : HasOnly (codes "listen" ∷ codes "upstream" ∷ codes "workers" ∷ codes "deadline_ms" ∷ codes "log_level" ∷ codes "tcp" ∷ []) ms
   pub listen : IsTextOr (codes "127.0.0.1:8080") ms (codes "listen") g.listen
   pub upstream : IsTextOr (codes "127.0.0.1:9000") ms (codes "upstream") g.upstream
   pub workers : IsNumberOr 1 ms (codes "workers") g.workers
   pub deadline_ms : IsNumberOr 0 ms (codes "deadline_ms") g.deadline_ms
   pub log_level : IsTextOr (codes "info") ms (codes "log_level") (level_word g.log_level)
-  -- no key says that lines are streams of bytes
-  pub tcp : g.tcp ≡ []
 
 -- what is there is a table of which this holds; where nothing is, it holds of a table without keys
 abbrev pub TableOr : (Members → Type 0) → Option Data → Type 0
@@ -111,6 +109,15 @@ pub record RouteSays (plugins : List PluginEntry) (route : RouteEntry) (ms : Mem
   pub path : IsText ms (codes "path") route.path
   pub filters : FiltersOr plugins route.filters (get_member (codes "filters") ms)
 
+-- at least one where names are there, and none where they are not
+abbrev pub NamesOr : List PluginEntry → List ℕ → Option Data → Type 0
+NamesOr plugins places None = places ≡ []
+NamesOr plugins places (Some d) = FiltersOr plugins places (Some d) × (places ≢ [])
+
+-- `tcp` of a table `gateway`, beside these plug-ins: those of the names there, in their order; without the key there are none, and lines are HTTP
+abbrev pub TcpSays : List PluginEntry → List ℕ → Members → Type 0
+TcpSays plugins places ms = NamesOr plugins places (get_member (codes "tcp") ms)
+
 -- ---- the whole
 
 -- THE DOCUMENT SAYS THIS CONFIGURATION
@@ -120,3 +127,4 @@ pub record Says (g : Given) (ms : Members) : Type 0 where
   pub vms : Entries VmSays g.vms (get_member (codes "vm") ms)
   pub plugins : Entries (PluginSays g.vms) g.plugins (get_member (codes "plugin") ms)
   pub routes : Entries (RouteSays g.plugins) g.routes (get_member (codes "route") ms)
+  pub tcp : TableOr (TcpSays g.plugins g.tcp) (get_member (codes "gateway") ms)

@@ -4,7 +4,8 @@ ghost use Rattle.law_config.specs.Laws.{DocumentsSayOneConfiguration, FirstRefus
 
 /// A text that gives a configuration is a document in TOML of at most 1 MiB that says this configuration: it has no other keys than those that are
 /// listed, each value is that of its key or its default, a plug-in's VM is that of the name, and each filter of a route is the plug-in of the name
-/// in its place. Names differ, and workers, fuel, pages and the numbers of entries are in their bounds.
+/// in its place, and so is each plug-in of streams. Names differ, workers, fuel, pages and the numbers of entries are in their bounds, and no route
+/// stands beside plug-ins of streams.
 pub fn texts_say_their_configuration()
     ensures { TextsSayTheirConfiguration }
 {}

@@ -2,7 +2,7 @@
 use Rattle.std.proofs.Common.{refl}
 use Rattle.http_header.specs.Token.{is_token_byte}
 use Rattle.wasm_syntax.specs.ReductionRuns.{walk, walk_hosted}
-use Rattle.law_host_calls.specs.Connections.{ConnectionBuffers, ConnectionStreams}
+use Rattle.law_host_calls.specs.Connections.{ConnectionBuffers, ConnectionPaths, ConnectionStreams}
 
 pub connection_buffers : ConnectionBuffers
 unfolding is_token_byte walk walk_hosted
@@ -37,4 +37,16 @@ connection_streams = record {
   status_below = refl;
   root_responds = refl;
   no_pairs = refl;
+}
+
+pub connection_paths : ConnectionPaths
+unfolding is_token_byte walk walk_hosted
+connection_paths = record {
+  no_path = refl;
+  path_is_kept = refl;
+  method_is_kept = refl;
+  host_is_kept = refl;
+  scheme_is_kept = refl;
+  without_exchange = refl;
+  of_root = refl;
 }

@@ -1,13 +1,14 @@
 -- The calls where lines are streams of bytes: context 5, whose root is 1, is a stream without an exchange.
-use Rattle.std.specs.Prelude.{◌≡◌, ℕ, true, false, List, [], ◌∷◌, codes}
+use Rattle.std.specs.Prelude.{◌≡◌, ℕ, true, false, List, [], ◌∷◌, ◌++◌, codes}
 use Rattle.abi_calls.specs.Hosting.{Hosted}
 use Rattle.abi_model.specs.declared.table.HostCall.{HostCall}
 use Rattle.abi_model.specs.declared.table.HostCall.TheVariants as call
-use Rattle.contexts.specs.Reached.{Seen}
+use Rattle.contexts.specs.Reached.{Seen, no_changes}
 use Rattle.contexts.specs.declared.parts.EffectKind.TheVariants as what
 use Rattle.store_model.specs.Program.{Program, done}
 use Rattle.law_host_calls.specs.Buffers.{becomes, request_is, response_is}
-use Rattle.law_host_calls.specs.Scenes.{told, in_root, calls_in, answers, changes, writes, gives}
+use Rattle.law_host_calls.specs.Scenes.{told, letters, guest, own, in_root, calls_by, calls_in, ends, answers, changes, writes, gives}
+use Rattle.law_host_calls.specs.Services.{of_request}
 use Rattle.law_host_calls.specs.Streams.{asks_for, memory, responds, refuses}
 
 abbrev pub stream : Seen
@@ -53,3 +54,30 @@ pub record ConnectionStreams : Type 0 where
   pub status_below : responds stream 199 ≡ refuses 2 memory
   pub root_responds : responds root 403 ≡ refuses 2 memory
   pub no_pairs : connection_calls call.SendLocalResponse (403 ∷ 1 ∷ 2 ∷ 3 ∷ 4 ∷ 7 ∷ 5 ∷ 9 ∷ []) ≡ answers 4
+
+-- a path of a request, after the letters
+abbrev pub memory_with : List ℕ → List ℕ
+memory_with part = letters ++ of_request part
+
+abbrev pub reads_path : Seen → List ℕ → (len : ℕ) → Program Hosted
+reads_path s part len = calls_by (guest (memory_with part) 9) s call.GetProperty (24 ∷ len ∷ 4 ∷ 8 ∷ [])
+
+abbrev pub sets_path : Seen → List ℕ → (len : ℕ) → Program Hosted
+sets_path s part len = calls_by (guest (memory_with part) 9) s call.SetProperty (24 ∷ len ∷ 4 ∷ 3 ∷ [])
+
+-- no more than this status
+abbrev pub ends_with : ℕ → List ℕ → Program Hosted
+ends_with status part = done (ends status (guest (memory_with part) 9) no_changes [])
+
+pub record ConnectionPaths : Type 0 where
+  -- those of a request are not there, and are not set
+  pub no_path : reads_path stream (codes "path") 12 ≡ ends_with 1 (codes "path")
+  pub path_is_kept : sets_path stream (codes "path") 12 ≡ ends_with 2 (codes "path")
+  pub method_is_kept : sets_path stream (codes "method") 14 ≡ ends_with 2 (codes "method")
+  pub host_is_kept : sets_path stream (codes "host") 12 ≡ ends_with 2 (codes "host")
+  pub scheme_is_kept : sets_path stream (codes "scheme") 14 ≡ ends_with 2 (codes "scheme")
+  -- so it is of a stream of HTTP that has no exchange any more
+  pub without_exchange : sets_path in_root (codes "path") 12 ≡ ends_with 2 (codes "path")
+  -- a root may set them
+  pub of_root : sets_path root (codes "path") 12
+      ≡ done (ends 0 (guest (memory_with (codes "path")) 9) (becomes (record own { properties = (codes "bc", codes "set") ∷ (of_request (codes "path"), codes "efg") ∷ [] })) [])

@@ -5,7 +5,7 @@ ghost use Rattle.law_host_calls.specs.MapRows.{MapReads, MapWrites, MapChanges};
 ghost use Rattle.law_host_calls.specs.Streams.{StreamExamples, ResponseExamples};
 ghost use Rattle.law_host_calls.specs.Callouts.{AnswerExamples};
 ghost use Rattle.law_host_calls.specs.HttpCalls.{CallsMade, CallsRefused, CallBounds};
-ghost use Rattle.law_host_calls.specs.Connections.{ConnectionBuffers, ConnectionStreams};
+ghost use Rattle.law_host_calls.specs.Connections.{ConnectionBuffers, ConnectionPaths, ConnectionStreams};
 ghost use Rattle.law_host_calls.specs.Stores.{DataExamples, QueueExamples, ItemExamples};
 ghost use Rattle.law_host_calls.specs.Metrics.{MetricNames, MetricWords};
 ghost use Rattle.law_host_calls.specs.Services.{LocalExamples, ContextExamples, PropertyExamples, PathExamples};
@@ -90,6 +90,11 @@ pub fn worked_connection_buffers()
 /// Streams that continue and close where lines are streams of bytes, and the local response that they have not.
 pub fn worked_connection()
     ensures { ConnectionStreams }
+{}
+
+/// Properties of a request where lines are streams of bytes.
+pub fn worked_connection_paths()
+    ensures { ConnectionPaths }
 {}
 
 /// Shared data: what is asked of the store, and what is made of its reply.

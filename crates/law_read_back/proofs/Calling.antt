@@ -30,7 +30,7 @@ use Rattle.contexts.specs.declared.parts.ExchangeView.{ExchangeView}
 use Rattle.contexts.specs.declared.parts.Maps.{Maps}
 use Rattle.contexts.specs.declared.parts.Own.{Own as OwnParts}
 use Rattle.contexts.specs.declared.parts.Request.{Request}
-use Rattle.contexts.specs.Reached.{Seen, Reach, seen, effective_of, no_changes, contains}
+use Rattle.contexts.specs.Reached.{Seen, seen, effective_of, no_changes, contains}
 use Rattle.filter_host.specs.Called as course
 use Rattle.header_maps.specs.Faults.{set_fault}
 use Rattle.header_maps.specs.Headers.{Headers}
@@ -140,10 +140,10 @@ effective_leaves id s = by_bool (MadeLeaves s) (contains id s.common.ids) (model
 done_leaves : (e : ℕ) (s : Seen) → MadeLeaves s (done_of e s)
 done_leaves e s = by_bool (MadeLeaves s) (contains e s.common.ids && contains e s.common.waiting) _ (model.answers 1) (λ d. tt) (λ d. tt)
 
-property_leaves : (path value : List ℕ) (r : Reach) (o : Option OwnParts) (p : Option ExchangeView) → LeavesView (set_in path value r o).changes.exchange p
-property_leaves path value r None p = tt
-property_leaves path value r (Some o) p =
-    by_bool (λ (m : Made). LeavesView m.changes.exchange p) (is_fixed path r) (model.answers 2) _ (λ e. tt)
+property_leaves : (path value : List ℕ) (s : Seen) (o : Option OwnParts) (p : Option ExchangeView) → LeavesView (set_in path value s o).changes.exchange p
+property_leaves path value s None p = tt
+property_leaves path value s (Some o) p =
+    by_bool (λ (m : Made). LeavesView m.changes.exchange p) (is_fixed path s) (model.answers 2) _ (λ e. tt)
     (λ e. by_bool (λ (m : Made). LeavesView m.changes.exchange p) (is_past_limit path value o) (model.answers 10) _ (λ d. tt) (λ d. tt))
 
 call_leaves : (vm : ℕ) (inputs : Inputs) (timeout : ℕ) (s : Seen) → MadeLeaves s (calling_by vm inputs timeout s.reach.own s)
@@ -214,7 +214,7 @@ hosted_leaves call.ResolveSharedQueue now vm args g s = asking_leaves (row_of ca
 hosted_leaves call.DequeueSharedQueue now vm args g s = asking_leaves (row_of call.DequeueSharedQueue) own_dequeue_shared_queue vm args g s
 hosted_leaves call.EnqueueSharedQueue now vm args g s = asking_leaves (row_of call.EnqueueSharedQueue) own_enqueue_shared_queue vm args g s
 hosted_leaves call.GetProperty now vm args g s = does_leaves 6 (row_of call.GetProperty) own_get_property args g s (λ inputs. tt)
-hosted_leaves call.SetProperty now vm args g s = does_leaves 6 (row_of call.SetProperty) own_set_property args g s (λ inputs. property_leaves inputs.first inputs.second s.reach s.reach.own s.reach.exchange)
+hosted_leaves call.SetProperty now vm args g s = does_leaves 6 (row_of call.SetProperty) own_set_property args g s (λ inputs. property_leaves inputs.first inputs.second s s.reach.own s.reach.exchange)
 hosted_leaves call.DefineMetric now vm args g s = asking_leaves (row_of call.DefineMetric) own_define_metric vm args g s
 hosted_leaves call.IncrementMetric now vm args g s = asking_leaves (row_of call.IncrementMetric) own_increment_metric vm args g s
 hosted_leaves call.RecordMetric now vm args g s = asking_leaves (row_of call.RecordMetric) own_record_metric vm args g s

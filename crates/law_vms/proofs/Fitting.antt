@@ -34,7 +34,7 @@ use Rattle.abi_services.specs.Wasi.{own_clock_time_get, own_random_get, own_noth
 use Rattle.abi_types.specs.GuestAt.{GuestAt}
 use Rattle.contexts.specs.Creating.{itself}
 use Rattle.contexts.specs.Keyed.{without_first}
-use Rattle.contexts.specs.Reached.{Seen, Reach, Changes, no_changes, level_no, contains}
+use Rattle.contexts.specs.Reached.{Seen, Changes, no_changes, level_no, contains}
 use Rattle.contexts.specs.declared.parts.Effect.{Effect}
 use Rattle.contexts.specs.declared.parts.ExchangeView.{ExchangeView}
 use Rattle.contexts.specs.declared.parts.Own.{Own as OwnParts}
@@ -294,10 +294,10 @@ module _ (vm : ℕ) where
   call_fits : FitsAll (own_http_call vm)
   call_fits args inputs s = own_fits inputs (arg args 8) s.reach.own s refl
 
-  set_fits : (path value : List ℕ) (r : Reach) (o : Option OwnParts) (s : Seen) → Fits s (set_in path value r o).changes
-  set_fits path value r None s = nothing_fits s
-  set_fits path value r (Some o) s =
-      made_if (is_fixed path r) (answers 2) (if is_past_limit path value o then answers 10 else changing (record no_changes { own = Some (with_property path value o) })) s (nothing_fits s)
+  set_fits : (path value : List ℕ) (o : Option OwnParts) (s : Seen) → Fits s (set_in path value s o).changes
+  set_fits path value None s = nothing_fits s
+  set_fits path value (Some o) s =
+      made_if (is_fixed path s) (answers 2) (if is_past_limit path value o then answers 10 else changing (record no_changes { own = Some (with_property path value o) })) s (nothing_fits s)
       (made_if (is_past_limit path value o) (answers 10) (changing (record no_changes { own = Some (with_property path value o) })) s (nothing_fits s) (nothing_fits s))
 
   -- ---- EACH CALL
@@ -330,7 +330,7 @@ module _ (vm : ℕ) where
   env_good call.DequeueSharedQueue now args g s = asking_good (row_of call.DequeueSharedQueue) own_dequeue_shared_queue args g s
   env_good call.EnqueueSharedQueue now args g s = asking_good (row_of call.EnqueueSharedQueue) own_enqueue_shared_queue args g s
   env_good call.GetProperty now args g s = local_good 6 (row_of call.GetProperty) own_get_property (λ a i t. nothing_fits t) args g s
-  env_good call.SetProperty now args g s = local_good 6 (row_of call.SetProperty) own_set_property (λ a i t. set_fits i.first i.second t.reach t.reach.own t) args g s
+  env_good call.SetProperty now args g s = local_good 6 (row_of call.SetProperty) own_set_property (λ a i t. set_fits i.first i.second t.reach.own t) args g s
   env_good call.DefineMetric now args g s = asking_good (row_of call.DefineMetric) own_define_metric args g s
   env_good call.IncrementMetric now args g s = asking_good (row_of call.IncrementMetric) own_increment_metric args g s
   env_good call.RecordMetric now args g s = asking_good (row_of call.RecordMetric) own_record_metric args g s

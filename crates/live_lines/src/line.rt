@@ -1,5 +1,5 @@
 // A line, with its connections.
-ghost use Rattle.std.specs.Prelude.{◌≡◌, ◌≤◌, ◌↔◌, [], Bool, true, false, None, Some, length, IsTrue, IfOk, IfSome, IfNone, IsSomeAnd, Contains};
+ghost use Rattle.std.specs.Prelude.{◌≡◌, ◌<◌, ◌≤◌, ◌↔◌, [], Bool, true, false, None, Some, length, IsTrue, IfOk, IfSome, IfNone, IsSomeAnd, Contains};
 ghost use Rattle.gate_io.specs.Events.{wanted};
 ghost use Rattle.gate_io.specs.Told.{Gains};
 ghost use Rattle.live_lines.specs.Allowed.{IsAllowed, HoldsBack};
@@ -31,6 +31,10 @@ pub struct SocketPair<P> {
     pub server_first: bool,
     /// What went wrong with the last connection to the server.
     pub fault: Option<Fault>,
+    /// The client did not take all of the last piece.
+    pub is_short: bool,
+    /// A connection to the server was begun after the client took all that was offered, and nothing was offered since: what comes is the begin of an answer.
+    pub is_due: bool,
 }
 
 /// Whether bytes of a side of a line are wanted.
@@ -338,9 +342,11 @@ impl<P: Duplex> SocketPair<P> {
         ensures fresh { IfSome self.new.up (λ up. up.waiting ≡ []) }
         ensures refused { self.new.refused ≡ is_none self.new.up }
         ensures peer { peer_of self.new.up ≡ peer }
+        ensures due { self.new.is_due ≡ not self.old.is_short }
     {
         self.refused = peer.is_none();
         self.fault = None;
+        self.is_due = !self.is_short;
         self.up = match peer {
             Some(peer) => Some(Upstream::new(alloc, peer)),
             None => None,
@@ -387,15 +393,36 @@ impl<P: Duplex> SocketPair<P> {
         }
     }
 
+    /// Whether what is offered to the client begins an answer, to which no fault led that is told by itself.
+    pub fn begins_answer(&self) -> bool
+        ensures { result ≡ (self.now.is_due && is_none self.now.fault) }
+    {
+        self.is_due && self.fault.is_none()
+    }
+
     /// Offers bytes to the client. Those for one that is not there are dropped. Where they begin an answer, it is another one than that in which the server
     /// broke off.
     pub fn send_down(&mut self, bytes: &[u8]) -> usize
         ensures bound { result ≤ length bytes.now }
         ensures sent { SentOn P.gave P.took self.old sides.Down bytes.now result self.new }
+        ensures short { IsTrue self.new.is_short ↔ (result < length bytes.now) }
+        ensures due { IsTrue self.new.is_due ↔ (IsTrue self.old.is_due × (length bytes.now ≡ 0)) }
     {
         if self.is_cut() && bytes.starts_with(b"HTTP/1.") {
             self.fault = None;
         }
+        let count = self.write_down(bytes);
+        self.is_short = count < bytes.len();
+        self.is_due = self.is_due && bytes.is_empty();
+        count
+    }
+
+    /// Writes bytes to the client. Those for one that is not there are dropped.
+    fn write_down(&mut self, bytes: &[u8]) -> usize
+        ensures bound { result ≤ length bytes.now }
+        ensures sent { SentOn P.gave P.took self.old sides.Down bytes.now result self.new }
+        ensures due { self.new.is_due ≡ self.old.is_due }
+    {
         match &mut self.down {
             Some(peer) => peer.write(bytes),
             None => bytes.len(),

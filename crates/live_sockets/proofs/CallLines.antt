@@ -4,7 +4,7 @@ use Rattle.std.specs.Prelude.{◌==◌, cond, insert, is_none, IfSome, IsTrue}
 use Rattle.std.specs.List.{position}
 use Rattle.std.proofs.lemmas.List.Edits.{length-insert}
 use Rattle.std.proofs.lemmas.List.Sums.{sum_by-insert}
-use Rattle.live_sockets.specs.Calls.{BeginsIn, Calls, CallsAnew, ConnectsIn, calls_in, first_call, is_call, most_calls}
+use Rattle.live_sockets.specs.Calls.{BeginsIn, Calls, ConnectsIn, calls_in, first_call, is_call, most_calls}
 use Rattle.live_lines.specs.Lines.{IsUnused, most_lines, peer_of}
 use Rattle.live_lines.specs.declared.line.SocketPair.{SocketPair}
 use Rattle.live_sockets.specs.Keeping.{AreFew, Comes}

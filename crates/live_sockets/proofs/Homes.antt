@@ -1,9 +1,11 @@
 -- Lines that go to the workers of their places.
-use Rattle.std.proofs.Common.{◌≡◌, ◌⊎◌, inl, inr, ℕ, zero, suc, ◌+◌, ◌<◌, ◌≤◌, List, [], ◌∷◌, ◌++◌, set, get_or, length, length-set, sym, subst, arith}
+use Rattle.std.proofs.Common.{◌≡◌, ◌⊎◌, inl, inr, ℕ, zero, suc, ◌+◌, ◌<◌, ◌≤◌, List, [], ◌∷◌, ◌++◌, set, get_or, length, length-set, length-append, sym, ap, subst, arith}
 use Rattle.std.proofs.lemmas.Bool.{cases_lt}
 use Rattle.live_sockets.specs.Numbers.{MayGain, home_of}
 use Rattle.live_sockets.specs.Places.{most_places}
-use Rattle.live_sockets.specs.Homes.{AreHome, AreHomeFrom, AreOf, AreUnused}
+use Rattle.handoff.specs.Hands.{Rights}
+use Rattle.live_sockets.specs.Homes.{AreHome, AreHomeFrom, AreOf, AreUnused, offers}
+use Rattle.live_sockets.specs.Offers.{OffersOnce}
 use Rattle.live_sockets.specs.declared.origin.Neighbor.{Neighbor}
 
 -- up to a later number too
@@ -63,3 +65,15 @@ next_home_by old last next kept others now same before passed k above below home
 pub next_home : (old last next kept others now : ℕ) → others ≡ now → ((k : ℕ) → old < k → k ≤ last → home_of k others ≡ 0 → most_places ≤ kept) → ((k : ℕ) → last < k → k < next → home_of k others ≡ 0 → most_places ≤ kept)
     → (k : ℕ) → old < k → k ≤ next → home_of k now ≡ 0 → (k ≡ next) ⊎ (most_places ≤ kept)
 next_home old last next kept others now same before passed k above below home = next_home_by old last next kept others now same before passed k above below home (cases_lt last k) (cases_lt k next)
+
+-- a line that was offered once is one offer more
+offers_one : (old new : Rights) (number : ℕ) → OffersOnce old number new → length new.lines + new.refusals ≡ length old.lines + old.refusals + 1
+offers_one old new number (inl took) = let longer = ap length took.0 in let grown = length-append old.lines (number ∷ []) in let same = took.1 in omega arith
+offers_one old new number (inr back) = let longer = ap length back.0 in let more = back.1 in omega arith
+
+-- and one more of all of them
+pub offers_set : (k number : ℕ) (ns : List Neighbor) (n m : Neighbor) → k < length ns → get_or ns k n ≡ n → OffersOnce n.giver number m.giver → offers (set ns k m) ≡ offers ns + 1
+offers_set k number [] n m inside at once = absurd (omega arith)
+offers_set zero number (x ∷ ns) n m inside at once =
+    let one = offers_one x.giver m.giver number (subst (λ (y : Neighbor). OffersOnce y.giver number m.giver) (sym at) once) in omega arith
+offers_set (suc k) number (x ∷ ns) n m inside at once = let more = offers_set k number ns n m (omega arith) at once in omega arith

@@ -4,4 +4,5 @@ pub mod CallLines
 pub mod Due
 pub mod Homes
 pub mod Kept
+pub mod Noticed
 pub mod Readings

@@ -21,3 +21,8 @@ AreHome last others = AreHomeFrom last (length others) 1 others
 abbrev pub AreUnused : List Neighbor → Type 0
 AreUnused [] = Unit {0}
 AreUnused (n ∷ ns) = (n.giver.lines ≡ []) × AreUnused ns
+
+-- how many lines were offered to the other workers, with those that came back
+abbrev pub offers : List Neighbor → ℕ
+offers [] = 0
+offers (n ∷ ns) = length n.giver.lines + n.giver.refusals + offers ns

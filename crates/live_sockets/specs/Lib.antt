@@ -3,7 +3,9 @@ pub mod Homes
 pub mod Keeping
 pub mod Looks
 pub mod Moments
+pub mod Notices
 pub mod Numbers
+pub mod Offers
 pub mod Origins
 pub mod Places
 pub mod Spent

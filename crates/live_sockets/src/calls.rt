@@ -79,6 +79,8 @@ pub fn line_of_call<P: Duplex>(alloc: Global, number: LineNo, peer: Option<P>) -
         refused: false,
         server_first: false,
         fault: None,
+        is_short: false,
+        is_due: false,
     };
     line.join(alloc, peer);
     line

@@ -1,8 +1,9 @@
 // Where a worker's lines come from.
-ghost use Rattle.std.specs.Prelude.{◌≡◌, ℕ, ◌+◌, ◌<◌, ◌≤◌, ◌⊎◌, ◌||◌, [], ◌∷◌, ◌++◌, length, nat_le, vec_len, IsTrue, IfOk, IfSome, IfNone, IsSome, IsSomeAnd};
+ghost use Rattle.std.specs.Prelude.{◌≡◌, ℕ, ◌+◌, ◌<◌, ◌≤◌, ◌⊎◌, ◌||◌, [], ◌∷◌, ◌++◌, false, length, nat_le, vec_len, IsTrue, IfOk, IfSome, IfNone, IsSome, IsSomeAnd};
 ghost use Rattle.std.specs.Arc.{arc_value};
 ghost use Rattle.live_sockets.specs.Calls.{first_call};
 ghost use Rattle.live_sockets.specs.Numbers.{MayGain, home_of};
+ghost use Rattle.live_sockets.specs.Offers.{OffersOnce};
 ghost use Rattle.live_sockets.specs.Places.{HasWaited, most_places};
 
 use crate::desk::{AcceptState, Desk};
@@ -31,13 +32,13 @@ const REFUSED: u64 = 100_000_000;
 /// So many nanoseconds pass until a place is looked for again for a line that waits for one.
 const FULL: u64 = 10_000_000;
 
-/// So many nanoseconds pass until it is looked again whether the worker that accepts asks for events.
+/// So many nanoseconds pass until it is looked again whether a worker asks for events.
 const BEGINS: u64 = 1_000_000_000;
 
 /// So many nanoseconds a line waits where no worker has a place for one, before it is accepted all the same.
 const PATIENCE: u64 = 1_000_000_000;
 
-/// So many nanoseconds after the beginning of a life the worker that accepts may take until it asks for events.
+/// So many nanoseconds after the beginning of a life a worker may take until it asks for events.
 const GIVE_UP: u64 = 10_000_000_000;
 
 /// A line that was accepted.
@@ -61,7 +62,35 @@ pub struct Neighbor {
     desk: Arc<Desk>,
     /// How many lines were handed over.
     given: u64,
+    /// What is seen of its beginning.
+    silence: Silence,
     ghost same: { giver.queue ≡ arc_value queue },
+}
+
+/// What one worker sees of another that began a life and does not ask for events in it.
+#[derive(Clone, Copy)]
+enum Silence {
+    /// It asks for events.
+    Over,
+    /// It does not since this moment.
+    Since(u64),
+    /// It did not for ten seconds, which was noticed.
+    Noticed,
+}
+
+impl Silence {
+    /// What is seen at this moment, where the worker asks for events or does not.
+    fn after(self, asks: bool, now: u64) -> Silence {
+        if asks {
+            return Silence::Over;
+        }
+        match self {
+            Silence::Over => Silence::Since(now),
+            Silence::Since(since) if now.saturating_sub(since) >= GIVE_UP => Silence::Noticed,
+            Silence::Since(since) => Silence::Since(since),
+            Silence::Noticed => Silence::Noticed,
+        }
+    }
 }
 
 /// The queue from the worker that accepts.
@@ -109,6 +138,8 @@ pub struct Acceptor {
     forced: u32,
     /// How often the system refused a line, since that was told.
     refusals: u32,
+    /// How many other workers began a life and did not ask for events for ten seconds, since that was told.
+    silent: u32,
     others: Vec<Neighbor>,
     /// How far this worker is.
     stage: Arc<AcceptState>,
@@ -144,6 +175,7 @@ pub fn join_queue(
             waker,
             desk: told,
             given: 0,
+            silence: Silence::Over,
         },
         Mailbox {
             queue: theirs,
@@ -187,15 +219,25 @@ fn queue_of(alloc: Global) -> Result<Queue, OutOfMemory>
 }
 
 impl Neighbor {
-    /// Hands a line over. One that there is no room for is closed, never before 128 were handed over.
+    /// Hands a line over. One that comes back is closed, never before 128 were handed over.
     fn hand<R: Wait>(&mut self, rt: &R, guest: AcceptedLine)
         ensures gains { MayGain self.old.giver.lines guest.number self.new.giver.lines }
         ensures full { (self.new.giver.lines ≡ self.old.giver.lines ++ guest.number ∷ []) ⊎ (128 ≤ length self.old.giver.lines) }
+        ensures offered { OffersOnce self.old.giver guest.number self.new.giver }
     {
         if self.queue.offer(rt, &mut self.giver, guest).is_ok() {
             self.given = self.given.wrapping_add(1);
             let _ = self.waker.wake();
         }
+    }
+
+    /// Looks at this moment whether its worker asks for events, and answers with what was seen before.
+    fn watch(&mut self, now: u64) -> Silence
+        ensures { self.new.giver ≡ self.old.giver }
+    {
+        let before = self.silence;
+        self.silence = before.after(self.desk.asks(), now);
+        before
     }
 
     /// Whether its worker has a place for one line more. One that began a life and did not ask for events in it has none.
@@ -205,26 +247,34 @@ impl Neighbor {
 }
 
 impl Mailbox {
-    /// A line that was handed over. None comes once as many came as may before an open line is heard.
+    /// A line that was handed over. None comes where the queue gives none, and once as many came as may before an open line is heard.
     fn take<R: Wait>(&mut self, rt: &R) -> Option<AcceptedLine>
         ensures few { IfSome result (λ guest. self.new.left < self.old.left) }
         ensures some { IfSome result (λ guest. self.new.taker.lines ≡ self.old.taker.lines ++ guest.number ∷ []) }
         ensures none { IfNone result (self.new.taker.lines ≡ self.old.taker.lines) }
+        ensures asked { IfNone result ((self.old.ready ≡ false) ⊎ ((self.old.left ≡ 0) ⊎ (self.new.taker.refusals ≡ self.old.taker.refusals + 1))) }
+        ensures stays { (self.new.ready ≡ self.old.ready) ⊎ (self.new.taker.refusals ≡ self.old.taker.refusals + 1) }
     {
-        if !self.ready || self.left == 0 {
+        if !self.ready {
+            return None;
+        }
+        if self.left == 0 {
             return None;
         }
         self.left -= 1;
         // Read first: where it is so, nothing comes after what the queue holds.
         let ended = self.stage.has_ended();
-        let guest = self.queue.take(rt, &mut self.taker);
-        if guest.is_none() {
-            self.ready = false;
-            self.empty = ended;
-        } else {
-            self.taken = self.taken.wrapping_add(1);
+        match self.queue.take(rt, &mut self.taker) {
+            Some(guest) => {
+                self.taken = self.taken.wrapping_add(1);
+                Some(guest)
+            }
+            None => {
+                self.ready = false;
+                self.empty = ended;
+                None
+            }
         }
-        guest
     }
 
     /// So many lines are kept: the others that were taken are over.
@@ -274,7 +324,7 @@ fn client_number(number: u32) -> Option<LineNo>
 }
 
 impl Acceptor {
-    ghost use Rattle.live_sockets.specs.Homes.{AreHome};
+    ghost use Rattle.live_sockets.specs.Homes.{AreHome, offers};
 
     /// Accepts at a listener so many lines, for this worker and the others.
     pub fn new(
@@ -299,6 +349,7 @@ impl Acceptor {
             waits: None,
             forced: 0,
             refusals: 0,
+            silent: 0,
             others,
             stage,
         }
@@ -324,6 +375,39 @@ impl Acceptor {
         }
     }
 
+    /// Looks at this moment whether the other workers ask for events. True where one began a life and does not yet.
+    fn watch_others(&mut self, now: u64) -> bool {
+        let mut begins = false;
+        for at in 0..self.others.len() {
+            let before = self.others[at].watch(now);
+            match (before, self.others[at].silence) {
+                (_, Silence::Since(_)) => begins = true,
+                (Silence::Since(_), Silence::Noticed) => {
+                    self.silent = self.silent.saturating_add(1);
+                }
+                _ => {}
+            }
+        }
+        begins
+    }
+
+    /// For how many nanoseconds the system is waited for at most, as in `Origin::looks_again`.
+    fn looks_again(&mut self, now: u64) -> Option<u64> {
+        if self.is_done() {
+            return None;
+        }
+        let begins = self.watch_others(now);
+        if self.refused {
+            Some(REFUSED)
+        } else if self.waits.is_some() {
+            Some(FULL)
+        } else if begins {
+            Some(BEGINS)
+        } else {
+            None
+        }
+    }
+
     /// The next line of this worker, which keeps so many, at this moment. Those of others that came before it are handed over. Lines are numbered as they
     /// come; numbers of workers that have no place are passed over, and where none has one no line is accepted before it has waited for a second. None
     /// comes once as many were accepted as may be before an open line is heard.
@@ -340,6 +424,8 @@ impl Acceptor {
         ensures all { (k : ℕ) → self.old.number < k → k ≤ self.new.number → home_of k (vec_len self.new.others) ≡ 0 → IsSomeAnd result (λ guest. guest.number ≡ k) ⊎ (most_places ≤ kept) }
         ensures place { IfSome result (λ _. (kept < most_places) ⊎ HasWaited self.new.waits now) }
         ensures offered { AreHome self.old.number self.old.others.items → AreHome self.new.number self.new.others.items }
+        ensures given { IfNone result (self.new.accepted + offers self.old.others.items ≡ self.old.accepted + offers self.new.others.items) }
+        ensures own { IfSome result (λ _. self.new.accepted + offers self.old.others.items ≡ self.old.accepted + offers self.new.others.items + 1) }
     {
         for _ in 0..u32::MAX {
             if !self.ready || self.left == 0 || self.is_done() {
@@ -348,11 +434,10 @@ impl Acceptor {
             let number = self.choose(kept, now)?;
             self.left -= 1;
             match self.listener.accept() {
-                Ok((stream, _)) => {
-                    if let Some(guest) = self.place(rt, number, stream) {
-                        return Some(guest);
-                    }
-                }
+                Ok((stream, _)) => match self.place(rt, number, stream) {
+                    Some(guest) => return Some(guest),
+                    None => {}
+                },
                 Err(e) if e.kind() == io::ErrorKind::ConnectionAborted => {}
                 Err(e) => {
                     self.ready = false;
@@ -432,6 +517,8 @@ impl Acceptor {
         ensures keeps { home_of number (vec_len self.new.others) ≡ 0 → IsSome result }
         ensures others { vec_len self.new.others ≡ vec_len self.old.others }
         ensures offered { AreHome self.old.number self.old.others.items → AreHome self.new.number self.new.others.items }
+        ensures given { IfNone result (offers self.new.others.items ≡ offers self.old.others.items + 1) }
+        ensures kept { IfSome result (λ _. offers self.new.others.items ≡ offers self.old.others.items) }
     {
         self.accepted += 1;
         self.number = number.get();
@@ -451,6 +538,8 @@ impl Acceptor {
         ensures stays { (self.new.accepted ≡ self.old.accepted) × (self.new.most ≡ self.old.most) × (self.new.number ≡ self.old.number) × (self.new.waits ≡ self.old.waits) }
         ensures left { self.new.left ≡ self.old.left }
         ensures offered { (last : ℕ) → last < guest.number → AreHome last self.old.others.items → AreHome guest.number self.new.others.items }
+        ensures given { IfNone result (offers self.new.others.items ≡ offers self.old.others.items + 1) }
+        ensures kept { IfSome result (λ _. offers self.new.others.items ≡ offers self.old.others.items) }
     {
         let place = home_of(guest.number, self.others.len());
         if place == 0 {
@@ -462,7 +551,7 @@ impl Acceptor {
 }
 
 impl Origin {
-    ghost use Rattle.live_sockets.specs.Origins.{GivesNext, HasEnded, is_done};
+    ghost use Rattle.live_sockets.specs.Origins.{GivesNext, HasEnded, IsReady, is_done};
 
     /// The next line, where so many are kept, at this moment.
     pub fn next<R: Wait>(&mut self, rt: &R, kept: usize, now: u64) -> Option<AcceptedLine>
@@ -495,8 +584,10 @@ impl Origin {
                 notices.add(Notice::NoPlace, acceptor.forced);
                 notices.add(Notice::NotAccepted, acceptor.refusals);
                 notices.add(Notice::BeginsAnew, acceptor.stage.further_lives());
+                notices.add(Notice::Silent, acceptor.silent);
                 acceptor.forced = 0;
                 acceptor.refusals = 0;
+                acceptor.silent = 0;
             }
             Origin::Mailbox(mailbox) => {
                 notices.add(Notice::NeverAsked, mailbox.given_up);
@@ -518,14 +609,11 @@ impl Origin {
         }
     }
 
-    /// For how many nanoseconds the system is waited for at most, at this moment, where nothing is told meanwhile: not for long where the worker that accepts
-    /// begins a life, and where a line waits for a place or was refused.
+    /// For how many nanoseconds the system is waited for at most, at this moment, where nothing is told meanwhile: not for long where a worker begins a life, and
+    /// where a line waits for a place or was refused.
     pub fn looks_again(&mut self, now: u64) -> Option<u64> {
         match self {
-            Origin::Listener(acceptor) if acceptor.is_done() => None,
-            Origin::Listener(acceptor) if acceptor.refused => Some(REFUSED),
-            Origin::Listener(acceptor) if acceptor.waits.is_some() => Some(FULL),
-            Origin::Listener(_) => None,
+            Origin::Listener(acceptor) => acceptor.looks_again(now),
             Origin::Mailbox(mailbox) => {
                 if mailbox.watch(now) {
                     Some(BEGINS)
@@ -537,7 +625,9 @@ impl Origin {
     }
 
     /// There may be a line.
-    pub fn note(&mut self) {
+    pub fn note(&mut self)
+        ensures { IsReady self.new }
+    {
         match self {
             Origin::Listener(acceptor) => acceptor.ready = true,
             Origin::Mailbox(mailbox) => mailbox.ready = true,

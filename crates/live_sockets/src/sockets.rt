@@ -4,6 +4,7 @@ ghost use Rattle.std.specs.List.{position};
 ghost use Rattle.live_lines.specs.Allowed.{IsAllowed};
 ghost use Rattle.live_sockets.specs.Calls.{BeginsIn, ConnectsIn, calls_in, first_call, is_call, most_calls};
 ghost use Rattle.live_sockets.specs.Keeping.{AreFew, AreKept};
+ghost use Rattle.live_sockets.specs.Notices.{CountsAnswer, begins_bad_gateway};
 ghost use Rattle.live_lines.specs.Lines.{most_lines, IsHeardAt, HeardIn, HeardNext, Forgets, SentTo, SentIn, BegunAt, IsUnused, ClosedIn, ClosedUp, next_place, place_after};
 ghost use Rattle.live_lines.specs.Told.{LiesIn};
 ghost use Rattle.live_lines.specs.Turns.{LineIsStill};
@@ -35,9 +36,6 @@ pub const ORIGIN: Token = Token(0);
 
 /// The tokens of closed connections to servers begin here, above those of all lines.
 const CLOSED: usize = 1_099_511_627_776;
-
-/// So many nanoseconds pass at most until an operator is told of what happened.
-const NOTICES: u64 = 1_000_000_000;
 
 /// The sockets of one worker.
 #[derive(Drop)]
@@ -307,7 +305,7 @@ impl<P: Duplex> Sockets<P> {
         ensures lines { self.new.lines ≡ self.old.lines }
         ensures looks { self.new.looks ≡ self.old.looks }
     {
-        let again = self.looks_again();
+        let again = self.origin.looks_again(self.looks.seen);
         if self.origin.is_waiting() || self.lingering.iter().any(|closed| closed.is_waiting()) {
             return Some(Duration::ZERO);
         }
@@ -317,19 +315,6 @@ impl<P: Duplex> Sockets<P> {
                 Some(wanted.unwrap_or(again).min(again))
             }
             None => wanted,
-        }
-    }
-
-    /// For how many nanoseconds the system is waited for at most where nothing is told meanwhile.
-    fn looks_again(&mut self) -> Option<u64>
-        ensures lines { self.new.lines ≡ self.old.lines }
-        ensures looks { self.new.looks ≡ self.old.looks }
-    {
-        let again = self.origin.looks_again(self.looks.seen);
-        if self.notices.has_some() {
-            Some(again.unwrap_or(NOTICES).min(NOTICES))
-        } else {
-            again
         }
     }
 
@@ -529,6 +514,8 @@ impl<P: Duplex> Sockets<P> {
             refused: false,
             server_first: false,
             fault: None,
+            is_short: false,
+            is_due: false,
         };
         let at = clients_in(&self.lines);
         self.lines.insert(at, line)?;
@@ -630,12 +617,28 @@ impl<P: Duplex> Sockets<P> {
         ensures bound { IfOk result (λ n. n ≤ length bytes.now) }
         ensures whole { side ≡ Side.Up → IfOk result (λ n. n ≡ length bytes.now) }
         ensures sent { IfOk result (λ n. SentIn P.gave P.took self.old.lines.items number side bytes.now n self.new.lines.items) }
+        ensures notices { self.new.notices ≡ self.old.notices }
     {
         let Some(at) = find_near(&self.lines, number, self.behind) else {
             return Ok(bytes.len());
         };
         self.behind = at + 1;
         send_at(&mut self.lines, alloc, at, side, bytes)
+    }
+
+    /// What is offered to the client of a line in the turn of something that its server sent: an answer 502 that begins there is told to the operator.
+    pub fn note_answer(&mut self, number: LineNo, bytes: &[u8])
+        ensures noted { CountsAnswer self.old.lines.items number bytes.now self.old.notices.counts self.new.notices.counts }
+        ensures rest { self.new ≡ record self.old { notices = self.new.notices } }
+    {
+        if !begins_bad_gateway(bytes) {
+            return;
+        }
+        if let Some(at) = find(&self.lines, number) {
+            if self.lines[at].begins_answer() {
+                self.notices.note(Notice::BadGateway);
+            }
+        }
     }
 
     /// Lets a line go of which no connection is left: one whose client is gone is not closed by the worker. Where the line that is heard next comes behind
@@ -798,14 +801,14 @@ impl<P: Duplex> Sockets<P> {
         self.looks.seen
     }
 
-    /// How often each kind of what an operator is to be told of came, where it is time to tell.
-    pub fn take_notices(&mut self) -> Option<[u32; KINDS]>
+    /// How often each kind of what an operator is to be told of came, where it is time to tell: once a second at most, and the last time in any case.
+    pub fn take_notices(&mut self, is_last: bool) -> Option<[u32; KINDS]>
         ensures lines { self.new.lines ≡ self.old.lines }
         ensures room { self.new.room ≡ self.old.room }
         ensures looks { self.new.looks ≡ self.old.looks }
     {
         self.origin.tell(&mut self.notices);
-        self.notices.take(self.looks.seen)
+        self.notices.take(self.looks.seen, is_last)
     }
 
     /// No line comes any more, and the other workers are told so.
@@ -815,6 +818,13 @@ impl<P: Duplex> Sockets<P> {
     {
         self.origin.end();
     }
+}
+
+/// Whether bytes begin with the first line of an answer 502.
+fn begins_bad_gateway(bytes: &[u8]) -> bool
+    ensures { result ≡ begins_bad_gateway bytes.now }
+{
+    bytes.starts_with(b"HTTP/1.1 502 ")
 }
 
 /// The place of the line of a token, which is looked for by halves first, as in `find`.
@@ -914,6 +924,8 @@ fn client_of<P: Duplex>(line: SocketPair<P>) -> Option<P> {
         refused: _,
         server_first: _,
         fault: _,
+        is_short: _,
+        is_due: _,
     } = line;
     down
 }

@@ -1,4 +1,4 @@
-//! The calls on heads, bodies, answers and log lines of the Proxy-Wasm profile that wasmgate's filters have, for Rust without a
+//! The calls on heads, bodies, streams of bytes, answers, properties, metrics and log lines of the Proxy-Wasm profile that wasmgate's filters have, for Rust without a
 //! library: `#![no_std]`, and each filter exports the callbacks that it needs and no other one. Other calls are added the same way; docs/PROXY_WASM.md has
 //! each call's parameters, checks and answers.
 #![allow(dead_code)]
@@ -33,17 +33,30 @@ pub enum Map {
 pub enum Buffer {
     RequestBody = 0,
     ResponseBody = 1,
+    /// Where connections are streams of bytes: what the client sent, and what the server did.
+    DownstreamData = 2,
+    UpstreamData = 3,
     CallBody = 4,
     VmConfiguration = 6,
     PluginConfiguration = 7,
 }
 
-/// A direction of an exchange.
+/// A direction of an exchange, or of a connection whose bytes are no messages.
 #[repr(u32)]
 #[derive(Clone, Copy)]
 pub enum Stream {
     Request = 0,
     Response = 1,
+    Downstream = 2,
+    Upstream = 3,
+}
+
+/// What a metric counts.
+#[repr(u32)]
+#[derive(Clone, Copy)]
+pub enum Metric {
+    Counter = 0,
+    Gauge = 1,
 }
 
 /// The level of a log line.
@@ -84,6 +97,10 @@ extern "C" {
     fn proxy_add_header_map_value(map: u32, name: *const u8, name_size: usize, value: *const u8, size: usize) -> u32;
     fn proxy_replace_header_map_value(map: u32, name: *const u8, name_size: usize, value: *const u8, size: usize) -> u32;
     fn proxy_remove_header_map_value(map: u32, name: *const u8, name_size: usize) -> u32;
+    fn proxy_get_property(path: *const u8, path_size: usize, at: *mut *mut u8, size: *mut usize) -> u32;
+    fn proxy_set_property(path: *const u8, path_size: usize, value: *const u8, size: usize) -> u32;
+    fn proxy_define_metric(kind: u32, name: *const u8, name_size: usize, id: *mut u32) -> u32;
+    fn proxy_increment_metric(id: u32, offset: i64) -> u32;
     fn proxy_continue_stream(stream: u32) -> u32;
     fn proxy_close_stream(stream: u32) -> u32;
     fn proxy_send_local_response(
@@ -154,7 +171,31 @@ pub fn continue_stream(stream: Stream) -> Result<(), Status> {
     done(unsafe { proxy_continue_stream(stream as u32) })
 }
 
-/// Closes the connections of the exchange.
+/// A property of the effective context, by its path, whose parts have a zero byte between them.
+pub fn property(path: &[u8]) -> Result<Bytes, Status> {
+    let (mut at, mut size) = (null_mut(), 0);
+    let status = unsafe { proxy_get_property(path.as_ptr(), path.len(), &mut at, &mut size) };
+    handed_over(status, at, size)
+}
+
+/// Sets a property of the effective context.
+pub fn set_property(path: &[u8], value: &[u8]) -> Result<(), Status> {
+    done(unsafe { proxy_set_property(path.as_ptr(), path.len(), value.as_ptr(), value.len()) })
+}
+
+/// The id of a metric, which is the same for all workers.
+pub fn define_metric(kind: Metric, name: &[u8]) -> Result<u32, Status> {
+    let mut id = 0;
+    done(unsafe { proxy_define_metric(kind as u32, name.as_ptr(), name.len(), &mut id) })?;
+    Ok(id)
+}
+
+/// Adds to this worker's word of a metric.
+pub fn increment_metric(id: u32, offset: i64) -> Result<(), Status> {
+    done(unsafe { proxy_increment_metric(id, offset) })
+}
+
+/// Closes the connections of the exchange, or those of a stream of bytes.
 pub fn close_stream(stream: Stream) -> Result<(), Status> {
     done(unsafe { proxy_close_stream(stream as u32) })
 }

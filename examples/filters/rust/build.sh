@@ -35,7 +35,7 @@ compile rlib "$temp/libproxy_wasm.rlib" --crate-name proxy_wasm proxy_wasm.rs ||
 for filter in access_log headers ratelimit rewrite; do
     compile cdylib "$temp/$filter.wasm" -C lto -C strip=symbols -C link-arg=-zstack-size=65536 --extern proxy_wasm="$temp/libproxy_wasm.rlib" $filter.rs || exit 1
 done
-for filter in add_header auth deny; do
+for filter in add_header auth deny tcp_meter tls_only; do
     compile cdylib "$temp/$filter.wasm" -C lto -C strip=symbols -C link-arg=-zstack-size=65536 $filter.rs || exit 1
 done
 version=$("$rustc" --version | sed 's/^rustc 1\.\([0-9]*\).*/\1/')
@@ -46,4 +46,4 @@ for module in "$temp"/*.wasm; do
         cp "$module" "$goal" || exit 1
     fi
 done
-echo "rust: 7 filters, by $("$rustc" --version)"
+echo "rust: 9 filters, by $("$rustc" --version)"

@@ -2,7 +2,7 @@ use Rattle.std.proofs.Common.{◌≡◌, ℕ, List, Bool, true, false, not, rule
 use Rattle.toml.specs.View.{view}
 use Rattle.gate_config.specs.Given.{given}
 use Rattle.toml.specs.Data.{as_str}
-use Rattle.config_reader.specs.Names.{has_vm}
+use Rattle.config_names.specs.Names.{has_vm}
 use Rattle.config_reader.proofs.Named.{refused_name, taken_name, no_name}
 use Rattle.config_reader.proofs.checks.some_vm_fault.Goals as goal
 

@@ -2,7 +2,7 @@ use Rattle.std.proofs.Common.{refl}
 use Rattle.std.specs.Fmt.{digits}
 use Rattle.matchit.proofs.OnLiterals.{matchit_on_literals}
 use Rattle.toml.proofs.OnLiterals.{toml_on_literals}
-use Rattle.config_reader.specs.Names.{vm_number, plugin_number}
+use Rattle.config_names.specs.Names.{vm_number, plugin_number}
 use Rattle.config_reader.specs.Words.{number_from}
 use Rattle.config_reader.proofs.laws.worked_configurations.Goals as goal
 
@@ -16,6 +16,8 @@ returns c = record {
   repeated = refl;
   no_such_vm = refl;
   conflict = refl;
+  streams = refl;
+  no_such_plugin = refl;
   no_text = refl;
   accepted = refl;
 }

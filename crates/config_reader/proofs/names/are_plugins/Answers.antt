@@ -3,7 +3,7 @@ use Rattle.toml.specs.Data.{Data}
 use Rattle.toml.specs.View.{view}
 use Rattle.gate_config.specs.Given.{given}
 use Rattle.config_reader.specs.Judge.{text_of}
-use Rattle.config_reader.specs.Names.{has_plugin}
+use Rattle.config_names.specs.Names.{has_plugin}
 use Rattle.config_reader.proofs.Mapped.{all_map}
 use Rattle.config_reader.proofs.names.are_plugins.Goals as goal
 

@@ -4,7 +4,7 @@ use Rattle.std.specs.Fmt.{digits}
 use Rattle.std.specs.Str.{chars, is_utf8}
 use Rattle.matchit.proofs.OnLiterals.{matchit_on_literals}
 use Rattle.toml.proofs.OnLiterals.{toml_on_literals}
-use Rattle.config_reader.specs.Names.{vm_number, plugin_number}
+use Rattle.config_names.specs.Names.{vm_number, plugin_number}
 use Rattle.config_reader.specs.Words.{number_from}
 use Rattle.law_config.proofs.laws.worked_bounds.Goals as goal
 

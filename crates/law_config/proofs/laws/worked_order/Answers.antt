@@ -4,7 +4,7 @@ use Rattle.std.specs.Fmt.{digits}
 use Rattle.std.specs.Str.{chars, is_utf8}
 use Rattle.matchit.proofs.OnLiterals.{matchit_on_literals}
 use Rattle.toml.proofs.OnLiterals.{toml_on_literals}
-use Rattle.config_reader.specs.Names.{vm_number, plugin_number}
+use Rattle.config_names.specs.Names.{vm_number, plugin_number}
 use Rattle.config_reader.specs.Words.{number_from}
 use Rattle.law_config.proofs.laws.worked_order.Goals as goal
 
@@ -31,7 +31,8 @@ returns c = record {
   upstream_second = refl;
   workers_third = refl;
   deadline_fourth = refl;
-  level_last = refl;
+  level_fifth = refl;
+  tcp_last = refl;
   vm_name_first = refl;
   module_second = refl;
   configuration_third = refl;
@@ -46,4 +47,13 @@ returns c = record {
   filters_count = refl;
   filters_twice = refl;
   filters_there = refl;
+  tcp_empty = refl;
+  tcp_form = refl;
+  tcp_capital = refl;
+  tcp_count = refl;
+  tcp_twice = refl;
+  routes_before_tcp = refl;
+  tcp_beside_a_route = refl;
+  level_before_a_route = refl;
+  tcp_there = refl;
 }

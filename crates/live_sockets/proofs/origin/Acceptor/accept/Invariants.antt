@@ -1,5 +1,5 @@
 use Rattle.std.proofs.Common.{◌≡◌, ◌<◌, ◌≤◌, ℕ, ◌+◌, vec_len}
-use Rattle.live_sockets.specs.Homes.{AreHome}
+use Rattle.live_sockets.specs.Homes.{AreHome, offers}
 use Rattle.live_sockets.specs.Numbers.{home_of}
 use Rattle.live_sockets.specs.Places.{most_places}
 use Rattle.live_sockets.proofs.origin.Acceptor.accept.Given as goal
@@ -16,4 +16,5 @@ invariant-loop g l =
       all : (k : ℕ) → l.fn.self.number < k → k ≤ l.self.number → home_of k (vec_len l.self.others) ≡ 0 → most_places ≤ l.kept;
       others : vec_len l.self.others ≡ vec_len l.fn.self.others;
       offered : AreHome l.fn.self.number l.fn.self.others.items → AreHome l.self.number l.self.others.items;
+      given : l.self.accepted + offers l.fn.self.others.items ≡ l.fn.self.accepted + offers l.self.others.items;
     }

@@ -1,5 +1,4 @@
 use Rattle.std.proofs.Common.{◌<◌, rules}
-use Rattle.std.specs.List.{All}
 use Rattle.std.proofs.lemmas.Fn.{All-from_retain}
 use Rattle.live_lines.specs.declared.lingering.Lingering.{Lingering}
 use Rattle.live_sockets.proofs.sockets.Sockets.drain.Goals as goal

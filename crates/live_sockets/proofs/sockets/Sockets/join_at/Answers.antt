@@ -1,4 +1,4 @@
-use Rattle.std.proofs.Common.{◌≡◌, ◌<◌, ◌∙◌, Some, length, ap, sym, arith}
+use Rattle.std.proofs.Common.{◌<◌, ◌∙◌, Some, length, ap, sym, arith}
 use Rattle.live_sockets.proofs.Begun.{stands_at, unused_up}
 use Rattle.live_sockets.proofs.sockets.Sockets.join_at.Goals as goal
 

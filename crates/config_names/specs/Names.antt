@@ -3,9 +3,11 @@ use Rattle.std.specs.Prelude.{ℕ, List, Bool, bytes_eq, position, unwrap_or}
 use Rattle.std.specs.List.{list_any}
 use Rattle.gate_config.specs.Given.{Given}
 
+-- a VM has this name
 abbrev pub has_vm : Given → List ℕ → Bool
 has_vm g name = list_any (λ vm. bytes_eq vm.name name) g.vms
 
+-- a plug-in has this name
 abbrev pub has_plugin : Given → List ℕ → Bool
 has_plugin g name = list_any (λ plugin. bytes_eq plugin.name name) g.plugins
 
