@@ -134,7 +134,8 @@ impl<R: Net + TimeSource + Wait + LogStream, P: Duplex> World for LiveWorld<R, P
     {
         let answer = self.following(alloc, wants);
         self.answering = server_of(&answer);
-        self.tell(alloc, self.stopped || answer.is_err());
+        let is_last = self.stopped || answer.is_err();
+        self.tell(alloc, is_last);
         if let Err(WorldEnd::Failed) = answer {
             self.faults = self.faults.saturating_add(1);
             self.sockets.end();

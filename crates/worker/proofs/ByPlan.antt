@@ -1,6 +1,8 @@
 -- What a worker does until everything is at rest, by the list of plug-ins of streams.
 use Rattle.std.proofs.Common.{◌≡◌, ℕ, List, [], ◌∷◌, refl, ap, sym}
 use Rattle.filter_host.specs.Called.{Calling}
+use Rattle.gate_io.specs.declared.event.Sent.{Sent}
+use Rattle.worker.specs.Filled.{filled}
 use Rattle.worker_model.specs.Plan.{Plan}
 use Rattle.worker_model.specs.Room.{Room}
 use Rattle.worker_model.specs.Rooms as http
@@ -25,3 +27,8 @@ settles_streams calling plan (p ∷ ps) most host room some = refl
 pub next_streams : (ts : List ℕ) (room : Room) → (ts ≡ [] → ⊥) → next_among ts room ≡ next_of room
 next_streams [] room some = absurd (some refl)
 next_streams (p ∷ ps) room some = refl
+
+-- what is sent changes nothing of what is next
+pub next_filled : (ts : List ℕ) (sent : List Sent) (room : Room) → next_among ts (filled sent room) ≡ next_among ts room
+next_filled [] sent room = refl
+next_filled (p ∷ ps) sent room = refl

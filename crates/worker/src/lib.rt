@@ -11,6 +11,5 @@ mod picking;
 mod turning;
 mod worker;
 
-pub use turning::settle;
 pub use worker::Worker;
 pub use worker_model::Turn;

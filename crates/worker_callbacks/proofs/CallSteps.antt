@@ -1,15 +1,17 @@
 -- Steps of callouts.
-use Rattle.std.proofs.Common.{◌≡◌, ℕ, Bool, List, [], sym, subst}
-use Rattle.std.specs.Prelude.{Result, Ok, Err, OnOk, Option, None, Some}
+use Rattle.std.proofs.Common.{◌≡◌, ℕ, Bool, false, List, [], sym, subst, ap}
+use Rattle.std.specs.Prelude.{Result, Ok, Err, OnOk, Option, None, Some, if◌then◌else◌}
 use Rattle.callouts.specs.declared.types.Callout.{Callout}
+use Rattle.contexts.specs.declared.parts.CallAnswer.{CallAnswer}
 use Rattle.filter_host.specs.Called.{Calling}
 use Rattle.filter_host.specs.Course.{ends, Goes, Ends}
-use Rattle.filter_host.specs.Runs.{goes_still, goes_heard, goes_as}
+use Rattle.filter_host.specs.Runs.{goes_still, goes_heard, goes_as, goes_from}
+use Rattle.filter_host.specs.declared.host.Callback.TheVariants.{CallAnswered}
 use Rattle.store_model.specs.Made.{Made}
-use Rattle.worker_model.specs.Calls.{take_call_heard, answer_if}
+use Rattle.worker_model.specs.Calls.{take_call_heard, answer_if, has_listener, put_call_answer}
 use Rattle.worker_model.specs.Room.{Room}
-use Rattle.streams_model.specs.Callbacks.{Takes, tells_call, ends_call}
-use Rattle.worker_model.specs.Steps.{Both, both, reads_call}
+use Rattle.streams_model.specs.Callbacks.{Takes, calls_live, tells_call, ends_call}
+use Rattle.worker_model.specs.Steps.{Both, both, drop_answer, reads_call}
 use Rattle.worker_room.specs.Calls.{ReadsCall, close_if}
 
 module _ {S : Type 0} (performs : S → List Made → S → Type 0) (s : S) (here : performs s [] s) where
@@ -25,6 +27,14 @@ module _ {S : Type 0} (performs : S → List Made → S → Type 0) (s : S) (her
   reads_call_ends host id o old new (Err e) is = (_, goes_still performs s s (reads_call id o host old) here)
 
   module _ {H : Type 0} (takes : Takes) (calling : Calling H) where
+    -- nobody is there to be told
+    pub unheard_ends : (a : Option CallAnswer) (c : Callout) (host : H) (room : Room) → has_listener c room ≡ false
+        → Goes performs s (tells_call takes calling a c host room) (ends (both host room)) s
+    unheard_ends a c host room none =
+        goes_from
+        (ap (λ (b : Bool). if b then calls_live takes calling c.vm CallAnswered c.context c.id 0 (drop_answer c.vm c.context) host (put_call_answer a c.vm c.context room) else ends (both host room)) none)
+        (goes_still performs s s (ends (both host room)) here)
+
     -- one that is not under way has no end
     pub none_ends : (is_answered : Bool) (host : H) (id : ℕ) (o : Option Callout) (old new : Room) → o ≡ None → new ≡ close_if id o old
         → Goes performs s (ends_call takes calling is_answered id o host old) (ends (both host new)) s

@@ -7,6 +7,7 @@ use Rattle.worker_model.specs.Settling.{is_rest}
 use Rattle.worker_model.specs.Steps.{both}
 use Rattle.worker_model.specs.Turn.{room_for_event, most_steps}
 use Rattle.streams_model.specs.Turn.{settles_for, next_for}
+use Rattle.worker.proofs.ByPlan.{next_filled}
 use Rattle.worker.proofs.worker.react.Goals as goal
 
 pub returns-in_err-face-clause-run : goal.returns-in_err-face-clause-run
@@ -26,4 +27,6 @@ returns-clause-run g c =
     (λ i. ends (both c.settle_all.new.host (sym c.take_sent.ensures.room i)))
 
 pub returns-clause-rest : goal.returns-clause-rest
-returns-clause-rest g c = ap (λ (r : Room). is_rest (next_for (plan_of c.args.rules.now) r)) c.take_sent.ensures.room ∙ c.in_ok-settle_all.ensures.rest
+returns-clause-rest g c =
+    ap is_rest (sym (next_filled c.args.rules.now.config.tcp c.take_sent.result.items c.take_sent.new.room))
+    ∙ ap (λ (r : Room). is_rest (next_for (plan_of c.args.rules.now) r)) c.take_sent.ensures.room ∙ c.in_ok-settle_all.ensures.rest
