@@ -1,5 +1,5 @@
 -- What a world over sockets gives, and what goes to its lines.
-use Rattle.std.specs.Prelude.{◌≡◌, ◌⊎◌, ℕ, ◌+◌, true, false, List, Option, None, Some, Result, Ok, Err}
+use Rattle.std.specs.Prelude.{◌≡◌, ◌⊎◌, ℕ, true, false, List, Option, None, Some, Result, Ok, Err}
 use Rattle.gate_io.specs.declared.ends.WorldEnd.{WorldEnd}
 use Rattle.gate_io.specs.declared.event.Event.{Event}
 use Rattle.gate_io.specs.declared.event.Side.{Side}
@@ -86,10 +86,11 @@ server_of (Ok event) = server_of_what event.what
 server_of (Err e) = None
 
 -- bytes go to the client of the line of whose server the last event was
-abbrev pub IsAnswer : {R P : Type 0} → LiveWorld R P → ℕ → Side → Type 0
-IsAnswer w line side = (side ≡ Down) × (w.answering ≡ Some line)
+abbrev pub IsAnswer : Option ℕ → ℕ → Side → Type 0
+IsAnswer answering line side = (side ≡ Down) × (answering ≡ Some line)
 
 -- They are counted where they begin an answer 502, and no other bytes are.
 abbrev pub Counts : {R P : Type 0} → LiveWorld R P → ℕ → Side → List ℕ → LiveWorld R P → Type 0
 Counts old line side bytes new =
-    (IsAnswer old line side × CountsAnswer old.sockets.lines.items line bytes old.sockets.notices.counts new.sockets.notices.counts) ⊎ ((IsAnswer old line side → ⊥) × (new.sockets.notices.counts ≡ old.sockets.notices.counts))
+    (IsAnswer old.answering line side × CountsAnswer old.sockets.lines.items line bytes old.sockets.notices.counts new.sockets.notices.counts)
+    ⊎ ((IsAnswer old.answering line side → ⊥) × (new.sockets.notices.counts ≡ old.sockets.notices.counts))

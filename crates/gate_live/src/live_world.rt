@@ -7,7 +7,7 @@ ghost use Rattle.gate_live.specs.LogLine.{line_of};
 ghost use Rattle.gate_live.specs.Logged.{notice_of};
 ghost use Rattle.gate_io.specs.declared.event.What.TheVariants as whats;
 ghost use Rattle.gate_live.specs.Timed.{IsMoment, IsTimed};
-ghost use Rattle.gate_live.specs.Worlds.{server_of, server_of_side, server_of_what};
+ghost use Rattle.gate_live.specs.Worlds.{IsAnswer, server_of, server_of_side, server_of_what};
 
 use crate::log_line::log_line;
 use crate::stderr::{LogStream, put_line};
@@ -42,7 +42,7 @@ pub struct LiveWorld<R, P> {
 impl<R, P> LiveWorld<R, P> {
     ghost use Rattle.std.specs.Prelude.{◌≡◌, []};
     ghost use Rattle.gate_live.specs.Sites.{IsUntouched};
-    ghost use Rattle.gate_live.specs.Worlds.{IsAnswer, log_in};
+    ghost use Rattle.gate_live.specs.Worlds.{log_in};
 
     /// A world in which nothing has happened, over these sockets.
     pub(crate) fn new(rt: R, seed: [u8; 32], sockets: Sockets<P>) -> Self
@@ -62,19 +62,6 @@ impl<R, P> LiveWorld<R, P> {
             is_cut: false,
             dropped: 0,
             answering: None,
-        }
-    }
-
-    /// Whether bytes for a side of a line go to the client of whose server the last event was.
-    fn is_answer(&self, line: LineNo, side: Side) -> bool
-        ensures { IsTrue result ↔ IsAnswer self.now line side }
-    {
-        match side {
-            Side::Down => match self.answering {
-                Some(answering) => answering == line,
-                None => false,
-            },
-            Side::Up => false,
         }
     }
 
@@ -158,7 +145,7 @@ impl<R: Net + TimeSource + Wait + LogStream, P: Duplex> World for LiveWorld<R, P
         ensures nature { nature_of self.new ≡ nature_of self.old }
         ensures faults { self.new.faults ≡ self.old.faults }
     {
-        if self.is_answer(line, side) {
+        if is_answer(self.answering, line, side) {
             self.sockets.note_answer(line, bytes);
         }
         self.sockets.send(alloc, line, side, bytes)
@@ -388,6 +375,19 @@ fn moment_of(what: &What, due: Option<u64>, last: u64, now: u64) -> u64
     match due {
         Some(due) => now.min(due - 1),
         None => now,
+    }
+}
+
+/// Whether bytes for a side of a line go to the client of the line of whose server the last event was.
+fn is_answer(answering: Option<LineNo>, line: LineNo, side: Side) -> bool
+    ensures { IsTrue result ↔ IsAnswer answering line side }
+{
+    match side {
+        Side::Down => match answering {
+            Some(answering) => answering == line,
+            None => false,
+        },
+        Side::Up => false,
     }
 }
 
