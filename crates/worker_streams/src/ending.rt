@@ -32,8 +32,8 @@ fn push_step(jobs: &mut Queue<Job>, step: TcpStep) -> Result<(), OutOfMemory>
 }
 
 /// A filter is told of the end of the connection to the server, where there was one.
-fn push_up_close(jobs: &mut Queue<Job>, l: &TcpLine, f: Filter) -> Result<(), OutOfMemory>
-    ensures { OnOk result (jobs.new ≡ jobs.old ++ up_close_jobs l.now f) }
+fn push_up_close(jobs: &mut Queue<Job>, l: &TcpLine, f: &Filter) -> Result<(), OutOfMemory>
+    ensures { OnOk result (jobs.new ≡ jobs.old ++ up_close_jobs l.now f.now) }
 {
     if !l.is_up {
         return Ok(());
@@ -47,8 +47,8 @@ fn push_up_close(jobs: &mut Queue<Job>, l: &TcpLine, f: Filter) -> Result<(), Ou
 }
 
 /// A filter is told of the end of the client's connection.
-fn push_down_close(jobs: &mut Queue<Job>, l: &TcpLine, f: Filter) -> Result<(), OutOfMemory>
-    ensures { OnOk result (jobs.new ≡ jobs.old ++ down_close_jobs l.now f) }
+fn push_down_close(jobs: &mut Queue<Job>, l: &TcpLine, f: &Filter) -> Result<(), OutOfMemory>
+    ensures { OnOk result (jobs.new ≡ jobs.old ++ down_close_jobs l.now f.now) }
 {
     let of = ContextAt {
         vm: f.vm,
@@ -59,8 +59,8 @@ fn push_down_close(jobs: &mut Queue<Job>, l: &TcpLine, f: Filter) -> Result<(), 
 }
 
 /// A filter whose context was made is told of the end of both connections.
-fn push_closes(jobs: &mut Queue<Job>, l: &TcpLine, f: Filter) -> Result<(), OutOfMemory>
-    ensures { OnOk result (jobs.new ≡ jobs.old ++ close_jobs_of l.now f) }
+fn push_closes(jobs: &mut Queue<Job>, l: &TcpLine, f: &Filter) -> Result<(), OutOfMemory>
+    ensures { OnOk result (jobs.new ≡ jobs.old ++ close_jobs_of l.now f.now) }
 {
     if !f.created {
         return Ok(());
@@ -78,7 +78,7 @@ fn push_all_closes(
     ensures { OnOk result (jobs.new ≡ jobs.old ++ close_jobs l.now filters.now) }
 {
     for f in filters {
-        push_closes(jobs, l, *f)?;
+        push_closes(jobs, l, f)?;
     }
     Ok(())
 }
