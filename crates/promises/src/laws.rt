@@ -82,8 +82,8 @@ pub fn lines_of_the_headline()
     machines_write_logs();
 }
 
-/// In each whole life of each worker that the headline speaks of, what is sent on the line of a callout is one connection with one request, and one close once the
-/// callout has ended. Before its id is drawn nothing is sent there.
+/// In each whole life of each worker that the headline speaks of, where its configuration has no streams of bytes, what is sent on the line of a callout is one connection
+/// with one request, and one close once the callout has ended. Before its id is drawn nothing is sent there.
 pub fn callouts_of_the_headline()
     ensures { LivesSendCalloutsOnce }
 {
