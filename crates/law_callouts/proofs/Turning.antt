@@ -1,5 +1,5 @@
 -- What a turn begins with, of the callout of an id: its failure where it is due, and the event where that is of its line.
-use Rattle.std.proofs.Common.{◌≡◌, ◌+◌, ◌-◌, ◌==◌, ℕ, zero, suc, Bool, true, false, cond, List, [], ◌∷◌, ◌++◌, map, filter, refl, sym, ap, ◌∙◌, eqb-true, ne_eqb, eq-eqb, arith}
+use Rattle.std.proofs.Common.{◌≡◌, ◌+◌, ◌-◌, ◌==◌, ◌&&◌, ℕ, zero, suc, Bool, true, false, cond, List, [], ◌∷◌, ◌++◌, map, filter, refl, sym, ap, ◌∙◌, eqb-true, ne_eqb, eq-eqb, arith}
 use Rattle.std.specs.Prelude.{Option, None, Some, if◌then◌else◌, nat_le, slice_get}
 use Rattle.std.proofs.lemmas.Bool.{le-leb, leb-true}
 use Rattle.std.proofs.lemmas.List.{append-nil}
@@ -11,12 +11,13 @@ use Rattle.callouts.specs.declared.types.CallStep.TheVariants as steps
 use Rattle.contexts.specs.declared.parts.Context.{Context}
 use Rattle.contexts.specs.declared.parts.Contexts.{Contexts}
 use Rattle.contexts.specs.declared.parts.Plugin.{Plugin}
+use Rattle.contexts.specs.Creating.{next_id}
 use Rattle.contexts.specs.Reached.{vm_in}
 use Rattle.gate_io.specs.declared.event.Event.{Event}
 use Rattle.gate_io.specs.declared.event.What.{What}
 use Rattle.worker_model.specs.Plan.{Plan}
 use Rattle.worker_model.specs.Room.{Room}
-use Rattle.worker_model.specs.Turn.{is_of, roots_from, start_of, starts_of, vms_in, start_jobs, is_due_now, ticks_in, ticks_of, ticks_due, deadline_jobs, registers_at, notice_of, notices_of, fail_jobs, calls_due, comes_if, happening, agenda_of, at_moment, room_for_event}
+use Rattle.worker_model.specs.Turn.{is_of, roots_from, start_of, starts_of, vms_in, start_jobs, is_due_now, ticks_in, ticks_of, new_ticks_from, new_ticks_of, new_ticks, ticks_due, deadline_jobs, registers_at, notice_of, notices_of, fail_jobs, calls_due, comes_if, happening, agenda_of, at_moment, room_for_event}
 use Rattle.worker_model.specs.declared.types.Job.{Job}
 use Rattle.worker_model.specs.declared.types.Job.TheVariants as jobs
 use Rattle.law_callouts.specs.Sound.{AreRising}
@@ -44,6 +45,20 @@ ticks_none : (id now n : ℕ) (h : Contexts) → about id (ticks_of now n h) ≡
 ticks_none id now zero h = refl
 ticks_none id now (suc n) h = none_join id (ticks_of now n h) (ticks_in now n (vm_in h n).contexts) (ticks_none id now n h) (ticks_in_none id now n (vm_in h n).contexts)
 
+new_from_none : (id vm n : ℕ) (plugins : List Plugin) → about id (new_ticks_from vm n plugins) ≡ []
+new_from_none id vm n [] = refl
+new_from_none id vm n (p ∷ plugins) =
+    pick_none id (is_of vm p && nat_le n 4294967295) (jobs.Tick vm n ∷ new_ticks_from vm (n + 1) plugins) (new_ticks_from vm n plugins) (new_from_none id vm (n + 1) plugins) (new_from_none id vm n plugins)
+
+new_ticks_none : (id n : ℕ) (h : Contexts) → about id (new_ticks_of n h) ≡ []
+new_ticks_none id zero h = refl
+new_ticks_none id (suc n) h = none_join id (new_ticks_of n h) (new_ticks_from n (next_id h n) h.plugins) (new_ticks_none id n h) (new_from_none id n (next_id h n) h.plugins)
+
+due_ticks_none : (id : ℕ) (room : Room) → about id (ticks_due room) ≡ []
+due_ticks_none id room =
+    none_join id (ticks_of room.hub.moment (vms_in room) room.hub.contexts) (new_ticks room) (ticks_none id room.hub.moment (vms_in room) room.hub.contexts)
+    (pick_none id room.is_begun [] (new_ticks_of (vms_in room) room.hub.contexts) refl (new_ticks_none id (vms_in room) room.hub.contexts))
+
 notices_none : (id : ℕ) (plan : Plan) (n : ℕ) → about id (notices_of plan n) ≡ []
 notices_none id plan zero = refl
 notices_none id plan (suc n) =
@@ -58,7 +73,7 @@ agenda_about : (id : ℕ) (plan : Plan) (what : What) (room : Room) → about id
 agenda_about id plan what room =
     let notices = notices_of plan (vms_in room) in
     behind_none id (start_jobs room) _ (pick_none id room.is_begun [] (starts_of (vms_in room) room.hub.contexts.plugins) refl (starts_none id (vms_in room) room.hub.contexts.plugins))
-    ∙ behind_none id (ticks_due room) _ (ticks_none id room.hub.moment (vms_in room) room.hub.contexts)
+    ∙ behind_none id (ticks_due room) _ (due_ticks_none id room)
     ∙ behind_none id (deadline_jobs plan) _ (pick_none id (plan.deadline == 0) [] (jobs.Expire ∷ []) refl refl)
     ∙ about_join id (calls_due room) (happening what room ++ notices)
     ∙ ap (λ (l : List CallStep). about id (calls_due room) ++ l)

@@ -1,12 +1,13 @@
 -- Turns keep the two sides of a line in order.
-use Rattle.std.proofs.Common.{◌≡◌, ℕ, zero, suc, ◌+◌, ◌==◌, Bool, true, false, List, [], ◌∷◌, ◌++◌, refl, ap, ◌∙◌, sym, subst}
+use Rattle.std.proofs.Common.{◌≡◌, ℕ, zero, suc, ◌+◌, ◌==◌, ◌&&◌, Bool, true, false, List, [], ◌∷◌, ◌++◌, refl, ap, ◌∙◌, sym, subst}
 use Rattle.std.proofs.lemmas.List.{append-nil, append_assoc}
 use Rattle.std.specs.List.{list_any}
-use Rattle.std.specs.Prelude.{Option, None, Some, is_some, slice_get, position, if◌then◌else◌}
+use Rattle.std.specs.Prelude.{Option, None, Some, is_some, slice_get, position, nat_le, if◌then◌else◌}
 use Rattle.callouts.specs.Callouts.{is_call_line, is_of_call, line_in as event_line}
 use Rattle.contexts.specs.declared.parts.Context.{Context}
 use Rattle.contexts.specs.declared.parts.Contexts.{Contexts}
 use Rattle.contexts.specs.declared.parts.Plugin.{Plugin}
+use Rattle.contexts.specs.Creating.{next_id}
 use Rattle.contexts.specs.Reached.{vm_in}
 use Rattle.filter_host.specs.Called.{Calling}
 use Rattle.filter_host.specs.Course.{ends}
@@ -35,7 +36,7 @@ use Rattle.worker_model.specs.Rooms.{has_move, moves_or, frees_or, ends_or, begi
 use Rattle.worker_model.specs.Settling.{settling, is_rest}
 use Rattle.worker_model.specs.State.{Standing, rules_of}
 use Rattle.worker_model.specs.Steps.{Both, both}
-use Rattle.worker_model.specs.Turn.{Outcome, outcome, turn, turn_by, room_for_event, calls_due, happening, agenda_of, start_jobs, starts_of, start_of, roots_from, vms_in, is_of, ticks_in, ticks_of, ticks_due, deadline_jobs, notice_of, notices_of, is_due_now, registers_at, at_moment, most_steps, outcome_of, without_sent}
+use Rattle.worker_model.specs.Turn.{Outcome, outcome, turn, turn_by, room_for_event, calls_due, happening, agenda_of, start_jobs, starts_of, start_of, roots_from, vms_in, is_of, ticks_in, ticks_of, new_ticks_from, new_ticks_of, new_ticks, ticks_due, deadline_jobs, notice_of, notices_of, is_due_now, registers_at, at_moment, most_steps, outcome_of, without_sent}
 use Rattle.worker_model.proofs.Events.{by_event, by_due}
 use Rattle.worker_model.proofs.Resting.{whole_rests}
 use Rattle.law_lines.specs.Logs.{WriteLogs}
@@ -83,6 +84,21 @@ all_ticks_none : (now k : ℕ) (h : Contexts) → happens_in (ticks_of now k h) 
 all_ticks_none now zero h = refl
 all_ticks_none now (suc k) h = none_of_two (ticks_of now k h) (ticks_in now k (vm_in h k).contexts) (all_ticks_none now k h) (ticks_none now k (vm_in h k).contexts)
 
+new_from_none : (vm id : ℕ) (plugins : List Plugin) → happens_in (new_ticks_from vm id plugins) ≡ []
+new_from_none vm id [] = refl
+new_from_none vm id (p ∷ plugins) =
+    by_bool (λ (l : List Job). happens_in l ≡ []) (is_of vm p && nat_le id 4294967295) (jobs.Tick vm id ∷ new_ticks_from vm (id + 1) plugins) (new_ticks_from vm id plugins) (λ e. new_from_none vm (id + 1) plugins)
+    (λ e. new_from_none vm id plugins)
+
+new_ticks_none : (k : ℕ) (h : Contexts) → happens_in (new_ticks_of k h) ≡ []
+new_ticks_none zero h = refl
+new_ticks_none (suc k) h = none_of_two (new_ticks_of k h) (new_ticks_from k (next_id h k) h.plugins) (new_ticks_none k h) (new_from_none k (next_id h k) h.plugins)
+
+due_ticks_none : (room : Room) → happens_in (ticks_due room) ≡ []
+due_ticks_none room =
+    none_of_two (ticks_of room.hub.moment (vms_in room) room.hub.contexts) (new_ticks room) (all_ticks_none room.hub.moment (vms_in room) room.hub.contexts)
+    (by_bool (λ (l : List Job). happens_in l ≡ []) room.is_begun [] (new_ticks_of (vms_in room) room.hub.contexts) (λ e. refl) (λ e. new_ticks_none (vms_in room) room.hub.contexts))
+
 notices_none : (plan : Plan) (k : ℕ) → happens_in (notices_of plan k) ≡ []
 notices_none plan zero = refl
 notices_none plan (suc k) =
@@ -107,7 +123,7 @@ event_in : (plan : Plan) (what : What) (room : Room) (ws : List What) → happen
 event_in plan what room ws is =
     behind_none (start_jobs room) _ ws
     (by_bool (λ (l : List Job). happens_in l ≡ []) room.is_begun [] (starts_of (vms_in room) room.hub.contexts.plugins) (λ e. refl) (λ e. all_start_none (vms_in room) room.hub.contexts.plugins))
-    (behind_none (ticks_due room) _ ws (all_ticks_none room.hub.moment (vms_in room) room.hub.contexts)
+    (behind_none (ticks_due room) _ ws (due_ticks_none room)
     (behind_none (deadline_jobs plan) _ ws
     (by_bool (λ (l : List Job). happens_in l ≡ []) (plan.deadline == 0) [] (jobs.Expire ∷ []) (λ e. refl) (λ e. refl))
     (behind_none (calls_due room) _ ws (calls_none room)

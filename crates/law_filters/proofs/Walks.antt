@@ -1,11 +1,11 @@
 -- What is known of roots stays over all steps of all turns.
-use Rattle.std.proofs.Common.{◌≡◌, ◌⊎◌, inl, inr, refl, ℕ, zero, suc, ◌+◌, ◌<◌, ◌≤◌, ◌==◌, Bool, true, false, List, [], ◌∷◌, ◌++◌, length, ap, ◌∙◌, sym, subst, arith}
+use Rattle.std.proofs.Common.{◌≡◌, ◌⊎◌, inl, inr, refl, ℕ, zero, suc, ◌+◌, ◌<◌, ◌≤◌, ◌==◌, ◌&&◌, Bool, true, false, List, [], ◌∷◌, ◌++◌, length, ap, ◌∙◌, sym, subst, arith}
 use Rattle.std.proofs.lemmas.Bool.{ltb-true, eqb-true, le-leb}
 use Rattle.std.specs.List.{list_any}
-use Rattle.std.specs.Prelude.{Contains, slice_get, slice_index_or, position, if◌then◌else◌, is_some, Option, None, Some}
+use Rattle.std.specs.Prelude.{Contains, nat_le, slice_get, slice_index_or, position, if◌then◌else◌, is_some, Option, None, Some}
 use Rattle.callouts.specs.Callouts.{line_in, is_of_call, callout_at, due_at}
 use Rattle.callouts.specs.declared.types.Callout.{Callout}
-use Rattle.contexts.specs.Creating.{no_plugin, plugin_in}
+use Rattle.contexts.specs.Creating.{next_id, no_plugin, plugin_in}
 use Rattle.contexts.specs.Reached.{vm_in}
 use Rattle.contexts.specs.declared.parts.Context.{Context}
 use Rattle.contexts.specs.declared.parts.Contexts.{Contexts}
@@ -29,7 +29,7 @@ use Rattle.worker_model.specs.Room.{Room}
 use Rattle.worker_model.specs.Rooms.{is_dead, next_of, next_part, moves_or, frees_or, ends_or, begins_or_rests, has_move, is_any, is_over, is_released}
 use Rattle.worker_model.specs.Settling.{is_rest, settling, settling_none, settling_rest, settling_step}
 use Rattle.worker_model.specs.Steps.{Both, both, create_filter, may_stream, step, with_stream}
-use Rattle.worker_model.specs.Turn.{agenda_of, at_moment, deadline_jobs, fail_jobs, calls_due, first_vms, happening, is_due_now, is_of, notice_of, notices_of, registers_at, room_for_event, roots_from, start_jobs, start_of, starts_of, ticks_due, ticks_in, ticks_of, vms_in, with_agenda, without_sent, comes_if, Outcome, outcome_of, most_steps, turn, turn_by}
+use Rattle.worker_model.specs.Turn.{agenda_of, at_moment, deadline_jobs, fail_jobs, calls_due, first_vms, happening, is_due_now, is_of, notice_of, notices_of, registers_at, room_for_event, roots_from, start_jobs, start_of, starts_of, new_ticks, new_ticks_from, new_ticks_of, ticks_due, ticks_in, ticks_of, vms_in, with_agenda, without_sent, comes_if, Outcome, outcome_of, most_steps, turn, turn_by}
 use Rattle.worker_model.specs.declared.types.Job.{Job}
 use Rattle.worker_model.specs.declared.types.Job.TheVariants as jobs
 use Rattle.worker_model.specs.declared.types.Next.{Next}
@@ -175,6 +175,20 @@ all_ticks : (now n : ℕ) (h : Contexts) → ArePlain (ticks_of now n h)
 all_ticks now zero h = tt
 all_ticks now (suc n) h = plain_join (ticks_of now n h) (ticks_in now n (vm_in h n).contexts) (all_ticks now n h) (ticks_plain now n (vm_in h n).contexts)
 
+new_from_plain : (vm id : ℕ) (ps : List Plugin) → ArePlain (new_ticks_from vm id ps)
+new_from_plain vm id [] = tt
+new_from_plain vm id (p ∷ ps) =
+    pick ArePlain (is_of vm p && nat_le id 4294967295) (jobs.Tick vm id ∷ new_ticks_from vm (id + 1) ps) (new_ticks_from vm id ps) (tt, new_from_plain vm (id + 1) ps) (new_from_plain vm id ps)
+
+new_ticks_plain : (n : ℕ) (h : Contexts) → ArePlain (new_ticks_of n h)
+new_ticks_plain zero h = tt
+new_ticks_plain (suc n) h = plain_join (new_ticks_of n h) (new_ticks_from n (next_id h n) h.plugins) (new_ticks_plain n h) (new_from_plain n (next_id h n) h.plugins)
+
+due_ticks_plain : (room : Room) → ArePlain (ticks_due room)
+due_ticks_plain room =
+    plain_join (ticks_of room.hub.moment (vms_in room) room.hub.contexts) (new_ticks room) (all_ticks room.hub.moment (vms_in room) room.hub.contexts)
+    (pick ArePlain room.is_begun [] (new_ticks_of (vms_in room) room.hub.contexts) tt (new_ticks_plain (vms_in room) room.hub.contexts))
+
 notices_plain : (plan : Plan) (n : ℕ) → ArePlain (notices_of plan n)
 notices_plain plan zero = tt
 notices_plain plan (suc n) =
@@ -196,7 +210,7 @@ behind_starts plan what room = ticks_due room ++ (deadline_jobs plan ++ (calls_d
 
 behind_plain : (plan : Plan) (what : What) (room : Room) → ArePlain (behind_starts plan what room)
 behind_plain plan what room =
-    plain_join (ticks_due room) (deadline_jobs plan ++ (calls_due room ++ (happening what room ++ notices_of plan (vms_in room)))) (all_ticks room.hub.moment (vms_in room) room.hub.contexts)
+    plain_join (ticks_due room) (deadline_jobs plan ++ (calls_due room ++ (happening what room ++ notices_of plan (vms_in room)))) (due_ticks_plain room)
     (plain_join (deadline_jobs plan) (calls_due room ++ (happening what room ++ notices_of plan (vms_in room))) (pick ArePlain (plan.deadline == 0) [] (jobs.Expire ∷ []) tt (tt, tt))
     (plain_join (calls_due room) (happening what room ++ notices_of plan (vms_in room)) (fails_plain (due_at room.hub.moment room.calls))
     (plain_join (happening what room) (notices_of plan (vms_in room)) (happening_plain what room) (notices_plain plan (vms_in room)))))

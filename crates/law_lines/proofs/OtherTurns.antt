@@ -1,11 +1,12 @@
 -- Turns at the events of other lines leave a line without filters as it was.
-use Rattle.std.proofs.Common.{◌≡◌, ℕ, zero, suc, ◌+◌, ◌==◌, Bool, true, false, ◌||◌, cond, List, [], ◌∷◌, ◌++◌, refl, ap, ◌∙◌, sym, subst, if◌then◌else◌}
+use Rattle.std.proofs.Common.{◌≡◌, ℕ, zero, suc, ◌+◌, ◌==◌, Bool, true, false, ◌||◌, ◌&&◌, cond, List, [], ◌∷◌, ◌++◌, refl, ap, ◌∙◌, sym, subst, if◌then◌else◌}
 use Rattle.std.specs.List.{list_any}
-use Rattle.std.specs.Prelude.{Option, None, Some, is_some, slice_get, position, filter, find}
+use Rattle.std.specs.Prelude.{Option, None, Some, is_some, slice_get, position, filter, find, nat_le}
 use Rattle.callouts.specs.Callouts.{is_call_line, is_of_call, line_in as event_line}
 use Rattle.contexts.specs.declared.parts.Context.{Context}
 use Rattle.contexts.specs.declared.parts.Contexts.{Contexts}
 use Rattle.contexts.specs.declared.parts.Plugin.{Plugin}
+use Rattle.contexts.specs.Creating.{next_id}
 use Rattle.contexts.specs.Reached.{vm_in}
 use Rattle.filter_host.specs.Called.{Calling}
 use Rattle.filter_host.specs.Course.{Course, ends, asks, measures, hears}
@@ -27,7 +28,7 @@ use Rattle.worker_model.specs.Plan.{Plan}
 use Rattle.worker_model.specs.Rooms.{next_of, next_part, has_move, moves_or, frees_or, ends_or, begins_or_rests, is_any, is_over, is_released}
 use Rattle.worker_model.specs.Settling.{settling, settling_none, settling_rest, settling_step, is_rest}
 use Rattle.worker_model.specs.Steps.{Both, is_late, step}
-use Rattle.worker_model.specs.Turn.{is_of, roots_from, start_of, starts_of, vms_in, start_jobs, is_due_now, ticks_in, ticks_of, ticks_due, deadline_jobs, registers_at, notice_of, notices_of, calls_due, happening, agenda_of, at_moment, room_for_event, most_steps, Outcome, outcome_of, turned, turn_by, turn}
+use Rattle.worker_model.specs.Turn.{is_of, roots_from, start_of, starts_of, vms_in, start_jobs, is_due_now, ticks_in, ticks_of, new_ticks_from, new_ticks_of, new_ticks, ticks_due, deadline_jobs, registers_at, notice_of, notices_of, calls_due, happening, agenda_of, at_moment, room_for_event, most_steps, Outcome, outcome_of, turned, turn_by, turn}
 use Rattle.worker_model.proofs.Events.{by_event, by_due}
 use Rattle.law_lines.specs.Isolation.{lines_on, IsFree, is_event_of, is_job_of, jobs_on, is_read_of, is_sent_on, sent_on, is_at, is_late_on, is_work_of, is_first_of, is_step_of, IsUntouched, IsAsBefore, TurnsOfOthersLeaveTheLine}
 use Rattle.law_lines.specs.Logs.{WriteLogs}
@@ -64,6 +65,20 @@ module _ (n : ℕ) where
   all_ticks_else now zero h = tt
   all_ticks_else now (suc k) h = else_join n (ticks_of now k h) (ticks_in now k (vm_in h k).contexts) (all_ticks_else now k h) (ticks_else now k (vm_in h k).contexts)
 
+  new_from_else : (vm id : ℕ) (plugins : List Plugin) → AllElse n (new_ticks_from vm id plugins)
+  new_from_else vm id [] = tt
+  new_from_else vm id (p ∷ plugins) =
+      by_bool (AllElse n) (is_of vm p && nat_le id 4294967295) (jobs.Tick vm id ∷ new_ticks_from vm (id + 1) plugins) (new_ticks_from vm id plugins) (λ e. (refl, new_from_else vm (id + 1) plugins)) (λ e. new_from_else vm id plugins)
+
+  new_ticks_else : (k : ℕ) (h : Contexts) → AllElse n (new_ticks_of k h)
+  new_ticks_else zero h = tt
+  new_ticks_else (suc k) h = else_join n (new_ticks_of k h) (new_ticks_from k (next_id h k) h.plugins) (new_ticks_else k h) (new_from_else k (next_id h k) h.plugins)
+
+  due_ticks_else : (room : Room) → AllElse n (ticks_due room)
+  due_ticks_else room =
+      else_join n (ticks_of room.hub.moment (vms_in room) room.hub.contexts) (new_ticks room) (all_ticks_else room.hub.moment (vms_in room) room.hub.contexts)
+      (by_bool (AllElse n) room.is_begun [] (new_ticks_of (vms_in room) room.hub.contexts) (λ e. tt) (λ e. new_ticks_else (vms_in room) room.hub.contexts))
+
   notices_else : (plan : Plan) (k : ℕ) → AllElse n (notices_of plan k)
   notices_else plan zero = tt
   notices_else plan (suc k) =
@@ -79,7 +94,7 @@ module _ (n : ℕ) where
   pub agenda_else : (plan : Plan) (what : What) (room : Room) → (is_of_call (event_line what) ≡ false → is_event_of n what ≡ false) → AllElse n (agenda_of plan what room)
   agenda_else plan what room other =
       else_join n (start_jobs room) _ (by_bool (AllElse n) room.is_begun [] (starts_of (vms_in room) room.hub.contexts.plugins) (λ e. tt) (λ e. starts_else (vms_in room) room.hub.contexts.plugins))
-      (else_join n (ticks_due room) _ (all_ticks_else room.hub.moment (vms_in room) room.hub.contexts)
+      (else_join n (ticks_due room) _ (due_ticks_else room)
       (else_join n (deadline_jobs plan) _ (by_bool (AllElse n) (plan.deadline == 0) [] (jobs.Expire ∷ []) (λ e. tt) (λ e. (refl, tt)))
       (else_join n (calls_due room) _ (calls_else room)
       (else_join n (happening what room) (notices_of plan (vms_in room)) (event_else what room other) (notices_else plan (vms_in room))))))

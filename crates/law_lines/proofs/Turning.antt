@@ -1,14 +1,15 @@
 -- Turns, and what is known after them.
-use Rattle.std.proofs.Common.{◌≡◌, ◌⊎◌, inl, inr, ℕ, zero, suc, ◌+◌, ◌==◌, Bool, true, false, List, [], ◌∷◌, ◌++◌, map, refl, ap, ◌∙◌, sym, subst}
+use Rattle.std.proofs.Common.{◌≡◌, ◌⊎◌, inl, inr, ℕ, zero, suc, ◌+◌, ◌==◌, ◌&&◌, Bool, true, false, List, [], ◌∷◌, ◌++◌, map, refl, ap, ◌∙◌, sym, subst}
 use Rattle.filter_host.specs.Called.{Calling}
 use Rattle.std.proofs.lemmas.Grind.{flat_map-append}
 use Rattle.std.proofs.lemmas.List.{append-nil, append_assoc}
-use Rattle.std.specs.Prelude.{Option, None, Some, is_some, option_map, slice_get}
+use Rattle.std.specs.Prelude.{Option, None, Some, is_some, option_map, slice_get, nat_le}
 use Rattle.std.specs.List.{list_any}
 use Rattle.callouts.specs.Callouts.{is_call_line}
 use Rattle.contexts.specs.declared.parts.Context.{Context}
 use Rattle.contexts.specs.declared.parts.Contexts.{Contexts}
 use Rattle.contexts.specs.declared.parts.Plugin.{Plugin}
+use Rattle.contexts.specs.Creating.{next_id}
 use Rattle.contexts.specs.Reached.{vm_in}
 use Rattle.filter_host.specs.Course.{Course, ends, asks, measures, hears}
 use Rattle.filter_host.proofs.Holds.{AllEnds, all_then, all_reached}
@@ -38,7 +39,7 @@ use Rattle.worker_model.specs.declared.types.ReadBatch.{ReadBatch}
 use Rattle.worker_model.specs.Plan.{Plan}
 use Rattle.worker_model.specs.Settling.{settling}
 use Rattle.worker_model.specs.Steps.{Both, both, exchange_of_line, exchange_on, line_in, line_reading}
-use Rattle.worker_model.specs.Turn.{Outcome, turn, turn_by, room_for_event, calls_due, happening, agenda_of, start_jobs, starts_of, start_of, roots_from, vms_in, is_of, ticks_in, ticks_of, ticks_due, deadline_jobs, notice_of, notices_of, is_due_now, registers_at, most_steps, outcome_of, without_sent}
+use Rattle.worker_model.specs.Turn.{Outcome, turn, turn_by, room_for_event, calls_due, happening, agenda_of, start_jobs, starts_of, start_of, roots_from, vms_in, is_of, ticks_in, ticks_of, new_ticks_from, new_ticks_of, new_ticks, ticks_due, deadline_jobs, notice_of, notices_of, is_due_now, registers_at, most_steps, outcome_of, without_sent}
 use Rattle.worker_model.proofs.Events.{by_event, by_due}
 use Rattle.law_lines.specs.Laws.{ExchangesLive, RequestsGoUpOneByOne}
 use Rattle.law_lines.specs.Logs.{WriteLogs}
@@ -85,6 +86,20 @@ all_ticks_parts : (now k : ℕ) (h : Contexts) → AllParts (ticks_of now k h)
 all_ticks_parts now zero h = tt
 all_ticks_parts now (suc k) h = parts_join (ticks_of now k h) (ticks_in now k (vm_in h k).contexts) (all_ticks_parts now k h) (ticks_parts now k (vm_in h k).contexts)
 
+new_from_parts : (vm id : ℕ) (plugins : List Plugin) → AllParts (new_ticks_from vm id plugins)
+new_from_parts vm id [] = tt
+new_from_parts vm id (p ∷ plugins) =
+    by_bool AllParts (is_of vm p && nat_le id 4294967295) (jobs.Tick vm id ∷ new_ticks_from vm (id + 1) plugins) (new_ticks_from vm id plugins) (λ e. (tt, new_from_parts vm (id + 1) plugins)) (λ e. new_from_parts vm id plugins)
+
+new_ticks_parts : (k : ℕ) (h : Contexts) → AllParts (new_ticks_of k h)
+new_ticks_parts zero h = tt
+new_ticks_parts (suc k) h = parts_join (new_ticks_of k h) (new_ticks_from k (next_id h k) h.plugins) (new_ticks_parts k h) (new_from_parts k (next_id h k) h.plugins)
+
+due_ticks_parts : (room : Room) → AllParts (ticks_due room)
+due_ticks_parts room =
+    parts_join (ticks_of room.hub.moment (vms_in room) room.hub.contexts) (new_ticks room) (all_ticks_parts room.hub.moment (vms_in room) room.hub.contexts)
+    (by_bool AllParts room.is_begun [] (new_ticks_of (vms_in room) room.hub.contexts) (λ e. tt) (λ e. new_ticks_parts (vms_in room) room.hub.contexts))
+
 notices_parts : (plan : Plan) (k : ℕ) → AllParts (notices_of plan k)
 notices_parts plan zero = tt
 notices_parts plan (suc k) =
@@ -99,7 +114,7 @@ calls_parts room = by_due AllParts room tt (λ id later e. (tt, e))
 agenda_parts : (plan : Plan) (what : What) (room : Room) → AllParts (agenda_of plan what room)
 agenda_parts plan what room =
     parts_join (start_jobs room) _ (by_bool AllParts room.is_begun [] (starts_of (vms_in room) room.hub.contexts.plugins) (λ e. tt) (λ e. all_start_parts (vms_in room) room.hub.contexts.plugins))
-    (parts_join (ticks_due room) _ (all_ticks_parts room.hub.moment (vms_in room) room.hub.contexts)
+    (parts_join (ticks_due room) _ (due_ticks_parts room)
     (parts_join (deadline_jobs plan) _ (by_bool AllParts (plan.deadline == 0) [] (jobs.Expire ∷ []) (λ e. tt) (λ e. (tt, tt)))
     (parts_join (calls_due room) _ (calls_parts room)
     (parts_join (happening what room) (notices_of plan (vms_in room)) (event_parts what room) (notices_parts plan (vms_in room))))))

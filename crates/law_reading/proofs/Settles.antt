@@ -1,12 +1,13 @@
 -- A turn: what held of the lines in front of its event, and holds of them after it.
 use Rattle.std.proofs.Common.{◌≡◌, ℕ, zero, suc, ◌+◌, ◌==◌, Bool, true, false, not, ◌&&◌, List, [], ◌∷◌, ◌++◌, refl, ap, ◌∙◌, sym, subst}
 use Rattle.std.proofs.lemmas.List.{append-nil}
-use Rattle.std.specs.Prelude.{Option, None, Some, is_some, slice_get, position, nat_lt, length, insert, if◌then◌else◌}
+use Rattle.std.specs.Prelude.{Option, None, Some, is_some, slice_get, position, nat_lt, nat_le, length, insert, if◌then◌else◌}
 use Rattle.std.specs.List.{list_any}
 use Rattle.callouts.specs.Callouts.{is_of_call, due_at, line_in as event_line}
 use Rattle.contexts.specs.declared.parts.Context.{Context}
 use Rattle.contexts.specs.declared.parts.Contexts.{Contexts}
 use Rattle.contexts.specs.declared.parts.Plugin.{Plugin}
+use Rattle.contexts.specs.Creating.{next_id}
 use Rattle.contexts.specs.Reached.{vm_in}
 use Rattle.filter_host.specs.Called.{Calling}
 use Rattle.filter_host.specs.Course.{Course, ends, Met, Reaches, then_do}
@@ -29,7 +30,7 @@ use Rattle.worker_model.specs.Plan.{Plan}
 use Rattle.worker_model.specs.Rooms.{next_of, next_part, has_move, moves_or, frees_or, ends_or, begins_or_rests, is_any, is_released, is_over, place_in, on_number, room_with_sent}
 use Rattle.worker_model.specs.Settling.{settling, settling_none, settling_more, goes, is_rest}
 use Rattle.worker_model.specs.Steps.{Both, step, works, works_first, move_at, release, end_at, begin_first_job, take_event, receive, on_lines, side_with_more, read_side, is_open, is_read_in, is_answered_in, line_reading, line_in, exchange_of_line, exchange_on, accept_line, most_lines, new_line, place_for, lose_client, lose_server, line_without_client, drop_line, is_missed}
-use Rattle.worker_model.specs.Turn.{Outcome, turn, turn_by, room_for_event, fail_jobs, calls_due, happening, agenda_of, start_jobs, starts_of, start_of, roots_from, vms_in, is_of, ticks_in, ticks_of, ticks_due, deadline_jobs, notice_of, notices_of, is_due_now, registers_at, most_steps, outcome_of, without_sent}
+use Rattle.worker_model.specs.Turn.{Outcome, turn, turn_by, room_for_event, fail_jobs, calls_due, happening, agenda_of, start_jobs, starts_of, start_of, roots_from, vms_in, is_of, ticks_in, ticks_of, new_ticks_from, new_ticks_of, new_ticks, ticks_due, deadline_jobs, notice_of, notices_of, is_due_now, registers_at, most_steps, outcome_of, without_sent}
 use Rattle.law_reading.specs.Turns.{IsAtRest}
 use Rattle.law_reading.proofs.Readers.{by_bool}
 use Rattle.law_reading.proofs.Alike.{AreAlike, are_itself}
@@ -129,6 +130,21 @@ all_ticks_none : (now k : ℕ) (h : Contexts) → happens_in (ticks_of now k h) 
 all_ticks_none now zero h = refl
 all_ticks_none now (suc k) h = both_none (ticks_of now k h) (ticks_in now k (vm_in h k).contexts) (all_ticks_none now k h) (ticks_none now k (vm_in h k).contexts)
 
+new_from_none : (vm id : ℕ) (plugins : List Plugin) → happens_in (new_ticks_from vm id plugins) ≡ []
+new_from_none vm id [] = refl
+new_from_none vm id (p ∷ plugins) =
+    by_bool (λ (js : List Job). happens_in js ≡ []) (is_of vm p && nat_le id 4294967295) (jobs.Tick vm id ∷ new_ticks_from vm (id + 1) plugins) (new_ticks_from vm id plugins) (λ e. new_from_none vm (id + 1) plugins)
+    (λ e. new_from_none vm id plugins)
+
+new_ticks_none : (k : ℕ) (h : Contexts) → happens_in (new_ticks_of k h) ≡ []
+new_ticks_none zero h = refl
+new_ticks_none (suc k) h = both_none (new_ticks_of k h) (new_ticks_from k (next_id h k) h.plugins) (new_ticks_none k h) (new_from_none k (next_id h k) h.plugins)
+
+due_ticks_none : (room : Room) → happens_in (ticks_due room) ≡ []
+due_ticks_none room =
+    both_none (ticks_of room.hub.moment (vms_in room) room.hub.contexts) (new_ticks room) (all_ticks_none room.hub.moment (vms_in room) room.hub.contexts)
+    (by_bool (λ (js : List Job). happens_in js ≡ []) room.is_begun [] (new_ticks_of (vms_in room) room.hub.contexts) (λ e. refl) (λ e. new_ticks_none (vms_in room) room.hub.contexts))
+
 notices_none : (plan : Plan) (k : ℕ) → happens_in (notices_of plan k) ≡ []
 notices_none plan zero = refl
 notices_none plan (suc k) =
@@ -151,7 +167,7 @@ event_none w room of_call =
 agenda_hand : (plan : Plan) (w : What) (room : Room) (ws : List What) → happens_in (happening w room) ≡ ws → happens_in (agenda_of plan w room) ≡ ws
 agenda_hand plan w room ws is =
     none_in_front (start_jobs room) _ (by_bool (λ (js : List Job). happens_in js ≡ []) room.is_begun [] (starts_of (vms_in room) room.hub.contexts.plugins) (λ e. refl) (λ e. starts_none (vms_in room) room.hub.contexts.plugins))
-    ∙ (none_in_front (ticks_due room) _ (all_ticks_none room.hub.moment (vms_in room) room.hub.contexts)
+    ∙ (none_in_front (ticks_due room) _ (due_ticks_none room)
     ∙ (none_in_front (deadline_jobs plan) _ (by_bool (λ (js : List Job). happens_in js ≡ []) (plan.deadline == 0) [] (jobs.Expire ∷ []) (λ e. refl) (λ e. refl))
     ∙ (none_in_front (calls_due room) _ (fails_none (due_at room.hub.moment room.calls))
     ∙ (happens_join (happening w room) (notices_of plan (vms_in room)) ∙ ((λ i. is i ++ notices_none plan (vms_in room) i) ∙ append-nil ws)))))

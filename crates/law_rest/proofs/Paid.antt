@@ -11,22 +11,25 @@ use Rattle.worker_model.specs.Plan.{Plan}
 use Rattle.worker_model.specs.Settling.{settling}
 use Rattle.worker_model.specs.State.{Setting, rules_of}
 use Rattle.worker_model.specs.Steps.{Both, both}
-use Rattle.worker_model.specs.Turn.{vms_in, start_jobs, starts_of, ticks_due, deadline_jobs, notices_of, calls_due, happening, agenda_of, at_moment, Outcome, outcome, outcome_of, turn, turn_by, turned, most_steps}
+use Rattle.worker_model.specs.Turn.{vms_in, start_jobs, starts_of, ticks_of, new_ticks_of, new_ticks, ticks_due, deadline_jobs, notices_of, calls_due, happening, agenda_of, at_moment, Outcome, outcome, outcome_of, turn, turn_by, turned, most_steps}
 use Rattle.law_rest.specs.Left.{work_left, byte_cost, jobs_left, parts_left, reading_left, bytes_of}
 use Rattle.law_rest.specs.Paid.{starting, brought, all_brought, TakesBy, TakeAll, LivesArePaid}
 use Rattle.law_rest.specs.Sizes.{OneTurn, first_state, turn_start, IsReady, Follow}
 use Rattle.law_rest.proofs.Settling.{rest_is_rest}
-use Rattle.law_rest.proofs.Sizes.{starts_small, times_16, few_vms, ticks_small, deadlines_small, notices_small, event_small, calls_small, parts_left-append, turn_ready, first_ready}
+use Rattle.law_rest.proofs.Sizes.{starts_small, times_16, few_vms, ticks_small, new_ticks_small, deadlines_small, notices_small, event_small, calls_small, parts_left-append, turn_ready, first_ready}
 use Rattle.law_rest.proofs.Turns.{splits, pays, setting_fits}
 
-starting_small : (room : Room) → parts_left 16 (start_jobs room) ≤ starting room
+starting_small : (room : Room) → parts_left 16 (start_jobs room) + parts_left 16 (new_ticks room) ≤ starting room
 starting_small room = by_begun room.is_begun
   where
-    by_begun : (b : Bool) → parts_left 16 (if b then [] else starts_of (vms_in room) room.hub.contexts.plugins) ≤ (if b then 0 else 32 + 64 * length room.hub.contexts.plugins)
+    by_begun : (b : Bool)
+        → parts_left 16 (if b then [] else starts_of (vms_in room) room.hub.contexts.plugins) + parts_left 16 (if b then [] else new_ticks_of (vms_in room) room.hub.contexts)
+        ≤ (if b then 0 else 32 + 66 * length room.hub.contexts.plugins)
     by_begun true = omega arith
     by_begun false =
         let e = starts_small (vms_in room) room.hub.contexts.plugins in
         let t = times_16 (vms_in room) (2 + 4 * length room.hub.contexts.plugins) (few_vms (length room.hub.contexts.vms)) in
+        let u = new_ticks_small (vms_in room) room.hub.contexts in
         omega arith
 
 -- what an event brings
@@ -44,6 +47,7 @@ agenda_paid plan event room =
     let s = parts_left-append 16 (happening event.what (at_moment event.now room)) (notices_of plan (vms_in room)) in
     let x = parts_left-append 16 (calls_due (at_moment event.now room)) (happening event.what (at_moment event.now room) ++ notices_of plan (vms_in room)) in
     let y = calls_small (at_moment event.now room) in
+    let u = parts_left-append 16 (ticks_of event.now (vms_in room) room.hub.contexts) (new_ticks (at_moment event.now room)) in
     omega arith
 
 start_paid : {H : Type 0} (setting : Setting) (state : Both H) (event : Event) → IsReady state → work_left 16 (turn_start setting state event) ≤ work_left 16 state.room + brought state.room event

@@ -1,13 +1,14 @@
 -- How much is left to do at the start of a turn, by the size of its room.
-use Rattle.std.proofs.Common.{◌≡◌, ℕ, zero, suc, ◌+◌, ◌*◌, ◌^◌, ◌-◌, ◌<◌, ◌≤◌, Bool, true, false, List, [], ◌∷◌, ◌++◌, length, ap, sym, refl, subst, arith}
+use Rattle.std.proofs.Common.{◌≡◌, ℕ, zero, suc, ◌+◌, ◌*◌, ◌^◌, ◌-◌, ◌<◌, ◌≤◌, ◌&&◌, Bool, true, false, List, [], ◌∷◌, ◌++◌, length, ap, sym, refl, subst, eqb-true, arith}
 use Rattle.filter_host.specs.Called.{Calling}
 use Rattle.std.proofs.lemmas.Bool.{leb-true}
 use Rattle.std.specs.List.{list_any}
-use Rattle.std.specs.Prelude.{filter, Option, None, Some, slice_get, nat_le, ◌==◌}
+use Rattle.std.specs.Prelude.{filter, Option, None, Some, slice_get, nat_le, ◌==◌, if◌then◌else◌}
 use Rattle.callouts.specs.Callouts.{id_of, is_due, due_at}
 use Rattle.contexts.specs.declared.parts.Context.{Context}
 use Rattle.contexts.specs.declared.parts.Contexts.{Contexts}
 use Rattle.contexts.specs.declared.parts.Plugin.{Plugin}
+use Rattle.contexts.specs.Creating.{next_id}
 use Rattle.contexts.specs.Reached.{vm_in}
 use Rattle.filter_host.specs.Course.{ends, Met, Reaches}
 use Rattle.filter_host.proofs.Holds.{AllEnds, all_reached}
@@ -30,7 +31,7 @@ use Rattle.store_model.specs.Made.{Made}
 use Rattle.worker_model.specs.Settling.{settling}
 use Rattle.worker_model.specs.State.{Setting, rules_of}
 use Rattle.worker_model.specs.Steps.{Both, both}
-use Rattle.worker_model.specs.Turn.{is_of, roots_from, start_of, starts_of, first_vms, vms_in, start_jobs, is_due_now, ticks_in, ticks_of, ticks_due, deadline_jobs, registers_at, notice_of, notices_of, fail_jobs, calls_due, happening, agenda_of, at_moment, Outcome, outcome, turn, turn_by, most_steps}
+use Rattle.worker_model.specs.Turn.{is_of, roots_from, start_of, starts_of, first_vms, vms_in, start_jobs, is_due_now, ticks_in, ticks_of, new_ticks_from, new_ticks_of, new_ticks, ticks_due, deadline_jobs, registers_at, notice_of, notices_of, fail_jobs, calls_due, happening, agenda_of, at_moment, Outcome, outcome, turn, turn_by, most_steps}
 use Rattle.worker_model.proofs.Events.{by_event}
 use Rattle.law_rest.specs.Left.{byte_cost, work_left, lines_left, open_left, reader_left, jobs_left, parts_left, reading_left, bytes_of, OpenFits, AllFit}
 use Rattle.law_rest.specs.Moves.{for_each, moves_of, spare, spare_of, chains_left}
@@ -166,6 +167,79 @@ ticks_small now (suc n) h =
     let a = parts_left-append 16 (ticks_of now n h) (ticks_in now n (vm_in h n).contexts) in
     omega arith
 
+-- ticks of the roots that a turn makes: each plug-in is of one VM
+
+abbrev one_of : ℕ → Plugin → ℕ
+one_of vm p = if is_of vm p then 1 else 0
+
+abbrev owned : ℕ → List Plugin → ℕ
+owned vm [] = 0
+owned vm (p ∷ plugins) = one_of vm p + owned vm plugins
+
+abbrev owned_below : ℕ → List Plugin → ℕ
+owned_below zero plugins = 0
+owned_below (suc n) plugins = owned_below n plugins + owned n plugins
+
+-- among so many VMs the one of a plug-in comes once at most
+abbrev comes_in : ℕ → Plugin → ℕ
+comes_in zero p = 0
+comes_in (suc n) p = comes_in n p + one_of n p
+
+comes_later : (n : ℕ) (p : Plugin) → n ≤ p.vm → comes_in n p ≡ 0
+comes_later zero p low = refl
+comes_later (suc n) p low =
+    let e = comes_later n p (omega (arith, low)) in
+    of_if (λ (k : ℕ). comes_in n p + k ≡ 0) (is_of n p) 1 0 (λ is. absurd (omega (arith, low, eqb-true p.vm n is))) (λ is. omega arith)
+
+comes_once : (n : ℕ) (p : Plugin) → comes_in n p ≤ 1
+comes_once zero p = omega arith
+comes_once (suc n) p =
+    let f = comes_once n p in
+    of_if (λ (k : ℕ). comes_in n p + k ≤ 1) (is_of n p) 1 0 (λ is. let e = comes_later n p (omega (arith, eqb-true p.vm n is)) in omega arith) (λ is. omega arith)
+
+owned_more : (n : ℕ) (p : Plugin) (plugins : List Plugin) → owned_below n (p ∷ plugins) ≡ comes_in n p + owned_below n plugins
+owned_more zero p plugins = refl
+owned_more (suc n) p plugins = let e = owned_more n p plugins in omega arith
+
+owned_none : (n : ℕ) → owned_below n [] ≡ 0
+owned_none zero = refl
+owned_none (suc n) = let e = owned_none n in omega arith
+
+owned_few : (n : ℕ) (plugins : List Plugin) → owned_below n plugins ≤ length plugins
+owned_few n [] = let e = owned_none n in omega arith
+owned_few n (p ∷ plugins) =
+    let e = owned_more n p plugins in
+    let f = comes_once n p in
+    let g = owned_few n plugins in
+    omega arith
+
+first_true : (a b : Bool) → (a && b) ≡ true → a ≡ true
+first_true true b is = refl
+first_true false b is = absurd (cc)
+
+new_from_small : (vm id : ℕ) (plugins : List Plugin) → parts_left 16 (new_ticks_from vm id plugins) ≤ 2 * owned vm plugins
+new_from_small vm id [] = omega arith
+new_from_small vm id (p ∷ plugins) =
+    let e = new_from_small vm (id + 1) plugins in
+    let f = new_from_small vm id plugins in
+    of_if (λ (l : List Job). parts_left 16 l ≤ 2 * (one_of vm p + owned vm plugins)) (is_of vm p && nat_le id 4294967295) _ _
+    (λ is. let one : one_of vm p ≡ 1 = ap (λ (b : Bool). if b then 1 else 0) (first_true (is_of vm p) (nat_le id 4294967295) is) in omega arith) (λ is. omega arith)
+
+pub new_ticks_small : (n : ℕ) (h : Contexts) → parts_left 16 (new_ticks_of n h) ≤ 2 * length h.plugins
+new_ticks_small n h = let e = by_owned n in let f = owned_few n h.plugins in omega arith
+  where
+    by_owned : (n : ℕ) → parts_left 16 (new_ticks_of n h) ≤ 2 * owned_below n h.plugins
+    by_owned zero = omega arith
+    by_owned (suc n) =
+        let e = by_owned n in
+        let t = new_from_small n (next_id h n) h.plugins in
+        let a = parts_left-append 16 (new_ticks_of n h) (new_ticks_from n (next_id h n) h.plugins) in
+        omega arith
+
+all_new_small : (room : Room) → parts_left 16 (new_ticks room) ≤ 2 * length room.hub.contexts.plugins
+all_new_small room =
+    of_if (λ (l : List Job). parts_left 16 l ≤ 2 * length room.hub.contexts.plugins) room.is_begun _ _ (λ is. omega arith) (λ is. new_ticks_small (vms_in room) room.hub.contexts)
+
 pub deadlines_small : (plan : Plan) → parts_left 16 (deadline_jobs plan) ≤ 2
 deadlines_small plan = of_if (λ (l : List Job). parts_left 16 l ≤ 2) (plan.deadline == 0) _ _ (λ is. omega arith) (λ is. omega arith)
 
@@ -201,7 +275,7 @@ calls_small room =
 
 agenda_small : (plan : Plan) (what : What) (room : Room)
     → parts_left 16 (agenda_of plan what room)
-    ≤ 953 + 64 * length room.hub.contexts.plugins + 2 * vms_size (vms_in room) room.hub.contexts + 2 * length room.calls + 248 * length (bytes_of what)
+    ≤ 953 + 66 * length room.hub.contexts.plugins + 2 * vms_size (vms_in room) room.hub.contexts + 2 * length room.calls + 248 * length (bytes_of what)
 agenda_small plan what room =
     let a = all_starts_small room in
     let b = ticks_small room.hub.moment (vms_in room) room.hub.contexts in
@@ -215,6 +289,8 @@ agenda_small plan what room =
     let t = event_small what room in
     let x = parts_left-append 16 (calls_due room) (happening what room ++ notices_of plan (vms_in room)) in
     let y = calls_small room in
+    let u = all_new_small room in
+    let v = parts_left-append 16 (ticks_of room.hub.moment (vms_in room) room.hub.contexts) (new_ticks room) in
     omega arith
 
 -- ---- the whole

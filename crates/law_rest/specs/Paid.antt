@@ -14,9 +14,9 @@ use Rattle.law_rest.specs.Left.{work_left, bytes_of}
 use Rattle.law_rest.specs.Sizes.{vms_size, OneTurn, first_state, turn_start, Follow}
 
 -- What an event brings at most: 248 steps for each of its bytes, 2 for each VM, each context (whose tick may be due) and each callout (which may be
--- due), and 921; and at the first event 64 for each plug-in, and 32.
+-- due), and 921; and at the first event 66 for each plug-in, and 32.
 abbrev pub starting : Room → ℕ
-starting room = if room.is_begun then 0 else 32 + 64 * length room.hub.contexts.plugins
+starting room = if room.is_begun then 0 else 32 + 66 * length room.hub.contexts.plugins
 
 abbrev pub brought : Room → Event → ℕ
 brought room event = 248 * length (bytes_of event.what) + 2 * vms_size (vms_in room) room.hub.contexts + 2 * length room.calls + 921 + starting room

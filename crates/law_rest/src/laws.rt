@@ -62,7 +62,7 @@ pub fn whole_turns_come_to_rest<H, S: Shared>()
 {}
 
 /// All turns of a worker, one after the other, take no more steps than their events bring: 248 for each byte that comes, and for each event 2
-/// for each VM, context and callout, and 921; and at the first one 64 for each plug-in, and 32.
+/// for each VM, context and callout, and 921; and at the first one 66 for each plug-in, and 32.
 pub fn lives_are_paid<H>()
     ensures { LivesArePaid H }
 {}

@@ -1,5 +1,5 @@
 -- The starts of VMs, by computation.
-use Rattle.std.proofs.Common.{◌≡◌, true, List, [], ◌∷◌, map, Some, codes, refl}
+use Rattle.std.proofs.Common.{◌≡◌, true, List, [], ◌∷◌, ◌++◌, map, Some, codes, refl}
 use Rattle.filter_host.specs.Course.{Course}
 use Rattle.filter_host.specs.declared.host.Callback.TheVariants.{VmStart, Configure}
 use Rattle.worker_model.specs.Settling.{settling}
@@ -7,7 +7,7 @@ use Rattle.worker_model.specs.Turn.{Outcome}
 use Rattle.worker_model.specs.declared.types.Line.{Line}
 use Rattle.law_turns.proofs.Following.{end_by, ends_there, reaches_by}
 use Rattle.law_turns.specs.Tables.{Call, Comes}
-use Rattle.law_turns.specs.Starts.{OneVmExample, TwoVmsExample, RefusedExample, roots_of, contexts_of, first, first_calls, next, second, second_calls, refused, no_start_calls, no_configure_calls, told}
+use Rattle.law_turns.specs.Starts.{OneVmExample, TwoVmsExample, RefusedExample, StartTicksExample, roots_of, contexts_of, first, first_calls, next, second, second_calls, refused, says_no, no_start_calls, no_configure_calls, told, ticking, other_tick, all_ticks, last_moment}
 
 -- ---- one VM
 
@@ -119,4 +119,69 @@ refused_example = record {
   configure = configure_comes;
   configure_dead = refl;
   configure_roots = refl;
+}
+
+-- ---- ticks that starts set
+
+at_last_comes : Comes (ticking [] 18446744073709551615) [] (second_calls ++ all_ticks) [] (1 ∷ [])
+unfolding settling
+at_last_comes = record { end = end_by [] (ticking [] 18446744073709551615); reaches = reaches_by [] (ticking [] 18446744073709551615) refl tt; called = refl; hands_over = refl; leaves = refl }
+
+dead_comes : Comes (ticking (says_no Configure) 18446744073709551615) [] (no_configure_calls ++ other_tick) (told (codes "vm v died: configure")) (1 ∷ [])
+unfolding settling
+dead_comes = record {
+  end = end_by [] (ticking (says_no Configure) 18446744073709551615);
+  reaches = reaches_by [] (ticking (says_no Configure) 18446744073709551615) refl tt;
+  called = refl;
+  hands_over = refl;
+  leaves = refl;
+}
+
+earlier_ends : ends_there [] (ticking [] 18446744073709551614) ≡ true
+unfolding settling
+earlier_ends = refl
+
+earlier_asks : (end_by [] (ticking [] 18446744073709551614)).state.host ≡ second_calls
+unfolding settling
+earlier_asks = refl
+
+earlier_sends : (end_by [] (ticking [] 18446744073709551614)).sent ≡ []
+unfolding settling
+earlier_sends = refl
+
+earlier_leaves : map (λ (l : Line). l.number) (end_by [] (ticking [] 18446744073709551614)).state.room.lines ≡ 1 ∷ []
+unfolding settling
+earlier_leaves = refl
+
+abbrev later_turn : Course (Outcome (List Call))
+later_turn = last_moment (end_by [] (ticking [] 18446744073709551614)).state
+
+later_ends : ends_there [] later_turn ≡ true
+unfolding settling
+later_ends = refl
+
+later_asks : (end_by [] later_turn).state.host ≡ second_calls ++ all_ticks
+unfolding settling
+later_asks = refl
+
+later_sends : (end_by [] later_turn).sent ≡ []
+unfolding settling
+later_sends = refl
+
+later_leaves : map (λ (l : Line). l.number) (end_by [] later_turn).state.room.lines ≡ 1 ∷ 2 ∷ []
+unfolding settling
+later_leaves = refl
+
+pub start_ticks_example : StartTicksExample
+start_ticks_example = record {
+  at_last = at_last_comes;
+  dead = dead_comes;
+  earlier = record {
+    end = end_by [] (ticking [] 18446744073709551614);
+    reaches = reaches_by [] (ticking [] 18446744073709551614) earlier_ends tt;
+    called = earlier_asks;
+    hands_over = earlier_sends;
+    leaves = earlier_leaves;
+  };
+  later = record { end = end_by [] later_turn; reaches = reaches_by [] later_turn later_ends tt; called = later_asks; hands_over = later_sends; leaves = later_leaves };
 }

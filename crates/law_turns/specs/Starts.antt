@@ -1,5 +1,5 @@
 -- Worked first turns: at its first event a worker starts its VMs, and then the event happens.
-use Rattle.std.specs.Prelude.{◌≡◌, ℕ, ◌==◌, false, List, [], ◌∷◌, map, Option, None, Some, codes, if◌then◌else◌}
+use Rattle.std.specs.Prelude.{◌≡◌, ℕ, ◌==◌, false, List, [], ◌∷◌, ◌++◌, map, Option, None, Some, codes, if◌then◌else◌}
 use Rattle.contexts.specs.declared.parts.Context.{Context}
 use Rattle.contexts.specs.declared.parts.Contexts.{Contexts}
 use Rattle.contexts.specs.declared.parts.Plugin.{Plugin}
@@ -9,7 +9,7 @@ use Rattle.filter_host.specs.Called.{Called}
 use Rattle.filter_host.specs.Course.{Course}
 use Rattle.filter_host.specs.declared.host.CallbackEnd.TheVariants.{Returned}
 use Rattle.filter_host.specs.declared.host.Callback.{Callback}
-use Rattle.filter_host.specs.declared.host.Callback.TheVariants.{Begin, ContextCreate, VmStart, Configure}
+use Rattle.filter_host.specs.declared.host.Callback.TheVariants.{Begin, ContextCreate, VmStart, Configure, Tick}
 use Rattle.gate_base.specs.declared.level.Level.TheVariants.{Critical, Info}
 use Rattle.gate_config.specs.declared.entries.PluginEntry.{PluginEntry}
 use Rattle.gate_io.specs.declared.event.Sent.{Sent}
@@ -17,7 +17,7 @@ use Rattle.gate_io.specs.declared.event.Sent.TheVariants as sent
 use Rattle.gate_io.specs.declared.event.What.TheVariants as whats
 use Rattle.store_model.specs.Program.{Program, done}
 use Rattle.worker_model.specs.Plan.{Plan}
-use Rattle.worker_model.specs.Steps.{Both, both}
+use Rattle.worker_model.specs.Steps.{Both, both, next_tick, with_tick}
 use Rattle.worker_model.specs.Turn.{Outcome, turn}
 use Rattle.law_turns.specs.Tables.{Call, call, call_of, Deed, usual, called_of, Comes}
 use Rattle.law_turns.specs.Scenes.{room, event, plan_of}
@@ -146,3 +146,40 @@ pub record RefusedExample : Type 0 where
   pub configure : Comes (refused Configure) [] no_configure_calls (told (codes "vm v died: configure")) (1 ∷ [])
   pub configure_dead : configure.end.state.room.dead ≡ 0 ∷ []
   pub configure_roots : roots_of configure.end ≡ Some 1 ∷ Some 1 ∷ None ∷ []
+
+-- ---- TICKS THAT STARTS SET. In its configuration each root of the two VMs sets a tick, with a period of a millisecond. It is due a period later, at most at the last
+-- moment, 2^64 - 1. So a tick that is set at that moment is due at once.
+
+-- the contexts once a callback has set what it sets
+abbrev pub ticking_after : Callback → ℕ → ℕ → ℕ → Contexts → Contexts
+ticking_after Configure vm root now h = with_tick vm root (next_tick now (record { period = 1000000; due = 0 })) h
+ticking_after name vm root now h = h
+
+-- machines that do so, of which VM 0 does what stands in a table besides
+abbrev pub ticking_by : List Deed → List Call → ℕ → Callback → ℕ → ℕ → ℕ → ℕ → Contexts → Program (Called (List Call))
+ticking_by deeds calls vm name context first second now h =
+    done (called_of (if vm == 0 then deeds else []) (call_of vm name context first second) (ready name) calls (ticking_after name vm context now h))
+
+-- the first turn of the worker of three plug-ins, at a moment
+abbrev pub ticking : List Deed → ℕ → Course (Outcome (List Call))
+ticking deeds now = turn (ticking_by deeds) three_plan two_vms (event now (whats.Opened 1))
+
+-- the ticks of the three roots: VM by VM, the ids of a VM rising
+abbrev pub other_tick : List Call
+other_tick = call_of 1 Tick 1 0 0 ∷ []
+
+abbrev pub all_ticks : List Call
+all_ticks = call_of 0 Tick 1 0 0 ∷ call_of 0 Tick 2 0 0 ∷ other_tick
+
+-- another event, at the last moment
+abbrev pub last_moment : Both (List Call) → Course (Outcome (List Call))
+last_moment from = turn (ticking_by []) three_plan from (event 18446744073709551615 (whats.Opened 2))
+
+pub record StartTicksExample : Type 0 where
+  -- at the last moment the ticks come in the same turn, after all starts
+  pub at_last : Comes (ticking [] 18446744073709551615) [] (second_calls ++ all_ticks) [] (1 ∷ [])
+  -- of a VM that died in its start none comes
+  pub dead : Comes (ticking (says_no Configure) 18446744073709551615) [] (no_configure_calls ++ other_tick) (told (codes "vm v died: configure")) (1 ∷ [])
+  -- a moment earlier none is due in that turn; they come at an event of the last moment
+  pub earlier : Comes (ticking [] 18446744073709551614) [] second_calls [] (1 ∷ [])
+  pub later : Comes (last_moment earlier.end.state) [] (second_calls ++ all_ticks) [] (1 ∷ 2 ∷ [])

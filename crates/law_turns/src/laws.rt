@@ -13,7 +13,7 @@ ghost use Rattle.law_turns.specs.Death.{DeathExample};
 ghost use Rattle.law_turns.specs.Parts.{PartsExample};
 ghost use Rattle.law_turns.specs.Passage.{PassageExample};
 ghost use Rattle.law_turns.specs.Waiting.{WaitingExample};
-ghost use Rattle.law_turns.specs.Starts.{OneVmExample, TwoVmsExample, RefusedExample};
+ghost use Rattle.law_turns.specs.Starts.{OneVmExample, RefusedExample, StartTicksExample, TwoVmsExample};
 ghost use Rattle.law_turns.specs.Leaving.{GoneExample, StopExample};
 ghost use Rattle.law_turns.specs.Firsts.{EventsComeFirst, LateExample};
 ghost use Rattle.law_turns.specs.Due.{NothingIsDueBefore, DueExamples, DeadlineExamples, TickExamples, NoticeExamples};
@@ -72,11 +72,13 @@ pub fn worked_waiting()
 {}
 
 /// VMs start at the first event: two plug-ins of one VM, which is told of its start once, and then each root of its configuration, and at the next event
-/// nothing starts again; three on two VMs, beside one that no plug-in names; and a VM that answers 0, after which nothing more is called of it in that turn.
+/// nothing starts again; three on two VMs, beside one that no plug-in names; and a VM that answers 0, after which nothing more is called of it in that turn. A tick
+/// that a start sets at the last moment is due at once: it comes in that turn, after all starts, if its VM lives. A moment earlier it comes at a later event.
 pub fn worked_starts()
     ensures one_vm { OneVmExample }
     ensures two_vms { TwoVmsExample }
     ensures refused { RefusedExample }
+    ensures ticks { StartTicksExample }
 {}
 
 /// A client is gone in the middle of an exchange: its contexts are done with in the order of the filters, what was held is dropped, the connection

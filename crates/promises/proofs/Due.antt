@@ -11,7 +11,7 @@ use Rattle.gate_io.specs.declared.event.What.{What}
 use Rattle.worker_model.specs.Plan.{Plan}
 use Rattle.worker_model.specs.Room.{Room}
 use Rattle.worker_model.specs.Steps.{is_due_tick}
-use Rattle.worker_model.specs.Turn.{agenda_of, at_moment, calls_due, deadline_jobs, happening, is_due_now, notice_of, notices_of, registers_at, start_jobs, ticks_due, ticks_in, ticks_of, vms_in}
+use Rattle.worker_model.specs.Turn.{agenda_of, at_moment, calls_due, deadline_jobs, happening, is_due_now, new_ticks, notice_of, notices_of, registers_at, start_jobs, ticks_due, ticks_in, ticks_of, vms_in}
 use Rattle.worker_model.specs.declared.types.Job.{Job}
 use Rattle.worker_model.specs.declared.types.Job.TheVariants as jobs
 use Rattle.promises.specs.Due.{DueComes}
@@ -81,7 +81,8 @@ tick_among plan what room vm i c t low at tick due =
     let job : Job = jobs.Tick vm c.id in
     let has = tick_in room.hub.moment vm (vm_in room.hub.contexts vm).contexts i c at (ap (is_due_now room.hub.moment) tick ∙ due) in
     Contains-append_right (start_jobs room) (ticks_due room ++ deadlines_on plan what room) job
-    (Contains-append_left (ticks_due room) (deadlines_on plan what room) job (tick_of room.hub.moment (vms_in room) room.hub.contexts vm job low has))
+    (Contains-append_left (ticks_due room) (deadlines_on plan what room) job
+    (Contains-append_left (ticks_of room.hub.moment (vms_in room) room.hub.contexts) (new_ticks room) job (tick_of room.hub.moment (vms_in room) room.hub.contexts vm job low has)))
 
 notice_there : (plan : Plan) (what : What) (room : Room) (vm : ℕ) → vm < vms_in room → slice_get plan.registers vm ≡ Some true → Contains (agenda_of plan what room) (jobs.Notice vm 16)
 notice_there plan what room vm low is =
