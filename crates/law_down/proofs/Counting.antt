@@ -92,12 +92,15 @@ sum_of a b c d s m t first later = omega (arith, first, later)
 
 balance : (n : ℕ) (sent : List Sent) (s t : State) → state_after n sent s ≡ Some t → count (opens_up n) sent + units s ≡ count (closes_up n) sent + units t
 balance n [] s t is = let same : s ≡ t = cc in ap (λ (u : ℕ). 0 + u) (units_same s t same)
-balance n (e ∷ sent) s t is = by_state (state_after_one n e s) refl is
+balance n (e ∷ sent) s t is = by_state (λ m later. balance n sent m t later) (state_after_one n e s) refl is
   where
-    by_state : (o : Option State) → state_after_one n e s ≡ o → and_then (state_after n sent) o ≡ Some t → count (opens_up n) (e ∷ sent) + units s ≡ count (closes_up n) (e ∷ sent) + units t
-    by_state None one is = absurd (cc)
-    by_state (Some m) one is =
-        sum_of (one_if (opens_up n e)) (one_if (closes_up n e)) (count (opens_up n) sent) (count (closes_up n) sent) (units s) (units m) (units t) (one_balance n e s m one) (balance n sent m t is)
+    Later : Type 0
+    Later = (m : State) → state_after n sent m ≡ Some t → count (opens_up n) sent + units m ≡ count (closes_up n) sent + units t
+
+    by_state : Later → (o : Option State) → state_after_one n e s ≡ o → and_then (state_after n sent) o ≡ Some t → count (opens_up n) (e ∷ sent) + units s ≡ count (closes_up n) (e ∷ sent) + units t
+    by_state go None one is = absurd (cc)
+    by_state go (Some m) one is =
+        sum_of (one_if (opens_up n e)) (one_if (closes_up n e)) (count (opens_up n) sent) (count (closes_up n) sent) (units s) (units m) (units t) (one_balance n e s m one) (go m is)
 
 count_join : (is : Sent → Bool) (a b : List Sent) → count is (a ++ b) ≡ count is a + count is b
 count_join is [] b = sym (zero_plus (count is b))
@@ -233,30 +236,31 @@ or_true false b is = is
 or_none : (a b : Bool) → a ≡ false → b ≡ false → (a || b) ≡ false
 or_none a b p q = λ i. p i || q i
 
+-- one thing that is sent, and then the others
+joined_out : (n : ℕ) (e : Sent) (sent : List Sent) (s m t : State) → Out s m (closes_down n e) → Out m t (list_any (closes_down n) sent) → Out s t (list_any (closes_down n) (e ∷ sent))
+joined_out n e sent s m t first later =
+    (stood, (λ none. let f = first.1 none in let l = later.1 f.0 in (l.0, or_none (closes_down n e) (list_any (closes_down n) sent) f.1 l.1)), (λ some. later.2 (first.2 some)))
+  where
+    then_so : (here t ≡ true) ⊎ (list_any (closes_down n) sent ≡ true) → (here t ≡ true) ⊎ (list_any (closes_down n) (e ∷ sent) ≡ true)
+    then_so (inl on) = inl on
+    then_so (inr some) = inr (or_true (closes_down n e) (list_any (closes_down n) sent) some)
+
+    by_first : (here m ≡ true) ⊎ (closes_down n e ≡ true) → (here t ≡ true) ⊎ (list_any (closes_down n) (e ∷ sent) ≡ true)
+    by_first (inl still) = then_so (later.0 still)
+    by_first (inr one) = inr (ap (λ (b : Bool). b || list_any (closes_down n) sent) one)
+
+    stood : here s ≡ true → (here t ≡ true) ⊎ (list_any (closes_down n) (e ∷ sent) ≡ true)
+    stood on = by_first (first.0 on)
+
 all_out : (n : ℕ) (sent : List Sent) (s t : State) → state_after n sent s ≡ Some t → Out s t (list_any (closes_down n) sent)
 all_out n [] s t is = let same : s ≡ t = cc in out_same s t false same refl
-all_out n (e ∷ sent) s t is = by_state (state_after_one n e s) refl is
+all_out n (e ∷ sent) s t is = by_state (λ m later. all_out n sent m t later) (state_after_one n e s) refl is
   where
-    by_state : (o : Option State) → state_after_one n e s ≡ o → and_then (state_after n sent) o ≡ Some t → Out s t (list_any (closes_down n) (e ∷ sent))
-    by_state None one is = absurd (cc)
-    by_state (Some m) one is = (stood, (λ none. let f = first.1 none in let l = later.1 f.0 in (l.0, or_none (closes_down n e) (list_any (closes_down n) sent) f.1 l.1)), (λ some. later.2 (first.2 some)))
-      where
-        first : Out s m (closes_down n e)
-        first = one_out n e s m one
-
-        later : Out m t (list_any (closes_down n) sent)
-        later = all_out n sent m t is
-
-        then_so : (here t ≡ true) ⊎ (list_any (closes_down n) sent ≡ true) → (here t ≡ true) ⊎ (list_any (closes_down n) (e ∷ sent) ≡ true)
-        then_so (inl on) = inl on
-        then_so (inr some) = inr (or_true (closes_down n e) (list_any (closes_down n) sent) some)
-
-        stood : here s ≡ true → (here t ≡ true) ⊎ (list_any (closes_down n) (e ∷ sent) ≡ true)
-        stood on = by_first (first.0 on)
-          where
-            by_first : (here m ≡ true) ⊎ (closes_down n e ≡ true) → (here t ≡ true) ⊎ (list_any (closes_down n) (e ∷ sent) ≡ true)
-            by_first (inl still) = then_so (later.0 still)
-            by_first (inr one) = inr (ap (λ (b : Bool). b || list_any (closes_down n) sent) one)
+    by_state : ((m : State) → state_after n sent m ≡ Some t → Out m t (list_any (closes_down n) sent)) → (o : Option State) → state_after_one n e s ≡ o → and_then (state_after n sent) o ≡ Some t
+        → Out s t (list_any (closes_down n) (e ∷ sent))
+    by_state go None one is = absurd (cc)
+    by_state go (Some m) one is =
+        joined_out n e sent s m t (one_out n e s m one) (go m is)
 
 any_join : (n : ℕ) (a b : List Sent) → list_any (closes_down n) (a ++ b) ≡ (list_any (closes_down n) a || list_any (closes_down n) b)
 any_join n [] b = refl
