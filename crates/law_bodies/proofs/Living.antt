@@ -18,12 +18,13 @@ use Rattle.gate_io.specs.declared.event.Side.TheVariants.{Down}
 use Rattle.h1_model.specs.Fields.{Pair}
 use Rattle.h1_model.specs.Framing.{Framing, no_body, OutItem, head_wire, item_wire, items_wire, piece_wire, trailer_wire}
 use Rattle.h1_model.specs.Framing as out
+use Rattle.header_maps.specs.Headers.{Headers}
 use Rattle.law_exchange.specs.Ends.{IsOwn, StaysEnded}
 use Rattle.law_exchange.specs.Lives.{Deed, comes, responds, acts, resumes, closes, answers, dies, refuses, expires, turns, done_by}
 use Rattle.law_exchange.specs.Responses.{down_of, down_bytes, IsBody, IsFairDown, IsMessage, IsReply, IsResponse, LivesDown, response_in, responses_in}
 use Rattle.law_exchange.proofs.Ends.{nothing_follows_end}
 use Rattle.law_exchange.proofs.Responses.{AfterIt, IsOpen, Kept, any_after, replies, runs_on, stops}
-use Rattle.law_bodies.specs.Lives.{AreAs, GoesDown, IsAs, ResponsesGoDownAsTheyCame, sends_answer, sends_nothing, sends_response}
+use Rattle.law_bodies.specs.Lives.{AreAs, GoesDown, HeadsAre, IsAs, IsHeadOf, LivesExamples, ResponsesGoDownAsTheyCame, sends_answer, sends_nothing, sends_response}
 
 -- ---- what goes down among what is sent
 
@@ -245,25 +246,48 @@ abbrev pub head_bytes : Exchange → Hub → List ℕ
 head_bytes x hub = head_wire (out_framing (outgoing x hub)) (sent_head (response_map x.place hub.contexts) (tail_down x hub))
 
 -- what went down, to a client that awaits this
-record MessageDown (n : ℕ) (w : Kept) (hub : Hub) (came : List ChainItem) (y : Exchange) (after : Hub) : Type 0 where
+record MessageDown (n : ℕ) (w : Kept) (Came : Headers → Type 0) (hub : Hub) (came : List ChainItem) (y : Exchange) (after : Hub) : Type 0 where
   went : List ℕ
   adds : down_bytes n after.sent ≡ down_bytes n hub.sent ++ went
-  one : (x : Exchange) → x.asked.is_head ≡ w.to_head → x.asked.old_client ≡ w.old_client → GoesDown x came y went
+  one : (x : Exchange) → x.asked.is_head ≡ w.to_head → x.asked.old_client ≡ w.old_client → GoesDown x Came came y went
 
-none_down : (n : ℕ) (w : Kept) (hub : Hub) (came : List ChainItem) (y : Exchange) (after : Hub) → down_bytes n after.sent ≡ down_bytes n hub.sent → (y.has_ended ≡ false → came ≡ []) → MessageDown n w hub came y after
-none_down n w hub came y after none left = record { went = []; adds = none ∙ sym (append-nil (down_bytes n hub.sent)); one = λ x method version. sends_nothing refl left }
+none_down : (n : ℕ) (w : Kept) (Came : Headers → Type 0) (hub : Hub) (came : List ChainItem) (y : Exchange) (after : Hub) → down_bytes n after.sent ≡ down_bytes n hub.sent → (y.has_ended ≡ false → came ≡ []) → MessageDown n w Came hub came y after
+none_down n w Came hub came y after none left = record { went = []; adds = none ∙ sym (append-nil (down_bytes n hub.sent)); one = λ x method version. sends_nothing refl left }
+
+-- where more is known of the head that came
+known_as : (Was Came : Headers → Type 0) (x : Exchange) (came : List ChainItem) (y : Exchange) (wire : List ℕ) → ((head : Headers) → Came head → Was head) → GoesDown x Was came y wire → GoesDown x Came came y wire
+known_as Was Came x came y wire more (sends_nothing none left) = sends_nothing none left
+known_as Was Came x came y wire more (sends_answer stays one ended) = sends_answer stays one ended
+known_as Was Came x came y wire more (sends_response r) = sends_response (record {
+  end = r.end;
+  body = r.body;
+  later = r.later;
+  is = r.is;
+  framing = r.framing;
+  written = r.written;
+  fields = r.fields;
+  read = λ head is. r.read head (more head is);
+  stays = r.stays;
+  now = r.now;
+  outs = r.outs;
+  goes = r.goes;
+  same = r.same;
+  follows = r.follows;
+  all = r.all;
+})
 
 -- an answer, to such a client
 abbrev Replied : (to_head old_client stays : Bool) → List ℕ → Type 0
 Replied to_head old_client stays wire = IsReply to_head stays wire ⊎ IsResponse to_head old_client stays wire true
 
 abbrev Later : ℕ → Kept → List Deed → Exchange → Hub → Type 0
-Later n w deeds y after = (x : Exchange) (hub : Hub) → IsOpen false w x → LivesDown n x hub deeds y after → IsMessage (responses_in deeds) → MessageDown n w hub (responses_in deeds) y after
+Later n w deeds y after = (x : Exchange) (hub : Hub) → IsOpen false w x → LivesDown n x hub deeds y after → IsMessage (responses_in deeds)
+    → MessageDown n w (λ head. HeadsAre head n x hub deeds) hub (responses_in deeds) y after
 
 -- the head of a response, with what went of its body
-headed : (w : Kept) (end : Bool) (x : Exchange) (hub : Hub) (came body later : List ChainItem) (outs : List OutItem) (y z : Exchange) → z.asked.is_head ≡ w.to_head → x.asked.is_head ≡ w.to_head → came ≡ Head end ∷ (body ++ later) → AreAs body outs
-    → (y.has_ended ≡ false → later ≡ []) → GoesDown z came y (head_bytes x hub ++ items_wire (written_framing (outgoing x hub)) outs)
-headed w end x hub came body later outs y z method own is same all = sends_response (record {
+headed : (w : Kept) (Came : Headers → Type 0) (end : Bool) (x : Exchange) (hub : Hub) (came body later : List ChainItem) (outs : List OutItem) (y z : Exchange) → z.asked.is_head ≡ w.to_head → x.asked.is_head ≡ w.to_head → came ≡ Head end ∷ (body ++ later) → AreAs body outs
+    → (y.has_ended ≡ false → later ≡ []) → ((head : Headers) → Came head → response_map x.place hub.contexts ≡ head) → GoesDown z Came came y (head_bytes x hub ++ items_wire (written_framing (outgoing x hub)) outs)
+headed w Came end x hub came body later outs y z method own is same all read = sends_response (record {
   end = end;
   body = body;
   later = later;
@@ -271,7 +295,9 @@ headed w end x hub came body later outs y z method own is same all = sends_respo
   framing = out_framing (outgoing x hub);
   written = written_framing (outgoing x hub);
   fields = response_map x.place hub.contexts;
-  tail = tail_down x hub;
+  read = read;
+  stays = stays_behind (outgoing x hub) (out_framing (outgoing x hub));
+  now = hub.moment;
   outs = outs;
   goes = refl;
   same = same;
@@ -280,20 +306,26 @@ headed w end x hub came body later outs y z method own is same all = sends_respo
   all = all;
 })
 
-message_lives : (n : ℕ) (w : Kept) (deeds : List Deed) (x y : Exchange) (hub after : Hub) → IsOpen false w x → LivesDown n x hub deeds y after → IsMessage (responses_in deeds) → MessageDown n w hub (responses_in deeds) y after
-message_lives n w [] x y hub after o lives is = none_down n w hub [] y after (ap (λ (k : Hub). down_bytes n k.sent) lives.1) (λ runs. refl)
+message_lives : (n : ℕ) (w : Kept) (deeds : List Deed) (x y : Exchange) (hub after : Hub) → IsOpen false w x → LivesDown n x hub deeds y after → IsMessage (responses_in deeds)
+    → MessageDown n w (λ head. HeadsAre head n x hub deeds) hub (responses_in deeds) y after
+message_lives n w [] x y hub after o lives is = none_down n w (λ head. HeadsAre head n x hub []) hub [] y after (ap (λ (k : Hub). down_bytes n k.sent) lives.1) (λ runs. refl)
 message_lives n w (deed ∷ deeds) x y hub after o lives is = by_deed (λ z k more there message. message_lives n w deeds z y k after more there message) deed lives is
   where
-    quietly : Later n w deeds y after → (deed : Deed) → response_in deed ≡ [] → LivesDown n x hub (deed ∷ deeds) y after → IsMessage (responses_in deeds) → MessageDown n w hub (responses_in deeds) y after
+    quietly : Later n w deeds y after → (deed : Deed) → response_in deed ≡ [] → LivesDown n x hub (deed ∷ deeds) y after → IsMessage (responses_in deeds) → MessageDown n w (λ head. HeadsAre head n x hub (deed ∷ deeds)) hub (responses_in deeds) y after
     quietly go deed none lives is = by_after (any_after n false w deed x hub none o lives.0)
       where
-        by_after : AfterIt n false w hub (done_by n deed x hub) → MessageDown n w hub (responses_in deeds) y after
+        by_after : AfterIt n false w hub (done_by n deed x hub) → MessageDown n w (λ head. HeadsAre head n x hub (deed ∷ deeds)) hub (responses_in deeds) y after
         by_after (runs_on a on) =
-            let m : MessageDown n w (done_by n deed x hub).1 (responses_in deeds) y after = go (done_by n deed x hub).0 (done_by n deed x hub).1 on lives.1 is in
-            record { went = m.went; adds = m.adds ∙ ap (λ t. t ++ m.went) a; one = m.one }
+            let p : Exchange × Hub = done_by n deed x hub in
+            let m : MessageDown n w (λ head. HeadsAre head n p.0 p.1 deeds) p.1 (responses_in deeds) y after = go p.0 p.1 on lives.1 is in
+            record {
+              went = m.went;
+              adds = m.adds ∙ ap (λ t. t ++ m.went) a;
+              one = λ z method version. known_as (λ head. HeadsAre head n p.0 p.1 deeds) (λ head. HeadsAre head n x hub (deed ∷ deeds)) z (responses_in deeds) y m.went (λ head h. h.1) (m.one z method version);
+            }
         by_after (stops a e s) =
             let last : Still n (done_by n deed x hub).1 (y, after) = all_still n deeds (done_by n deed x hub).0 y (done_by n deed x hub).1 after e lives.1 in
-            none_down n w hub (responses_in deeds) y after (last.0 ∙ a) (λ runs. never y.has_ended last.1 runs)
+            none_down n w (λ head. HeadsAre head n x hub (deed ∷ deeds)) hub (responses_in deeds) y after (last.0 ∙ a) (λ runs. never y.has_ended last.1 runs)
         by_after (replies f wire a one e) =
             let p : Exchange × Hub = done_by n deed x hub in
             let last : Still n p.1 (y, after) = all_still n deeds p.0 y p.1 after e lives.1 in
@@ -303,9 +335,15 @@ message_lives n w (deed ∷ deeds) x y hub after o lives is = by_deed (λ z k mo
               one = λ z method version. sends_answer p.0.stays (subst (λ (h : Bool). Replied h z.asked.old_client p.0.stays wire) (sym method) (subst (λ (v : Bool). Replied w.to_head v p.0.stays wire) (sym version) one)) last.1;
             }
 
+    -- what is known of the head that came, of these items that are read and of what comes later
+    Reads : List ChainItem → Headers → Type 0
+    Reads items head = IsHeadOf head x hub items × HeadsAre head n (put_all_to_chain true n items (x, hub)).0 (put_all_to_chain true n items (x, hub)).1 deeds
+
     responds_with : Later n w deeds y after → (items : List ChainItem) → LivesDown n (put_all_to_chain true n items (x, hub)).0 (put_all_to_chain true n items (x, hub)).1 deeds y after → IsMessage (items ++ responses_in deeds)
-        → MessageDown n w hub (items ++ responses_in deeds) y after
-    responds_with go [] lives is = go x hub o lives is
+        → MessageDown n w (Reads items) hub (items ++ responses_in deeds) y after
+    responds_with go [] lives is =
+        let m : MessageDown n w (λ head. HeadsAre head n x hub deeds) hub (responses_in deeds) y after = go x hub o lives is in
+        record { went = m.went; adds = m.adds; one = λ z method version. known_as (λ head. HeadsAre head n x hub deeds) (Reads []) z (responses_in deeds) y m.went (λ head h. h.1) (m.one z method version) }
     responds_with go (Head false ∷ items) lives is =
         let z : Exchange = no_response x in
         let p : Exchange × Hub = send_response_item n (Head false) z hub in
@@ -319,7 +357,7 @@ message_lives n w (deed ∷ deeds) x y hub after o lives is = by_deed (λ z k mo
         record {
           went = head_bytes z hub ++ items_wire (written_framing (outgoing z hub)) b.outs;
           adds = b.more ∙ (ap (λ t. t ++ items_wire v.written b.outs) (adds n hub.sent (head_bytes z hub)) ∙ append_assoc (down_bytes n hub.sent) (head_bytes z hub) (items_wire v.written b.outs));
-          one = λ q method version. headed w false z hub (Head false ∷ (items ++ responses_in deeds)) b.body b.later b.outs y q method o.method (ap (λ (l : List ChainItem). Head false ∷ l) b.is) b.same b.all;
+          one = λ q method version. headed w (Reads (Head false ∷ items)) false z hub (Head false ∷ (items ++ responses_in deeds)) b.body b.later b.outs y q method o.method (ap (λ (l : List ChainItem). Head false ∷ l) b.is) b.same b.all (λ head h. h.0);
         }
     responds_with go (Head true ∷ items) lives is =
         let z : Exchange = no_response x in
@@ -333,14 +371,22 @@ message_lives n w (deed ∷ deeds) x y hub after o lives is = by_deed (λ z k mo
         record {
           went = head_bytes z hub ++ items_wire (written_framing (outgoing z hub)) [];
           adds = last.0 ∙ (adds n hub.sent (head_bytes z hub) ∙ ap (λ t. down_bytes n hub.sent ++ t) (sym (append-nil (head_bytes z hub))));
-          one = λ q method version. headed w true z hub (Head true ∷ (items ++ responses_in deeds)) [] [] [] y q method o.method (ap (λ (l : List ChainItem). Head true ∷ l) is) tt (λ runs. refl);
+          one = λ q method version. headed w (Reads (Head true ∷ items)) true z hub (Head true ∷ (items ++ responses_in deeds)) [] [] [] y q method o.method (ap (λ (l : List ChainItem). Head true ∷ l) is) tt (λ runs. refl) (λ head h. h.0);
         }
     responds_with go (Piece bytes end ∷ items) lives is = absurd is
     responds_with go (Trailers ∷ items) lives is = absurd is
 
-    by_deed : Later n w deeds y after → (deed : Deed) → LivesDown n x hub (deed ∷ deeds) y after → IsMessage (responses_in (deed ∷ deeds)) → MessageDown n w hub (responses_in (deed ∷ deeds)) y after
+    by_deed : Later n w deeds y after → (deed : Deed) → LivesDown n x hub (deed ∷ deeds) y after → IsMessage (responses_in (deed ∷ deeds)) → MessageDown n w (λ head. HeadsAre head n x hub (deed ∷ deeds)) hub (responses_in (deed ∷ deeds)) y after
     by_deed go (comes items) lives is = quietly go (comes items) refl lives is
-    by_deed go (responds items) lives is = responds_with go items (subst (λ (q : Exchange × Hub). LivesDown n q.0 q.1 deeds y after) (read_open n items x hub o.unanswered) lives.1) is
+    by_deed go (responds items) lives is =
+        let m : MessageDown n w (Reads items) hub (items ++ responses_in deeds) y after
+        = responds_with go items (subst (λ (q : Exchange × Hub). LivesDown n q.0 q.1 deeds y after) (read_open n items x hub o.unanswered) lives.1) is in
+        record {
+          went = m.went;
+          adds = m.adds;
+          one = λ z method version. known_as (Reads items) (λ head. HeadsAre head n x hub (responds items ∷ deeds)) z (items ++ responses_in deeds) y m.went
+              (λ head h. (h.0, subst (λ (q : Exchange × Hub). HeadsAre head n q.0 q.1 deeds) (read_open n items x hub o.unanswered) h.1)) (m.one z method version);
+        }
     by_deed go (acts response k value) lives is = quietly go (acts response k value) refl lives is
     by_deed go (resumes vm context response) lives is = quietly go (resumes vm context response) refl lives is
     by_deed go closes lives is = quietly go closes refl lives is
@@ -353,7 +399,7 @@ message_lives n w (deed ∷ deeds) x y hub after o lives is = by_deed (λ z k mo
 pub responses_go_down : ResponsesGoDownAsTheyCame
 responses_go_down n x y hub after deeds is lives message =
     let w : Kept = record { to_head = x.asked.is_head; old_client = x.asked.old_client; written = no_body; keeps = false } in
-    let m : MessageDown n w hub (responses_in deeds) y after
+    let m : MessageDown n w (λ head. HeadsAre head n x hub deeds) hub (responses_in deeds) y after
     = message_lives n w deeds x y hub after
     (record {
       request = is.request;
@@ -367,3 +413,16 @@ responses_go_down n x y hub after deeds is lives message =
       stays = λ e. absurd (cc);
     }) lives message in
     (m.went, m.adds, m.one x refl refl)
+
+-- ---- worked
+
+pub lives_examples : LivesExamples
+lives_examples = record {
+  other = λ fields x hub no is. no is.0;
+  head = λ fields x hub is. (is, tt);
+  silent = λ fields x hub. (tt, (tt, tt));
+  backward = λ same. apart same.0.0;
+}
+  where
+    apart : ◌≡◌ {A = List ℕ} (2 ∷ 1 ∷ []) (1 ∷ 2 ∷ []) → ⊥
+    apart is = cc is

@@ -4,16 +4,19 @@ use mathlib.Core.List.{reverse_aux}
 use Rattle.std.proofs.lemmas.List.{append-nil, map-append}
 use Rattle.std.proofs.lemmas.List.Elements.{All-head, All-tail}
 use Rattle.std.proofs.lemmas.Bool.{eqb-true}
-use Rattle.std.specs.Prelude.{All, filter, slice_get, Option, None, Some, option_map, if◌then◌else◌}
+use Rattle.std.specs.Prelude.{All, filter, slice_get, slice_set, Option, None, Some, option_map, if◌then◌else◌}
 use Rattle.contexts.specs.Creating.{await_done_of}
+use Rattle.contexts.specs.Reached.{exchange_at, view_at, with_view}
 use Rattle.contexts.specs.declared.parts.Contexts.{Contexts}
+use Rattle.contexts.specs.declared.parts.ExchangeEntry.{ExchangeEntry}
+use Rattle.contexts.specs.declared.parts.ExchangeView.{ExchangeView}
 use Rattle.exchange.specs.declared.types.Exchange.{Exchange}
 use Rattle.exchange.specs.declared.types.Filter.{Filter}
 use Rattle.exchange.specs.declared.types.Hub.{Hub}
 use Rattle.exchange.specs.Heads.{sent_head}
 use Rattle.exchange.specs.Leaving.{bytes_sent_to}
 use Rattle.exchange.specs.Passing.{pause_held, resume_context, resume_held}
-use Rattle.exchange.specs.Maps.{with_fields}
+use Rattle.exchange.specs.Maps.{in_view, put_response, response_in, response_map, with_fields}
 use Rattle.filter_chain.specs.declared.item.ChainItem.{ChainItem}
 use Rattle.filter_chain.specs.declared.item.ChainItem.TheVariants as items
 use Rattle.gate_config.specs.declared.entries.PluginEntry.{PluginEntry}
@@ -21,14 +24,15 @@ use Rattle.gate_io.specs.declared.event.Side.TheVariants.{Down, Up}
 use Rattle.gate_io.specs.declared.event.What.TheVariants as whats
 use Rattle.h1_model.specs.Framing.{no_body, head_wire}
 use Rattle.h1_model.specs.Head.{Head}
+use Rattle.header_maps.specs.Headers.{Headers}
 use Rattle.header_maps.specs.Operations.{no_headers}
-use Rattle.h1_model.specs.Unread.{Reading, interim_part}
+use Rattle.h1_model.specs.Unread.{Reading, head_part, interim_part}
 use Rattle.store_model.specs.Keys.{Keys, accepts, has_room_for, held_at, number_of, put}
 use Rattle.store_model.specs.declared.call.Reply.TheVariants.{CasMismatch, Done, Full}
 use Rattle.worker_model.specs.Plan.{Plan}
 use Rattle.worker_model.specs.Room.{Room}
 use Rattle.worker_model.specs.Rooms.{on_context, same, with_contexts}
-use Rattle.worker_model.specs.Steps.{await_done, begin_jobs_for, begins_with_head, change_line, end_reading, in_contexts, jobs_of, on_lines, put_jobs, put_trailers, refuse_jobs, with_item, with_read_mark, exchange_reading, is_answered_in, is_open, is_read_in, line_in, read_side, receive_on, side_with_more, take_event, exchange_on, exchange_with_stages, filter_at_plugin, filter_of, filters_by, filters_of, interim_of, is_live, new_stage, with_jobs_first, last_jobs, take_part}
+use Rattle.worker_model.specs.Steps.{await_done, begin_jobs_for, begins_with_head, change_line, end_reading, in_contexts, jobs_of, on_lines, put_jobs, put_trailers, refuse_jobs, with_item, with_read_mark, exchange_reading, is_answered_in, is_open, is_read_in, line_in, read_side, receive_on, side_with_more, take_event, exchange_on, exchange_with_stages, filter_at_plugin, filter_of, filters_by, filters_of, interim_of, is_last, is_live, new_stage, with_jobs_first, last_jobs, begin_exchange_on, head_item, take_part, take_read_item, with_response_head}
 use Rattle.worker_model.specs.declared.types.ContextAt.{ContextAt}
 use Rattle.worker_model.specs.declared.types.Job.{Job}
 use Rattle.worker_model.specs.declared.types.Job.TheVariants as jobs
@@ -180,8 +184,54 @@ noted : (change : ℕ → Contexts → Contexts) (o : Option Exchange) (room : R
 noted change None room = refl
 noted change (Some x) room = refl
 
+-- ---- a head is kept
+
+item_contexts : (r : ReadBatch) (item : ChainItem) (room : Room) → (take_read_item r item room).hub.contexts ≡ room.hub.contexts
+item_contexts r item room = by_last (is_last item)
+  where
+    marked : Room
+    marked = on_lines (change_line (with_read_mark r.up item)) r.line room
+
+    by_last : (b : Bool) → (if b then end_reading (with_item item r) None marked else record marked { reading = Some (with_item item r) }).hub.contexts ≡ room.hub.contexts
+    by_last true = refl
+    by_last false = refl
+
+set_at : (entries : List (Option ExchangeEntry)) (place : ℕ) (new : Option ExchangeEntry) (e : ExchangeEntry) → exchange_at entries place ≡ Some e → exchange_at (slice_set entries place new) place ≡ new
+set_at [] zero new e at = absurd (cc at)
+set_at [] (suc place) new e at = absurd (cc at)
+set_at (x ∷ entries) zero new e at = refl
+set_at (x ∷ entries) (suc place) new e at = set_at entries place new e at
+
+view_put : (entries : List (Option ExchangeEntry)) (place : ℕ) (v w : ExchangeView) → view_at entries place ≡ Some v
+    → view_at (slice_set entries place (option_map (with_view w) (exchange_at entries place))) place ≡ Some w
+view_put entries place v w there = by_entry (exchange_at entries place) refl there
+  where
+    by_entry : (o : Option ExchangeEntry) → exchange_at entries place ≡ o → option_map (λ (x : ExchangeEntry). x.view) o ≡ Some v
+        → view_at (slice_set entries place (option_map (with_view w) (exchange_at entries place))) place ≡ Some w
+    by_entry None at is = absurd (cc is)
+    by_entry (Some e) at is =
+        ap (λ (o : Option ExchangeEntry). option_map (λ (x : ExchangeEntry). x.view) o)
+        (set_at entries place (option_map (with_view w) (exchange_at entries place)) e at ∙ ap (λ (o : Option ExchangeEntry). option_map (with_view w) o) at)
+
+map_put : (fields : Headers) (place : ℕ) (v : ExchangeView) (h : Contexts) → view_at h.exchanges place ≡ Some v → response_map place (put_response fields place h) ≡ fields
+map_put fields place v h there =
+    let w : ExchangeView = record v { maps = record v.maps { response = Some fields } } in
+    ap (λ (o : Option ExchangeView). response_map place (in_view (λ (u : ExchangeView). record u { maps = record u.maps { response = Some fields } }) place o h)) there
+    ∙ ap response_in (view_put h.exchanges place v w there)
+
+head_kept : (plan : Plan) (r : ReadBatch) (h : Head) (x : Exchange) (v : ExchangeView) (room : Room) → r.up ≡ true → exchange_on r.line room ≡ Some x → view_at room.hub.contexts.exchanges x.place ≡ Some v
+    → response_map x.place (take_part plan r (head_part h) room).hub.contexts ≡ h.fields
+head_kept plan r h x v room up on there =
+    ap (λ (b : Bool). response_map x.place (if b then take_read_item r (head_item h) later else take_read_item r (head_item h) (begin_exchange_on plan r.line h room)).hub.contexts) up
+    ∙ (ap (response_map x.place) (item_contexts r (head_item h) later)
+    ∙ (ap (λ (o : Option Exchange). response_map x.place (in_contexts (put_response h.fields) o room).hub.contexts) on ∙ map_put h.fields x.place v room.hub.contexts there))
+  where
+    later : Room
+    later = on_lines (change_line (with_response_head h)) r.line (in_contexts (put_response h.fields) (exchange_on r.line room) room)
+
 pub comes_on : WhatIsReadComesOn
 comes_on = record {
+  heads = head_kept;
   arrives = arrives;
   ended = ended_so;
   joins = λ plan r bytes room. refl;

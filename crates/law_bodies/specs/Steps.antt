@@ -1,11 +1,14 @@
 -- Single steps: the order of filters, what is paused, interim heads, the last words of contexts, and stale Sets.
 use Rattle.std.specs.Prelude.{◌≡◌, ◌<◌, ℕ, Bool, true, false, All, List, [], ◌∷◌, ◌++◌, filter, length, map, reverse, None, Some}
+use Rattle.contexts.specs.Reached.{view_at}
 use Rattle.contexts.specs.declared.parts.EffectKind.TheVariants as what
+use Rattle.contexts.specs.declared.parts.ExchangeView.{ExchangeView}
 use Rattle.exchange.specs.declared.types.Exchange.{Exchange}
 use Rattle.exchange.specs.declared.types.Filter.{Filter}
 use Rattle.exchange.specs.declared.types.Hub.{Hub}
 use Rattle.exchange.specs.Heads.{sent_head}
 use Rattle.exchange.specs.Leaving.{bytes_sent_to}
+use Rattle.exchange.specs.Maps.{response_map}
 use Rattle.exchange.specs.Passing.{apply_action, put_read_items, resume_context}
 use Rattle.filter_chain.specs.declared.item.ChainItem.{ChainItem}
 use Rattle.filter_chain.specs.declared.item.ChainItem.TheVariants as items
@@ -18,7 +21,7 @@ use Rattle.h1_model.specs.Framing.{no_body, items_wire}
 use Rattle.h1_model.specs.Framing as out
 use Rattle.h1_model.specs.Head.{Head}
 use Rattle.h1_model.specs.Messages.{rest}
-use Rattle.h1_model.specs.Unread.{Reading, interim_part, piece, trailer_part}
+use Rattle.h1_model.specs.Unread.{Reading, head_part, interim_part, piece, trailer_part}
 use Rattle.store_model.specs.Keys.{Keys, held_at, number_of, set_after, set_reply}
 use Rattle.store_model.specs.declared.call.Reply.TheVariants.{CasMismatch}
 use Rattle.store_model.specs.declared.used.Used.{Used}
@@ -80,6 +83,9 @@ pub record WhatIsReadComesOn : Type 0 where
       → x.is_answered ≡ false → take_event (whats.Bytes n Up bytes) room ≡ read_side n true (on_lines (side_with_more true false bytes) n room)
   pub ended : (n : ℕ) (bytes : List ℕ) (room : Room) (l : Line) (x : Exchange) (r : Reading) → line_in n room.lines ≡ Some l → l.exchange ≡ Some x → x.reader ≡ Some r → r.ended ≡ true
       → take_event (whats.Bytes n Up bytes) room ≡ room
+  -- The head of a response is kept as the response's map, where the exchange has its place among the contexts.
+  pub heads : (plan : Plan) (r : ReadBatch) (h : Head) (x : Exchange) (v : ExchangeView) (room : Room) → r.up ≡ true → exchange_on r.line room ≡ Some x
+      → view_at room.hub.contexts.exchanges x.place ≡ Some v → response_map x.place (take_part plan r (head_part h) room).hub.contexts ≡ h.fields
   pub joins : (plan : Plan) (r : ReadBatch) (bytes : List ℕ) (room : Room) → (take_part plan r (piece bytes false) room).reading ≡ Some (record r { batch = r.batch ++ items.Piece bytes false ∷ [] })
   pub ends : (plan : Plan) (r : ReadBatch) (bytes : List ℕ) (room : Room) → r.up ≡ true
       → (take_part plan r (piece bytes true) room).jobs ≡ jobs.Put r.line true (r.batch ++ items.Piece bytes true ∷ []) ∷ room.jobs

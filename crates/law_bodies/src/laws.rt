@@ -1,7 +1,7 @@
 // What goes on through an exchange, of single steps. The functions have nothing to do: their contracts are the laws.
 ghost use Rattle.law_bodies.specs.Bodies.{BodiesGoOnAsTheyCame};
 ghost use Rattle.law_bodies.specs.Bounds.{ContextsBeginAndEnd, LinesAreTakenAndStay, StagesHoldAMegabyte, TimesAreKept};
-ghost use Rattle.law_bodies.specs.Lives.{ResponsesGoDownAsTheyCame};
+ghost use Rattle.law_bodies.specs.Lives.{LivesExamples, ResponsesGoDownAsTheyCame};
 ghost use Rattle.law_bodies.specs.Steps.{ContextsHaveTheirLastWords, FiltersStandInOrder, InterimHeadsGoDown, StaleSetsAreRefused, WhatIsPausedIsHeld, WhatIsReadComesOn};
 
 /// Where a whole body is put to a chain without stages, and suits its framing (it has as many bytes as are told, say), what goes out of it is read as that body: the
@@ -12,7 +12,8 @@ pub fn bodies_go_on_as_they_came()
 
 /// Over any deeds that happen to a new exchange without filters, but that an interim head is handed on, where what is read of its response is a front of one message: what
 /// goes down is nothing; or an answer; or one head and the items of the response's body as they came, each piece with its bytes, as far as they went, and all that came
-/// while the exchange runs. Which fields that head has is not said here, nor that a worker's exchange lives by such deeds.
+/// while the exchange runs. The fields of that head are those that the response's map had when the head came to the chain; the date follows where they have none. That a worker's
+/// exchange lives by such deeds is not said here.
 pub fn responses_go_down_as_they_came()
     ensures { ResponsesGoDownAsTheyCame }
 {}
@@ -29,8 +30,8 @@ pub fn what_is_paused_is_held()
     ensures { WhatIsPausedIsHeld }
 {}
 
-/// Bytes that come from a server are read next, and what a reader hands on of a response's body joins what was read before it, and is put to the chain of the response
-/// with it, in order. By single steps; of heads nothing is said here.
+/// Bytes that come from a server are read next. The head of a response that a reader hands on is kept as the response's map. What it hands on of a response's body joins what was
+/// read before it, and is put to the chain of the response with it, in order. By single steps; of requests nothing is said here.
 pub fn what_is_read_comes_on()
     ensures { WhatIsReadComesOn }
 {}
@@ -69,4 +70,9 @@ pub fn times_are_kept()
 /// for a filter of it.
 pub fn contexts_begin_and_end()
     ensures { ContextsBeginAndEnd }
+{}
+
+/// Worked: what says which head of a response came, and that bytes in another order are not those that came.
+pub fn worked_responses()
+    ensures { LivesExamples }
 {}

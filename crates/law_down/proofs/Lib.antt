@@ -25,3 +25,4 @@ pub mod Listening
 pub mod Facing
 pub mod Ordered
 pub mod Turnwise
+pub mod Counting

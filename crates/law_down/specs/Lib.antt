@@ -2,3 +2,4 @@ pub mod Downward
 pub mod Laws
 pub mod InOrder
 pub mod Examples
+pub mod Ends

@@ -1,4 +1,5 @@
 // What goes down on lines over turns. The functions have nothing to do: their contracts are the laws.
+ghost use Rattle.law_down.specs.Ends.{ConnectionsEnd, EndExamples};
 ghost use Rattle.law_down.specs.Examples.{OrderExamples, Refuses};
 ghost use Rattle.law_down.specs.InOrder.{ConnectionsGoInOrder, ConnectionsOfTheProductGoInOrder, WorkersGoInOrder};
 ghost use Rattle.law_down.specs.Laws.{CalloutsGoUpAlone, ResponsesGoDownOneByOne, ResponsesOfTheProductGoDown, WorkersAnswerOneByOne};
@@ -65,4 +66,17 @@ pub fn connections_of_the_product_go_in_order<S: Shared>()
 /// connection.
 pub fn what_is_in_order()
     ensures { OrderExamples }
+{}
+
+/// Each connection that is opened is closed, on each line below 2^31, whatever filters do and whatever servers send. Over all whole turns since a worker was made: as many
+/// connections to servers were closed on the line as were opened, and one more was opened exactly while the line's exchange reads the response of a server. And a turn
+/// after which the worker has a client no more that it had, or that connected, closed its connection, unless the client left. It closes no other, and one that left it
+/// has no more.
+pub fn connections_end<S: Shared>()
+    ensures { ConnectionsEnd S S.performs }
+{}
+
+/// A client's connection that ends, by hand, and what the law refuses: a client that is let go without a close, and a close for nobody.
+pub fn how_connections_end()
+    ensures { EndExamples }
 {}

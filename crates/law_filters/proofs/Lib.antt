@@ -23,8 +23,10 @@ mod Onward
 mod Rooms
 mod Same
 mod Silent
+mod Shutting
 mod Sound
 mod Steps
+mod Thinning
 mod Waited
 mod Waiting
 mod Walks

@@ -77,6 +77,17 @@ at_rest room is =
     let two = from_jobs room.jobs (next_part room) (from_moves (position has_move room.lines) (if is_any room.jobs then next.Work else next_part room) one) in
     (two.0, from_agenda room.agenda (from_ends (position is_over room.lines) (begins_or_rests room.agenda) (from_frees (position (is_released room) room.waits) (ends_or (position is_over room.lines) (begins_or_rests room.agenda)) two.1)))
 
+ends_none : (o : Option ℕ) (y : Next) → is_rest (ends_or o y) ≡ true → o ≡ None
+ends_none None y is = refl
+ends_none (Some place) y is = absurd (cc is)
+
+-- and no exchange has ended
+pub no_over : (room : Room) → is_rest (next_of room) ≡ true → position is_over room.lines ≡ None
+no_over room is =
+    let one = from_read (is_some room.reading) (moves_or (position has_move room.lines) (if is_any room.jobs then next.Work else next_part room)) is in
+    let two = from_jobs room.jobs (next_part room) (from_moves (position has_move room.lines) (if is_any room.jobs then next.Work else next_part room) one) in
+    ends_none (position is_over room.lines) (begins_or_rests room.agenda) (from_frees (position (is_released room) room.waits) (ends_or (position is_over room.lines) (begins_or_rests room.agenda)) two.1)
+
 -- ---- the parts of a turn
 
 -- a job that is neither of a context nor makes a root

@@ -4,3 +4,4 @@ pub mod Onward
 pub mod Every
 pub mod Examples
 pub mod EveryExamples
+pub mod Ended

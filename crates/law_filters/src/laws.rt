@@ -1,5 +1,6 @@
 // The laws are of workers whose lines are HTTP: whose configuration has no streams of bytes. The functions call the laws that theirs rest on, and do nothing else: their
 // contracts are the laws.
+ghost use Rattle.law_filters.specs.Ended.{DeadFiltersEndExchanges, EndedExamples};
 ghost use Rattle.law_filters.specs.Every.{ClosedLetsNothingPass, EveryFilterIsAsked};
 ghost use Rattle.law_filters.specs.EveryExamples.{EveryExamples};
 ghost use Rattle.law_filters.specs.Examples.{HeadExamples};
@@ -82,4 +83,20 @@ pub fn closed_lets_nothing_pass()
 /// Worked: what begins an exchange, who is passed over, what counts as asked, and which exchanges are barred.
 pub fn worked_filters()
     ensures { EveryExamples }
+{}
+
+/// Once the VM of a filter that fails closed is dead, each exchange in which the filter has a part has ended: at each moment of a worker's life, whatever callbacks return
+/// and ask for, and whichever other filter answered. A filter has a part where its stage is there, for the request or for the response, or where stages are still to be made.
+/// After each turn there is no such exchange on any line, so that nothing more of its response goes down in a later turn.
+pub fn dead_filters_end_exchanges()
+    ensures { DeadFiltersEndExchanges }
+{
+    callbacks_change_their_own();
+    made_vms_are_in_place();
+    machines_write_logs();
+}
+
+/// Worked: which filters have a part in an exchange, and one whose filter for the response dies.
+pub fn worked_endings()
+    ensures { EndedExamples }
 {}

@@ -2,6 +2,9 @@
 ghost use Rattle.law_bodies.specs.Bodies.{BodiesGoOnAsTheyCame};
 ghost use Rattle.law_bodies.specs.Lives.{ResponsesGoDownAsTheyCame};
 ghost use Rattle.law_bodies.specs.Steps.{FiltersStandInOrder, InterimHeadsGoDown, WhatIsPausedIsHeld, WhatIsReadComesOn};
+ghost use Rattle.law_down.specs.Ends.{ConnectionsEnd};
+ghost use Rattle.law_exchange.specs.Ends.{NothingFollowsTheEnd};
+ghost use Rattle.law_filters.specs.Ended.{DeadFiltersEndExchanges};
 ghost use Rattle.law_filters.specs.Every.{ClosedLetsNothingPass, EveryFilterIsAsked};
 ghost use Rattle.promises.specs.Callbacks.{CallbackNames, LinesAreSent};
 ghost use Rattle.promises.specs.Due.{DueComes};
@@ -20,12 +23,15 @@ use law_bodies::{
     responses_go_down_as_they_came, what_is_paused_is_held, what_is_read_comes_on,
 };
 use law_callouts::workers_send_callouts_once;
-use law_filters::{closed_lets_nothing_pass, every_filter_is_asked};
+use law_down::connections_end;
+use law_exchange::nothing_follows_the_end;
+use law_filters::{closed_lets_nothing_pass, dead_filters_end_exchanges, every_filter_is_asked};
 use law_fleet::each_call_of_a_fleet_stands_once;
 use law_lines::{machines_write_logs, requests_go_up_one_by_one};
 use law_meaning::meanings_are_turns;
 use law_vms::made_vms_are_in_place;
 use replay_script::one_reading;
+use store_model::Shared;
 use vm_host::Vms;
 
 /// A replay that ends well did what the events of its script mean, worker by worker, with the replies of one history for each VM, and printed all that its workers sent.
@@ -153,4 +159,23 @@ pub fn dead_filters_that_close_let_nothing_pass()
     ensures { ClosedLetsNothingPass }
 {
     closed_lets_nothing_pass();
+}
+
+/// Once the VM of a filter that fails closed is dead, nothing more of a response goes down on an exchange in which the filter has a part: at each moment of a worker's life
+/// that exchange has ended, and nothing that is done to an exchange after its end sends anything. After the turn it is on no line any more. So it is also where another
+/// filter answered, and the dead one has its part in the answer alone.
+pub fn dead_filters_that_close_let_nothing_more_down()
+    ensures ended { DeadFiltersEndExchanges }
+    ensures after { NothingFollowsTheEnd }
+{
+    dead_filters_end_exchanges();
+    nothing_follows_the_end();
+}
+
+/// Each connection that is opened is closed, over whole turns of a worker: as many connections to servers were closed for a line as were opened, but for the one whose
+/// response the line's exchange reads; and the connection of a client that the worker has no more was closed in that turn, unless the client left.
+pub fn connections_are_closed<S: Shared>()
+    ensures { ConnectionsEnd S S.performs }
+{
+    connections_end::<S>();
 }
