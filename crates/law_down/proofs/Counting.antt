@@ -21,7 +21,7 @@ use Rattle.worker_model.specs.Making.{new_worker}
 use Rattle.worker_model.specs.Room.{Room}
 use Rattle.worker_model.specs.State.{Standing}
 use Rattle.worker_model.specs.Steps.{exchange_of_line, line_in}
-use Rattle.worker_model.specs.Turned.{Whole}
+use Rattle.streams_model.specs.Turned.{Whole}
 use Rattle.worker_model.specs.declared.types.Line.{Line}
 use Rattle.law_down.specs.Ends.{opens_up, closes_up, closes_down, one_if, count, has_client, has_client_on, reads_server, ClientEnds, ConnectionsEnd, EndExamples}
 use Rattle.law_down.specs.InOrder.{State, shut, stands, lost, connects, passes, closes, state_after_one, and_then, state_after, opened, left, state_at_event, has_up, lost_or_shut, state_in, state_of, IsTurn}
@@ -409,7 +409,7 @@ module _ (n : ℕ) (w : What) (s t : State) (sent : List Sent) (some : s ≡ los
 next_count : (o c ow cw u v : ℕ) → o ≡ c + u → ow + u ≡ cw + v → o + ow ≡ (c + cw) + v
 next_count o c ow cw u v is turn = omega (arith, is, turn)
 
-module _ (S : Type 0) (performs : S → List Made → S → Type 0) (config : Config) (who : ℕ) (seed : List ℕ) (host : Vms) (n : ℕ) (low : is_call_line n ≡ false) where
+module _ (S : Type 0) (performs : S → List Made → S → Type 0) (config : Config) (who : ℕ) (seed : List ℕ) (host : Vms) (n : ℕ) (http : config.tcp ≡ []) (low : is_call_line n ≡ false) where
   abbrev made : Standing Vms
   made = new_worker slots.exported_in slots.registering_in config who seed host
 
@@ -430,7 +430,7 @@ module _ (S : Type 0) (performs : S → List Made → S → Type 0) (config : Co
       subst (λ (l : List Sent). Runs from l to) (sym (append_assoc v.sent more w.sent)) (a_turn stop_v s_v t_v old_v new_v from next to (more ++ w.sent) v same_v (one_more next mid to more stop s t old new later w same))
 
   in_turn : (sent : List Sent) (stop : Bool) (s t : S) (old new : Option (List Passed)) (from after : Standing Vms) → Runs made sent from → (w : Whole slots.calling performs stop s old from after t new) → IsTurn n w.event.what (state_of n from.state.room) w.sent (state_of n after.state.room)
-  in_turn sent stop s t old new from after worked w = connections_of_the_product S performs config who seed host sent stop s t old new from after n low worked w
+  in_turn sent stop s t old new from after worked w = connections_of_the_product S performs config who seed host sent stop s t old new from after n http low worked w
 
   has_next : (sent : List Sent) (stop : Bool) (s t : S) (old new : Option (List Passed)) (from after : Standing Vms) → Runs made sent from → (w : Whole slots.calling performs stop s old from after t new) → Has sent from → Has (sent ++ w.sent) after
   has_next sent stop s t old new from after worked w has = (
@@ -472,8 +472,8 @@ module _ (S : Type 0) (performs : S → List Made → S → Type 0) (config : Co
 
 pub connections_end : (S : Type 0) (performs : S → List Made → S → Type 0) → ConnectionsEnd S performs
 connections_end S performs = record {
-  servers = λ config who seed host sent to n low worked. (has_so S performs config who seed host n low sent to worked).0;
-  clients = λ config who seed host sent stop s t old new from after n low worked w. client_turn S performs config who seed host n low sent stop s t old new from after worked w;
+  servers = λ config who seed host sent to n http low worked. (has_so S performs config who seed host n http low sent to worked).0;
+  clients = λ config who seed host sent stop s t old new from after n http low worked w. client_turn S performs config who seed host n http low sent stop s t old new from after worked w;
 }
 
 -- ---- by hand

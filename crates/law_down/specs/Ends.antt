@@ -1,4 +1,4 @@
--- EACH CONNECTION THAT IS OPENED IS CLOSED, over all turns of a worker.
+-- EACH CONNECTION THAT IS OPENED IS CLOSED, over all turns of a worker whose lines are HTTP.
 use Rattle.std.specs.List.{list_any}
 use Rattle.std.specs.Prelude.{◌≡◌, ◌⊎◌, ℕ, ◌+◌, ◌==◌, Bool, true, false, not, List, [], ◌∷◌, Option, None, Some}
 use Rattle.callouts.specs.Callouts.{is_call_line}
@@ -11,13 +11,13 @@ use Rattle.gate_io.specs.declared.event.What.TheVariants as whats
 use Rattle.gate_io.specs.declared.passed.Passed.{Passed}
 use Rattle.law_lines.specs.Turns.{Worked}
 use Rattle.store_model.specs.Made.{Made}
+use Rattle.streams_model.specs.Turned.{Whole}
 use Rattle.vm_host.specs.Slots as slots
 use Rattle.vm_host.specs.declared.slots.Vms.{Vms}
 use Rattle.worker_model.specs.Making.{new_worker}
 use Rattle.worker_model.specs.Room.{Room}
 use Rattle.worker_model.specs.State.{Standing}
 use Rattle.worker_model.specs.Steps.{exchange_on, line_in}
-use Rattle.worker_model.specs.Turned.{Whole}
 use Rattle.worker_model.specs.declared.types.Line.{Line}
 use Rattle.law_down.specs.InOrder.{has_up}
 
@@ -79,15 +79,15 @@ pub record ClientEnds (n : ℕ) (what : What) (was : Bool) (sent : List Sent) (i
   -- one that left is not there after the turn
   pub left : what ≡ whats.Gone n Down → is ≡ false
 
--- CONNECTIONS END. Of the product, on each line of a client (those from 2^31 on are of callouts):
+-- CONNECTIONS END. Of the product, where the configuration has no streams of bytes, on each line of a client (those from 2^31 on are of callouts):
 pub record ConnectionsEnd (S : Type 0) (performs : S → List Made → S → Type 0) : Type 0 where
   -- over all whole turns since the worker was made, as many connections to servers were closed as were opened; and one was opened more exactly while the line's exchange
   -- reads the response of a server
-  pub servers : (config : Config) (who : ℕ) (seed : List ℕ) (host : Vms) (sent : List Sent) (to : Standing Vms) (n : ℕ) → is_call_line n ≡ false
+  pub servers : (config : Config) (who : ℕ) (seed : List ℕ) (host : Vms) (sent : List Sent) (to : Standing Vms) (n : ℕ) → config.tcp ≡ [] → is_call_line n ≡ false
       → Worked slots.calling performs (new_worker slots.exported_in slots.registering_in config who seed host) sent to
       → count (opens_up n) sent ≡ count (closes_up n) sent + one_if (reads_server n to.state.room)
   -- and each whole turn closes the connection of each client that it leaves without a line, unless the client left
-  pub clients : (config : Config) (who : ℕ) (seed : List ℕ) (host : Vms) (sent : List Sent) (stop : Bool) (s t : S) (old new : Option (List Passed)) (from after : Standing Vms) (n : ℕ) → is_call_line n ≡ false
+  pub clients : (config : Config) (who : ℕ) (seed : List ℕ) (host : Vms) (sent : List Sent) (stop : Bool) (s t : S) (old new : Option (List Passed)) (from after : Standing Vms) (n : ℕ) → config.tcp ≡ [] → is_call_line n ≡ false
       → Worked slots.calling performs (new_worker slots.exported_in slots.registering_in config who seed host) sent from
       → (turn : Whole slots.calling performs stop s old from after t new)
       → ClientEnds n turn.event.what (has_client_on n from.state.room) turn.sent (has_client_on n after.state.room)

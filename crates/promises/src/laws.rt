@@ -172,7 +172,7 @@ pub fn dead_filters_that_close_let_nothing_more_down()
     nothing_follows_the_end();
 }
 
-/// Each connection that is opened is closed, over whole turns of a worker: as many connections to servers were closed for a line as were opened, but for the one whose
+/// Each connection that is opened is closed, over whole turns of a worker of a configuration without streams of bytes: as many connections to servers were closed for a line as were opened, but for the one whose
 /// response the line's exchange reads; and the connection of a client that the worker has no more was closed in that turn, unless the client left.
 pub fn connections_are_closed<S: Shared>()
     ensures { ConnectionsEnd S S.performs }
