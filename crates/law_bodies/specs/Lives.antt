@@ -82,6 +82,7 @@ ResponsesGoDownAsTheyCame =
 
 -- ---- worked: what says which head came, and which body
 
+-- three lives of one deed or two, and a body that goes down in another order
 pub record LivesExamples : Type 0 where
   -- where a head comes while the map has other fields, these are not its fields; pieces that come say nothing of it, nor does the death of a VM
   pub other : (fields : Headers) (x : Exchange) (hub : Hub) → (response_map x.place hub.contexts ≡ fields → ⊥) → HeadsAre fields 7 x hub (responds (Head true ∷ []) ∷ []) → ⊥

@@ -3,5 +3,6 @@ use Rattle.std.specs.Prelude.{◌≡◌, List}
 use Rattle.callouts.specs.Fates.{Known, Fate, IsFate}
 use Rattle.gate_io.specs.declared.event.Event.{Event}
 
+-- two fates of a callout by the same events are equal
 abbrev pub OneFateAtMost : Type 0
 OneFateAtMost = (k : Known) (events : List Event) (one other : Fate) → IsFate k events one → IsFate k events other → one ≡ other

@@ -46,6 +46,7 @@ closes_down n (to.Close m Up) = false
 closes_down n (to.Close m Down) = m == n
 closes_down n (to.Log level text) = false
 
+-- 1 where it is so, and else 0
 abbrev pub one_if : Bool → ℕ
 one_if true = 1
 one_if false = 0
@@ -62,6 +63,7 @@ abbrev pub has_client : Option Line → Bool
 has_client None = false
 has_client (Some line) = not line.is_gone
 
+-- the worker has the client of the line of a number
 abbrev pub has_client_on : ℕ → Room → Bool
 has_client_on n room = has_client (line_in n room.lines)
 

@@ -45,12 +45,15 @@ pub record DeadFiltersEndExchanges : Type 0 where
 
 -- ---- worked: a filter of context 6 of VM 3, which fails closed, and its stage for responses
 
+-- the filter
 abbrev pub closed_filter : Filter
 closed_filter = record { plugin = 0; vm = 3; fails_open = false; created = true; context = 6 }
 
+-- its stage for responses, at which nothing waits
 abbrev pub its_stage : Stage
 its_stage = record { vm = 3; context = 6; response = true; waiting = []; held = held.Nothing; passes = false }
 
+-- when it has a part, and what its death does then
 pub record EndedExamples : Type 0 where
   -- Another filter answered the request, so that the stages of the request are gone: this one has its part in the answer. Where its VM dies, the exchange ends.
   pub part : (x : Exchange) → x.response ≡ its_stage ∷ [] → HasPart closed_filter x

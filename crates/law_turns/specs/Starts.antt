@@ -168,6 +168,7 @@ ticking deeds now = turn (ticking_by deeds) three_plan two_vms (event now (whats
 abbrev pub other_tick : List Call
 other_tick = call_of 1 Tick 1 0 0 ∷ []
 
+-- the ticks of both VMs
 abbrev pub all_ticks : List Call
 all_ticks = call_of 0 Tick 1 0 0 ∷ call_of 0 Tick 2 0 0 ∷ other_tick
 
@@ -175,6 +176,7 @@ all_ticks = call_of 0 Tick 1 0 0 ∷ call_of 0 Tick 2 0 0 ∷ other_tick
 abbrev pub last_moment : Both (List Call) → Course (Outcome (List Call))
 last_moment from = turn (ticking_by []) three_plan from (event 18446744073709551615 (whats.Opened 2))
 
+-- first turns at the last moment of the clock and before it
 pub record StartTicksExample : Type 0 where
   -- at the last moment the ticks come in the same turn, after all starts
   pub at_last : Comes (ticking [] 18446744073709551615) [] (second_calls ++ all_ticks) [] (1 ∷ [])
