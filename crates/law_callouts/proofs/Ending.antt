@@ -314,7 +314,7 @@ report_end a c d closed same =
     ∙ ap (λ (n : ℕ). report_with a c closed n c.context c.id) same.vm
 
 -- no id is above the last one drawn
-up_to : (id : ℕ) (calls : List Callout) (most : ℕ) (d : Callout) → callout_in id calls ≡ Some d → AreUpTo most calls → id ≤ most
+pub up_to : (id : ℕ) (calls : List Callout) (most : ℕ) (d : Callout) → callout_in id calls ≡ Some d → AreUpTo most calls → id ≤ most
 up_to id [] most d there drawn = absurd (cc)
 up_to id (x ∷ calls) most d there drawn = by (up_to id calls most d) (x.id == id) refl there
   where

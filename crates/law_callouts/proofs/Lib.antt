@@ -2,10 +2,14 @@ pub mod About
 pub mod Calls
 pub mod Changing
 pub mod Ending
+pub mod GoingOut
+pub mod Holding
 pub mod Lives
+pub mod OneFate
 pub mod Reading
 pub mod Reports
 pub mod Rooms
+pub mod Saying
 pub mod Shapes
 pub mod Sound
 pub mod Splitting

@@ -149,7 +149,7 @@ plugins_call_none : (h : Contexts) (plugins : List PluginEntry) → (with_plugin
 plugins_call_none h [] = refl
 plugins_call_none h (p ∷ plugins) = plugins_call_none (with_plugin p.vm p.name p.configuration h) plugins
 
-none_called : (config : Config) (seed : List ℕ) → (contexts_of config seed).calls ≡ (no_contexts config.log_level seed).calls
+pub none_called : (config : Config) (seed : List ℕ) → (contexts_of config seed).calls ≡ (no_contexts config.log_level seed).calls
 none_called config seed = plugins_call_none (with_vms (no_contexts config.log_level seed) config.vms) config.plugins ∙ vms_call_none (no_contexts config.log_level seed) config.vms
 
 -- ---- the steps

@@ -231,7 +231,7 @@ all_map P Q (asks vm call k) f all = λ r. all_map P Q (k r) f (all r)
 all_map P Q (measures vm call k) f all = λ r. all_map P Q (k r) f (all r)
 all_map P Q (hears t k) f all = λ h is. all_map P Q (k h) f (all h is)
 
-runs_so : {A B : Type 0} (P : A → Type 0) (Q : B → Type 0) (p : Program A) (f : A → Course B) → AllOf P p → ((a : A) → P a → AllEnds Q (f a)) → AllEnds Q (runs_then p f)
+pub runs_so : {A B : Type 0} (P : A → Type 0) (Q : B → Type 0) (p : Program A) (f : A → Course B) → AllOf P p → ((a : A) → P a → AllEnds Q (f a)) → AllEnds Q (runs_then p f)
 runs_so P Q (done a) f all more = more a all
 runs_so P Q (ask vm call k) f all more = λ r. runs_so P Q (k r) f (all r) more
 runs_so P Q (measure vm asked k) f all more = λ r. runs_so P Q (k r) f (all r) more

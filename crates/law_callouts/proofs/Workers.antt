@@ -16,7 +16,7 @@ both_of P Q R (done a) one two so = so a one two
 both_of P Q R (ask vm call k) one two so = λ r. both_of P Q R (k r) (one r) (two r) so
 both_of P Q R (measure vm asked k) one two so = λ r. both_of P Q R (k r) (one r) (two r) so
 
-kept : CallbacksChangeTheirOwn → PlacesStay → KeepsGood calling ArePlaced
+pub kept : CallbacksChangeTheirOwn → PlacesStay → KeepsGood calling ArePlaced
 kept change stay = record {
   keeps = λ host vm name context first second now h placed.
       both_of (λ (c : Called Vms). ChangesItsOwn vm h c.contexts) (λ (c : Called Vms). ArePlaced c.host) (λ (c : Called Vms). ArePlaced c.host × (c.contexts.calls ≡ h.calls))

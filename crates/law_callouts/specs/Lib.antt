@@ -3,3 +3,5 @@ pub mod Calls
 pub mod Sound
 pub mod Ends
 pub mod Workers
+pub mod GoingOut
+pub mod OneFate

@@ -1,6 +1,8 @@
 // What holds of callouts in turns of HTTP. The functions have nothing to do: their contracts are the laws.
 ghost use Rattle.law_callouts.specs.Calls.{CalloutTurns};
 ghost use Rattle.law_callouts.specs.Ends.{CalloutsAreSoundInLives, CalloutsBeginNew, CalloutsEndOnce, ReportsHaveAnswers, TurnsAreLives};
+ghost use Rattle.law_callouts.specs.GoingOut.{CalloutsGoOutOnce, WorkersGoOutOnce};
+ghost use Rattle.law_callouts.specs.OneFate.{OneFateAtMost};
 ghost use Rattle.law_callouts.specs.Sound.{CalloutsStaySound};
 ghost use Rattle.law_callouts.specs.Workers.{WorkersBeginCalloutsNew, WorkersEndCalloutsOnce, WorkersStaySound};
 
@@ -40,6 +42,26 @@ pub fn workers_end_callouts_once()
     ensures ends { WorkersEndCalloutsOnce }
     ensures begins { WorkersBeginCalloutsNew }
     ensures sound { WorkersStaySound }
+{
+    callbacks_change_their_own();
+}
+
+/// A list of events has one fate of a callout at most. That it has one is not said here.
+pub fn callouts_have_one_fate_at_most()
+    ensures { OneFateAtMost }
+{}
+
+/// What is sent on the line of a callout, from 2^31 on, over the whole life of a worker, whatever its filters do, its stores reply and its lines bring, where its machines
+/// write logs alone and leave the counts of callouts. Nothing, where the id of the line was not drawn. While its callout is under way, one connection up and all bytes of one
+/// request, in one piece. Once that has ended, the same and then one close. So no second connection, no second request and no byte follows, nothing goes down, and the close comes
+/// with the end of the callout: in the same turn, and not before. Which request it is of those that filters began is not said here.
+pub fn callouts_go_out_once<H>()
+    ensures { CalloutsGoOutOnce H }
+{}
+
+/// So it is of a worker whose machines run modules, where each stands at the number of its contexts, as in every worker that was made.
+pub fn workers_send_callouts_once()
+    ensures { WorkersGoOutOnce }
 {
     callbacks_change_their_own();
 }

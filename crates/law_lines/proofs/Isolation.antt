@@ -192,7 +192,7 @@ module _ {H : Type 0} (calling : Calling H) (logs : WriteLogs calling) (plan : P
   work_is room (jobs.Other step) other = refl
 
   -- whether a job is of the line depends on no other job
-  work_in : (room : Room) (later : List Job) (job : Job) → is_work_of n room job ≡ false → is_work_of n (record room { jobs = later }) job ≡ false
+  pub work_in : (room : Room) (later : List Job) (job : Job) → is_work_of n room job ≡ false → is_work_of n (record room { jobs = later }) job ≡ false
   work_in room later (jobs.Begin vm) other = other
   work_in room later (jobs.Root vm plugin is_first) other = other
   work_in room later (jobs.Start vm root) other = other

@@ -192,7 +192,7 @@ change_numbered g l = by_exchange l.exchange
 
 -- ---- the effects of a callback, and deaths
 
-does_spared : (n vm : ℕ) (own : Owner) (context : ℕ) (w : EffectWhat) (room : Room) → Free n room → Spared n room (apply_effect vm own context w room)
+pub does_spared : (n vm : ℕ) (own : Owner) (context : ℕ) (w : EffectWhat) (room : Room) → Free n room → Spared n room (apply_effect vm own context w room)
 does_spared n vm own context (what.Continue response) room free =
     by_bool (Spared n room) (is_own own context response) room (on_context (passing.resume_context vm context response) vm context room) (λ e. spared_itself n room free)
     (λ e. context_spared n vm context (passing.resume_context vm context response) room free (by_deed (resumes vm context response) tt))
@@ -440,10 +440,10 @@ happens_spared n whats.Clock room other free = spared_itself n room free
 happens_spared n whats.Stop room other free = spared_itself n room free
 
 -- stages are made, and nothing is sent
-enters_on : (dead : List ℕ) → OnItsLine (enter_stages dead)
+pub enters_on : (dead : List ℕ) → OnItsLine (enter_stages dead)
 enters_on dead = record { sends = λ m x hub. record { more = []; adds = sym (append-nil hub.sent); own = tt }; moment = λ m x hub. refl }
 
-puts_on : (response : Bool) (batch : List ChainItem) → OnItsLine (passing.put_read_items response batch)
+pub puts_on : (response : Bool) (batch : List ChainItem) → OnItsLine (passing.put_read_items response batch)
 puts_on false batch = by_deed (comes batch) tt
 puts_on true batch = by_deed (responds batch) tt
 

@@ -6,7 +6,7 @@ ghost use Rattle.law_filters.specs.Every.{ClosedLetsNothingPass, EveryFilterIsAs
 ghost use Rattle.promises.specs.Callbacks.{CallbackNames, LinesAreSent};
 ghost use Rattle.promises.specs.Due.{DueComes};
 ghost use Rattle.promises.specs.Failures.{FailuresAreAnswered};
-ghost use Rattle.promises.specs.Lines.{LivesGoUpOneByOne};
+ghost use Rattle.promises.specs.Lines.{LivesGoUpOneByOne, LivesSendCalloutsOnce};
 ghost use Rattle.promises.specs.Replays.{OneOutput, ReplayHasItsHeadline, ReplayIsAFunction};
 ghost use Rattle.promises.specs.Serves.{FleetsHaveTheirHeadline, ServeHasItsHeadline};
 ghost use Rattle.promises.specs.Statuses.{StatusesAreComplete};
@@ -19,10 +19,12 @@ use law_bodies::{
     bodies_go_on_as_they_came, filters_stand_in_order, interim_heads_go_down,
     responses_go_down_as_they_came, what_is_paused_is_held, what_is_read_comes_on,
 };
+use law_callouts::workers_send_callouts_once;
 use law_filters::{closed_lets_nothing_pass, every_filter_is_asked};
 use law_fleet::each_call_of_a_fleet_stands_once;
 use law_lines::{machines_write_logs, requests_go_up_one_by_one};
 use law_meaning::meanings_are_turns;
+use law_vms::made_vms_are_in_place;
 use replay_script::one_reading;
 use vm_host::Vms;
 
@@ -78,6 +80,16 @@ pub fn lines_of_the_headline()
     meanings_are_turns::<Vms>();
     requests_go_up_one_by_one::<Vms>();
     machines_write_logs();
+}
+
+/// In each whole life of each worker that the headline speaks of, what is sent on the line of a callout is one connection with one request, and one close once the
+/// callout has ended. Before its id is drawn nothing is sent there.
+pub fn callouts_of_the_headline()
+    ensures { LivesSendCalloutsOnce }
+{
+    meanings_are_turns::<Vms>();
+    workers_send_callouts_once();
+    made_vms_are_in_place();
 }
 
 /// The callback that is called for an item is the one that is named for it: for the head, a piece of the body or the trailers, of a request or of a response; and for
