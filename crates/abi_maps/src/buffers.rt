@@ -11,7 +11,7 @@ ghost use Rattle.abi_maps.specs.Buffers.{staged as staged_of, body_at as body_at
 
 use crate::reached::{plugin, vm_configuration};
 use abi_model::{
-    Gives, HostCall, HostEnd, Inputs, LocalCall, Outcome, Param, answer, call_row, given,
+    Gives, HostCall, HostEnd, LocalCall, Outcome, Param, Ranges, answer, call_row, given,
     local_call,
 };
 use abi_types::Guest;
@@ -318,7 +318,7 @@ impl LocalCall for GetBufferBytes {
         contexts: &mut Contexts,
         vm: VmNo,
         args: &[u64],
-        inputs: &Inputs,
+        inputs: &Ranges,
     ) -> Result<Outcome, OutOfMemory> {
         let number = buffer_no(contexts.is_tcp, args[0]);
         let outcome = get_bytes(alloc, contexts, vm, number, args[1], args[2])?;
@@ -363,7 +363,7 @@ impl LocalCall for GetBufferStatus {
         contexts: &mut Contexts,
         vm: VmNo,
         args: &[u64],
-        inputs: &Inputs,
+        inputs: &Ranges,
     ) -> Result<Outcome, OutOfMemory> {
         Ok(get_status(contexts, vm, buffer_no(contexts.is_tcp, args[0])))
     }
@@ -405,7 +405,7 @@ impl LocalCall for SetBufferBytes {
         contexts: &mut Contexts,
         vm: VmNo,
         args: &[u64],
-        inputs: &Inputs,
+        inputs: &Ranges,
     ) -> Result<Outcome, OutOfMemory> {
         let number = buffer_no(contexts.is_tcp, args[0]);
         set_bytes(
@@ -415,7 +415,7 @@ impl LocalCall for SetBufferBytes {
             number,
             args[1],
             args[2],
-            inputs.first.as_slice(),
+            inputs.first(),
         )
     }
 }

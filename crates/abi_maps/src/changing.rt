@@ -11,7 +11,7 @@ ghost use Rattle.abi_maps.specs.Maps.{map_at, map_in, there, no_change as no_cha
 use crate::given::set;
 use crate::maps::{answer_map, exchange_map};
 use abi_model::{
-    HostCall, HostEnd, Inputs, LocalCall, Outcome, Param, answer, call_row, local_call,
+    HostCall, HostEnd, LocalCall, Outcome, Param, Ranges, answer, call_row, local_call,
 };
 use abi_types::Guest;
 use contexts::{Contexts, Maps};
@@ -211,12 +211,12 @@ impl LocalCall for SetHeaderMapPairs {
         contexts: &mut Contexts,
         vm: VmNo,
         args: &[u64],
-        inputs: &Inputs,
+        inputs: &Ranges,
     ) -> Result<Outcome, OutOfMemory> {
         if args[0] > 5 {
             return Ok(no_change(contexts, vm, args[0]));
         }
-        let list = set_in(alloc, contexts, vm, args[0], inputs.first.as_slice())?;
+        let list = set_in(alloc, contexts, vm, args[0], inputs.first())?;
         Ok(put_map(contexts, vm, args[0], list))
     }
 }
@@ -258,10 +258,10 @@ impl LocalCall for AddHeaderMapValue {
         contexts: &mut Contexts,
         vm: VmNo,
         args: &[u64],
-        inputs: &Inputs,
+        inputs: &Ranges,
     ) -> Result<Outcome, OutOfMemory> {
-        let name = inputs.first.as_slice();
-        let value = inputs.second.as_slice();
+        let name = inputs.first();
+        let value = inputs.second();
         add_in(alloc, contexts, vm, args[0], name, value)
     }
 }
@@ -302,10 +302,10 @@ impl LocalCall for ReplaceHeaderMapValue {
         contexts: &mut Contexts,
         vm: VmNo,
         args: &[u64],
-        inputs: &Inputs,
+        inputs: &Ranges,
     ) -> Result<Outcome, OutOfMemory> {
-        let name = inputs.first.as_slice();
-        let value = inputs.second.as_slice();
+        let name = inputs.first();
+        let value = inputs.second();
         replace_in(alloc, contexts, vm, args[0], name, value)
     }
 }
@@ -346,9 +346,9 @@ impl LocalCall for RemoveHeaderMapValue {
         contexts: &mut Contexts,
         vm: VmNo,
         args: &[u64],
-        inputs: &Inputs,
+        inputs: &Ranges,
     ) -> Result<Outcome, OutOfMemory> {
-        remove_in(contexts, vm, args[0], inputs.first.as_slice())
+        remove_in(contexts, vm, args[0], inputs.first())
     }
 }
 

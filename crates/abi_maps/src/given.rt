@@ -4,11 +4,12 @@ ghost use Rattle.std.specs.List.{list_all};
 ghost use Rattle.header_maps.specs.Faults.{set_fault};
 ghost use Rattle.header_maps.specs.Kept.{byte_limit, is_short};
 ghost use Rattle.header_maps.specs.Operations.{all_set};
+ghost use Rattle.pair_codec.specs.Tallies.{tally_of};
 ghost use Rattle.abi_maps.specs.Maps.{unless, set_from};
 
 use gate_base::OutOfMemory;
 use header_maps::{HeaderEnd, HeaderList, ListKind};
-use pair_codec::{Serialised, list_of};
+use pair_codec::{Serialised, Tally, list_of};
 use std::alloc::{AllocError, Global};
 
 /// The list that the pairs of a form make, or the status why they make none.
@@ -16,11 +17,13 @@ fn list_from(
     alloc: Global,
     kind: ListKind,
     form: &Serialised,
+    found: Tally,
 ) -> Result<Result<HeaderList, u32>, OutOfMemory>
-    requires { list_all is_short form.now ≡ true }
+    requires short { list_all is_short form.now ≡ true }
+    requires found { found ≡ tally_of kind form.now }
     ensures { IfOk result (λ r. r ≡ unless (set_fault kind form.now) (all_set kind form.now)) }
 {
-    match list_of(alloc, kind, form) {
+    match list_of(alloc, kind, form, found) {
         Ok(list) => Ok(Ok(list)),
         Err(HeaderEnd::BadName | HeaderEnd::BadValue) => Ok(Err(2)),
         Err(HeaderEnd::TooMany) => Ok(Err(10)),
@@ -28,8 +31,8 @@ fn list_from(
     }
 }
 
-/// What a list becomes by a serialised form: the list of its pairs, or the status of the refusal. No pair is copied before the whole form
-/// was judged to be one.
+/// What a list becomes by a serialised form: the list of its pairs, or the status of the refusal. The form is judged in one walk, and no pair
+/// is copied where it is refused.
 pub(crate) fn set(
     alloc: Global,
     list: &HeaderList,
@@ -38,8 +41,8 @@ pub(crate) fn set(
     requires { length bytes.now ≤ byte_limit }
     ensures { IfOk result (λ r. r ≡ set_from bytes.now list.now) }
 {
-    match Serialised::of(bytes) {
+    match Serialised::judged(list.kind(), bytes) {
         None => Ok(Err(4)),
-        Some(form) => list_from(alloc, list.kind(), &form),
+        Some((form, found)) => list_from(alloc, list.kind(), &form, found),
     }
 }

@@ -10,8 +10,8 @@ ghost use Rattle.pair_codec.specs.Serialised.{pairs_bytes};
 ghost use Rattle.abi_maps.specs.Maps.{map_at as map_at_of, map_in as map_in_of, answer_map as answer_map_of, map_for as map_for_of, value_in, pairs_as, size_as, own_get_header_map_value, own_get_header_map_pairs, own_get_header_map_size};
 
 use abi_model::{
-    Gives, GivingCall, HostCall, HostEnd, Inputs, LocalCall, Outcome, Param, answer, call_row,
-    given, giving_call, local_call,
+    Gives, GivingCall, HostCall, HostEnd, Inputs, LocalCall, Outcome, Param, Ranges, answer,
+    call_row, given, giving_call, local_call,
 };
 use abi_types::Guest;
 use contexts::{Contexts, Maps};
@@ -188,7 +188,7 @@ impl GivingCall for GetHeaderMapPairs {
         contexts: &Contexts,
         vm: VmNo,
         args: &[u64],
-        inputs: &Inputs,
+        inputs: &Ranges,
     ) -> Result<u32, u32> {
         measure_pairs(contexts, vm, args[0])
     }
@@ -241,7 +241,7 @@ impl LocalCall for GetHeaderMapSize {
         contexts: &mut Contexts,
         vm: VmNo,
         args: &[u64],
-        inputs: &Inputs,
+        inputs: &Ranges,
     ) -> Result<Outcome, OutOfMemory> {
         Ok(get_size(contexts, vm, args[0]))
     }
@@ -282,9 +282,9 @@ impl GivingCall for GetHeaderMapValue {
         contexts: &Contexts,
         vm: VmNo,
         args: &[u64],
-        inputs: &Inputs,
+        inputs: &Ranges,
     ) -> Result<u32, u32> {
-        measure_value(contexts, vm, args[0], inputs.first.as_slice())
+        measure_value(contexts, vm, args[0], inputs.first())
     }
 
     fn make(

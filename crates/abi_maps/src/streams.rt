@@ -10,7 +10,7 @@ ghost use Rattle.abi_maps.specs.Streams.{is_too_late as is_too_late_of, fields_f
 
 use crate::given::set;
 use abi_model::{
-    HostCall, HostEnd, Inputs, LocalCall, Outcome, Param, answer, call_row, local_call,
+    HostCall, HostEnd, LocalCall, Outcome, Param, Ranges, answer, call_row, local_call,
 };
 use abi_types::Guest;
 use contexts::{Contexts, EffectKind, ExchangeView};
@@ -233,7 +233,7 @@ impl LocalCall for ContinueStream {
         contexts: &mut Contexts,
         vm: VmNo,
         args: &[u64],
-        inputs: &Inputs,
+        inputs: &Ranges,
     ) -> Result<Outcome, OutOfMemory> {
         let stream = stream_no(contexts.is_tcp, args[0]);
         continue_stream(contexts, vm, stream)
@@ -276,7 +276,7 @@ impl LocalCall for CloseStream {
         contexts: &mut Contexts,
         vm: VmNo,
         args: &[u64],
-        inputs: &Inputs,
+        inputs: &Ranges,
     ) -> Result<Outcome, OutOfMemory> {
         let stream = stream_no(contexts.is_tcp, args[0]);
         close_stream(contexts, vm, stream)
@@ -319,10 +319,10 @@ impl LocalCall for SendLocalResponse {
         contexts: &mut Contexts,
         vm: VmNo,
         args: &[u64],
-        inputs: &Inputs,
+        inputs: &Ranges,
     ) -> Result<Outcome, OutOfMemory> {
-        let body = inputs.second.as_slice();
-        let headers = inputs.third.as_slice();
+        let body = inputs.second();
+        let headers = inputs.third();
         send_response(alloc, contexts, vm, args[0], body, headers)
     }
 }

@@ -1,13 +1,11 @@
-// Bytes and numbers out of a guest's memory and into it.
+// Bytes and numbers into a guest's memory.
 
 ghost use Rattle.std.specs.Prelude.{◌≡◌, ◌<◌, ◌^◌, length, true, false, IfOk, IfErr};
-ghost use Rattle.wasm_syntax.specs.Memory.{bytes_at};
-ghost use Rattle.abi_types.specs.GuestAt.{is_range, Keeps, StillWaits, IsOutside};
+ghost use Rattle.abi_types.specs.GuestAt.{Keeps, StillWaits};
 ghost use Rattle.abi_memory.specs.Giving.{has_place, has_room, numbering, numbered_as, placed, giving, Gives, FindsPlace, RestsAfterGiving};
 
-use abi_types::{AllocEnd, Guest, GuestEnd};
-use gate_base::{Cause, Octets};
-use std::alloc::Global;
+use abi_types::{AllocEnd, Guest};
+use gate_base::Cause;
 
 /// Where a guest is told the place and the size of bytes.
 #[derive(Clone, Copy)]
@@ -29,14 +27,6 @@ pub enum GiveEnd {
     Trapped { cause: Cause },
     /// The fuel of the callback was spent in the allocator.
     FuelSpent,
-}
-
-/// The bytes of a range. Outside comes exactly where the range is not inside; one of no bytes always is.
-pub fn take_bytes<G: Guest>(alloc: Global, guest: &G, at: u32, len: u32) -> Result<Octets, GuestEnd>
-    ensures ok { IfOk result (λ o. (is_range (G.at guest.now).config.store.memory at len ≡ true) × (o ≡ bytes_at (G.at guest.now).config.store.memory at len)) }
-    ensures err { IsOutside result → is_range (G.at guest.now).config.store.memory at len ≡ false }
-{
-    guest.read(alloc, at, len)
 }
 
 /// Writes a number of four bytes, the lowest first. None comes exactly where a byte of its place is outside. It takes no memory.

@@ -12,7 +12,7 @@ ghost use Rattle.abi_model.specs.declared.opening.Inputs.{Inputs as Taken};
 ghost use Rattle.abi_model.specs.declared.table.Param.{Param as Parameter};
 
 use crate::ends::{HostEnd, Outcome, finish};
-use crate::opening::{Inputs, all_inside, places_of, take_inputs};
+use crate::opening::{Ranges, all_inside, inputs_of, places_of};
 use crate::table::Param;
 use abi_types::Guest;
 use contexts::Contexts;
@@ -41,13 +41,13 @@ pub trait AskingCall {
         shared: &mut S,
         vm: VmNo,
         args: &[u64],
-        inputs: Inputs,
+        inputs: &Ranges,
     ) -> Result<Outcome, OutOfMemory>
         requires vm { vm < length contexts.now.vms }
         requires stores { length contexts.now.vms ≤ S.stores shared.old }
         requires args { Are (params self.now) 0 args.now }
-        requires inputs { AreInputs inputs }
-        ensures ends { AskEnds S.performs shared.old (own self.now vm args.now inputs (seen contexts.now vm)) (λ o. o) result shared.new }
+        requires inputs { AreInputs inputs.now }
+        ensures ends { AskEnds S.performs shared.old (own self.now vm args.now inputs.now (seen contexts.now vm)) (λ o. o) result shared.new }
         ensures short { IfOk result (λ o. AreShort o.gives) }
         ensures stores { S.stores shared.new ≡ S.stores shared.old };
 }
@@ -75,10 +75,8 @@ pub fn asking_call<C: AskingCall, G: Guest, S: Shared>(
     if !all_inside(guest, row, args) {
         return HostEnd::Status { status: 6 };
     }
-    let Ok(inputs) = take_inputs(alloc, guest, row, args) else {
-        return HostEnd::OutOfMemory;
-    };
-    let Ok(outcome) = call.make(alloc, contexts, shared, vm, args, inputs) else {
+    let inputs = inputs_of(guest, row, args);
+    let Ok(outcome) = call.make(alloc, contexts, shared, vm, args, &inputs) else {
         return HostEnd::OutOfMemory;
     };
     finish(guest, 6, &outcome, places_of(row, args))

@@ -11,7 +11,7 @@ ghost use Rattle.abi_model.specs.declared.opening.Inputs.{Inputs as Taken};
 ghost use Rattle.abi_model.specs.declared.table.Param.{Param as Parameter};
 
 use crate::ends::{HostEnd, Places};
-use crate::opening::{Inputs, all_inside, places_of, take_inputs};
+use crate::opening::{Inputs, Ranges, all_inside, inputs_of, places_of};
 use crate::table::Param;
 use abi_memory::{GiveEnd, Place, place_for, put_at};
 use abi_types::Guest;
@@ -39,7 +39,7 @@ pub trait GivingCall {
         contexts: &Contexts,
         vm: VmNo,
         args: &[u64],
-        inputs: &Inputs,
+        inputs: &Ranges,
     ) -> Result<u32, u32>
         requires vm { vm < length contexts.now.vms }
         requires args { Are (params self.now) 0 args.now }
@@ -102,7 +102,7 @@ fn hand_over_made<C: GivingCall, G: Guest>(
 }
 
 /// Makes a host call in the order of every call: its bytes are measured where another call is made, and made only once the guest
-/// has given a place for them. `outside` is the status of a range or place that is not inside.
+/// has given a place for them; what it was given is copied before, since the guest may change it. `outside` is the status of a range or place that is not inside.
 pub fn giving_call<C: GivingCall, G: Guest>(
     alloc: Global,
     call: &C,
@@ -123,15 +123,16 @@ pub fn giving_call<C: GivingCall, G: Guest>(
     if !all_inside(guest, row, args) {
         return HostEnd::Status { status: outside };
     }
-    let Ok(inputs) = take_inputs(alloc, guest, row, args) else {
-        return HostEnd::OutOfMemory;
-    };
+    let inputs = inputs_of(guest, row, args);
     let len = match call.measure(contexts, vm, args, &inputs) {
         Ok(len) => len,
         Err(status) => return HostEnd::Status { status },
     };
+    let Ok(kept) = inputs.copied(alloc) else {
+        return HostEnd::OutOfMemory;
+    };
     let at = places_of(row, args);
     hand_over_made(
-        alloc, call, outside, guest, contexts, vm, args, &inputs, len, at,
+        alloc, call, outside, guest, contexts, vm, args, &kept, len, at,
     )
 }

@@ -9,7 +9,7 @@ ghost use Rattle.abi_model.specs.declared.opening.Inputs.{Inputs as Taken};
 ghost use Rattle.abi_model.specs.declared.table.Param.{Param as Parameter};
 
 use crate::ends::{HostEnd, Outcome, finish};
-use crate::opening::{Inputs, all_inside, places_of, take_inputs};
+use crate::opening::{Ranges, all_inside, inputs_of, places_of};
 use crate::table::Param;
 use abi_types::Guest;
 use contexts::Contexts;
@@ -36,7 +36,7 @@ pub trait LocalCall {
         contexts: &mut Contexts,
         vm: VmNo,
         args: &[u64],
-        inputs: &Inputs,
+        inputs: &Ranges,
     ) -> Result<Outcome, OutOfMemory>
         requires vm { vm < length contexts.old.vms }
         requires args { Are (params self.now) 0 args.now }
@@ -69,9 +69,7 @@ pub fn local_call<C: LocalCall, G: Guest>(
     if !all_inside(guest, row, args) {
         return HostEnd::Status { status: outside };
     }
-    let Ok(inputs) = take_inputs(alloc, guest, row, args) else {
-        return HostEnd::OutOfMemory;
-    };
+    let inputs = inputs_of(guest, row, args);
     let Ok(outcome) = call.make(alloc, contexts, vm, args, &inputs) else {
         return HostEnd::OutOfMemory;
     };

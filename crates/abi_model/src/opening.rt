@@ -1,22 +1,85 @@
 // What comes before a call: its ranges and result places, and the bytes that it takes.
-ghost use Rattle.std.specs.Prelude.{◌≡◌, ◌≤◌, ◌<◌, ◌^◌, ◌+◌, ◌*◌, true, length, IfOk, IfSome, slice_get, slice_index_or};
+ghost use Rattle.std.specs.Prelude.{◌≡◌, ◌≤◌, ◌<◌, ◌^◌, ◌+◌, ◌*◌, true, length, IfOk, slice_get, slice_index_or};
+ghost use Rattle.wasm_syntax.specs.Memory.{bytes_at};
+ghost use Rattle.abi_types.specs.GuestAt.{is_range};
 ghost use Rattle.abi_model.specs.Rows.{all_inside, ranges, places, bytes_in, input_bytes, places_of, AreInputs};
 ghost use Rattle.abi_model.specs.Table.{arg, Are};
 
 use crate::ends::Places;
 use crate::table::Param;
-use abi_memory::{is_within, take_bytes};
+use abi_memory::is_within;
 use abi_types::Guest;
 use gate_base::{Octets, OutOfMemory};
-use std::alloc::{AllocError, Global};
+use std::alloc::Global;
+use std::marker::Model;
 
-/// The bytes that a call is given, in the order of its ranges; none where it has fewer.
+/// A copy of the bytes that a call is given, in the order of its ranges; none where it has fewer.
 #[derive(Drop)]
 pub struct Inputs {
     pub first: Octets,
     pub second: Octets,
     pub third: Octets,
     pub fourth: Octets,
+}
+
+/// The bytes that a call is given, where they stand in its guest's memory: they are judged there, and a call copies what it keeps.
+/// Clauses see the copy that could be made.
+#[derive(Drop)]
+pub struct Ranges<'g> {
+    first: &'g [u8],
+    second: &'g [u8],
+    third: &'g [u8],
+    fourth: &'g [u8],
+}
+
+impl<'g> Model for Ranges<'g> {
+    ghost use Rattle.abi_model.specs.declared.opening.Inputs.{Inputs as Taken};
+
+    ghost Value = { Taken };
+
+    ghost view = { λ r. record { first = r.first.now; second = r.second.now; third = r.third.now; fourth = r.fourth.now } };
+}
+
+impl<'g> Ranges<'g> {
+    /// The bytes of the first range.
+    pub fn first(&self) -> &'g [u8]
+        ensures { result.now ≡ self.now.first }
+    {
+        self.first
+    }
+
+    /// The bytes of the second range.
+    pub fn second(&self) -> &'g [u8]
+        ensures { result.now ≡ self.now.second }
+    {
+        self.second
+    }
+
+    /// The bytes of the third range.
+    pub fn third(&self) -> &'g [u8]
+        ensures { result.now ≡ self.now.third }
+    {
+        self.third
+    }
+
+    /// The bytes of the fourth range.
+    pub fn fourth(&self) -> &'g [u8]
+        ensures { result.now ≡ self.now.fourth }
+    {
+        self.fourth
+    }
+
+    /// A copy, which outlasts what the guest does next.
+    pub(crate) fn copied(&self, alloc: Global) -> Result<Inputs, OutOfMemory>
+        ensures { IfOk result (λ inputs. inputs ≡ self.now) }
+    {
+        Ok(Inputs {
+            first: Octets::from_slice(alloc, self.first)?,
+            second: Octets::from_slice(alloc, self.second)?,
+            third: Octets::from_slice(alloc, self.third)?,
+            fourth: Octets::from_slice(alloc, self.fourth)?,
+        })
+    }
 }
 
 /// The argument at a place.
@@ -60,26 +123,52 @@ fn inside_from<G: Guest>(guest: &G, row: &[Param], args: &[u64], at: usize) -> b
     }
 }
 
-/// A range of the arguments from one on, by its number: where it begins, and how many bytes it has.
-fn range_from(row: &[Param], args: &[u64], at: usize, number: usize) -> Option<(u64, u64)>
+/// A range that is inside.
+fn inside_range<G: Guest>(guest: &G, at: u64, len: u64) -> &[u8]
+    requires at { at < 2 ^ 32 }
+    requires len { len < 2 ^ 32 }
+    requires inside { is_range (G.at guest.now).config.store.memory at len ≡ true }
+    ensures bytes { result.now ≡ bytes_at (G.at guest.now).config.store.memory at len }
+    ensures short { length result.now ≤ 16777216 }
+{
+    let size = guest.size();
+    match guest.read(at as u32, len as u32) {
+        Some(bytes) => {
+            prove!(bytes.len() as u64 <= size);
+            bytes
+        }
+        None => unreachable!(),
+    }
+}
+
+/// The bytes of a range of the arguments from one on, by its number, where they stand; none where there are fewer.
+#[tactic(auto, using(crate::proofs::Inside::range_inside, crate::proofs::Inside::after_input, crate::proofs::Inside::after_output, crate::proofs::Inside::after_result, crate::proofs::Inside::after_wide_result))]
+fn range_from<'g, G: Guest>(
+    guest: &'g G,
+    row: &[Param],
+    args: &[u64],
+    at: usize,
+    number: usize,
+) -> &'g [u8]
     requires few { at + 2 * length row.now ≤ 32 }
     requires args { Are row.now at args.now }
-    ensures range { result ≡ slice_get (ranges row.now at args.now) number }
-    ensures fits { IfSome result (λ r. (r.0 < 2 ^ 32) × (r.1 < 2 ^ 32)) }
+    requires inside { all_inside (G.at guest.now).config.store.memory row.now at args.now ≡ true }
+    ensures bytes { result.now ≡ bytes_in (G.at guest.now).config.store.memory (slice_get (ranges row.now at args.now) number) }
+    ensures short { length result.now ≤ 16777216 }
 {
     let Some((first, rest)) = row.split_first() else {
-        return None;
+        return &[];
     };
     match first {
         Param::Number | Param::Wide | Param::Result | Param::WideResult => {
-            range_from(rest, args, at + 1, number)
+            range_from(guest, rest, args, at + 1, number)
         }
-        Param::Output => range_from(rest, args, at + 2, number),
+        Param::Output => range_from(guest, rest, args, at + 2, number),
         Param::Input => {
             if number == 0 {
-                Some((arg(args, at), arg(args, at + 1)))
+                inside_range(guest, arg(args, at), arg(args, at + 1))
             } else {
-                range_from(rest, args, at + 2, number - 1)
+                range_from(guest, rest, args, at + 2, number - 1)
             }
         }
     }
@@ -115,56 +204,20 @@ fn place_from(row: &[Param], args: &[u64], at: usize, number: usize) -> u64
     }
 }
 
-/// The bytes of a range.
-fn take_range<G: Guest>(
-    alloc: Global,
-    guest: &G,
-    row: &[Param],
-    args: &[u64],
-    number: usize,
-) -> Result<Octets, OutOfMemory>
+/// The bytes of a call's ranges, where they stand. Nothing is copied.
+pub(crate) fn inputs_of<'g, G: Guest>(guest: &'g G, row: &[Param], args: &[u64]) -> Ranges<'g>
     requires few { length row.now ≤ 16 }
     requires args { Are row.now 0 args.now }
     requires inside { all_inside (G.at guest.now).config.store.memory row.now 0 args.now ≡ true }
-    ensures bytes { IfOk result (λ o. o ≡ bytes_in (G.at guest.now).config.store.memory (slice_get (ranges row.now 0 args.now) number)) }
-    ensures short { IfOk result (λ o. length o ≤ 16777216) }
+    ensures taken { result ≡ input_bytes (G.at guest.now).config.store.memory row.now args.now }
+    ensures short { AreInputs result }
 {
-    let size = guest.size();
-    match range_from(row, args, 0, number) {
-        None => Ok(Octets::new(alloc)),
-        Some((at, len)) => match take_bytes(alloc, guest, at as u32, len as u32) {
-            Ok(bytes) => {
-                prove!(bytes.len() as u64 <= size);
-                Ok(bytes)
-            }
-            Err(_) => Err(AllocError),
-        },
+    Ranges {
+        first: range_from(guest, row, args, 0, 0),
+        second: range_from(guest, row, args, 0, 1),
+        third: range_from(guest, row, args, 0, 2),
+        fourth: range_from(guest, row, args, 0, 3),
     }
-}
-
-/// The bytes of a call's ranges.
-pub(crate) fn take_inputs<G: Guest>(
-    alloc: Global,
-    guest: &G,
-    row: &[Param],
-    args: &[u64],
-) -> Result<Inputs, OutOfMemory>
-    requires few { length row.now ≤ 16 }
-    requires args { Are row.now 0 args.now }
-    requires inside { all_inside (G.at guest.now).config.store.memory row.now 0 args.now ≡ true }
-    ensures taken { IfOk result (λ i. i ≡ input_bytes (G.at guest.now).config.store.memory row.now args.now) }
-    ensures short { IfOk result AreInputs }
-{
-    let first = take_range(alloc, guest, row, args, 0)?;
-    let second = take_range(alloc, guest, row, args, 1)?;
-    let third = take_range(alloc, guest, row, args, 2)?;
-    let fourth = take_range(alloc, guest, row, args, 3)?;
-    Ok(Inputs {
-        first,
-        second,
-        third,
-        fourth,
-    })
 }
 
 /// A place for a result, by its number.

@@ -10,7 +10,7 @@ ghost use Rattle.abi_model.specs.declared.opening.Inputs.{Inputs as Taken};
 ghost use Rattle.abi_model.specs.declared.table.Param.{Param as Parameter};
 
 use crate::ends::{HostEnd, Outcome, finish};
-use crate::opening::{Inputs, all_inside, places_of, take_inputs};
+use crate::opening::{Ranges, all_inside, inputs_of, places_of};
 use crate::table::Param;
 use abi_types::Guest;
 use contexts::Contexts;
@@ -34,18 +34,19 @@ pub trait WritingCall {
     /// The call itself, when its ranges and places are inside.
     fn make(
         &self,
+        alloc: Global,
         contexts: &Contexts,
         vm: VmNo,
         logs: &mut SentList,
         args: &[u64],
-        inputs: Inputs,
+        inputs: &Ranges,
     ) -> Result<Outcome, OutOfMemory>
         requires vm { vm < length contexts.now.vms }
         requires args { Are (params self.now) 0 args.now }
-        requires inputs { AreInputs inputs }
-        ensures made { IfOk result (λ o. o ≡ (own self.now args.now inputs (seen contexts.now vm)).outcome) }
+        requires inputs { AreInputs inputs.now }
+        ensures made { IfOk result (λ o. o ≡ (own self.now args.now inputs.now (seen contexts.now vm)).outcome) }
         ensures short { IfOk result (λ o. AreShort o.gives) }
-        ensures lines { IfOk result (λ _. logs.new ≡ logs.old ++ (own self.now args.now inputs (seen contexts.now vm)).lines) }
+        ensures lines { IfOk result (λ _. logs.new ≡ logs.old ++ (own self.now args.now inputs.now (seen contexts.now vm)).lines) }
         ensures err { OnErr result (logs.new ≡ logs.old) };
 }
 
@@ -72,10 +73,8 @@ pub fn writing_call<C: WritingCall, G: Guest>(
     if !all_inside(guest, row, args) {
         return HostEnd::Status { status: outside };
     }
-    let Ok(inputs) = take_inputs(alloc, guest, row, args) else {
-        return HostEnd::OutOfMemory;
-    };
-    let Ok(outcome) = call.make(contexts, vm, logs, args, inputs) else {
+    let inputs = inputs_of(guest, row, args);
+    let Ok(outcome) = call.make(alloc, contexts, vm, logs, args, &inputs) else {
         return HostEnd::OutOfMemory;
     };
     finish(guest, outside, &outcome, places_of(row, args))

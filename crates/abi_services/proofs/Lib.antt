@@ -1,4 +1,3 @@
-pub mod Lines
 pub mod Named
 pub mod Once
 pub mod Pieces

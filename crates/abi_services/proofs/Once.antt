@@ -23,6 +23,10 @@ module _ {S : Type 0} {performs : S → List Made → S → Type 0} where
   pub refused : {s t : S} (p : Program Outcome) → performs s [] t → (q : Program Outcome) × Runs performs s p q t
   refused {s} {t} p here = (p, runs_still performs s t p here)
 
+  -- memory ran out before anything was asked
+  pub unasked : ((x : S) → performs x [] x) → {s : S} (p : Program Outcome) → (q : Program Outcome) × Runs performs s p q s
+  unasked nothing {s} p = (p, runs_still performs s s p (nothing s))
+
   -- nothing is asked
   pub at_once : ((x : S) → performs x [] x) → {s : S} (o : Outcome) → Runs performs s (done o) (done o) s
   at_once nothing {s} o = runs_still performs s s (done o) (nothing s)

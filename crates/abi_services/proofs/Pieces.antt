@@ -54,28 +54,6 @@ nothing_put text m at len none = sym (append-nil text) ∙ ap (λ n. text ++ byt
 pub no_pieces : (m : List ℕ) (at count size : ℕ) → size ≡ length (pieces m at count) → size ≡ 0 → [] ≡ pieces m at count
 no_pieces m at count size is none = sym (nil_from_length (pieces m at count) (sym is ∙ none))
 
--- ---- so many entries, and then the others
-
-and_assoc : (a b c : Bool) → (a && (b && c)) ≡ ((a && b) && c)
-and_assoc true b c = refl
-and_assoc false b c = refl
-
-split_inside : (m : List ℕ) (p n r : ℕ) → pieces_inside m p (n + r) ≡ (pieces_inside m p n && pieces_inside m (p + 8 * n) r)
-split_inside m p zero r = λ i. pieces_inside m ((let e : p ≡ p + 8 * zero = omega arith in e) i) ((let e : zero + r ≡ r = omega arith in e) i)
-split_inside m p (suc n) r =
-    ap (pieces_inside m p) (let e : suc n + r ≡ suc (n + r) = omega arith in e)
-    ∙ ap (λ b. is_range m (word_at m p) (word_at m (p + 4)) && b) (split_inside m (p + 8) n r)
-    ∙ ap (λ q. is_range m (word_at m p) (word_at m (p + 4)) && (pieces_inside m (p + 8) n && pieces_inside m q r)) (let e : p + 8 + 8 * n ≡ p + 8 * suc n = omega arith in e)
-    ∙ and_assoc (is_range m (word_at m p) (word_at m (p + 4))) (pieces_inside m (p + 8) n) (pieces_inside m (p + 8 * suc n) r)
-
-split_pieces : (m : List ℕ) (p n r : ℕ) → pieces m p (n + r) ≡ pieces m p n ++ pieces m (p + 8 * n) r
-split_pieces m p zero r = λ i. pieces m ((let e : p ≡ p + 8 * zero = omega arith in e) i) ((let e : zero + r ≡ r = omega arith in e) i)
-split_pieces m p (suc n) r =
-    ap (pieces m p) (let e : suc n + r ≡ suc (n + r) = omega arith in e)
-    ∙ ap (λ bs. bytes_at m (word_at m p) (word_at m (p + 4)) ++ bs) (split_pieces m (p + 8) n r)
-    ∙ ap (λ q. bytes_at m (word_at m p) (word_at m (p + 4)) ++ (pieces m (p + 8) n ++ pieces m q r)) (let e : p + 8 + 8 * n ≡ p + 8 * suc n = omega arith in e)
-    ∙ sym (append_assoc (bytes_at m (word_at m p) (word_at m (p + 4))) (pieces m (p + 8) n) (pieces m (p + 8 * suc n) r))
-
 module _ (m : List ℕ) (at count : ℕ) where
   places : (k : ℕ) → at + 8 * k + 8 ≡ at + 8 * (k + 1)
   places k = omega arith
@@ -136,39 +114,3 @@ module _ (m : List ℕ) (at count : ℕ) where
   joined_end first text k same so_far =
       let none : count - k ≡ 0 = omega arith in
       sym (so_far.joined ∙ ap (λ n. text ++ pieces m (at + 8 * k) n) none ∙ append-nil text)
-
-  -- ---- a block of entries
-
-  module _ (k n : ℕ) (fits : k + n ≤ count) where
-    rest : count - k ≡ n + (count - (k + n))
-    rest = omega arith
-
-    behind : at + 8 * k + 8 * n ≡ at + 8 * (k + n)
-    behind = omega arith
-
-    rest_inside : pieces_inside m (at + 8 * k) (count - k) ≡ (pieces_inside m (at + 8 * k) n && pieces_inside m (at + 8 * (k + n)) (count - (k + n)))
-    rest_inside = ap (pieces_inside m (at + 8 * k)) rest ∙ split_inside m (at + 8 * k) n (count - (k + n)) ∙ ap (λ p. pieces_inside m (at + 8 * k) n && pieces_inside m p (count - (k + n))) behind
-
-    rest_pieces : pieces m (at + 8 * k) (count - k) ≡ pieces m (at + 8 * k) n ++ pieces m (at + 8 * (k + n)) (count - (k + n))
-    rest_pieces = ap (pieces m (at + 8 * k)) rest ∙ split_pieces m (at + 8 * k) n (count - (k + n)) ∙ ap (λ p. pieces m (at + 8 * k) n ++ pieces m p (count - (k + n))) behind
-
-    pub block_out : (total : ℕ) → AreJudged m at count total k → pieces_inside m (at + 8 * k) n ≡ false → pieces_inside m at count ≡ false
-    block_out total so_far out = so_far.inside ∙ rest_inside ∙ ap (λ b. b && pieces_inside m (at + 8 * (k + n)) (count - (k + n))) out
-
-    pub judged_block : (total size : ℕ) → AreJudged m at count total k → pieces_inside m (at + 8 * k) n ≡ true → size ≡ length (pieces m (at + 8 * k) n) → size ≤ n * 16777216 → AreJudged m at count (total + size) (k + n)
-    judged_block total size so_far all is small =
-        let whole = length-append (pieces m (at + 8 * k) n) (pieces m (at + 8 * (k + n)) (count - (k + n))) in
-        let next = ap length rest_pieces in
-        let old = so_far.size in
-        let less = so_far.bound in
-        record {
-          inside = so_far.inside ∙ rest_inside ∙ ap (λ b. b && pieces_inside m (at + 8 * (k + n)) (count - (k + n))) all;
-          size = omega arith;
-          bound = omega arith;
-        }
-
-    pub joined_block : (first text more : List ℕ) → AreJoined m at count first text k → more ≡ text ++ pieces m (at + 8 * k) n → AreJoined m at count first more (k + n)
-    joined_block first text more so_far is = record {
-      joined = so_far.joined ∙ ap (λ xs. text ++ xs) rest_pieces ∙ sym (append_assoc text (pieces m (at + 8 * k) n) (pieces m (at + 8 * (k + n)) (count - (k + n))))
-          ∙ ap (λ xs. xs ++ pieces m (at + 8 * (k + n)) (count - (k + n))) (sym is);
-    }

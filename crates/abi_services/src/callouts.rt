@@ -5,7 +5,9 @@ ghost use Rattle.abi_types.specs.GuestAt.{Keeps, StillWaits};
 ghost use Rattle.contexts.specs.Reached.{seen, put};
 ghost use Rattle.header_maps.specs.Faults.{fault_of};
 ghost use Rattle.header_maps.specs.Kept.{byte_limit, is_short};
+ghost use Rattle.header_maps.specs.declared.kind.ListKind.TheVariants as kinds;
 ghost use Rattle.pair_codec.specs.Reading.{pairs_in};
+ghost use Rattle.pair_codec.specs.Tallies.{tally_of};
 ghost use Rattle.abi_model.specs.Calls.{does, told, Ends, RestsAfterCall, AreShort};
 ghost use Rattle.abi_model.specs.Rows.{AreInputs};
 ghost use Rattle.abi_model.specs.Table.{Are, row_of};
@@ -13,15 +15,15 @@ ghost use Rattle.abi_model.specs.declared.table.HostCall.TheVariants as call;
 ghost use Rattle.abi_services.specs.Callouts.{is_call as is_call_of, call_count as call_count_of, is_full_for as is_full_of, next_call as next_call_of, is_bad as is_bad_of, is_over as is_over_of, has_no_room as has_no_room_of, refusal_of, request_for, begun, calling_with, calling_of, calling_by, upstream, own_http_call};
 
 use abi_model::{
-    Gives, HostCall, HostEnd, Inputs, LocalCall, Outcome, Param, answer, call_row, given,
+    Gives, HostCall, HostEnd, LocalCall, Outcome, Param, Ranges, answer, call_row, given,
     local_call,
 };
 use abi_types::Guest;
 use body_buffers::Body;
 use contexts::{Contexts, Effect, EffectKind, Request};
-use gate_base::{Octets, OutOfMemory, VmNo};
+use gate_base::{OutOfMemory, VmNo};
 use header_maps::{HeaderEnd, HeaderList, ListKind};
-use pair_codec::{Serialised, list_of, request_of};
+use pair_codec::{Serialised, Tally, list_of, request_of};
 use std::alloc::{AllocError, Global};
 
 /// How many callouts may be under way.
@@ -179,20 +181,24 @@ fn begin_of(
     vm: VmNo,
     asker: VmNo,
     headers: &Serialised,
+    of_headers: Tally,
     body: &[u8],
     trailers: &Serialised,
+    of_trailers: Tally,
     timeout_ms: u32,
 ) -> Result<Outcome, OutOfMemory>
     requires vm { vm < length contexts.old.vms }
     requires headers { list_all is_short headers.now ≡ true }
+    requires of_headers { of_headers ≡ tally_of kinds.Request headers.now }
     requires trailers { list_all is_short trailers.now ≡ true }
+    requires of_trailers { of_trailers ≡ tally_of kinds.Plain trailers.now }
     ensures made { IfOk result (λ o. o ≡ told (calling_with asker headers.now body.now trailers.now timeout_ms (seen contexts.old vm))) }
     ensures short { IfOk result (λ o. AreShort o.gives) }
     ensures changes { IfOk result (λ _. contexts.new ≡ put (calling_with asker headers.now body.now trailers.now timeout_ms (seen contexts.old vm)).changes vm contexts.old) }
     ensures err { OnErr result (contexts.new ≡ contexts.old) }
 {
-    let fields = request_of(alloc, headers);
-    let last = list_of(alloc, ListKind::Plain, trailers);
+    let fields = request_of(alloc, headers, of_headers);
+    let last = list_of(alloc, ListKind::Plain, trailers, of_trailers);
     match refusal(&fields, &last, contexts, vm, body) {
         Some(status) => Ok(answer(status)),
         None => {
@@ -223,14 +229,23 @@ fn begin_from(
     ensures changes { IfOk result (λ _. contexts.new ≡ put (calling_of asker (pairs_in headers.now) body.now (pairs_in trailers.now) timeout_ms (seen contexts.old vm)).changes vm contexts.old) }
     ensures err { OnErr result (contexts.new ≡ contexts.old) }
 {
-    let Some(headers) = Serialised::of(headers) else {
+    let Some((headers, of_headers)) = Serialised::judged(ListKind::Request, headers) else {
         return Ok(answer(4));
     };
-    let Some(trailers) = Serialised::of(trailers) else {
+    let Some((trailers, of_trailers)) = Serialised::judged(ListKind::Plain, trailers) else {
         return Ok(answer(4));
     };
     begin_of(
-        alloc, contexts, vm, asker, &headers, body, &trailers, timeout_ms,
+        alloc,
+        contexts,
+        vm,
+        asker,
+        &headers,
+        of_headers,
+        body,
+        &trailers,
+        of_trailers,
+        timeout_ms,
     )
 }
 
@@ -240,7 +255,7 @@ fn begin_for(
     contexts: &mut Contexts,
     vm: VmNo,
     asker: VmNo,
-    inputs: &Inputs,
+    inputs: &Ranges,
     timeout_ms: u32,
 ) -> Result<Outcome, OutOfMemory>
     requires vm { vm < length contexts.old.vms }
@@ -250,9 +265,9 @@ fn begin_for(
     ensures changes { IfOk result (λ _. contexts.new ≡ put (calling_of asker (pairs_in inputs.now.second) inputs.now.third (pairs_in inputs.now.fourth) timeout_ms (seen contexts.old vm)).changes vm contexts.old) }
     ensures err { OnErr result (contexts.new ≡ contexts.old) }
 {
-    let headers = inputs.second.as_slice();
-    let body = inputs.third.as_slice();
-    let trailers = inputs.fourth.as_slice();
+    let headers = inputs.second();
+    let body = inputs.third();
+    let trailers = inputs.fourth();
     begin_from(
         alloc, contexts, vm, asker, headers, body, trailers, timeout_ms,
     )
@@ -267,10 +282,10 @@ fn has_context(contexts: &Contexts, vm: VmNo) -> bool
 }
 
 /// Whether that names the upstream.
-fn is_upstream(name: &Octets) -> bool
+fn is_upstream(name: &[u8]) -> bool
     ensures { result ≡ bytes_eq name.now upstream }
 {
-    name.as_slice() == b"upstream".as_slice()
+    name == b"upstream".as_slice()
 }
 
 /// Asks for a callout, where there is a context for it and it is one of the upstream.
@@ -279,7 +294,7 @@ fn begin_by(
     contexts: &mut Contexts,
     vm: VmNo,
     asker: VmNo,
-    inputs: &Inputs,
+    inputs: &Ranges,
     timeout_ms: u32,
 ) -> Result<Outcome, OutOfMemory>
     requires vm { vm < length contexts.old.vms }
@@ -292,7 +307,7 @@ fn begin_by(
     if !has_context(contexts, vm) {
         return Ok(answer(2));
     }
-    if !is_upstream(&inputs.first) {
+    if !is_upstream(inputs.first()) {
         return Ok(answer(2));
     }
     begin_for(alloc, contexts, vm, asker, inputs, timeout_ms)
@@ -320,7 +335,7 @@ impl LocalCall for HttpCall {
         contexts: &mut Contexts,
         vm: VmNo,
         args: &[u64],
-        inputs: &Inputs,
+        inputs: &Ranges,
     ) -> Result<Outcome, OutOfMemory> {
         begin_by(alloc, contexts, vm, self.asker, inputs, args[8] as u32)
     }

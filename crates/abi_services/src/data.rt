@@ -11,7 +11,7 @@ ghost use Rattle.store_model.specs.Replies.{IsGetReply};
 ghost use Rattle.abi_services.specs.Data.{got as got_of, was_set as was_set_of, getting, setting, own_get_shared_data, own_set_shared_data};
 
 use abi_model::{
-    AskingCall, Gives, HostCall, HostEnd, Inputs, Outcome, Param, answer, asking_call, call_row,
+    AskingCall, Gives, HostCall, HostEnd, Outcome, Param, Ranges, answer, asking_call, call_row,
     given,
 };
 use abi_types::Guest;
@@ -36,18 +36,19 @@ fn got(reply: Reply) -> Outcome
 }
 
 /// The value of a key.
-#[tactic(auto, using(crate::proofs::Once::asked, crate::proofs::Once::refused))]
+#[tactic(auto, using(crate::proofs::Once::asked, crate::proofs::Once::refused, crate::proofs::Once::unasked))]
 fn get<S: Shared>(
     alloc: Global,
     shared: &mut S,
     vm: VmNo,
-    key: Octets,
+    key: &[u8],
 ) -> Result<Outcome, OutOfMemory>
     requires { vm < S.stores shared.old }
-    ensures ends { Ends S.performs shared.old (getting vm key) (λ o. o) result shared.new }
+    ensures ends { Ends S.performs shared.old (getting vm key.now) (λ o. o) result shared.new }
     ensures short { IfOk result (λ o. AreShort o.gives) }
     ensures stores { S.stores shared.new ≡ S.stores shared.old }
 {
+    let key = Octets::from_slice(alloc, key)?;
     match shared.call(alloc, vm, &Call::Get { key }) {
         Ok(reply) => Ok(got(reply)),
         Err(end) => Err(end),
@@ -67,20 +68,22 @@ fn was_set(reply: &Reply) -> Outcome
 }
 
 /// Sets a key.
-#[tactic(auto, using(crate::proofs::Once::asked, crate::proofs::Once::refused))]
+#[tactic(auto, using(crate::proofs::Once::asked, crate::proofs::Once::refused, crate::proofs::Once::unasked))]
 fn set<S: Shared>(
     alloc: Global,
     shared: &mut S,
     vm: VmNo,
-    key: Octets,
-    value: Octets,
+    key: &[u8],
+    value: &[u8],
     number: u32,
 ) -> Result<Outcome, OutOfMemory>
     requires { vm < S.stores shared.old }
-    ensures ends { Ends S.performs shared.old (setting vm key value number) (λ o. o) result shared.new }
+    ensures ends { Ends S.performs shared.old (setting vm key.now value.now number) (λ o. o) result shared.new }
     ensures short { IfOk result (λ o. AreShort o.gives) }
     ensures stores { S.stores shared.new ≡ S.stores shared.old }
 {
+    let key = Octets::from_slice(alloc, key)?;
+    let value = Octets::from_slice(alloc, value)?;
     match shared.call(alloc, vm, &Call::Set { key, value, number }) {
         Ok(reply) => Ok(was_set(&reply)),
         Err(end) => Err(end),
@@ -106,9 +109,9 @@ impl AskingCall for GetSharedData {
         shared: &mut S,
         vm: VmNo,
         args: &[u64],
-        inputs: Inputs,
+        inputs: &Ranges,
     ) -> Result<Outcome, OutOfMemory> {
-        get(alloc, shared, vm, inputs.first)
+        get(alloc, shared, vm, inputs.first())
     }
 }
 
@@ -152,14 +155,14 @@ impl AskingCall for SetSharedData {
         shared: &mut S,
         vm: VmNo,
         args: &[u64],
-        inputs: Inputs,
+        inputs: &Ranges,
     ) -> Result<Outcome, OutOfMemory> {
         set(
             alloc,
             shared,
             vm,
-            inputs.first,
-            inputs.second,
+            inputs.first(),
+            inputs.second(),
             args[4] as u32,
         )
     }

@@ -10,9 +10,9 @@ ghost use Rattle.abi_model.specs.declared.table.WasiCall.TheVariants as call;
 ghost use Rattle.abi_services.specs.Files.{word_in as word_of, word_at as word_at_of, pieces_inside, are_inside, pieces, file_written, text_written, IsText, fd_writes};
 
 use crate::logging::level_at;
-use abi_memory::{is_within, take_bytes};
+use abi_memory::is_within;
 use abi_model::{
-    Gives, HostEnd, Inputs, Outcome, Param, WasiCall, WritingCall, answer, given, wasi_call_row,
+    Gives, HostEnd, Outcome, Param, Ranges, WasiCall, WritingCall, answer, given, wasi_call_row,
     writing_call,
 };
 use abi_types::Guest;
@@ -23,9 +23,6 @@ use std::alloc::{AllocError, Global};
 
 /// How many bytes a call may write.
 const TEXT_LIMIT: usize = 65_536;
-
-/// How many entries are read at once: a call is given as many as its memory holds, and costs one unit.
-const ENTRIES: u32 = 512;
 
 /// A byte of some, and 0 where there are fewer.
 fn byte_at(bytes: &[u8], at: usize) -> u32
@@ -66,49 +63,39 @@ fn piece_in(entries: &[u8], number: u32) -> Piece
     Piece { at: begins, len }
 }
 
-/// So many entries, as they stand in a guest's memory.
-fn take_entries<G: Guest>(
-    alloc: Global,
-    guest: &G,
-    at: u32,
-    count: u32,
-) -> Result<Octets, OutOfMemory>
-    requires { count ≤ 512 }
-    ensures entries { IfOk result (λ o. o ≡ bytes_at (G.at guest.now).config.store.memory at (8 * count)) }
-    ensures whole { IfOk result (λ o. length o ≡ 8 * count) }
+/// So many entries, where they stand in a guest's memory.
+fn entries_of<'g, G: Guest>(guest: &'g G, at: u32, count: u32) -> &'g [u8]
+    requires few { 8 * count ≤ 16777216 }
+    requires inside { is_range (G.at guest.now).config.store.memory at (8 * count) ≡ true }
+    ensures entries { result.now ≡ bytes_at (G.at guest.now).config.store.memory at (8 * count) }
+    ensures whole { length result.now ≡ 8 * count }
 {
-    match take_bytes(alloc, guest, at, 8 * count) {
-        Ok(entries) => Ok(entries),
-        Err(_) => Err(AllocError),
+    match guest.read(at, 8 * count) {
+        Some(entries) => entries,
+        None => unreachable!(),
     }
 }
 
 /// Puts the bytes of a piece at the end.
-fn put_piece<G: Guest>(
-    alloc: Global,
-    guest: &G,
-    text: &mut Octets,
-    piece: &Piece,
-) -> Result<(), OutOfMemory>
+fn put_piece<G: Guest>(guest: &G, text: &mut Octets, piece: &Piece) -> Result<(), OutOfMemory>
     ensures { OnOk result (text.new ≡ text.old ++ bytes_at (G.at guest.now).config.store.memory piece.now.at piece.now.len) }
 {
     if piece.len == 0 {
         return Ok(());
     }
-    match take_bytes(alloc, guest, piece.at, piece.len) {
-        Ok(bytes) => text.extend_from_slice(bytes.as_slice()),
-        Err(_) => Err(AllocError),
+    match guest.read(piece.at, piece.len) {
+        Some(bytes) => text.extend_from_slice(bytes),
+        None => Err(AllocError),
     }
 }
 
 /// How many bytes the pieces of some entries have together; none where a piece is outside. It takes no memory.
-fn size_of_block<G: Guest>(guest: &G, entries: &[u8], at: u32, count: u32) -> Option<u64>
-    requires few { count ≤ 512 }
+fn size_of_pieces<G: Guest>(guest: &G, entries: &[u8], at: u32, count: u32) -> Option<u64>
+    requires few { 8 * count ≤ 16777216 }
     requires entries { entries.now ≡ bytes_at (G.at guest.now).config.store.memory at (8 * count) }
     requires whole { length entries.now ≡ 8 * count }
     ensures none { IfNone result (pieces_inside (G.at guest.now).config.store.memory at count ≡ false) }
     ensures some { IfSome result (λ n. (pieces_inside (G.at guest.now).config.store.memory at count ≡ true) × (n ≡ length (pieces (G.at guest.now).config.store.memory at count))) }
-    ensures bound { IfSome result (λ n. n ≤ count * 16777216) }
 {
     let _ = at;
     let most = guest.size();
@@ -124,99 +111,24 @@ fn size_of_block<G: Guest>(guest: &G, entries: &[u8], at: u32, count: u32) -> Op
     Some(total)
 }
 
-/// The same of entries that are read first.
-fn size_of_next<G: Guest>(
-    alloc: Global,
-    guest: &G,
-    at: u32,
-    count: u32,
-) -> Result<Option<u64>, OutOfMemory>
-    requires { count ≤ 512 }
-    ensures none { IfOk result (λ o. IfNone o (pieces_inside (G.at guest.now).config.store.memory at count ≡ false)) }
-    ensures some { IfOk result (λ o. IfSome o (λ n. (pieces_inside (G.at guest.now).config.store.memory at count ≡ true) × (n ≡ length (pieces (G.at guest.now).config.store.memory at count)))) }
-    ensures bound { IfOk result (λ o. IfSome o (λ n. n ≤ count * 16777216)) }
-{
-    let entries = take_entries(alloc, guest, at, count)?;
-    Ok(size_of_block(guest, entries.as_slice(), at, count))
-}
-
-/// How many bytes so many pieces have together; none where a piece is outside.
-fn size_of_pieces<G: Guest>(
-    alloc: Global,
-    guest: &G,
-    at: u32,
-    count: u32,
-) -> Result<Option<u64>, OutOfMemory>
-    requires { at + 8 * count ≤ 16777216 }
-    ensures none { IfOk result (λ o. IfNone o (pieces_inside (G.at guest.now).config.store.memory at count ≡ false)) }
-    ensures some { IfOk result (λ o. IfSome o (λ n. (pieces_inside (G.at guest.now).config.store.memory at count ≡ true) × (n ≡ length (pieces (G.at guest.now).config.store.memory at count)))) }
-{
-    let mut total: u64 = 0;
-    let mut done = 0;
-    while done < count {
-        let next = (count - done).min(ENTRIES);
-        let Some(size) = size_of_next(alloc, guest, at + 8 * done, next)? else {
-            return Ok(None);
-        };
-        total += size;
-        done += next;
-    }
-    Ok(Some(total))
-}
-
-/// Puts the pieces of some entries at the end. A piece of no bytes takes no memory.
-fn join_block<G: Guest>(
-    alloc: Global,
-    guest: &G,
-    text: &mut Octets,
-    entries: &[u8],
-    at: u32,
-    count: u32,
-) -> Result<(), OutOfMemory>
-    requires few { count ≤ 512 }
-    requires entries { entries.now ≡ bytes_at (G.at guest.now).config.store.memory at (8 * count) }
-    requires whole { length entries.now ≡ 8 * count }
-    ensures { OnOk result (text.new ≡ text.old ++ pieces (G.at guest.now).config.store.memory at count) }
-{
-    let _ = at;
-    for k in 0..count {
-        let piece = piece_in(entries, k);
-        put_piece(alloc, guest, text, &piece)?;
-    }
-    Ok(())
-}
-
-/// The same of entries that are read first.
-fn join_next<G: Guest>(
-    alloc: Global,
-    guest: &G,
-    text: &mut Octets,
-    at: u32,
-    count: u32,
-) -> Result<(), OutOfMemory>
-    requires { count ≤ 512 }
-    ensures { OnOk result (text.new ≡ text.old ++ pieces (G.at guest.now).config.store.memory at count) }
-{
-    let entries = take_entries(alloc, guest, at, count)?;
-    join_block(alloc, guest, text, entries.as_slice(), at, count)
-}
-
-/// So many pieces joined.
+/// The pieces of some entries joined. A piece of no bytes takes no memory.
 fn join_pieces<G: Guest>(
     alloc: Global,
     guest: &G,
+    entries: &[u8],
     at: u32,
     count: u32,
 ) -> Result<Octets, OutOfMemory>
-    requires { at + 8 * count ≤ 16777216 }
+    requires few { 8 * count ≤ 16777216 }
+    requires entries { entries.now ≡ bytes_at (G.at guest.now).config.store.memory at (8 * count) }
+    requires whole { length entries.now ≡ 8 * count }
     ensures { IfOk result (λ text. text ≡ pieces (G.at guest.now).config.store.memory at count) }
 {
+    let _ = at;
     let mut text = Octets::new(alloc);
-    let mut done = 0;
-    while done < count {
-        let next = (count - done).min(ENTRIES);
-        join_next(alloc, guest, &mut text, at + 8 * done, next)?;
-        done += next;
+    for k in 0..count {
+        let next = piece_in(entries, k);
+        put_piece(guest, &mut text, &next)?;
     }
     Ok(text)
 }
@@ -225,11 +137,14 @@ fn join_pieces<G: Guest>(
 fn text_of<G: Guest>(
     alloc: Global,
     guest: &G,
+    entries: &[u8],
     at: u32,
     count: u32,
     size: u64,
 ) -> Result<Option<Octets>, OutOfMemory>
-    requires range { at + 8 * count ≤ 16777216 }
+    requires few { 8 * count ≤ 16777216 }
+    requires entries { entries.now ≡ bytes_at (G.at guest.now).config.store.memory at (8 * count) }
+    requires whole { length entries.now ≡ 8 * count }
     requires size { size ≡ length (pieces (G.at guest.now).config.store.memory at count) }
     ensures { IfOk result (λ text. IsText (pieces (G.at guest.now).config.store.memory at count) text) }
 {
@@ -239,7 +154,7 @@ fn text_of<G: Guest>(
     if size == 0 {
         return Ok(Some(Octets::new(alloc)));
     }
-    let text = join_pieces(alloc, guest, at, count)?;
+    let text = join_pieces(alloc, guest, entries, at, count)?;
     Ok(Some(text))
 }
 
@@ -279,7 +194,6 @@ fn write_text(
 /// Writes to a file: the pieces joined, or that they have too many bytes.
 #[derive(Drop)]
 struct FdWrite {
-    alloc: Global,
     text: Option<Octets>,
 }
 
@@ -294,14 +208,15 @@ impl WritingCall for FdWrite {
 
     fn make(
         &self,
+        alloc: Global,
         contexts: &Contexts,
         vm: VmNo,
         logs: &mut SentList,
         args: &[u64],
-        _inputs: Inputs,
+        _inputs: &Ranges,
     ) -> Result<Outcome, OutOfMemory> {
         match &self.text {
-            Some(text) => write_text(self.alloc, contexts, vm, logs, args[0], text),
+            Some(text) => write_text(alloc, contexts, vm, logs, args[0], text),
             None => {
                 if args[0] != 1 && args[0] != 2 {
                     return Ok(answer(8));
@@ -325,18 +240,15 @@ fn take_text<G: Guest>(
     ensures some { IfOk result (λ o. IfSome o (λ c. (are_inside (G.at guest.now).config.store.memory at count ≡ true) × IsText (pieces (G.at guest.now).config.store.memory at count) c.text)) }
 {
     let _most = guest.size();
-    if count == 0 {
-        let text = Some(Octets::new(alloc));
-        return Ok(Some(FdWrite { alloc, text }));
-    }
     if !is_within(guest, at, 8 * count) {
         return Ok(None);
     }
-    let Some(size) = size_of_pieces(alloc, guest, at as u32, count as u32)? else {
+    let entries = entries_of(guest, at as u32, count as u32);
+    let Some(size) = size_of_pieces(guest, entries, at as u32, count as u32) else {
         return Ok(None);
     };
-    let text = text_of(alloc, guest, at as u32, count as u32, size)?;
-    Ok(Some(FdWrite { alloc, text }))
+    let text = text_of(alloc, guest, entries, at as u32, count as u32, size)?;
+    Ok(Some(FdWrite { text }))
 }
 
 /// Writes pieces of a guest's memory to the log, joined: those of the file 1 at the level info, those of 2 at error; gives how many

@@ -8,7 +8,7 @@ ghost use Rattle.abi_model.specs.declared.table.HostCall.TheVariants as call;
 ghost use Rattle.abi_services.specs.Local.{tick_of as tick_at, setting_effective, done_of, ticked, own_get_log_level, own_get_current_time, own_set_tick_period, own_set_effective_context, own_done};
 
 use abi_model::{
-    Gives, HostCall, HostEnd, Inputs, LocalCall, Outcome, Param, answer, call_row, given,
+    Gives, HostCall, HostEnd, LocalCall, Outcome, Param, Ranges, answer, call_row, given,
     local_call,
 };
 use abi_types::Guest;
@@ -92,7 +92,7 @@ impl LocalCall for GetLogLevel {
         contexts: &mut Contexts,
         vm: VmNo,
         args: &[u64],
-        inputs: &Inputs,
+        inputs: &Ranges,
     ) -> Result<Outcome, OutOfMemory> {
         Ok(given(Gives::Number {
             number: contexts.level_number() as u32,
@@ -139,7 +139,7 @@ impl LocalCall for GetCurrentTime {
         contexts: &mut Contexts,
         vm: VmNo,
         args: &[u64],
-        inputs: &Inputs,
+        inputs: &Ranges,
     ) -> Result<Outcome, OutOfMemory> {
         Ok(given(Gives::Wide { number: self.now }))
     }
@@ -185,7 +185,7 @@ impl LocalCall for SetTickPeriod {
         contexts: &mut Contexts,
         vm: VmNo,
         args: &[u64],
-        inputs: &Inputs,
+        inputs: &Ranges,
     ) -> Result<Outcome, OutOfMemory> {
         Ok(set_tick(contexts, vm, self.now, args[0]))
     }
@@ -229,7 +229,7 @@ impl LocalCall for SetEffectiveContext {
         contexts: &mut Contexts,
         vm: VmNo,
         args: &[u64],
-        inputs: &Inputs,
+        inputs: &Ranges,
     ) -> Result<Outcome, OutOfMemory> {
         Ok(set_effective(contexts, vm, args[0]))
     }
@@ -271,7 +271,7 @@ impl LocalCall for Done {
         contexts: &mut Contexts,
         vm: VmNo,
         args: &[u64],
-        inputs: &Inputs,
+        inputs: &Ranges,
     ) -> Result<Outcome, OutOfMemory> {
         Ok(end_waiting(contexts, vm))
     }

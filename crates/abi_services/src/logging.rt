@@ -1,17 +1,15 @@
 // The call on the log.
-ghost use Rattle.std.specs.Prelude.{◌≡◌, ◌≤◌, ◌<◌, ◌++◌, ◌&&◌, nat_lt, length, IfOk, OnErr};
+ghost use Rattle.std.specs.Prelude.{◌≡◌, ◌<◌, ◌++◌, length, IfOk, OnErr};
 ghost use Rattle.abi_types.specs.GuestAt.{Keeps, StillWaits};
 ghost use Rattle.contexts.specs.Reached.{seen};
 ghost use Rattle.abi_model.specs.Calls.{CallEnds, RestsAfterCall, AreShort};
-ghost use Rattle.abi_memory.specs.Giving.{has_place};
-ghost use Rattle.abi_model.specs.Table.{Are, arg, row_of};
+ghost use Rattle.abi_model.specs.Table.{Are, row_of};
 ghost use Rattle.abi_model.specs.Writing.{writes, LogEnds};
 ghost use Rattle.abi_model.specs.declared.table.HostCall.TheVariants as call;
-ghost use Rattle.abi_services.specs.Logging.{level_at as level_of, text_limit, logging, own_log};
+ghost use Rattle.abi_services.specs.Logging.{level_at as level_of, logging, own_log};
 
-use abi_memory::is_within;
 use abi_model::{
-    HostCall, HostEnd, Inputs, Outcome, Param, WritingCall, answer, call_row, writing_call,
+    HostCall, HostEnd, Outcome, Param, Ranges, WritingCall, answer, call_row, writing_call,
 };
 use abi_types::Guest;
 use contexts::Contexts;
@@ -38,16 +36,17 @@ pub(crate) fn level_at(number: u64) -> Level
 
 /// Puts a line after the log, where it is not below the least level.
 fn log_line(
+    alloc: Global,
     contexts: &Contexts,
     vm: VmNo,
     logs: &mut SentList,
     level: u64,
-    text: Octets,
+    text: &[u8],
 ) -> Result<Outcome, OutOfMemory>
     requires { vm < length contexts.now.vms }
-    ensures made { IfOk result (λ o. o ≡ (logging level text (seen contexts.now vm)).outcome) }
+    ensures made { IfOk result (λ o. o ≡ (logging level text.now (seen contexts.now vm)).outcome) }
     ensures short { IfOk result (λ o. AreShort o.gives) }
-    ensures lines { IfOk result (λ _. logs.new ≡ logs.old ++ (logging level text (seen contexts.now vm)).lines) }
+    ensures lines { IfOk result (λ _. logs.new ≡ logs.old ++ (logging level text.now (seen contexts.now vm)).lines) }
     ensures err { OnErr result (logs.new ≡ logs.old) }
 {
     let _ = vm;
@@ -58,6 +57,7 @@ fn log_line(
         return Ok(answer(0));
     }
     let level = level_at(level);
+    let text = Octets::from_slice(alloc, text)?;
     logs.push(Sent::Log { level, text })?;
     Ok(answer(0))
 }
@@ -76,22 +76,15 @@ impl WritingCall for WriteLine {
 
     fn make(
         &self,
+        alloc: Global,
         contexts: &Contexts,
         vm: VmNo,
         logs: &mut SentList,
         args: &[u64],
-        inputs: Inputs,
+        inputs: &Ranges,
     ) -> Result<Outcome, OutOfMemory> {
-        log_line(contexts, vm, logs, args[0], inputs.first)
+        log_line(alloc, contexts, vm, logs, args[0], inputs.first())
     }
-}
-
-/// Whether the line of a call is inside and has too many bytes: it is refused without a copy of them.
-fn is_too_long<G: Guest>(guest: &G, args: &[u64]) -> bool
-    requires { Are (row_of call.Log) 0 args.now }
-    ensures { result ≡ (nat_lt text_limit (arg args.now 2) && has_place (arg args.now 1) (arg args.now 2) (G.at guest.now)) }
-{
-    args[2] > TEXT_LIMIT as u64 && is_within(guest, args[1], args[2])
 }
 
 /// Writes a line to the log, unless its level is below the least one. 2: a level above 5, or more than 65,536 bytes.
@@ -111,8 +104,5 @@ pub fn proxy_log<G: Guest>(
     ensures rests { RestsAfterCall result (StillWaits (G.rests guest.new) (G.at guest.old) (G.at guest.new)) }
     ensures keeps { Keeps (G.at guest.old) (G.at guest.new) }
 {
-    if is_too_long(guest, args) {
-        return HostEnd::Status { status: 2 };
-    }
     writing_call(alloc, &WriteLine, 6, guest, contexts, vm, logs, args)
 }

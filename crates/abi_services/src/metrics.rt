@@ -12,7 +12,7 @@ ghost use Rattle.store_model.specs.declared.metric.MetricAsk.TheVariants as metr
 ghost use Rattle.abi_services.specs.Metrics.{kind_of as kind_at, was_defined as was_defined_of, was_added as was_added_of, total_in as total_of, defining, adding, recording, summing, own_define_metric, own_increment_metric, own_record_metric, own_get_metric};
 
 use abi_model::{
-    AskingCall, Gives, HostCall, HostEnd, Inputs, Outcome, Param, answer, asking_call, call_row,
+    AskingCall, Gives, HostCall, HostEnd, Outcome, Param, Ranges, answer, asking_call, call_row,
     given,
 };
 use abi_types::Guest;
@@ -78,19 +78,20 @@ fn signed(number: u64) -> i64
 }
 
 /// Defines a metric of a kind.
-#[tactic(auto, using(crate::proofs::Once::measured, crate::proofs::Once::refused))]
+#[tactic(auto, using(crate::proofs::Once::measured, crate::proofs::Once::refused, crate::proofs::Once::unasked))]
 fn define_as<S: Shared>(
     alloc: Global,
     shared: &mut S,
     vm: VmNo,
     kind: MetricKind,
-    name: Octets,
+    name: &[u8],
 ) -> Result<Outcome, OutOfMemory>
     requires { vm < S.stores shared.old }
-    ensures ends { Ends S.performs shared.old (measure vm (metric.Define kind name) (λ r. done (was_defined_of r))) (λ o. o) result shared.new }
+    ensures ends { Ends S.performs shared.old (measure vm (metric.Define kind name.now) (λ r. done (was_defined_of r))) (λ o. o) result shared.new }
     ensures short { IfOk result (λ o. AreShort o.gives) }
     ensures stores { S.stores shared.new ≡ S.stores shared.old }
 {
+    let name = Octets::from_slice(alloc, name)?;
     match shared.metric(alloc, vm, &MetricAsk::Define { kind, name }) {
         Ok(reply) => Ok(was_defined(&reply)),
         Err(end) => Err(end),
@@ -104,10 +105,10 @@ fn define<S: Shared>(
     shared: &mut S,
     vm: VmNo,
     number: u64,
-    name: Octets,
+    name: &[u8],
 ) -> Result<Outcome, OutOfMemory>
     requires { vm < S.stores shared.old }
-    ensures ends { Ends S.performs shared.old (defining vm number name) (λ o. o) result shared.new }
+    ensures ends { Ends S.performs shared.old (defining vm number name.now) (λ o. o) result shared.new }
     ensures short { IfOk result (λ o. AreShort o.gives) }
     ensures stores { S.stores shared.new ≡ S.stores shared.old }
 {
@@ -205,9 +206,9 @@ impl AskingCall for DefineMetric {
         shared: &mut S,
         vm: VmNo,
         args: &[u64],
-        inputs: Inputs,
+        inputs: &Ranges,
     ) -> Result<Outcome, OutOfMemory> {
-        define(alloc, shared, vm, args[0], inputs.first)
+        define(alloc, shared, vm, args[0], inputs.first())
     }
 }
 
@@ -252,7 +253,7 @@ impl AskingCall for IncrementMetric {
         shared: &mut S,
         vm: VmNo,
         args: &[u64],
-        inputs: Inputs,
+        inputs: &Ranges,
     ) -> Result<Outcome, OutOfMemory> {
         add(alloc, shared, vm, args[0], args[1])
     }
@@ -299,7 +300,7 @@ impl AskingCall for RecordMetric {
         shared: &mut S,
         vm: VmNo,
         args: &[u64],
-        inputs: Inputs,
+        inputs: &Ranges,
     ) -> Result<Outcome, OutOfMemory> {
         record_value(alloc, shared, vm, args[0], args[1])
     }
@@ -345,7 +346,7 @@ impl AskingCall for GetMetric {
         shared: &mut S,
         vm: VmNo,
         args: &[u64],
-        inputs: Inputs,
+        inputs: &Ranges,
     ) -> Result<Outcome, OutOfMemory> {
         sum(alloc, shared, vm, args[0])
     }

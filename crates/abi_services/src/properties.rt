@@ -11,7 +11,7 @@ ghost use Rattle.contexts.specs.Reached.{context_no};
 ghost use Rattle.abi_services.specs.Properties.{pseudo_of as pseudo_at, is_fixed as is_fixed_of, first_in as first_in_of, set_value as set_value_of, stream_value as stream_value_of, vm_name as vm_name_of, property_at, value_as, set_in, property_put, IsPastIn, own_get_property, own_set_property};
 
 use abi_model::{
-    Gives, HostCall, HostEnd, Inputs, LocalCall, Outcome, Param, answer, call_row, given,
+    Gives, HostCall, HostEnd, LocalCall, Outcome, Param, Ranges, answer, call_row, given,
     local_call,
 };
 use abi_types::Guest;
@@ -214,9 +214,9 @@ impl LocalCall for GetProperty {
         contexts: &mut Contexts,
         vm: VmNo,
         args: &[u64],
-        inputs: &Inputs,
+        inputs: &Ranges,
     ) -> Result<Outcome, OutOfMemory> {
-        let outcome = get(alloc, contexts, vm, inputs.first.as_slice())?;
+        let outcome = get(alloc, contexts, vm, inputs.first())?;
         Ok(outcome)
     }
 }
@@ -257,15 +257,9 @@ impl LocalCall for SetProperty {
         contexts: &mut Contexts,
         vm: VmNo,
         args: &[u64],
-        inputs: &Inputs,
+        inputs: &Ranges,
     ) -> Result<Outcome, OutOfMemory> {
-        set(
-            alloc,
-            contexts,
-            vm,
-            inputs.first.as_slice(),
-            inputs.second.as_slice(),
-        )
+        set(alloc, contexts, vm, inputs.first(), inputs.second())
     }
 }
 

@@ -14,7 +14,7 @@ ghost use Rattle.store_model.specs.declared.call.Call.TheVariants as store;
 ghost use Rattle.abi_services.specs.Queues.{is_vm, registering, resolving, vm_named as vm_named_of, dequeuing, enqueuing, id_or_full as id_or_full_of, id_or_absent as id_or_absent_of, item_in as item_of, was_put as was_put_of, own_register_shared_queue, own_resolve_shared_queue, own_dequeue_shared_queue, own_enqueue_shared_queue};
 
 use abi_model::{
-    AskingCall, Gives, HostCall, HostEnd, Inputs, Outcome, Param, answer, asking_call, call_row,
+    AskingCall, Gives, HostCall, HostEnd, Outcome, Param, Ranges, answer, asking_call, call_row,
     given,
 };
 use abi_types::Guest;
@@ -88,19 +88,20 @@ fn was_put(reply: &Reply) -> Outcome
 }
 
 /// Registers a queue for a root.
-#[tactic(auto, using(crate::proofs::Once::asked, crate::proofs::Once::refused))]
+#[tactic(auto, using(crate::proofs::Once::asked, crate::proofs::Once::refused, crate::proofs::Once::unasked))]
 fn register<S: Shared>(
     alloc: Global,
     shared: &mut S,
     vm: VmNo,
-    name: Octets,
+    name: &[u8],
     root: ContextId,
 ) -> Result<Outcome, OutOfMemory>
     requires { vm < S.stores shared.old }
-    ensures ends { Ends S.performs shared.old (registering vm name (Some root)) (λ o. o) result shared.new }
+    ensures ends { Ends S.performs shared.old (registering vm name.now (Some root)) (λ o. o) result shared.new }
     ensures short { IfOk result (λ o. AreShort o.gives) }
     ensures stores { S.stores shared.new ≡ S.stores shared.old }
 {
+    let name = Octets::from_slice(alloc, name)?;
     match shared.call(alloc, vm, &Call::Register { name, root }) {
         Ok(reply) => Ok(id_or_full(&reply)),
         Err(end) => Err(end),
@@ -108,18 +109,19 @@ fn register<S: Shared>(
 }
 
 /// Finds a queue of a VM.
-#[tactic(auto, using(crate::proofs::Once::asked, crate::proofs::Once::refused))]
+#[tactic(auto, using(crate::proofs::Once::asked, crate::proofs::Once::refused, crate::proofs::Once::unasked))]
 fn resolve<S: Shared>(
     alloc: Global,
     shared: &mut S,
     vm: VmNo,
-    name: Octets,
+    name: &[u8],
 ) -> Result<Outcome, OutOfMemory>
     requires { vm < S.stores shared.old }
-    ensures ends { Ends S.performs shared.old (ask vm (store.Resolve name) (λ r. done (id_or_absent_of r))) (λ o. o) result shared.new }
+    ensures ends { Ends S.performs shared.old (ask vm (store.Resolve name.now) (λ r. done (id_or_absent_of r))) (λ o. o) result shared.new }
     ensures short { IfOk result (λ o. AreShort o.gives) }
     ensures stores { S.stores shared.new ≡ S.stores shared.old }
 {
+    let name = Octets::from_slice(alloc, name)?;
     match shared.call(alloc, vm, &Call::Resolve { name }) {
         Ok(reply) => Ok(id_or_absent(&reply)),
         Err(end) => Err(end),
@@ -146,19 +148,20 @@ fn dequeue<S: Shared>(
 }
 
 /// Puts an item into a queue of a VM.
-#[tactic(auto, using(crate::proofs::Once::asked, crate::proofs::Once::refused))]
+#[tactic(auto, using(crate::proofs::Once::asked, crate::proofs::Once::refused, crate::proofs::Once::unasked))]
 fn enqueue<S: Shared>(
     alloc: Global,
     shared: &mut S,
     vm: VmNo,
     queue: QueueId,
-    item: Octets,
+    item: &[u8],
 ) -> Result<Outcome, OutOfMemory>
     requires { vm < S.stores shared.old }
-    ensures ends { Ends S.performs shared.old (ask vm (store.Enqueue queue item) (λ r. done (was_put_of r))) (λ o. o) result shared.new }
+    ensures ends { Ends S.performs shared.old (ask vm (store.Enqueue queue item.now) (λ r. done (was_put_of r))) (λ o. o) result shared.new }
     ensures short { IfOk result (λ o. AreShort o.gives) }
     ensures stores { S.stores shared.new ≡ S.stores shared.old }
 {
+    let item = Octets::from_slice(alloc, item)?;
     match shared.call(alloc, vm, &Call::Enqueue { queue, item }) {
         Ok(reply) => Ok(was_put(&reply)),
         Err(end) => Err(end),
@@ -186,11 +189,11 @@ fn register_here<S: Shared>(
     contexts: &Contexts,
     shared: &mut S,
     vm: VmNo,
-    name: Octets,
+    name: &[u8],
 ) -> Result<Outcome, OutOfMemory>
     requires vm { vm < length contexts.now.vms }
     requires stores { length contexts.now.vms ≤ S.stores shared.old }
-    ensures ends { Ends S.performs shared.old (registering vm name (seen contexts.now vm).reach.root) (λ o. o) result shared.new }
+    ensures ends { Ends S.performs shared.old (registering vm name.now (seen contexts.now vm).reach.root) (λ o. o) result shared.new }
     ensures short { IfOk result (λ o. AreShort o.gives) }
     ensures stores { S.stores shared.new ≡ S.stores shared.old }
 {
@@ -208,11 +211,11 @@ fn resolve_at<S: Shared>(
     shared: &mut S,
     vm: VmNo,
     at: usize,
-    name: Octets,
+    name: &[u8],
 ) -> Result<Outcome, OutOfMemory>
     requires vm { vm < length contexts.now.vms }
     requires stores { length contexts.now.vms ≤ S.stores shared.old }
-    ensures ends { Ends S.performs shared.old (resolving (Some at) name (seen contexts.now vm).common.names) (λ o. o) result shared.new }
+    ensures ends { Ends S.performs shared.old (resolving (Some at) name.now (seen contexts.now vm).common.names) (λ o. o) result shared.new }
     ensures short { IfOk result (λ o. AreShort o.gives) }
     ensures stores { S.stores shared.new ≡ S.stores shared.old }
 {
@@ -230,11 +233,11 @@ fn resolve_named<S: Shared>(
     shared: &mut S,
     vm: VmNo,
     vm_name: &[u8],
-    name: Octets,
+    name: &[u8],
 ) -> Result<Outcome, OutOfMemory>
     requires vm { vm < length contexts.now.vms }
     requires stores { length contexts.now.vms ≤ S.stores shared.old }
-    ensures ends { Ends S.performs shared.old (resolving (vm_named_of vm_name.now (seen contexts.now vm).common.names) name (seen contexts.now vm).common.names) (λ o. o) result shared.new }
+    ensures ends { Ends S.performs shared.old (resolving (vm_named_of vm_name.now (seen contexts.now vm).common.names) name.now (seen contexts.now vm).common.names) (λ o. o) result shared.new }
     ensures short { IfOk result (λ o. AreShort o.gives) }
     ensures stores { S.stores shared.new ≡ S.stores shared.old }
 {
@@ -274,12 +277,12 @@ fn enqueue_into<S: Shared>(
     shared: &mut S,
     vm: VmNo,
     id: u64,
-    item: Octets,
+    item: &[u8],
 ) -> Result<Outcome, OutOfMemory>
     requires vm { vm < length contexts.now.vms }
     requires stores { length contexts.now.vms ≤ S.stores shared.old }
     requires id { id < 2 ^ 32 }
-    ensures ends { Ends S.performs shared.old (enqueuing id item (seen contexts.now vm).common.names) (λ o. o) result shared.new }
+    ensures ends { Ends S.performs shared.old (enqueuing id item.now (seen contexts.now vm).common.names) (λ o. o) result shared.new }
     ensures short { IfOk result (λ o. AreShort o.gives) }
     ensures stores { S.stores shared.new ≡ S.stores shared.old }
 {
@@ -308,9 +311,9 @@ impl AskingCall for RegisterSharedQueue {
         shared: &mut S,
         vm: VmNo,
         args: &[u64],
-        inputs: Inputs,
+        inputs: &Ranges,
     ) -> Result<Outcome, OutOfMemory> {
-        register_here(alloc, contexts, shared, vm, inputs.first)
+        register_here(alloc, contexts, shared, vm, inputs.first())
     }
 }
 
@@ -363,15 +366,10 @@ impl AskingCall for ResolveSharedQueue {
         shared: &mut S,
         vm: VmNo,
         args: &[u64],
-        inputs: Inputs,
+        inputs: &Ranges,
     ) -> Result<Outcome, OutOfMemory> {
-        let Inputs {
-            first,
-            second,
-            third: _,
-            fourth: _,
-        } = inputs;
-        resolve_named(alloc, contexts, shared, vm, first.as_slice(), second)
+        let vm_name = inputs.first();
+        resolve_named(alloc, contexts, shared, vm, vm_name, inputs.second())
     }
 }
 
@@ -423,7 +421,7 @@ impl AskingCall for DequeueSharedQueue {
         shared: &mut S,
         vm: VmNo,
         args: &[u64],
-        inputs: Inputs,
+        inputs: &Ranges,
     ) -> Result<Outcome, OutOfMemory> {
         dequeue_from(alloc, contexts, shared, vm, args[0])
     }
@@ -477,9 +475,9 @@ impl AskingCall for EnqueueSharedQueue {
         shared: &mut S,
         vm: VmNo,
         args: &[u64],
-        inputs: Inputs,
+        inputs: &Ranges,
     ) -> Result<Outcome, OutOfMemory> {
-        enqueue_into(alloc, contexts, shared, vm, args[0], inputs.first)
+        enqueue_into(alloc, contexts, shared, vm, args[0], inputs.first())
     }
 }
 

@@ -8,7 +8,7 @@ ghost use Rattle.abi_model.specs.declared.table.WasiCall.TheVariants as call;
 ghost use Rattle.abi_services.specs.Wasi.{random_bytes as random_at, randomly, own_clock_time_get, own_nothing, own_no_sizes, own_random_get};
 
 use abi_model::{
-    Gives, HostEnd, Inputs, LocalCall, Outcome, Param, WasiCall, answer, given, local_call,
+    Gives, HostEnd, LocalCall, Outcome, Param, Ranges, WasiCall, answer, given, local_call,
     wasi_call_row,
 };
 use abi_types::Guest;
@@ -78,7 +78,7 @@ impl LocalCall for ClockTimeGet {
         contexts: &mut Contexts,
         vm: VmNo,
         args: &[u64],
-        inputs: &Inputs,
+        inputs: &Ranges,
     ) -> Result<Outcome, OutOfMemory> {
         if args[0] > 1 {
             return Ok(answer(28));
@@ -124,7 +124,7 @@ impl LocalCall for RandomGet {
         contexts: &mut Contexts,
         vm: VmNo,
         args: &[u64],
-        inputs: &Inputs,
+        inputs: &Ranges,
     ) -> Result<Outcome, OutOfMemory> {
         random(alloc, contexts, vm, args[1])
     }
@@ -166,7 +166,7 @@ impl LocalCall for EnvironGet {
         contexts: &mut Contexts,
         vm: VmNo,
         args: &[u64],
-        inputs: &Inputs,
+        inputs: &Ranges,
     ) -> Result<Outcome, OutOfMemory> {
         Ok(answer(0))
     }
@@ -208,7 +208,7 @@ impl LocalCall for ArgsGet {
         contexts: &mut Contexts,
         vm: VmNo,
         args: &[u64],
-        inputs: &Inputs,
+        inputs: &Ranges,
     ) -> Result<Outcome, OutOfMemory> {
         Ok(answer(0))
     }
@@ -250,7 +250,7 @@ impl LocalCall for EnvironSizesGet {
         contexts: &mut Contexts,
         vm: VmNo,
         args: &[u64],
-        inputs: &Inputs,
+        inputs: &Ranges,
     ) -> Result<Outcome, OutOfMemory> {
         Ok(given(Gives::Numbers {
             first: 0,
@@ -295,7 +295,7 @@ impl LocalCall for ArgsSizesGet {
         contexts: &mut Contexts,
         vm: VmNo,
         args: &[u64],
-        inputs: &Inputs,
+        inputs: &Ranges,
     ) -> Result<Outcome, OutOfMemory> {
         Ok(given(Gives::Numbers {
             first: 0,

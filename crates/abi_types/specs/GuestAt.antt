@@ -8,8 +8,6 @@ use Rattle.wasm_syntax.specs.Memory.{is_inside, written}
 use Rattle.wasm_syntax.specs.Reduction.{Program}
 use Rattle.wasm_syntax.specs.ReductionSteps.{Config, invoked_config}
 use Rattle.wasm_syntax.specs.ReductionRuns.{Stopped, has_finished, has_asked, has_trapped, has_spent, goes_on, is_stuck, Answer, answers, ends, waits, Host, run_hosted}
-use Rattle.abi_types.specs.declared.guest.GuestEnd.{GuestEnd}
-use Rattle.abi_types.specs.declared.guest.GuestEnd.TheVariants as guest_end
 use Rattle.abi_types.specs.declared.guest.AllocEnd.{AllocEnd}
 use Rattle.abi_types.specs.declared.guest.AllocEnd.TheVariants.{NoAllocator, Trapped, FuelSpent}
 use Rattle.abi_types.specs.declared.guest.Closing.{Closing}
@@ -39,11 +37,6 @@ with_memory m g = record g { config = record g.config { store = record g.config.
 
 abbrev pub wrote : ℕ → List ℕ → GuestAt → GuestAt
 wrote place bytes g = with_memory (written g.config.store.memory place bytes) g
-
-abbrev pub IsOutside : {A : Type 0} → Result A GuestEnd → Type 0
-IsOutside (Ok x) = ⊥
-IsOutside (Err guest_end.Outside) = Unit {0}
-IsOutside (Err guest_end.OutOfMemory) = ⊥
 
 -- ---- THE CLOSED HOST: each call is answered by its closing, and nothing else happens
 abbrev pub closed_answer : Option Closing → Config → ℕ → Answer (Unit {0})

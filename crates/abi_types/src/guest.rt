@@ -1,26 +1,10 @@
 // An instance, as host calls use it.
 
-ghost use Rattle.std.specs.Prelude.{◌≡◌, ◌≤◌, true, false, length, IfOk, IfSome, IfNone, OnErr};
+ghost use Rattle.std.specs.Prelude.{◌≡◌, ◌≤◌, true, false, length, IfSome, IfNone};
 ghost use Rattle.wasm_syntax.specs.Memory.{bytes_at};
-ghost use Rattle.abi_types.specs.GuestAt.{GuestAt, is_range, wrote, IsOutside, allocating, Allocates, RestsAfter, StillWaits, Keeps};
+ghost use Rattle.abi_types.specs.GuestAt.{GuestAt, is_range, wrote, allocating, Allocates, RestsAfter, StillWaits, Keeps};
 
-use gate_base::{Cause, Octets, OutOfMemory};
-use std::alloc::Global;
-
-/// Why bytes could not be read.
-#[derive(Drop)]
-pub enum GuestEnd {
-    /// The range is not inside its memory.
-    Outside,
-    /// Want of memory.
-    OutOfMemory,
-}
-
-impl From<OutOfMemory> for GuestEnd {
-    fn from(_e: OutOfMemory) -> Self {
-        GuestEnd::OutOfMemory
-    }
-}
+use gate_base::Cause;
 
 /// Why an allocation gave no place.
 #[derive(Clone, Copy, PartialEq, Eq)]
@@ -57,10 +41,10 @@ pub trait Guest {
         ensures size { result ≡ length (at self.now).config.store.memory }
         ensures bound { length (at self.now).config.store.memory ≤ 16777216 };
 
-    /// The bytes of a range. Outside comes exactly where the range is not inside; one of no bytes always is.
-    fn read(&self, alloc: Global, place: u32, len: u32) -> Result<Octets, GuestEnd>
-        ensures ok { IfOk result (λ o. (is_range (at self.now).config.store.memory place len ≡ true) × (o ≡ bytes_at (at self.now).config.store.memory place len)) }
-        ensures err { IsOutside result → is_range (at self.now).config.store.memory place len ≡ false };
+    /// The bytes of a range, where they stand. None comes exactly where the range is not inside; one of no bytes always is.
+    fn read(&self, place: u32, len: u32) -> Option<&[u8]>
+        ensures some { IfSome result (λ bytes. (is_range (at self.now).config.store.memory place len ≡ true) × (bytes.now ≡ bytes_at (at self.now).config.store.memory place len)) }
+        ensures none { IfNone result (is_range (at self.now).config.store.memory place len ≡ false) };
 
     /// Writes bytes at a place. None comes exactly where their range is not inside, and then nothing is changed. It takes no memory.
     fn write(&mut self, place: u32, bytes: &[u8]) -> Option<()>

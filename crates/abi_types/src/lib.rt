@@ -3,4 +3,4 @@
 
 mod guest;
 
-pub use guest::{AllocEnd, Closing, Guest, GuestEnd};
+pub use guest::{AllocEnd, Closing, Guest};

@@ -1,4 +1,5 @@
 pub mod Left
 pub mod RoundTrip
 pub mod Schemes
+pub mod Tallies
 pub mod Texts

@@ -4,3 +4,4 @@ pub mod Left
 pub mod Lists
 pub mod Reading
 pub mod Serialised
+pub mod Tallies

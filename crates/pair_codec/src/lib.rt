@@ -6,6 +6,7 @@ mod laws;
 mod lists;
 mod reading;
 mod serialised;
+mod tally;
 mod writing;
 
 pub use end::PairsEnd;
@@ -13,4 +14,5 @@ pub use laws::{pairs_are_read_back, worked_pairs};
 pub use lists::{list_of, request_of};
 pub use reading::read_pairs;
 pub use serialised::Serialised;
+pub use tally::{Counts, Tally};
 pub use writing::{write_list, write_pairs};

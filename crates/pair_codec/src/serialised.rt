@@ -1,10 +1,14 @@
 // Pairs in their serialised form, read in place.
-ghost use Rattle.std.specs.Prelude.{◌≡◌, ◌≤◌, ◌+◌, ◌*◌, ◌∷◌, ◌↔◌, [], true, length, drop, is_some, IfSome, IfNone, IfOk, IsTrue};
+ghost use Rattle.std.specs.Prelude.{◌≡◌, ◌≤◌, ◌+◌, ◌*◌, ◌∷◌, ◌↔◌, [], true, length, drop, is_some, Some, None, IfSome, IfNone, IfOk, IsTrue};
 ghost use Rattle.std.specs.List.{list_all};
 ghost use Rattle.header_maps.specs.Kept.{byte_limit, is_short};
+ghost use Rattle.pair_codec.specs.Left.{or_none};
+ghost use Rattle.pair_codec.specs.Tallies.{tally_of};
 ghost use Rattle.pair_codec.specs.Reading.{word_in, has_text, has_pair, pair_in, behind_pair, texts_in, counted_in, pairs_in};
 
+use crate::tally::Tally;
 use gate_base::{Octets, OutOfMemory, Pairs};
+use header_maps::ListKind;
 use std::alloc::Global;
 use std::marker::Model;
 
@@ -79,27 +83,38 @@ fn behind_sizes(sizes: &[u8]) -> &[u8]
     &sizes[8..]
 }
 
-/// Whether so many pairs stand there, by their sizes and their texts, and nothing else.
-fn are_texts(count: usize, sizes: &[u8], texts: &[u8]) -> bool
+/// What is found of so many pairs that stand there, by their sizes and their texts, and nothing else, in one walk; none where no such pairs
+/// stand there.
+#[tactic(auto, using(crate::proofs::Tallies::started, crate::proofs::Tallies::none_counted, crate::proofs::Tallies::ended_read, crate::proofs::Tallies::ended_tally, crate::proofs::Tallies::more_behind))]
+fn tally_texts(kind: ListKind, count: usize, sizes: &[u8], texts: &[u8]) -> Option<Tally>
     requires { 8 * count ≤ length sizes.now }
-    ensures { result ≡ is_some (texts_in count sizes.now texts.now) }
+    ensures read { is_some result ≡ is_some (texts_in count sizes.now texts.now) }
+    ensures tally { IfSome result (λ found. found ≡ tally_of kind (or_none (texts_in count sizes.now texts.now))) }
 {
+    let mut found = Tally::none();
     let mut rest = texts;
     for k in 0..count {
         let name = word_at(sizes, 8 * k) as usize;
         let value = word_at(sizes, 8 * k + 4) as usize;
         if !has_pair(rest, name, value) {
-            return false;
+            return None;
         }
+        let pair = pair_at(rest, name, value);
+        found = found.with(kind, pair.0, pair.1);
         rest = behind_pair(rest, name, value);
     }
-    rest.is_empty()
+    if !rest.is_empty() {
+        return None;
+    }
+    Some(found)
 }
 
-/// The serialised form that bytes are, which are not empty.
+/// The serialised form that bytes are, which are not empty, and what was found of its pairs.
 #[tactic(auto, using(crate::proofs::Left::some_or_none))]
-fn counted(bytes: &[u8]) -> Option<Serialised<'_>>
-    ensures { result ≡ counted_in bytes.now }
+fn counted(kind: ListKind, bytes: &[u8]) -> Option<(Serialised<'_>, Tally)>
+    ensures none { IfNone result (counted_in bytes.now ≡ None) }
+    ensures pairs { IfSome result (λ r. counted_in bytes.now ≡ Some r.0) }
+    ensures tally { IfSome result (λ r. r.1 ≡ tally_of kind r.0) }
 {
     if bytes.len() < 4 {
         return None;
@@ -110,32 +125,48 @@ fn counted(bytes: &[u8]) -> Option<Serialised<'_>>
     }
     let sizes = &bytes[4..];
     let texts = &bytes[4 + 8 * count..];
-    if !are_texts(count, sizes, texts) {
+    let Some(found) = tally_texts(kind, count, sizes, texts) else {
         return None;
-    }
-    Some(Serialised {
+    };
+    let form = Serialised {
         count,
         sizes,
         texts,
-    })
+    };
+    Some((form, found))
 }
 
 impl<'a> Serialised<'a> {
-    /// The pairs of a serialised form, or of no bytes; none exactly where the bytes are neither. All of it is judged, and nothing is copied.
-    /// No name or value is longer than the bytes.
+    /// The pairs of a serialised form, or of no bytes, and what was found of them for a list of a kind; none exactly where the bytes are
+    /// neither. All of it is judged in one walk, and nothing is copied. No name or value is longer than the bytes.
     #[tactic(auto, using(crate::proofs::RoundTrip::short_read))]
+    pub fn judged(kind: ListKind, bytes: &'a [u8]) -> Option<(Self, Tally)>
+        ensures none { IfNone result (pairs_in bytes.now ≡ None) }
+        ensures pairs { IfSome result (λ r. pairs_in bytes.now ≡ Some r.0) }
+        ensures tally { IfSome result (λ r. r.1 ≡ tally_of kind r.0) }
+        ensures short { length bytes.now ≤ byte_limit → IfSome result (λ r. list_all is_short r.0 ≡ true) }
+    {
+        if bytes.is_empty() {
+            let form = Serialised {
+                count: 0,
+                sizes: bytes,
+                texts: bytes,
+            };
+            return Some((form, Tally::none()));
+        }
+        counted(kind, bytes)
+    }
+
+    /// The pairs of a serialised form, or of no bytes; none exactly where the bytes are neither. Nothing is copied. No name or value is
+    /// longer than the bytes.
     pub fn of(bytes: &'a [u8]) -> Option<Self>
         ensures pairs { result ≡ pairs_in bytes.now }
         ensures short { length bytes.now ≤ byte_limit → IfSome result (λ pairs. list_all is_short pairs ≡ true) }
     {
-        if bytes.is_empty() {
-            return Some(Serialised {
-                count: 0,
-                sizes: bytes,
-                texts: bytes,
-            });
+        match Serialised::judged(ListKind::Plain, bytes) {
+            Some((form, _)) => Some(form),
+            None => None,
         }
-        counted(bytes)
     }
 
     /// How many pairs are left.

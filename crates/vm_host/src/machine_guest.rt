@@ -1,8 +1,7 @@
 //! The guest that a machine runs.
 
-use abi_types::{AllocEnd, Closing, Guest, GuestEnd};
-use gate_base::{Cause, Members, Octets};
-use std::alloc::Global;
+use abi_types::{AllocEnd, Closing, Guest};
+use gate_base::{Cause, Members};
 use wasm_machine::{Machine, Stop};
 use wasm_store::Memory;
 use wasm_syntax::Value;
@@ -35,15 +34,12 @@ impl Guest for MachineGuest {
         size_of(self.machine.memory())
     }
 
-    fn read(&self, alloc: Global, place: u32, len: u32) -> Result<Octets, GuestEnd> {
-        let bytes = self.machine.memory().as_slice();
-        match range(bytes, place as usize, len as usize) {
-            Some(inside) => match Octets::from_slice(alloc, inside) {
-                Ok(o) => Ok(o),
-                Err(_) => Err(GuestEnd::OutOfMemory),
-            },
-            None => Err(GuestEnd::Outside),
-        }
+    fn read(&self, place: u32, len: u32) -> Option<&[u8]> {
+        range(
+            self.machine.memory().as_slice(),
+            place as usize,
+            len as usize,
+        )
     }
 
     fn write(&mut self, place: u32, bytes: &[u8]) -> Option<()> {

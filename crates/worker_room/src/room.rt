@@ -438,11 +438,7 @@ impl Room {
     }
 
     /// These jobs come first.
-    pub fn put_in_front(
-        &mut self,
-        alloc: Global,
-        more: Queue<Job>,
-    ) -> Result<(), OutOfMemory>
+    pub fn put_in_front(&mut self, alloc: Global, more: Queue<Job>) -> Result<(), OutOfMemory>
         ensures { OnOk result (self.new ≡ with_jobs_first more self.old) }
     {
         let mut jobs = more;

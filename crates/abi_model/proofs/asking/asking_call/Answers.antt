@@ -1,6 +1,5 @@
 use Rattle.std.proofs.Common.{◌≡◌, List, true, sym, ap, ◌∙◌, subst}
 use Rattle.store_model.specs.Program.{Runs, done}
-use Rattle.store_model.specs.Runs.{runs_none}
 use Rattle.contexts.specs.Reached.{seen}
 use Rattle.abi_model.specs.Asking.{asks}
 use Rattle.abi_model.specs.Calls.{CallEnds, finishing, handing}
@@ -13,19 +12,14 @@ use Rattle.abi_model.proofs.asking.asking_call.Goals as goal
 
 pub returns-in_default-clause-ends : goal.returns-in_default-clause-ends
 returns-in_default-clause-ends g c =
-    let p = asks (g.C.AskingCall.params c.args.call.now) (g.C.AskingCall.own c.args.call.now) c.args.vm c.args.args.now (g.G.Guest.at c.args.guest.now) (seen c.args.contexts.now c.args.vm) in
-    (p, runs_none g.S.Shared.performs g.met.S.Shared.nothing c.args.shared.now p)
-
-pub returns-in_default-make-clause-ends : goal.returns-in_default-make-clause-ends
-returns-in_default-make-clause-ends g c =
     let at = g.G.Guest.at c.args.guest.now in
     let m = at.config.store.memory in
     let row = g.C.AskingCall.params c.args.call.now in
     let own = g.C.AskingCall.own c.args.call.now in
     let s = seen c.args.contexts.now c.args.vm in
     let is = subst (λ (r : List Param). all_inside m r 0 c.args.args.now ≡ true) c.parameters-row.ensures.row (sym c.all_inside.ensures ∙ c.if-not-all_inside.false) in
-    let inputs = c.in-Ok.ensures.taken ∙ ap (λ (r : List Param). input_bytes m r c.args.args.now) c.parameters-row.ensures.row in
-    let run = c.in_default-make.ensures.ends in
+    let inputs = c.inputs_of-inputs.ensures.taken ∙ ap (λ (r : List Param). input_bytes m r c.args.args.now) c.parameters-row.ensures.row in
+    let run = c.in_default.ensures.ends in
     cut g.S.Shared.performs row own c.args.vm c.args.args.now at s at c.args.shared.now c.make.new.shared run.0 is
     (subst (λ (i : Inputs). Runs g.S.Shared.performs c.args.shared.now (own c.args.vm c.args.args.now i s) run.0 c.make.new.shared) inputs run.1)
 
@@ -36,10 +30,10 @@ returns-clause-ends g c =
     let row = g.C.AskingCall.params c.args.call.now in
     let own = g.C.AskingCall.own c.args.call.now in
     let s = seen c.args.contexts.now c.args.vm in
-    let o = c.in-Ok-make.outcome in
+    let o = c.in-Ok.outcome in
     let is = subst (λ (r : List Param). all_inside m r 0 c.args.args.now ≡ true) c.parameters-row.ensures.row (sym c.all_inside.ensures ∙ c.if-not-all_inside.false) in
-    let inputs = c.in-Ok.ensures.taken ∙ ap (λ (r : List Param). input_bytes m r c.args.args.now) c.parameters-row.ensures.row in
+    let inputs = c.inputs_of-inputs.ensures.taken ∙ ap (λ (r : List Param). input_bytes m r c.args.args.now) c.parameters-row.ensures.row in
     let places = c.places_of.ensures ∙ ap (λ (r : List Param). places_of r c.args.args.now) c.parameters-row.ensures.row in
     asked g.S.Shared.performs row own c.args.vm c.args.args.now at s c.finish.result (g.G.Guest.at c.finish.new.guest) c.args.shared.now c.make.new.shared o is
-    (subst (λ (i : Inputs). Runs g.S.Shared.performs c.args.shared.now (own c.args.vm c.args.args.now i s) (done o) c.make.new.shared) inputs c.in-Ok-make.ensures.ends)
+    (subst (λ (i : Inputs). Runs g.S.Shared.performs c.args.shared.now (own c.args.vm c.args.args.now i s) (done o) c.make.new.shared) inputs c.in-Ok.ensures.ends)
     (subst (λ (p : Places). CallEnds (finishing 6 o.status (handing o.gives p at)) c.finish.result (g.G.Guest.at c.finish.new.guest)) places c.finish.ensures.run)

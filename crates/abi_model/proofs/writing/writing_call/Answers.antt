@@ -14,6 +14,6 @@ returns-clause-lines g c =
     let own = g.C.WritingCall.own c.args.call.now in
     let s = seen c.args.contexts.now c.args.vm in
     let is = subst (λ (r : List Param). all_inside m r 0 c.args.args.now ≡ true) c.parameters-row.ensures.row (sym c.all_inside.ensures ∙ c.if-not-all_inside.false) in
-    let inputs = c.in-Ok.ensures.taken ∙ ap (λ (r : List Param). input_bytes m r c.args.args.now) c.parameters-row.ensures.row in
+    let inputs = c.inputs_of-inputs.ensures.taken ∙ ap (λ (r : List Param). input_bytes m r c.args.args.now) c.parameters-row.ensures.row in
     lines_end c.args.outside row own c.args.args.now at s c.finish.result c.args.logs.now c.make.new.logs c.finish.ensures.sure is
-    (subst (λ (i : Inputs). c.make.new.logs ≡ c.args.logs.now ++ (own c.args.args.now i s).lines) inputs c.in-Ok-make.ensures.lines)
+    (subst (λ (i : Inputs). c.make.new.logs ≡ c.args.logs.now ++ (own c.args.args.now i s).lines) inputs c.in-Ok.ensures.lines)

@@ -1,10 +1,7 @@
-use Rattle.std.proofs.Common.{◌≤◌, ◌-◌, []}
+use Rattle.std.proofs.Common.{[]}
 use Rattle.abi_services.proofs.Pieces.{AreJoined}
 use Rattle.abi_services.proofs.files.join_pieces.Given as goal
 
--- the pieces of the entries done are joined
-abbrev pub invariant-loop-done : goal.invariant-loop-done
-invariant-loop-done g l = record { within : l.done ≤ l.count; so_far : AreJoined (g.G.Guest.at l.guest).config.store.memory l.at l.count [] l.text l.done }
-
-abbrev pub decreases-loop-done : goal.decreases-loop-done
-decreases-loop-done g l = l.count - l.done
+-- the pieces so far are joined
+abbrev pub invariant-loop-k : goal.invariant-loop-k
+invariant-loop-k g l = AreJoined (g.G.Guest.at l.guest).config.store.memory l.at l.count [] l.text l.k
