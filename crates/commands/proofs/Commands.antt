@@ -67,8 +67,8 @@ no_memory eyes files (replay script modules) site old = (refl, inl (tt, gains_no
 no_memory eyes files (replay_config config script) site old = (refl, inl (tt, gains_nothing old))
 no_memory eyes files (serve config stop_after) site old = inl (record { why = tt; site_is = refl; nothing = gains_nothing old })
 no_memory eyes files (check config) site old = (refl, gains_nothing old)
-no_memory eyes files (invoke file export arguments) site old = (refl, record { may = gains_nothing old; there = tt; called = λ text e. gains_nothing old })
-no_memory eyes files (report file) site old = (refl, record { may = gains_nothing old; there = tt; reported = λ text e. gains_nothing old })
+no_memory eyes files (invoke file export arguments) site old = (refl, record { may = gains_nothing old; there = tt; called = λ text e. gains_nothing old; prints = tt })
+no_memory eyes files (report file) site old = (refl, record { may = gains_nothing old; there = tt; reported = λ text e. gains_nothing old; prints = tt })
 no_memory eyes files (generate n) site old = (refl, record { end = generating.OutOfMemory; status_is = refl; generates = gains_nothing old })
 
 -- words of no form are refused

@@ -8,10 +8,10 @@ use Rattle.gate_io.specs.Told.{Gains, gains_nothing}
 use Rattle.gate_io.specs.declared.ends.FileEnd.TheVariants as ends
 use Rattle.command_statuses.specs.declared.status.Status.{Status}
 use Rattle.command_statuses.specs.declared.status.Status.TheVariants.{Done, Usage, Config, Module, Refused, FileFault, SiteFault, OutFault, OutOfMemory, Script, Invoke}
-use Rattle.commands.specs.Call.{IsCalled, OfCall, WasRead}
+use Rattle.commands.specs.Call.{IsCalled, OfCall, PrintsCall, WasRead}
 use Rattle.commands.specs.Files.{HasText, IsThere, OfText}
 use Rattle.commands.specs.Reading.{ReadsOne}
-use Rattle.commands.specs.Report.{IsReported, OfReport}
+use Rattle.commands.specs.Report.{IsReported, OfReport, PrintsReport}
 use Rattle.commands.specs.Scripts.{IsCutShort, IsPlayed, IsRefusedAt, Plays, PlaysText, script_limit}
 
 -- what holds of the bytes that were read, where they are told
@@ -90,6 +90,20 @@ pub called_text : (files : Told) (path text export : List ℕ) (words : List (Li
     → IsCalled text export words status before after → OfText files path (λ t. IsCalled t export words status before after)
 called_text files path text export words most status before after h p = of_text files path text most (λ t. IsCalled t export words status before after) h p
 
+pub prints_call : (files : Told) (path text export : List ℕ) (words : List (List ℕ)) (most : ℕ) (status : Status) (before after : Option (List ℕ)) → ReadsTold files path most (Ok text)
+    → IsCalled text export words status before after → PrintsCall files path export words status before after
+prints_call files path text export words most Done before after h p = has_text files path text most (λ t. IsCalled t export words Done before after) h p
+prints_call files path text export words most OutFault before after h p = has_text files path text most (λ t. IsCalled t export words OutFault before after) h p
+prints_call files path text export words most (Refused refusal) before after h p = tt
+prints_call files path text export words most (Invoke end) before after h p = tt
+prints_call files path text export words most FileFault before after h p = tt
+prints_call files path text export words most OutOfMemory before after h p = tt
+prints_call files path text export words most Usage before after h p = tt
+prints_call files path text export words most (Config number key) before after h p = tt
+prints_call files path text export words most (Module vm fault) before after h p = tt
+prints_call files path text export words most SiteFault before after h p = tt
+prints_call files path text export words most (Script line) before after h p = tt
+
 pub long_module : (files : Told) (path : List ℕ) (most : ℕ) → ReadsTold files path most (Err ends.TooLong) → IsThere files path
 long_module files path most h = of_long files path most (λ text. Unit {0}) h (λ text long. tt)
 
@@ -125,3 +139,17 @@ of_call (Invoke end) before after p = absurd p
 pub reported_text : (files : Told) (path text : List ℕ) (most : ℕ) (status : Status) (before after : Option (List ℕ)) → ReadsTold files path most (Ok text)
     → IsReported text status before after → OfText files path (λ t. IsReported t status before after)
 reported_text files path text most status before after h p = of_text files path text most (λ t. IsReported t status before after) h p
+
+pub prints_report : (files : Told) (path text : List ℕ) (most : ℕ) (status : Status) (before after : Option (List ℕ)) → ReadsTold files path most (Ok text)
+    → IsReported text status before after → PrintsReport files path status before after
+prints_report files path text most Done before after h p = has_text files path text most (λ t. IsReported t Done before after) h p
+prints_report files path text most OutFault before after h p = has_text files path text most (λ t. IsReported t OutFault before after) h p
+prints_report files path text most (Refused refusal) before after h p = tt
+prints_report files path text most (Invoke end) before after h p = tt
+prints_report files path text most FileFault before after h p = tt
+prints_report files path text most OutOfMemory before after h p = tt
+prints_report files path text most Usage before after h p = tt
+prints_report files path text most (Config number key) before after h p = tt
+prints_report files path text most (Module vm fault) before after h p = tt
+prints_report files path text most SiteFault before after h p = tt
+prints_report files path text most (Script line) before after h p = tt

@@ -10,7 +10,7 @@ use Rattle.wasm_invoke.specs.Invoking.{Invokes}
 use Rattle.command_statuses.specs.declared.status.InvokeEnd.TheVariants.{Trap, FuelSpent}
 use Rattle.command_statuses.specs.declared.status.Status.{Status}
 use Rattle.command_statuses.specs.declared.status.Status.TheVariants.{Done, Usage, Config, Module, Refused, FileFault, SiteFault, OutFault, OutOfMemory, Script, Invoke}
-use Rattle.commands.specs.Files.{IsThere, OfText}
+use Rattle.commands.specs.Files.{HasText, IsThere, OfText}
 
 -- the line of the result, where there is one: its type, and its value as an unsigned number
 abbrev pub result_line : Option Value → List ℕ
@@ -66,8 +66,15 @@ WasRead files path (Module vm fault) = ⊥
 WasRead files path SiteFault = ⊥
 WasRead files path (Script line) = ⊥
 
+-- what was printed is the result of a call in some module, also where the files do not show theirs: where they do, in the one of this path
+abbrev pub PrintsCall : Told → (path export : List ℕ) → (words : List (List ℕ)) → Status → (old new : Option (List ℕ)) → Type 0
+PrintsCall files path export words Done old new = HasText files path (λ text. IsCalled text export words Done old new)
+PrintsCall files path export words OutFault old new = HasText files path (λ text. IsCalled text export words OutFault old new)
+PrintsCall files path export words status old new = Unit {0}
+
 -- HOW `invoke` ENDS, by what the files tell of the module's file
 pub record Calls (files : Told) (path export : List ℕ) (words : List (List ℕ)) (status : Status) (old new : Option (List ℕ)) : Type 0 where
   pub may : OfCall status old new
   pub there : WasRead files path status
   pub called : OfText files path (λ text. IsCalled text export words status old new)
+  pub prints : PrintsCall files path export words status old new

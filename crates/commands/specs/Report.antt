@@ -9,7 +9,7 @@ use Rattle.command_statuses.specs.declared.status.Status.TheVariants.{Done, Usag
 use Rattle.wasm_invoke.specs.declared.ends.Refusal.{Refusal}
 use Rattle.wasm_invoke.specs.declared.ends.Refusal.TheVariants as refusals
 use Rattle.commands.specs.Call.{WasRead}
-use Rattle.commands.specs.Files.{OfText}
+use Rattle.commands.specs.Files.{HasText, OfText}
 
 -- the bytes spell no module, by their first fault, or one that is not valid
 abbrev pub IsUnreported : (text : List ℕ) → Refusal → Type 0
@@ -48,8 +48,15 @@ OfReport SiteFault old new = ⊥
 OfReport (Script line) old new = ⊥
 OfReport (Invoke end) old new = ⊥
 
+-- what was printed is the report of some module, also where the files do not show theirs: where they do, of the one of this path
+abbrev pub PrintsReport : Told → (path : List ℕ) → Status → (old new : Option (List ℕ)) → Type 0
+PrintsReport files path Done old new = HasText files path (λ text. IsReported text Done old new)
+PrintsReport files path OutFault old new = HasText files path (λ text. IsReported text OutFault old new)
+PrintsReport files path status old new = Unit {0}
+
 -- HOW `report` ENDS, by what the files tell of the module's file
 pub record Reports (files : Told) (path : List ℕ) (status : Status) (old new : Option (List ℕ)) : Type 0 where
   pub may : OfReport status old new
   pub there : WasRead files path status
   pub reported : OfText files path (λ text. IsReported text status old new)
+  pub prints : PrintsReport files path status old new

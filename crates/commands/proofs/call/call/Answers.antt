@@ -4,7 +4,7 @@ use Rattle.gate_io.specs.Told.{gains_nothing}
 use Rattle.wasm_syntax.specs.Grammar.{most_bytes}
 use Rattle.commands.specs.Call.{IsCalled}
 use Rattle.commands.proofs.Fault.{too_long}
-use Rattle.commands.proofs.OneFile.{call_read, called_text, long_module, was_read}
+use Rattle.commands.proofs.OneFile.{call_read, called_text, long_module, prints_call, was_read}
 use Rattle.commands.proofs.call.call.Goals as goal
 
 pub returns-in-Ok-clause-one : goal.returns-in-Ok-clause-one
@@ -20,6 +20,10 @@ returns-in-Ok-clause-calls g c =
           called_text (g.F.Files.holds c.args.files.now) c.args.path.now c.in-Ok.text c.args.export.now words most_bytes c.call_in.result (g.O.Sink.taken c.args.out.now) (g.O.Sink.taken c.call_in.new.out)
           c.in-Ok.ensures.content
           (subst (λ (t : List ℕ). IsCalled t c.args.export.now words c.call_in.result (g.O.Sink.taken c.args.out.now) (g.O.Sink.taken c.call_in.new.out)) c.as_slice.ensures c.call_in.ensures.called);
+      prints =
+          prints_call (g.F.Files.holds c.args.files.now) c.args.path.now c.in-Ok.text c.args.export.now words most_bytes c.call_in.result (g.O.Sink.taken c.args.out.now) (g.O.Sink.taken c.call_in.new.out)
+          c.in-Ok.ensures.content
+          (subst (λ (t : List ℕ). IsCalled t c.args.export.now words c.call_in.result (g.O.Sink.taken c.args.out.now) (g.O.Sink.taken c.call_in.new.out)) c.as_slice.ensures c.call_in.ensures.called);
     }
 
 pub returns-in-Err-TooLong-clause-calls : goal.returns-in-Err-TooLong-clause-calls
@@ -29,4 +33,5 @@ returns-in-Err-TooLong-clause-calls g c =
       may = gains_nothing (g.O.Sink.taken c.args.out.now);
       there = long_module (g.F.Files.holds c.args.files.now) c.args.path.now most_bytes read;
       called = λ text told. (too_long (g.F.Files.holds c.args.files.now) c.args.path.now text read told, gains_nothing (g.O.Sink.taken c.args.out.now));
+      prints = tt;
     }

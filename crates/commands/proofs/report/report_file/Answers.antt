@@ -4,7 +4,7 @@ use Rattle.gate_io.specs.Told.{gains_nothing}
 use Rattle.wasm_syntax.specs.Grammar.{most_bytes}
 use Rattle.commands.specs.Report.{IsReported}
 use Rattle.commands.proofs.Fault.{too_long}
-use Rattle.commands.proofs.OneFile.{call_read, long_module, of_call, reported_text, was_read}
+use Rattle.commands.proofs.OneFile.{call_read, long_module, of_call, prints_report, reported_text, was_read}
 use Rattle.commands.proofs.report.report_file.Goals as goal
 
 pub returns-in-Ok-clause-one : goal.returns-in-Ok-clause-one
@@ -20,6 +20,9 @@ returns-in-Ok-clause-reports g c =
       reported =
           reported_text (g.F.Files.holds c.args.files.now) c.args.path.now c.in-Ok.text most_bytes c.report_in.result (g.O.Sink.taken c.args.out.now) (g.O.Sink.taken c.report_in.new.out) c.in-Ok.ensures.content
           (subst (λ (t : List ℕ). IsReported t c.report_in.result (g.O.Sink.taken c.args.out.now) (g.O.Sink.taken c.report_in.new.out)) c.as_slice.ensures c.report_in.ensures.reported);
+      prints =
+          prints_report (g.F.Files.holds c.args.files.now) c.args.path.now c.in-Ok.text most_bytes c.report_in.result (g.O.Sink.taken c.args.out.now) (g.O.Sink.taken c.report_in.new.out) c.in-Ok.ensures.content
+          (subst (λ (t : List ℕ). IsReported t c.report_in.result (g.O.Sink.taken c.args.out.now) (g.O.Sink.taken c.report_in.new.out)) c.as_slice.ensures c.report_in.ensures.reported);
     }
 
 pub returns-in-Err-TooLong-clause-reports : goal.returns-in-Err-TooLong-clause-reports
@@ -29,4 +32,5 @@ returns-in-Err-TooLong-clause-reports g c =
       may = gains_nothing (g.O.Sink.taken c.args.out.now);
       there = long_module (g.F.Files.holds c.args.files.now) c.args.path.now most_bytes read;
       reported = λ text told. (too_long (g.F.Files.holds c.args.files.now) c.args.path.now text read told, gains_nothing (g.O.Sink.taken c.args.out.now));
+      prints = tt;
     }
